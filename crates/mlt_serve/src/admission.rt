@@ -87,6 +87,10 @@ impl<R: Wait + Clock> Gate for Admission<'_, R> {
         }
     }
 
+    fn rest(&self, _client: u32) {
+        self.leave();
+    }
+
     fn pause(&self, _client: u32, told: &Told) {
         self.restarts.note(told);
         let events = self.events.get().saturating_add(1);

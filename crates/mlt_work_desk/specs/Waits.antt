@@ -1,17 +1,20 @@
 -- How desks wait, and what wakes them.
 use Rattle.std.specs.Prelude.{ℕ, ◌≡◌, ◌==◌, ◌+◌, ◌<◌, ◌≤◌, ◌⊎◌, nat_lt, length, if◌then◌else◌, Bool, true, false, List, [], ◌++◌, Option, None, Some}
+use Rattle.mlt_object_kinds.specs.declared.operation.ObjOp.{ObjOp}
 use Rattle.mlt_event.specs.declared.answer.Answer.{Answer}
 use Rattle.mlt_event.specs.declared.answer.Answer.TheVariants as answer
 use Rattle.mlt_event.specs.declared.event.Event.{Event}
 use Rattle.mlt_event.specs.declared.event.Event.TheVariants as event
 use Rattle.mlt_event.specs.declared.told.Told.{Told}
 use Rattle.mlt_event.specs.declared.told.Told.TheVariants as told
-use Rattle.mlt_work_waits.specs.Waits.{Waits, CanJoin, CantJoin, Deadlocks, joined, nobody_waits, released, wakers_in}
+use Rattle.mlt_work_waits.specs.Waits.{Waits, CanJoin, CantJoin, Deadlocks, IsYoungest, joined, nobody_waits, released, wakers_in}
 use Rattle.mlt_work_waits.specs.declared.wait.Awaited.{Awaited}
 use Rattle.mlt_work_waits.specs.declared.wait.Awaited.TheVariants as awaited
 use Rattle.mlt_work_waits.specs.declared.wait.Waker.{Waker}
 use Rattle.mlt_work_waits.specs.declared.wait.Waiting.{Waiting}
 use Rattle.mlt_work_waits.specs.declared.wait.Whose.TheVariants as whose
+use Rattle.mlt_work_queue.specs.declared.blocked_queue.Blocked.{Blocked}
+use Rattle.mlt_work_queue.specs.Queues.{with_blocked, without}
 use Rattle.mlt_work_desk.specs.declared.turn.GivenBack.{GivenBack}
 use Rattle.mlt_work_desk.specs.declared.turn.GivenBack.TheVariants as given
 use Rattle.mlt_work_desk.specs.declared.turn.Sleeper.{Sleeper}
@@ -21,10 +24,10 @@ use Rattle.mlt_work_desk.specs.declared.turn.Turn.TheVariants as turn
 -- whose locks a step of x has given back, by its answer
 abbrev pub given_back_by_step : ℕ → Answer → GivenBack
 given_back_by_step x answer.Aborted = given.All x
-given_back_by_step x (answer.Done reply) = given.Pages x
+given_back_by_step x (answer.Done reply) = given.Operation x
+given_back_by_step x (answer.Refused reason) = given.Operation x
 given_back_by_step x (answer.Blocked by) = given.Pages x
 given_back_by_step x answer.Undone = given.Pages x
-given_back_by_step x (answer.Refused reason) = given.Pages x
 given_back_by_step x other = given.Nothing
 
 -- whose locks an event has given back, by what it was told
@@ -32,7 +35,7 @@ abbrev pub given_back_by : Event → Told → GivenBack
 given_back_by (event.Commit x) (told.Committed number) = given.All x
 given_back_by (event.Abort x) (told.Aborting true) = given.All x
 given_back_by (event.Step x) (told.Answered answer) = given_back_by_step x answer
-given_back_by (event.Cancel x) told.Cancelled = given.Pages x
+given_back_by (event.Cancel x) told.Cancelled = given.Operation x
 given_back_by other another = given.Nothing
 
 -- whether one that was told this is to wait
@@ -43,23 +46,43 @@ is_to_wait other = false
 
 -- the wait of a sleeper for a lock of y
 abbrev pub wait_for : Sleeper → ℕ → Waiting
-wait_for sleeper y = record { waiter = sleeper.tx; holder = y; waker = sleeper.waker }
+wait_for sleeper y = record {
+  waiter = sleeper.tx;
+  holder = y;
+  waker = sleeper.waker;
+  timestamp = Some sleeper.timestamp;
+}
 
--- the wait of one that was told this, if it is to wait and may sleep
-abbrev pub wait_of : Told → Option Sleeper → Option (Awaited × Waiting)
-wait_of (told.Answered (answer.Waiting page by)) (Some sleeper) = Some (awaited.Pages, wait_for sleeper by)
-wait_of (told.Answered (answer.Blocked by)) (Some sleeper) = Some (awaited.Objects, wait_for sleeper by)
-wait_of other any = None
+-- its wait for its turn behind y
+abbrev pub turn_behind : Sleeper → ℕ → Waiting
+turn_behind sleeper y = record (wait_for sleeper y) { timestamp = None }
+
+-- the wait of a sleeper that was told this, if it is to wait
+abbrev pub wait_of : Told → Sleeper → Option (Awaited × Waiting)
+wait_of (told.Answered (answer.Waiting page by)) sleeper = Some (awaited.Pages, wait_for sleeper by)
+wait_of (told.Answered (answer.Blocked by)) sleeper = Some (awaited.Objects, wait_for sleeper by)
+wait_of other sleeper = None
+
+-- and if it may sleep
+abbrev pub wait_if : Bool → Told → Sleeper → Option (Awaited × Waiting)
+wait_if true told sleeper = wait_of told sleeper
+wait_if false told sleeper = None
 
 -- who still waits once locks were given back: those who wait for others
 abbrev pub waits_after : GivenBack → Waits → Waits
-waits_after (given.All x) waits = released awaited.Pages (whose.One x) (released awaited.Objects (whose.One x) waits)
+waits_after (given.All x) waits =
+    released awaited.Pages (whose.One x) (released awaited.Objects (whose.One x) waits)
+waits_after (given.Operation x) waits =
+    released awaited.Pages (whose.One x) (released awaited.Objects (whose.Turn x) waits)
 waits_after (given.Pages x) waits = released awaited.Pages (whose.One x) waits
 waits_after given.Nothing waits = waits
 
 -- who is woken then: all who waited for what was given back
 abbrev pub woken_by : GivenBack → Waits → List Waker
-woken_by (given.All x) waits = wakers_in (whose.One x) waits.objects ++ wakers_in (whose.One x) waits.pages
+woken_by (given.All x) waits =
+    wakers_in (whose.One x) waits.objects ++ wakers_in (whose.One x) waits.pages
+woken_by (given.Operation x) waits =
+    wakers_in (whose.Turn x) waits.objects ++ wakers_in (whose.One x) waits.pages
 woken_by (given.Pages x) waits = wakers_in (whose.One x) waits.pages
 woken_by given.Nothing waits = []
 
@@ -84,40 +107,94 @@ CanSleep count kind wait waits = (waiting waits + 1 < count) × CanJoin kind wai
 abbrev pub CantSleep : ℕ → Awaited → Waiting → Waits → Type 0
 CantSleep count kind wait waits = (count ≤ waiting waits + 1) ⊎ CantJoin kind wait waits
 
--- Who waits after one that was to wait so has taken its turn, of so many desks. It gives up if the wait is a deadlock, and
--- sleeps if it can; else it tries at once, and where it wants a page, so do all others that want one.
-abbrev pub Turns : ℕ → Awaited → Waiting → Waits → Turn → Waits → Type 0
-Turns count kind wait before turn.Deadlock after = Deadlocks kind wait before × (after ≡ before)
-Turns count kind wait before turn.Sleeps after =
-    (Deadlocks kind wait before → ⊥) × CanSleep count kind wait before × (after ≡ joined kind wait before)
-Turns count awaited.Objects wait before turn.Goes after =
-    (Deadlocks awaited.Objects wait before → ⊥) × CantSleep count awaited.Objects wait before × (after ≡ before)
-Turns count awaited.Pages wait before turn.Goes after =
-    CantSleep count awaited.Pages wait before × (after ≡ released awaited.Pages whose.All before)
+-- The wait would close a circle, of which this one, of another transaction, is the youngest.
+pub record GivesWay (wait : Waiting) (before : Waits) (one : Waiting) : Type 0 where
+  pub youngest : IsYoungest wait before one
+  pub is_other : one.waiter ≡ wait.waiter → ⊥
 
--- who is woken at its turn
-abbrev pub woken_at : Turn → Awaited → Waits → List Waker
-woken_at turn.Goes awaited.Pages waits = wakers_in whose.All waits.pages
-woken_at other any waits = []
+-- who waits once the youngest, if one is to, has given way
+abbrev pub cleared : Option Waiting → Waits → Waits
+cleared None waits = waits
+cleared (Some one) waits = released awaited.Objects (whose.Of one.waiter) waits
+
+abbrev pub woken_first : Option Waiting → Waits → List Waker
+woken_first None waits = []
+woken_first (Some one) waits = wakers_in (whose.Of one.waiter) waits.objects
+
+-- no circle would be closed, or this one gives way
+abbrev pub IsCleared : Waiting → Waits → Option Waiting → Type 0
+IsCleared wait before None = Deadlocks wait before → ⊥
+IsCleared wait before (Some one) = GivesWay wait before one
+
+-- what becomes of the desk once the circle is gone: it sleeps if it can, and else tries at once
+abbrev pub SleepsIfItCan : ℕ → Waiting → Waits → Turn → Waits → Type 0
+SleepsIfItCan count wait before turn.Sleeps after =
+    CanSleep count awaited.Objects wait before × (after ≡ joined awaited.Objects wait before)
+SleepsIfItCan count wait before turn.Goes after =
+    CantSleep count awaited.Objects wait before × (after ≡ before)
+SleepsIfItCan count wait before turn.Deadlock after = ⊥
+
+-- Who waits, and who is woken, after one that was to wait for an object has taken its turn, of so many desks. It gives up if its
+-- transaction is the youngest of a circle; else the youngest gives way, if a circle would be closed.
+abbrev pub ObjectTurns : ℕ → Waiting → Waits → Turn → Waits → List Waker → Type 0
+ObjectTurns count wait before turn.Deadlock after woken =
+    ((one : Waiting) × IsYoungest wait before one × (one.waiter ≡ wait.waiter))
+    × (after ≡ before) × (woken ≡ [])
+ObjectTurns count wait before taken after woken =
+    (one : Option Waiting) × IsCleared wait before one × (woken ≡ woken_first one before)
+    × SleepsIfItCan count wait (cleared one before) taken after
+
+-- The same for a page. It sleeps if it can; else it tries at once, and so do all others that want one.
+abbrev pub PageTurns : ℕ → Waiting → Waits → Turn → Waits → List Waker → Type 0
+PageTurns count wait before turn.Sleeps after woken =
+    CanSleep count awaited.Pages wait before × (after ≡ joined awaited.Pages wait before)
+    × (woken ≡ [])
+PageTurns count wait before turn.Goes after woken =
+    CantSleep count awaited.Pages wait before × (after ≡ released awaited.Pages whose.All before)
+    × (woken ≡ wakers_in whose.All before.pages)
+PageTurns count wait before turn.Deadlock after woken = ⊥
 
 -- its turn, where it may be that it is not to wait, or may not sleep
-abbrev pub TurnsIfWaits : ℕ → Option (Awaited × Waiting) → Waits → Turn → Waits → Type 0
-TurnsIfWaits count None before taken after = (taken ≡ turn.Goes) × (after ≡ before)
-TurnsIfWaits count (Some wait) before taken after = Turns count wait.0 wait.1 before taken after
+abbrev pub TurnsIfWaits
+    : ℕ → Option (Awaited × Waiting) → Waits → Turn → Waits → List Waker → Type 0
+TurnsIfWaits count None before taken after woken =
+    (taken ≡ turn.Goes) × (after ≡ before) × (woken ≡ [])
+TurnsIfWaits count (Some (awaited.Objects, wait)) before taken after woken =
+    ObjectTurns count wait before taken after woken
+TurnsIfWaits count (Some (awaited.Pages, wait)) before taken after woken =
+    PageTurns count wait before taken after woken
 
--- who is woken then
-abbrev pub woken_if_waits : Option (Awaited × Waiting) → Turn → Waits → List Waker
-woken_if_waits None taken waits = []
-woken_if_waits (Some wait) taken waits = woken_at taken wait.0 waits
+-- who is blocked once locks were given back: no longer one whose operation has ended
+abbrev pub queue_after : GivenBack → List Blocked → List Blocked
+queue_after (given.All x) queue = without x queue
+queue_after (given.Operation x) queue = without x queue
+queue_after other queue = queue
+
+-- who is blocked once a sleeper was told this
+abbrev pub queue_with : Told → Sleeper → List Blocked → List Blocked
+queue_with (told.Answered (answer.Blocked by)) sleeper queue =
+    with_blocked sleeper.tx sleeper.op queue
+queue_with other sleeper queue = queue
+
+-- and if it may sleep
+abbrev pub queue_if : Bool → Told → Sleeper → List Blocked → List Blocked
+queue_if true told sleeper queue = queue_with told sleeper queue
+queue_if false told sleeper queue = queue
 
 -- who has precedence once locks were given back: no longer one that did so
 abbrev pub precedence_after : GivenBack → Option ℕ → Option ℕ
 precedence_after (given.All x) (Some y) = if x == y then None else Some y
+precedence_after (given.Operation x) (Some y) = if x == y then None else Some y
 precedence_after (given.Pages x) (Some y) = if x == y then None else Some y
 precedence_after other before = before
 
--- who has precedence once one that may sleep was told this: one that waits for pages and takes it, if nobody has it yet
-abbrev pub precedence_with : Told → Option Sleeper → Option ℕ → Option ℕ
-precedence_with (told.Answered (answer.Waiting page by)) (Some sleeper) None =
+-- who has precedence once a sleeper was told this: one that waits for pages and takes it, if nobody has it yet
+abbrev pub precedence_with : Told → Sleeper → Option ℕ → Option ℕ
+precedence_with (told.Answered (answer.Waiting page by)) sleeper None =
     if sleeper.takes_precedence then Some sleeper.tx else None
-precedence_with other any before = before
+precedence_with other sleeper before = before
+
+-- and if it may sleep
+abbrev pub precedence_if : Bool → Told → Sleeper → Option ℕ → Option ℕ
+precedence_if true told sleeper before = precedence_with told sleeper before
+precedence_if false told sleeper before = before

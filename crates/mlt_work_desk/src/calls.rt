@@ -4,10 +4,12 @@ ghost use Rattle.std.specs.Prelude.{◌≡◌, ◌+◌, ◌-◌, ◌^◌, min, I
 ghost use Rattle.mlt_script_cursor.specs.Calls.{answer_by};
 ghost use Rattle.mlt_work_desk.specs.Holds.{IsToldTo, MayAnswerOperation};
 
+use crate::called::Called;
 use crate::gate::Gate;
 use crate::lock_desk::{LockDesk, Tries};
 use crate::made_with::MadeWith;
 use crate::shared::Shared;
+use crate::timestamp::Timestamp;
 use crate::tuning::WAITS_BEFORE_PRECEDENCE;
 use crate::turn::{Sleeper, Turn, is_to_wait};
 use mlt_event::{Answer, Event, Told};
@@ -15,7 +17,7 @@ use mlt_object_kinds::{ObjOp, ObjReply};
 use mlt_script_cursor::{Answering, DeskAnswer};
 use mlt_script_desk::Desk;
 use mlt_types::{Pseudo, Refusal, TxId};
-use mlt_work_waits::{Waker, Wakers};
+use mlt_work_waits::Wakers;
 use std::sync::Wait;
 use std::sync::ledger::Share;
 
@@ -40,8 +42,16 @@ impl<'a, P: Pseudo, L: MadeWith<P>, R: Wait, G: Gate> LockDesk<'a, P, L, R, G> {
             tries,
             left: 0,
             waited: 0,
-            waker,
-            asleep: None,
+            sleeper: Sleeper {
+                tx: TxId(0),
+                timestamp: 0,
+                waker,
+                takes_precedence: false,
+                op: ObjOp::Size(0),
+            },
+            is_asleep: false,
+            called: Called::none(),
+            timestamp: Timestamp::new(),
             share,
             events: 0,
         }
@@ -50,6 +60,7 @@ impl<'a, P: Pseudo, L: MadeWith<P>, R: Wait, G: Gate> LockDesk<'a, P, L, R, G> {
     /// From now on it is at work for this client.
     pub fn serve(&mut self, client: u32) {
         self.client = client;
+        self.timestamp = Timestamp::new();
     }
 
     /// Ends the desk, and gives its share and the number of its events.
@@ -65,62 +76,84 @@ impl<'a, P: Pseudo, L: MadeWith<P>, R: Wait, G: Gate> LockDesk<'a, P, L, R, G> {
             tries: _,
             left: _,
             waited: _,
-            waker,
-            asleep: _,
+            sleeper,
+            is_asleep: _,
+            called: _,
+            timestamp: _,
             share,
             events,
         } = self;
         let mut wakers = Wakers::new();
-        shared.lock(rt).desks.leave(waker, &mut wakers);
+        shared.lock(rt).desks.leave(sleeper.waker, &mut wakers);
         shared.wake(&wakers);
         (share, events)
     }
 
     /// One event, in one hold of the lock, which counts in the share. The desk may sleep before it; and where it is to wait it
-    /// sleeps after it as this sleeper, if it is given one and the turn is so.
+    /// sleeps after it, if it may and the turn is so.
     #[inline(always)]
-    fn event(&mut self, event: Event, sleeper: Option<Sleeper>) -> (Told, Turn)
+    fn event(&mut self, event: Event, may_sleep: bool) -> (Told, Turn)
         ensures told { IsToldTo P.bits_of event result.0 }
         ensures one { self.new.share.amount ≡ self.old.share.amount + 1 }
     {
         let LockDesk {
             rt,
             shared,
-            waker,
-            asleep,
+            sleeper,
+            is_asleep,
             share,
             events,
             ..
         } = self;
         let mut wakers = Wakers::new();
-        let mut state = shared.enter(*rt, *asleep, caller(&event, *waker));
-        // A copy: the prover takes what is passed by value as moved.
-        let next = sleeper;
-        let (told, turn) = state.act(event, share, next, &mut wakers);
+        let is_call = matches!(event, Event::Call(..));
+        let mut state = shared.enter(*rt, sleeper, *is_asleep, is_call);
+        let (told, turn) = state.act(event, share, may_sleep, sleeper, &mut wakers);
+        shared.note_blocked(state.desks.blocked());
         drop(state);
         shared.wake(&wakers);
-        *asleep = if turn == Turn::Sleeps { sleeper } else { None };
+        *is_asleep = turn == Turn::Sleeps;
         *events = events.saturating_add(1);
         (told, turn)
     }
 
     /// One event, in one hold of the lock. The gate is told its answer, with the lock free.
     #[inline(always)]
-    fn hold(&mut self, event: Event, sleeper: Option<Sleeper>) -> (Told, Turn)
+    fn hold(&mut self, event: Event, may_sleep: bool) -> (Told, Turn)
         ensures told { IsToldTo P.bits_of event result.0 }
         ensures one { self.new.share.amount ≡ self.old.share.amount + 1 }
     {
-        let (told, turn) = self.event(event, sleeper);
+        let (told, turn) = self.event(event, may_sleep);
         self.gate.pause(self.client, &told);
         (told, turn)
     }
 
-    /// As whom the desk sleeps where it waits.
-    fn sleeper(&self, tx: TxId) -> Sleeper {
-        Sleeper {
-            tx,
-            waker: self.waker,
-            takes_precedence: self.waited >= WAITS_BEFORE_PRECEDENCE,
+    /// From now on it sleeps as one of this transaction, which has not waited yet.
+    fn is_in(&mut self, tx: TxId) {
+        self.waited = 0;
+        self.sleeper.tx = tx;
+        self.sleeper.takes_precedence = false;
+    }
+
+    /// The transaction is to call this operation. Where others are blocked in operations that may clash with it, the desk sleeps
+    /// behind the last of them before its next event: unless the transaction may hold something there, for which they wait.
+    #[inline(always)]
+    fn wait_for_turn(&mut self, op: &ObjOp) {
+        let is_new = self.called.add(op);
+        if is_new && self.shared.has_blocked() {
+            self.queue_behind(op);
+        }
+    }
+
+    /// Where others are blocked in operations that may clash with this one, the desk sleeps behind the last of them before its
+    /// next event. The gate is told so, with the lock free.
+    fn queue_behind(&mut self, op: &ObjOp) {
+        let mut state = self.shared.lock(self.rt);
+        let queues = state.desks.queues(&self.sleeper, op);
+        drop(state);
+        if queues {
+            self.is_asleep = true;
+            self.gate.rest(self.client);
         }
     }
 
@@ -128,6 +161,7 @@ impl<'a, P: Pseudo, L: MadeWith<P>, R: Wait, G: Gate> LockDesk<'a, P, L, R, G> {
     fn tries_again(&mut self, turn: Turn) -> bool {
         self.left = self.left.saturating_sub(1);
         self.waited = self.waited.saturating_add(1);
+        self.sleeper.takes_precedence = self.waited >= WAITS_BEFORE_PRECEDENCE;
         self.left > 0 && turn != Turn::Deadlock
     }
 
@@ -139,13 +173,13 @@ impl<'a, P: Pseudo, L: MadeWith<P>, R: Wait, G: Gate> LockDesk<'a, P, L, R, G> {
             (λ reply. MayAnswerOperation P.bits_of tx (answer_by DeskAnswer.Replied reply)) }
     {
         // With its last try it does not wait.
-        let sleeper = (self.left > 1).then_some(self.sleeper(tx));
-        let (told, turn) = self.hold(Event::Step(tx), sleeper);
+        let (told, turn) = self.hold(Event::Step(tx), self.left > 1);
         if is_to_wait(&told) {
             if self.tries_again(turn) {
                 return None;
             }
-            self.hold(Event::Cancel(tx), None);
+            self.hold(Event::Cancel(tx), false);
+            self.timestamp.give_up();
             return Some(Err(Refusal::GaveUp));
         }
         match told {
@@ -172,8 +206,7 @@ impl<'a, P: Pseudo, L: MadeWith<P>, R: Wait, G: Gate> LockDesk<'a, P, L, R, G> {
     /// One step of an abort. Where it is to wait it goes on once it is awake, and spends no try. It answers whether more are to
     /// come.
     fn undo_step(&mut self, tx: TxId) -> bool {
-        let sleeper = self.sleeper(tx);
-        let (told, _) = self.hold(Event::Step(tx), Some(sleeper));
+        let (told, _) = self.hold(Event::Step(tx), true);
         is_to_wait(&told) || matches!(told, Told::Answered(Answer::Going | Answer::Undone))
     }
 
@@ -197,8 +230,10 @@ impl<'a, P: Pseudo, L: MadeWith<P>, R: Wait, G: Gate> Answering for LockDesk<'a,
         if let Tries::PerOperation(tries) = self.tries {
             self.left = tries;
         }
-        self.waited = 0;
-        let (told, _) = self.hold(Event::Call(tx, op), None);
+        self.is_in(tx);
+        self.sleeper.op = op;
+        self.wait_for_turn(&op);
+        let (told, _) = self.hold(Event::Call(tx, op), false);
         match told {
             Told::Called => self.steps(tx),
             Told::Refused(refusal) => Err(refusal),
@@ -213,40 +248,36 @@ impl<'a, P: Pseudo, L: MadeWith<P>, R: Wait, G: Gate> Desk for LockDesk<'a, P, L
             self.left = tries;
         }
         self.gate.begin(self.client);
-        let (told, _) = self.hold(Event::Begin, None);
+        let (told, _) = self.hold(Event::Begin, false);
         match told {
-            Told::Begun(tx) => Ok(tx),
+            Told::Begun(tx) => {
+                self.timestamp.begin(tx);
+                self.sleeper.timestamp = self.timestamp.number();
+                self.called = Called::none();
+                Ok(tx)
+            }
             Told::Refused(refusal) => Err(refusal),
             _ => unreachable!(),
         }
     }
 
     fn commit(&mut self, tx: TxId) -> Result<u64, Refusal> {
-        let (told, _) = self.hold(Event::Commit(tx), None);
+        let (told, _) = self.hold(Event::Commit(tx), false);
         match told {
-            Told::Committed(number) => Ok(number),
+            Told::Committed(number) => {
+                self.timestamp.commit();
+                Ok(number)
+            }
             Told::Refused(refusal) => Err(refusal),
             _ => unreachable!(),
         }
     }
 
     fn abort(&mut self, tx: TxId) {
-        let (told, _) = self.hold(Event::Abort(tx), None);
+        let (told, _) = self.hold(Event::Abort(tx), false);
         if told == Told::Aborting(false) {
-            self.waited = 0;
+            self.is_in(tx);
             self.undo(tx);
         }
-    }
-}
-
-/// Who calls an operation by this event, if it does: it may yield to another before.
-fn caller(event: &Event, waker: Waker) -> Option<Sleeper> {
-    match *event {
-        Event::Call(tx, _) => Some(Sleeper {
-            tx,
-            waker,
-            takes_precedence: false,
-        }),
-        _ => None,
     }
 }

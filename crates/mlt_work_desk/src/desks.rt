@@ -1,12 +1,15 @@
-//! The desks over a lock, which of them wait, and which has precedence.
+//! The desks over a lock, which of them wait, who is blocked, and which has precedence.
 
-ghost use Rattle.std.specs.Prelude.{ℕ, ◌≡◌, ◌++◌, ◌+◌, ◌-◌, ◌<◌, ◌≤◌, ◌^◌, [], true, false, None, Some, length, min};
+ghost use Rattle.std.specs.Prelude.{ℕ, ◌≡◌, ◌++◌, ◌+◌, ◌-◌, ◌<◌, ◌≤◌, ◌^◌, ◌⊎◌, [], List, true, false, None, Some, length, min};
 ghost use Rattle.mlt_work_waits.specs.Waits.{joined};
-ghost use Rattle.mlt_work_desk.specs.Waits.{CanSleep, CantSleep, precedence_after, precedence_with, Turns, TurnsIfWaits, wait_for, waiting, waits_after, waits_of_others, woken_at, woken_by, woken_by_end, woken_if_waits};
+ghost use Rattle.mlt_work_queue.specs.Queues.{last_before};
+ghost use Rattle.mlt_work_desk.specs.Waits.{CanSleep, CantSleep, ObjectTurns, PageTurns, precedence_after, precedence_if, precedence_with, queue_after, queue_if, queue_with, turn_behind, TurnsIfWaits, wait_for, wait_if, waiting, waits_after, waits_of_others, woken_by, woken_by_end};
 
-use crate::turn::{GivenBack, Sleeper, Turn};
+use crate::turn::{GivenBack, Sleeper, Turn, wait_for, wait_of};
 use mlt_event::{Answer, Told};
+use mlt_object_kinds::ObjOp;
 use mlt_types::TxId;
+use mlt_work_queue::BlockedQueue;
 use mlt_work_waits::{Awaited, Waiting, WaitsFor, Waker, Wakers, Whose};
 
 /// How many desks there are, and whose transactions wait for which. Not all wait, and none in a circle.
@@ -17,6 +20,8 @@ pub(crate) struct Desks {
     taken: u64,
     /// The transactions of the desks that sleep.
     waits: WaitsFor,
+    /// The transactions that were blocked in the operation that they are in. Others wait for their turn behind them.
+    queue: BlockedQueue,
     /// The transaction that has precedence: others yield to it before they call an operation.
     precedence: Option<TxId>,
     ghost awake: { waiting waits ≤ count - 1 },
@@ -29,6 +34,7 @@ impl Desks {
             count: 0,
             taken: 0,
             waits: WaitsFor::new(),
+            queue: BlockedQueue::new(),
             precedence: None,
         }
     }
@@ -38,6 +44,7 @@ impl Desks {
         ensures count { self.new.count ≡ min (self.old.count + 1) (2 ^ 64 - 1) }
         ensures waits { self.new.waits ≡ self.old.waits }
         ensures precedence { self.new.precedence ≡ self.old.precedence }
+        ensures queue { self.new.queue ≡ self.old.queue }
     {
         let lowest = self.taken.trailing_ones();
         self.taken |= self.taken.wrapping_add(1);
@@ -53,6 +60,7 @@ impl Desks {
         ensures waits { self.new.waits ≡ waits_of_others self.old.count self.old.waits }
         ensures wakes { wakers.new.items ≡ woken_by_end self.old.count self.old.waits }
         ensures precedence { self.new.precedence ≡ self.old.precedence }
+        ensures queue { self.new.queue ≡ self.old.queue }
     {
         let Waker(number) = waker;
         let own = 1u64.checked_shl(u32::from(number)).unwrap_or(0);
@@ -69,7 +77,16 @@ impl Desks {
         self.waits.is_awake(tx)
     }
 
-    /// Locks were given back: who waits for them is awake, and its waker is added.
+    /// How many are blocked, 0 to 64.
+    #[inline(always)]
+    pub(crate) fn blocked(&self) -> u64
+        ensures { result ≡ length self.now.queue }
+    {
+        self.queue.count()
+    }
+
+    /// Locks were given back: who waits for them is awake, and its waker is added. Who is in no operation any more stands in the
+    /// queue no longer, and who waits for its turn behind it is awake too.
     #[inline(always)]
     #[tactic(auto, using(crate::proofs::Fewer::fewer_wait, crate::proofs::Fewer::nobody_left))]
     pub(crate) fn give_back(&mut self, given: GivenBack, wakers: &mut Wakers)
@@ -77,13 +94,21 @@ impl Desks {
         ensures waits { self.new.waits ≡ waits_after given self.old.waits }
         ensures wakes { wakers.new.items ≡ woken_by given self.old.waits }
         ensures few { length wakers.new.items ≤ 128 }
+        ensures queue { self.new.queue ≡ queue_after given self.old.queue }
         ensures precedence { self.new.precedence ≡ precedence_after given self.old.precedence }
         ensures count { self.new.count ≡ self.old.count }
     {
         self.precedence = precedence_after(&given, self.precedence);
         match given {
             GivenBack::All(tx) => {
+                self.queue.remove(tx);
                 self.waits.release(Awaited::Objects, Whose::One(tx), wakers);
+                self.waits.release(Awaited::Pages, Whose::One(tx), wakers);
+            }
+            GivenBack::Operation(tx) => {
+                self.queue.remove(tx);
+                self.waits
+                    .release(Awaited::Objects, Whose::Turn(tx), wakers);
                 self.waits.release(Awaited::Pages, Whose::One(tx), wakers);
             }
             GivenBack::Pages(tx) => self.waits.release(Awaited::Pages, Whose::One(tx), wakers),
@@ -91,56 +116,113 @@ impl Desks {
         }
     }
 
+    /// What a desk does that was told this, which may sleep or not. Where it is to wait, and may sleep, it does so as this sleeper.
+    #[inline(always)]
+    pub(crate) fn take_turn(
+        &mut self,
+        told: &Told,
+        may_sleep: bool,
+        sleeper: &Sleeper,
+        wakers: &mut Wakers,
+    ) -> Turn
+        requires { length wakers.old.items ≤ 128 }
+        ensures turns { (woken : List Waker) × (wakers.new.items ≡ wakers.old.items ++ woken)
+            × TurnsIfWaits self.old.count (wait_if may_sleep told.now sleeper.now)
+            self.old.waits result self.new.waits woken }
+        ensures queue { self.new.queue ≡ queue_if may_sleep told.now sleeper.now self.old.queue }
+        ensures precedence { self.new.precedence
+            ≡ precedence_if may_sleep told.now sleeper.now self.old.precedence }
+        ensures count { self.new.count ≡ self.old.count }
+    {
+        if !may_sleep {
+            return Turn::Goes;
+        }
+        self.note(told, sleeper);
+        self.turn(wait_of(told, sleeper), wakers)
+    }
+
     /// What a desk does that is to wait so, if it is to.
     #[inline(always)]
     pub(crate) fn turn(&mut self, to_wait: Option<(Awaited, Waiting)>, wakers: &mut Wakers) -> Turn
         requires { length wakers.old.items ≤ 128 }
-        ensures turns { TurnsIfWaits self.old.count to_wait self.old.waits result self.new.waits }
-        ensures wakes { wakers.new.items
-            ≡ wakers.old.items ++ woken_if_waits to_wait result self.old.waits }
+        ensures turns { (woken : List Waker) × (wakers.new.items ≡ wakers.old.items ++ woken)
+            × TurnsIfWaits self.old.count to_wait self.old.waits result self.new.waits woken }
+        ensures queue { self.new.queue ≡ self.old.queue }
         ensures precedence { self.new.precedence ≡ self.old.precedence }
         ensures count { self.new.count ≡ self.old.count }
     {
         match to_wait {
-            Some((awaited, wait)) => self.begin_wait(awaited, wait, wakers),
+            Some((Awaited::Objects, wait)) => self.wait_for_object(wait, wakers),
+            Some((Awaited::Pages, wait)) => self.wait_for_page(wait, wakers),
             None => Turn::Goes,
         }
     }
 
-    /// What a desk does that is to wait so.
+    /// What a desk does that is to wait for an object.
     ///
-    /// It gives up where its wait would close a circle of waits for objects. The last desk that is awake tries at once, and
-    /// so does one whose wait would close another circle; where it wants a page, it wakes those that do too: a pass that is to
-    /// start anew gives its pages back as well, and is told to go on. Any other desk sleeps, and is counted.
-    #[tactic(auto, using(crate::proofs::Fewer::fewer_wait, crate::proofs::Fewer::nobody_left))]
-    fn begin_wait(&mut self, awaited: Awaited, wait: Waiting, wakers: &mut Wakers) -> Turn
+    /// Where its wait would close a circle of such waits, the youngest of the circle gives way. If that is its own transaction it
+    /// gives up; else the other one wakes: it tries again, and if it is blocked as before, it closes the circle itself. Then the
+    /// desk sleeps, and is counted; where all others sleep it tries at once.
+    #[tactic(auto, using(crate::proofs::Fewer::fewer_wait))]
+    fn wait_for_object(&mut self, wait: Waiting, wakers: &mut Wakers) -> Turn
         requires { length wakers.old.items ≤ 128 }
-        ensures turns { Turns self.old.count awaited wait self.old.waits result self.new.waits }
-        ensures wakes { wakers.new.items
-            ≡ wakers.old.items ++ woken_at result awaited self.old.waits }
+        ensures turns { (woken : List Waker) × (wakers.new.items ≡ wakers.old.items ++ woken)
+            × ObjectTurns self.old.count wait self.old.waits result self.new.waits woken }
+        ensures queue { self.new.queue ≡ self.old.queue }
         ensures precedence { self.new.precedence ≡ self.old.precedence }
         ensures count { self.new.count ≡ self.old.count }
     {
-        if self.waits.deadlocks(awaited, &wait) {
-            return Turn::Deadlock;
+        if let Some(youngest) = self.waits.youngest(&wait) {
+            if youngest.waiter == wait.waiter {
+                return Turn::Deadlock;
+            }
+            self.waits
+                .release(Awaited::Objects, Whose::Of(youngest.waiter), wakers);
         }
-        if self.join(awaited, wait) {
+        if self.join(Awaited::Objects, wait) {
+            Turn::Sleeps
+        } else {
+            Turn::Goes
+        }
+    }
+
+    /// What a desk does that is to wait for a page.
+    ///
+    /// The last desk that is awake tries at once, and so does one whose wait would close a circle. It wakes those that want a page
+    /// too: a pass that is to start anew gives its pages back as well, and is told to go on. Any other desk sleeps, and is counted.
+    #[tactic(auto, using(crate::proofs::Fewer::fewer_wait))]
+    fn wait_for_page(&mut self, wait: Waiting, wakers: &mut Wakers) -> Turn
+        requires { length wakers.old.items ≤ 128 }
+        ensures turns { (woken : List Waker) × (wakers.new.items ≡ wakers.old.items ++ woken)
+            × PageTurns self.old.count wait self.old.waits result self.new.waits woken }
+        ensures queue { self.new.queue ≡ self.old.queue }
+        ensures precedence { self.new.precedence ≡ self.old.precedence }
+        ensures count { self.new.count ≡ self.old.count }
+    {
+        if self.join(Awaited::Pages, wait) {
             return Turn::Sleeps;
         }
-        if awaited == Awaited::Pages {
-            self.waits.release(Awaited::Pages, Whose::All, wakers);
-        }
+        self.waits.release(Awaited::Pages, Whose::All, wakers);
         Turn::Goes
     }
 
-    /// One that may sleep was told this. If it waits for pages and takes precedence it has it from now on, unless another does.
-    pub(crate) fn give_precedence(&mut self, told: &Told, sleeper: Option<Sleeper>)
+    /// A sleeper was told this. If it is blocked it stands in the queue from now on. If it waits for pages and takes precedence
+    /// it has it, unless another does.
+    #[inline(always)]
+    pub(crate) fn note(&mut self, told: &Told, sleeper: &Sleeper)
+        ensures queue { self.new.queue ≡ queue_with told.now sleeper.now self.old.queue }
         ensures precedence { self.new.precedence
-            ≡ precedence_with told.now sleeper self.old.precedence }
+            ≡ precedence_with told.now sleeper.now self.old.precedence }
         ensures waits { self.new.waits ≡ self.old.waits }
         ensures count { self.new.count ≡ self.old.count }
     {
-        self.precedence = precedence_with(told, sleeper, self.precedence);
+        match told {
+            Told::Answered(Answer::Blocked { .. }) => self.queue.push(sleeper.tx, sleeper.op),
+            Told::Answered(Answer::Waiting { .. }) if sleeper.takes_precedence => {
+                self.precedence = self.precedence.or(Some(sleeper.tx));
+            }
+            _ => (),
+        }
     }
 
     /// One is about to call an operation. Where another has precedence it yields, that is it waits for the pages of that one, if
@@ -151,18 +233,40 @@ impl Desks {
             × (self.new.waits ≡ joined Awaited.Pages (wait_for sleeper.now y) self.old.waits) }
         ensures none { self.old.precedence ≡ None → result ≡ false }
         ensures stays { result ≡ false → self.new.waits ≡ self.old.waits }
+        ensures queue { self.new.queue ≡ self.old.queue }
         ensures precedence { self.new.precedence ≡ self.old.precedence }
         ensures count { self.new.count ≡ self.old.count }
     {
         let Some(holder) = self.precedence else {
             return false;
         };
+        self.join(Awaited::Pages, wait_for(sleeper, holder))
+    }
+
+    /// One is about to call an operation. Where others are blocked in operations that may clash with it, it waits for its turn
+    /// behind the last of them, if another desk is awake and its wait can join. It answers whether it does.
+    pub(crate) fn queues(&mut self, sleeper: &Sleeper, op: &ObjOp) -> bool
+        ensures queues { result ≡ true → (y : ℕ) × (last_before op.now self.old.queue ≡ Some y)
+            × CanSleep self.old.count Awaited.Objects (turn_behind sleeper.now y) self.old.waits
+            × (self.new.waits ≡ joined Awaited.Objects (turn_behind sleeper.now y) self.old.waits) }
+        ensures goes { result ≡ false → (last_before op.now self.old.queue ≡ None)
+            ⊎ ((y : ℕ) × (last_before op.now self.old.queue ≡ Some y)
+            × CantSleep self.old.count Awaited.Objects (turn_behind sleeper.now y) self.old.waits) }
+        ensures stays { result ≡ false → self.new.waits ≡ self.old.waits }
+        ensures queue { self.new.queue ≡ self.old.queue }
+        ensures precedence { self.new.precedence ≡ self.old.precedence }
+        ensures count { self.new.count ≡ self.old.count }
+    {
+        let Some(holder) = self.queue.last_before(op) else {
+            return false;
+        };
         let wait = Waiting {
             waiter: sleeper.tx,
             holder,
             waker: sleeper.waker,
+            timestamp: None,
         };
-        self.join(Awaited::Pages, wait)
+        self.join(Awaited::Objects, wait)
     }
 
     /// One more waits from now on, if another desk is awake and its wait can join. It answers whether it does.
@@ -171,6 +275,7 @@ impl Desks {
         ensures joins { result ≡ true → self.new.waits ≡ joined awaited wait self.old.waits }
         ensures cant { result ≡ false → CantSleep self.old.count awaited wait self.old.waits }
         ensures stays { result ≡ false → self.new.waits ≡ self.old.waits }
+        ensures queue { self.new.queue ≡ self.old.queue }
         ensures precedence { self.new.precedence ≡ self.old.precedence }
         ensures count { self.new.count ≡ self.old.count }
     {
@@ -183,19 +288,9 @@ fn precedence_after(given: &GivenBack, before: Option<TxId>) -> Option<TxId>
     ensures { result ≡ precedence_after given.now before }
 {
     match given {
-        GivenBack::All(tx) | GivenBack::Pages(tx) => before.filter(|first| first != tx),
-        GivenBack::Nothing => before,
-    }
-}
-
-/// Who has precedence once one that may sleep was told this.
-fn precedence_with(told: &Told, sleeper: Option<Sleeper>, before: Option<TxId>) -> Option<TxId>
-    ensures { result ≡ precedence_with told.now sleeper before }
-{
-    match (told, sleeper, before) {
-        (Told::Answered(Answer::Waiting { .. }), Some(sleeper), None) => {
-            sleeper.takes_precedence.then_some(sleeper.tx)
+        GivenBack::All(tx) | GivenBack::Operation(tx) | GivenBack::Pages(tx) => {
+            before.filter(|first| first != tx)
         }
-        _ => before,
+        GivenBack::Nothing => before,
     }
 }

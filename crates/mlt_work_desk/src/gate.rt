@@ -7,6 +7,9 @@ pub trait Gate {
     /// The client is to begin a transaction, and has none. Most gates have nothing to do then.
     fn begin(&self, _client: u32) {}
 
+    /// The client is to wait for its turn before it calls an operation. Most gates have nothing to do then.
+    fn rest(&self, _client: u32) {}
+
     /// The event of this client was told this.
     fn pause(&self, client: u32, told: &Told);
 }

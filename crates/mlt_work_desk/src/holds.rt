@@ -1,16 +1,17 @@
 //! What a desk does while it holds the lock.
 
-ghost use Rattle.std.specs.Prelude.{◌≡◌, ◌++◌, ◌+◌, ◌-◌, ◌<◌, ◌^◌, [], Some, min};
+ghost use Rattle.std.specs.Prelude.{◌≡◌, ◌++◌, ◌+◌, ◌-◌, ◌<◌, ◌^◌, [], List, Some, min};
 ghost use Rattle.mlt_manager.specs.Answers.{counted};
 ghost use Rattle.mlt_manager.specs.Events.{Meets};
 ghost use Rattle.mlt_manager.specs.Managers.{IsManager};
+ghost use Rattle.mlt_work_waits.specs.declared.wait.Waker.{Waker};
 ghost use Rattle.mlt_work_desk.specs.Makings.{making_of};
-ghost use Rattle.mlt_work_desk.specs.Waits.{given_back_by, precedence_after, precedence_with, TurnsIfWaits, wait_of, waits_after, woken_by, woken_if_waits};
+ghost use Rattle.mlt_work_desk.specs.Waits.{given_back_by, precedence_after, precedence_if, queue_after, queue_if, TurnsIfWaits, wait_if, waits_after, woken_by};
 
 use crate::desks::Desks;
 use crate::locked_state::LockedState;
 use crate::made_with::MadeWith;
-use crate::turn::{Sleeper, Turn, given_back, wait_of};
+use crate::turn::{Sleeper, Turn, given_back};
 use mlt_event::{Event, Told};
 use mlt_manager::Manager;
 use mlt_types::Pseudo;
@@ -48,14 +49,15 @@ impl<P: Pseudo, L: MadeWith<P>> LockedState<P, L> {
         }
     }
 
-    /// One event of a desk that may sleep as this sleeper, which counts in the share. Whoever waits for what it gave back is
-    /// awake then, and its waker is added. It answers what was told, and what the desk does next.
+    /// One event of a desk, which counts in the share. Where it is to wait, and may sleep, it does so as this sleeper. Whoever waits
+    /// for what it gave back is awake then, and its waker is added. It answers what was told, and what the desk does next.
     #[inline(always)]
     pub(crate) fn act(
         &mut self,
         event: Event,
         share: &mut Share<L>,
-        sleeper: Option<Sleeper>,
+        may_sleep: bool,
+        sleeper: &Sleeper,
         wakers: &mut Wakers,
     ) -> (Told, Turn)
         requires part { 0 < share.old.parts }
@@ -67,15 +69,15 @@ impl<P: Pseudo, L: MadeWith<P>> LockedState<P, L> {
         ensures amount { share.new.amount ≡ share.old.amount + 1 }
         ensures parts { share.new.parts ≡ share.old.parts }
         ensures desks { self.new.desks.count ≡ self.old.desks.count }
-        ensures turns { TurnsIfWaits self.old.desks.count (wait_of result.0 sleeper)
+        ensures turns { (woken : List Waker) × (wakers.new.items
+            ≡ woken_by (given_back_by event result.0) self.old.desks.waits ++ woken)
+            × TurnsIfWaits self.old.desks.count (wait_if may_sleep result.0 sleeper.now)
             (waits_after (given_back_by event result.0) self.old.desks.waits)
-            result.1 self.new.desks.waits }
-        ensures wakes { wakers.new.items
-            ≡ woken_by (given_back_by event result.0) self.old.desks.waits
-            ++ woken_if_waits (wait_of result.0 sleeper) result.1
-            (waits_after (given_back_by event result.0) self.old.desks.waits) }
+            result.1 self.new.desks.waits woken }
+        ensures queue { self.new.desks.queue ≡ queue_if may_sleep result.0 sleeper.now
+            (queue_after (given_back_by event result.0) self.old.desks.queue) }
         ensures precedence { self.new.desks.precedence
-            ≡ precedence_with result.0 sleeper
+            ≡ precedence_if may_sleep result.0 sleeper.now
             (precedence_after (given_back_by event result.0) self.old.desks.precedence) }
     {
         let LockedState {
@@ -88,10 +90,7 @@ impl<P: Pseudo, L: MadeWith<P>> LockedState<P, L> {
         let told = manager.act(event);
         manager.keeps_its_invariant();
         desks.give_back(given_back(&event, &told), wakers);
-        // A copy: the prover takes what is passed by value as moved.
-        let next = sleeper;
-        desks.give_precedence(&told, next);
-        let turn = desks.turn(wait_of(&told, sleeper), wakers);
+        let turn = desks.take_turn(&told, may_sleep, sleeper, wakers);
         (told, turn)
     }
 

@@ -1,6 +1,7 @@
 //! Desks over one manager that threads share under a lock.
 #![tactic(auto)]
 
+mod called;
 mod calls;
 mod desks;
 mod gate;
@@ -9,6 +10,7 @@ mod lock_desk;
 mod locked_state;
 mod made_with;
 mod shared;
+mod timestamp;
 mod tuning;
 mod turn;
 

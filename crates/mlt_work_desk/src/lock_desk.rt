@@ -2,12 +2,13 @@
 
 ghost use Rattle.std.specs.Prelude.{◌≡◌, ◌-◌, ◌^◌, min};
 
+use crate::called::Called;
 use crate::gate::Gate;
 use crate::made_with::MadeWith;
 use crate::shared::Shared;
+use crate::timestamp::Timestamp;
 use crate::turn::Sleeper;
 use mlt_types::Pseudo;
-use mlt_work_waits::Waker;
 use std::sync::Wait;
 use std::sync::ledger::Share;
 
@@ -32,10 +33,14 @@ pub struct LockDesk<'a, P: Pseudo, L: MadeWith<P>, R: Wait, G: Gate> {
     pub(crate) left: u64,
     /// How often the operation has waited.
     pub(crate) waited: u64,
-    /// What wakes it.
-    pub(crate) waker: Waker,
-    /// As whom it sleeps before its next event, if it does.
-    pub(crate) asleep: Option<Sleeper>,
+    /// As whom it sleeps where it waits.
+    pub(crate) sleeper: Sleeper,
+    /// Whether it sleeps before its next event.
+    pub(crate) is_asleep: bool,
+    /// What the open transaction has called.
+    pub(crate) called: Called,
+    /// That of the transaction.
+    pub(crate) timestamp: Timestamp,
     pub(crate) share: Share<L>,
     pub(crate) events: u64,
     ghost part: { share.parts ≡ 1 },

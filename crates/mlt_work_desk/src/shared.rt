@@ -12,6 +12,7 @@ use mlt_types::Pseudo;
 use mlt_work_waits::{Waker, Wakers};
 use std::array;
 use std::hint::spin_loop;
+use std::sync::atomic::{AtomicU64, Ordering};
 use std::sync::ledger::Share;
 use std::sync::{Condvar, Mutex, MutexGuard, Wait};
 
@@ -20,6 +21,8 @@ pub struct Shared<P: Pseudo, L: MadeWith<P>> {
     state: Mutex<LockedState<P, L>>,
     queue: Mutex<()>,
     condvars: [Condvar; 256],
+    /// How many were blocked at the end of the last hold, for who is to call an operation.
+    blocked: AtomicU64,
 }
 
 impl<P: Pseudo, L: MadeWith<P>> Shared<P, L> {
@@ -29,6 +32,7 @@ impl<P: Pseudo, L: MadeWith<P>> Shared<P, L> {
             state: Mutex::new(state),
             queue: Mutex::new(()),
             condvars: array::from_fn(|_| Condvar::new()),
+            blocked: AtomicU64::new(0),
         }
     }
 
@@ -66,18 +70,16 @@ impl<P: Pseudo, L: MadeWith<P>> Shared<P, L> {
     pub(crate) fn enter<R: Wait>(
         &self,
         rt: &R,
-        asleep: Option<Sleeper>,
-        caller: Option<Sleeper>,
+        sleeper: &Sleeper,
+        is_asleep: bool,
+        is_call: bool,
     ) -> MutexGuard<'_, LockedState<P, L>> {
         let mut state = self.lock(rt);
-        if let Some(sleeper) = asleep {
+        if is_asleep {
             state = self.sleep(rt, state, sleeper);
         }
-        let Some(caller) = caller else {
-            return state;
-        };
-        if state.desks.yields(&caller) {
-            return self.sleep(rt, state, caller);
+        if is_call && state.desks.yields(sleeper) {
+            return self.sleep(rt, state, sleeper);
         }
         state
     }
@@ -87,11 +89,25 @@ impl<P: Pseudo, L: MadeWith<P>> Shared<P, L> {
         &'a self,
         rt: &R,
         state: MutexGuard<'a, LockedState<P, L>>,
-        sleeper: Sleeper,
+        sleeper: &Sleeper,
     ) -> MutexGuard<'a, LockedState<P, L>> {
-        let Sleeper { tx, waker, .. } = sleeper;
+        let Sleeper { tx, waker, .. } = *sleeper;
         self.condvar(waker)
             .wait_while(rt, state, |state| !state.desks.is_awake(tx))
+    }
+
+    /// Whether somebody is blocked, or was a moment ago.
+    #[inline(always)]
+    pub(crate) fn has_blocked(&self) -> bool {
+        self.blocked.load(Ordering::Relaxed) > 0
+    }
+
+    /// So many are blocked, at the end of a hold. It is written only where it changes, since all desks look at it.
+    #[inline(always)]
+    pub(crate) fn note_blocked(&self, blocked: u64) {
+        if self.blocked.load(Ordering::Relaxed) != blocked {
+            self.blocked.store(blocked, Ordering::Relaxed);
+        }
     }
 
     /// Wakes the sleepers, with the lock free.
@@ -118,6 +134,7 @@ impl<P: Pseudo, L: MadeWith<P>> Shared<P, L> {
             state,
             queue: _,
             condvars: _,
+            blocked: _,
         } = self;
         state.into_inner().close(all)
     }
@@ -130,6 +147,7 @@ impl<P: Pseudo, L: MadeWith<P>> Shared<P, L> {
             state,
             queue: _,
             condvars: _,
+            blocked: _,
         } = self;
         state.into_inner().into_manager()
     }

@@ -1,9 +1,10 @@
 //! What a desk does that would wait, and what wakes it.
 
 ghost use Rattle.std.specs.Prelude.{◌≡◌};
-ghost use Rattle.mlt_work_desk.specs.Waits.{given_back_by, given_back_by_step, is_to_wait, wait_of};
+ghost use Rattle.mlt_work_desk.specs.Waits.{given_back_by, given_back_by_step, is_to_wait, wait_for, wait_of};
 
 use mlt_event::{Answer, Event, Told};
+use mlt_object_kinds::ObjOp;
 use mlt_types::TxId;
 use mlt_work_waits::{Awaited, Waiting, Waker};
 
@@ -24,16 +25,21 @@ pub(crate) enum GivenBack {
     Nothing,
     /// Those of pages that the transaction had.
     Pages(TxId),
+    /// Those of pages, by the end of its operation: so it stands in the queue no longer.
+    Operation(TxId),
     /// Those of pages and of objects.
     All(TxId),
 }
 
-/// One that may sleep: its transaction, what wakes it, and whether it has waited so often for pages that it takes precedence.
-#[derive(Clone, Copy, Debug, PartialEq, Eq)]
+/// One that may sleep: its transaction and the timestamp of that, what wakes it, whether it has waited so often for pages that it
+/// takes precedence, and the operation that it is in, or was in last.
+#[derive(Clone, Copy, Debug)]
 pub(crate) struct Sleeper {
     pub tx: TxId,
+    pub timestamp: u64,
     pub waker: Waker,
     pub takes_precedence: bool,
+    pub op: ObjOp,
 }
 
 /// Whose locks an event that was told this has given back. Desks make no others.
@@ -44,7 +50,7 @@ pub(crate) fn given_back(event: &Event, told: &Told) -> GivenBack
         (Event::Commit(tx), Told::Committed(_)) => GivenBack::All(*tx),
         (Event::Abort(tx), Told::Aborting(true)) => GivenBack::All(*tx),
         (Event::Step(tx), Told::Answered(answer)) => given_back_by_step(*tx, answer),
-        (Event::Cancel(tx), Told::Cancelled) => GivenBack::Pages(*tx),
+        (Event::Cancel(tx), Told::Cancelled) => GivenBack::Operation(*tx),
         _ => GivenBack::Nothing,
     }
 }
@@ -55,9 +61,8 @@ fn given_back_by_step(tx: TxId, answer: &Answer) -> GivenBack
 {
     match answer {
         Answer::Aborted => GivenBack::All(tx),
-        Answer::Done(_) | Answer::Blocked { .. } | Answer::Undone | Answer::Refused(_) => {
-            GivenBack::Pages(tx)
-        }
+        Answer::Done(_) | Answer::Refused(_) => GivenBack::Operation(tx),
+        Answer::Blocked { .. } | Answer::Undone => GivenBack::Pages(tx),
         Answer::Going | Answer::Waiting { .. } => GivenBack::Nothing,
     }
 }
@@ -72,20 +77,27 @@ pub fn is_to_wait(told: &Told) -> bool
     )
 }
 
-/// The wait of one that was told this, if it is to wait and may sleep.
-pub(crate) fn wait_of(told: &Told, sleeper: Option<Sleeper>) -> Option<(Awaited, Waiting)>
-    ensures { result ≡ wait_of told.now sleeper }
+/// The wait of a sleeper that was told this, if it is to wait.
+pub(crate) fn wait_of(told: &Told, sleeper: &Sleeper) -> Option<(Awaited, Waiting)>
+    ensures { result ≡ wait_of told.now sleeper.now }
 {
-    let Sleeper { tx, waker, .. } = sleeper?;
-    let (awaited, holder) = match told {
-        Told::Answered(Answer::Waiting { by, .. }) => (Awaited::Pages, *by),
-        Told::Answered(Answer::Blocked { by }) => (Awaited::Objects, *by),
-        _ => return None,
-    };
-    let wait = Waiting {
-        waiter: tx,
+    match told {
+        Told::Answered(Answer::Waiting { by, .. }) => {
+            Some((Awaited::Pages, wait_for(sleeper, *by)))
+        }
+        Told::Answered(Answer::Blocked { by }) => Some((Awaited::Objects, wait_for(sleeper, *by))),
+        _ => None,
+    }
+}
+
+/// The wait of a sleeper for a lock of this transaction.
+pub(crate) fn wait_for(sleeper: &Sleeper, holder: TxId) -> Waiting
+    ensures { result ≡ wait_for sleeper.now holder }
+{
+    Waiting {
+        waiter: sleeper.tx,
         holder,
-        waker,
-    };
-    Some((awaited, wait))
+        waker: sleeper.waker,
+        timestamp: Some(sleeper.timestamp),
+    }
 }

@@ -4,9 +4,7 @@ use Rattle.mlt_work_waits.specs.declared.wait.Awaited.{Awaited}
 use Rattle.mlt_work_waits.specs.declared.wait.Awaited.TheVariants as awaited
 use Rattle.mlt_work_waits.specs.declared.wait.Waiting.{Waiting}
 use Rattle.mlt_work_waits.specs.declared.wait.Whose.{Whose}
-use Rattle.mlt_work_waits.specs.declared.waits.Along.{Along}
-use Rattle.mlt_work_waits.specs.declared.waits.Along.TheVariants as along
-use Rattle.mlt_work_waits.specs.Waits.{IsAcyclic, IsAmong, IsFor, LeadsBy, LeadsTo, Waits, is_for, joined, nobody_waits, others_in, released, seen_along}
+use Rattle.mlt_work_waits.specs.Waits.{IsAcyclic, IsAmong, IsFor, LeadsBy, LeadsTo, Waits, for_objects, is_for, joined, nobody_waits, others_in, released}
 
 -- a wait among these and one more is among these, or is that one
 among_one_more : (waits : List Waiting) (one : Waiting) (x y : ℕ) → IsAmong (waits ++ one ∷ []) x y → IsAmong waits x y ⊎ ((one.waiter ≡ x) × (one.holder ≡ y))
@@ -22,7 +20,7 @@ for_one_more awaited.Pages one waits x y (inl among) = inl (inl among)
 for_one_more awaited.Pages one waits x y (inr among) = elim (among_one_more waits.pages one x y among) [ inl old ↦ inl (inr old) | inr is ↦ inr is ]
 
 -- one way after another
-leads_on : (waits : Waits) (x y z : ℕ) (path : List ℕ) → LeadsBy waits x path y → LeadsTo waits y z → LeadsTo waits x z
+pub leads_on : (waits : Waits) (x y z : ℕ) (path : List ℕ) → LeadsBy waits x path y → LeadsTo waits y z → LeadsTo waits x z
 leads_on waits x y z [] same to = subst (λ n. LeadsTo waits n z) (sym same) to
 leads_on waits x y z (next ∷ more) (first, rest) to = let on = leads_on waits next y z more rest to in (next ∷ on.0, (first, on.1))
 
@@ -99,10 +97,13 @@ are_among awaited.Pages given waits x y (inr among) = inr (among_others given wa
 pub fewer_are_acyclic : (which : Awaited) (given : Whose) (waits : Waits) → IsAcyclic waits → IsAcyclic (released which given waits)
 fewer_are_acyclic which given waits was = acyclic_fewer (released which given waits) waits (are_among which given waits) was
 
--- nor do those that are looked at
-pub seen_are_acyclic : (seen : Along) (waits : Waits) → IsAcyclic waits → IsAcyclic (seen_along seen waits)
-seen_are_acyclic along.Objects waits was = acyclic_fewer (seen_along along.Objects waits) waits (λ x y for. elim for [ inl among ↦ inl among | inr none ↦ absurd none ]) was
-seen_are_acyclic along.All waits was = was
+-- nor do those for objects alone
+objects_are_among : (waits : Waits) → AreAmong (for_objects waits) waits
+objects_are_among waits x y (inl among) = inl among
+objects_are_among waits x y (inr none) = absurd none
+
+pub objects_are_acyclic : (waits : Waits) → IsAcyclic waits → IsAcyclic (for_objects waits)
+objects_are_acyclic waits was = acyclic_fewer (for_objects waits) waits (objects_are_among waits) was
 
 -- **Nobody waits in a circle where nobody waits.**
 pub nobody_is_acyclic : IsAcyclic nobody_waits

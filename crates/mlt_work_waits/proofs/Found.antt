@@ -1,11 +1,9 @@
 -- For whom a transaction waits, by a search
-use Rattle.std.proofs.Common.{◌≡◌, ℕ, ◌==◌, Bool, true, false, is_some, cond, List, [], ◌∷◌, Option, None, Some, refl, sym, ◌∙◌, inl, inr, find}
+use Rattle.std.proofs.Common.{◌≡◌, ℕ, ◌==◌, Bool, true, false, is_some, cond, List, [], ◌∷◌, Option, None, Some, refl, sym, ◌∙◌, inl, inr, find, ap}
 use Rattle.std.specs.Option.{option_map, option_or}
 use Rattle.std.proofs.lemmas.Bool.{eq-eqb, eqb-true, false≢true}
 use Rattle.mlt_work_waits.specs.declared.wait.Waiting.{Waiting}
-use Rattle.mlt_work_waits.specs.declared.waits.Along.{Along}
-use Rattle.mlt_work_waits.specs.declared.waits.Along.TheVariants as along
-use Rattle.mlt_work_waits.specs.Waits.{IsAmong, IsAwake, IsFor, Waits, holder_among, holder_in, holder_of, seen_along}
+use Rattle.mlt_work_waits.specs.Waits.{IsAmong, IsAwake, IsFor, Waits, holder_in, holder_of, wait_in}
 
 abbrev in_more : Waiting → List Waiting → ℕ → Bool → Option ℕ
 in_more first more x here = option_map (λ (wait : Waiting). wait.holder) (cond here (Some first) (find (λ (wait : Waiting). wait.waiter == x) more))
@@ -17,6 +15,18 @@ found_is_among (first ∷ more) x y found =
     elim (first.waiter == x) as (λ b. (first.waiter == x) ≡ b → in_more first more x b ≡ Some y → IsAmong (first ∷ more) x y) [
       | true ↦ λ is here. let same : Some first.holder ≡ Some y = here in inl (eqb-true first.waiter x is, cc)
       | false ↦ λ _ there. inr (found_is_among more x y there)
+    ] refl found
+
+abbrev first_of_more : Waiting → List Waiting → ℕ → Bool → Option Waiting
+first_of_more first more x here = cond here (Some first) (wait_in more x)
+
+-- it is a wait of x indeed,
+found_is_of : (waits : List Waiting) (x : ℕ) (wait : Waiting) → wait_in waits x ≡ Some wait → wait.waiter ≡ x
+found_is_of [] x wait found = let none : None ≡ Some wait = found in cc
+found_is_of (first ∷ more) x wait found =
+    elim (first.waiter == x) as (λ b. (first.waiter == x) ≡ b → first_of_more first more x b ≡ Some wait → wait.waiter ≡ x) [
+      | true ↦ λ is here. let same : Some first ≡ Some wait = here in let one : first ≡ wait = cc in ap (λ (w : Waiting). w.waiter) (sym one) ∙ eqb-true first.waiter x is
+      | false ↦ λ _ there. found_is_of more x wait there
     ] refl found
 
 -- and where none is found, x waits for nobody
@@ -45,14 +55,9 @@ none_is_for waits x y none for =
       | Some z ↦ λ _ some. let is : Some z ≡ None = some in cc
     ] refl none
 
-or_none : (found : Option ℕ) → found ≡ option_or found None
-or_none None = refl
-or_none (Some y) = refl
-
--- whom x waits for by the waits that are looked at
-pub holder_seen : (seen : Along) (waits : Waits) (x : ℕ) → holder_among seen waits x ≡ holder_of (seen_along seen waits) x
-holder_seen along.Objects waits x = or_none (holder_in waits.objects x)
-holder_seen along.All waits x = refl
+-- the wait of x that is found is one for its holder
+pub found_is_wait : (waits : List Waiting) (x : ℕ) (wait : Waiting) → wait_in waits x ≡ Some wait → (wait.waiter ≡ x) × IsAmong waits x wait.holder
+found_is_wait waits x wait found = (found_is_of waits x wait found, found_is_among waits x wait.holder (ap (option_map (λ (w : Waiting). w.holder)) found))
 
 -- x waits for nobody where no holder is found, and for the one that is found
 pub awake_if : (waits : Waits) (x : ℕ) (found : Option ℕ) → found ≡ holder_of waits x → is_some found ≡ false → IsAwake waits x

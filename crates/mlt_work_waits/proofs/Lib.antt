@@ -2,3 +2,4 @@ pub mod Found
 pub mod Ways
 pub mod Acyclic
 pub mod Ends
+pub mod Youngest

@@ -1,5 +1,5 @@
 -- Which transactions wait for which.
-use Rattle.std.specs.Prelude.{ℕ, ◌≡◌, ◌==◌, ◌<◌, ◌⊎◌, Bool, true, not, List, [], ◌∷◌, ◌++◌, length, map, find, Option}
+use Rattle.std.specs.Prelude.{ℕ, ◌≡◌, ◌==◌, ◌<◌, ◌⊎◌, ◌&&◌, nat_lt, Bool, true, false, not, List, [], ◌∷◌, ◌++◌, length, map, find, Option, None, Some, is_none}
 use Rattle.std.specs.List.{filter}
 use Rattle.std.specs.Option.{option_map, option_or}
 use Rattle.mlt_work_waits.specs.declared.wait.Awaited.{Awaited}
@@ -8,8 +8,6 @@ use Rattle.mlt_work_waits.specs.declared.wait.Waker.{Waker}
 use Rattle.mlt_work_waits.specs.declared.wait.Waiting.{Waiting}
 use Rattle.mlt_work_waits.specs.declared.wait.Whose.{Whose}
 use Rattle.mlt_work_waits.specs.declared.wait.Whose.TheVariants as whose
-use Rattle.mlt_work_waits.specs.declared.waits.Along.{Along}
-use Rattle.mlt_work_waits.specs.declared.waits.Along.TheVariants as along
 
 -- who waits for a lock of an object, and who for a lock of a page
 pub record Waits : Type 0 where
@@ -28,20 +26,32 @@ abbrev pub joined : Awaited → Waiting → Waits → Waits
 joined awaited.Objects wait waits = record waits { objects = waits.objects ++ wait ∷ [] }
 joined awaited.Pages wait waits = record waits { pages = waits.pages ++ wait ∷ [] }
 
--- the wait is for a lock of these
+-- the wait is one of these
 abbrev pub is_for : Whose → Waiting → Bool
 is_for (whose.One tx) wait = wait.holder == tx
+is_for (whose.Turn tx) wait = wait.holder == tx && is_none wait.timestamp
+is_for (whose.Of tx) wait = wait.waiter == tx
 is_for whose.All wait = true
 
--- who waits for locks of others
+-- who has the one timestamp is younger than who has the other: without one it waits for its turn alone
+abbrev pub is_later : Option ℕ → Option ℕ → Bool
+is_later (Some own) (Some other) = nat_lt other own
+is_later None (Some other) = true
+is_later own None = false
+
+-- the wait is younger than the other
+abbrev pub is_younger : Waiting → Waiting → Bool
+is_younger wait other = is_later wait.timestamp other.timestamp
+
+-- the other waits
 abbrev pub others_in : Whose → List Waiting → List Waiting
 others_in given waits = filter (λ wait. not (is_for given wait)) waits
 
--- the wakers of those who wait for a lock of these, in their order
+-- the wakers of these waits, in their order
 abbrev pub wakers_in : Whose → List Waiting → List Waker
 wakers_in given waits = map (λ wait. wait.waker) (filter (is_for given) waits)
 
--- nobody waits for such locks of these any more
+-- these waits for such locks end
 abbrev pub released : Awaited → Whose → Waits → Waits
 released awaited.Objects given waits = record waits { objects = others_in given waits.objects }
 released awaited.Pages given waits = record waits { pages = others_in given waits.pages }
@@ -55,22 +65,20 @@ IsAmong (wait ∷ more) x y = ((wait.waiter ≡ x) × (wait.holder ≡ y)) ⊎ I
 abbrev pub IsFor : Waits → ℕ → ℕ → Type 0
 IsFor waits x y = IsAmong waits.objects x y ⊎ IsAmong waits.pages x y
 
+-- the first wait of x
+abbrev pub wait_in : List Waiting → ℕ → Option Waiting
+wait_in waits x = find (λ wait. wait.waiter == x) waits
+
 -- for whom x waits, by the first of its waits
 abbrev pub holder_in : List Waiting → ℕ → Option ℕ
-holder_in waits x = option_map (λ wait. wait.holder) (find (λ wait. wait.waiter == x) waits)
+holder_in waits x = option_map (λ wait. wait.holder) (wait_in waits x)
 
 abbrev pub holder_of : Waits → ℕ → Option ℕ
 holder_of waits x = option_or (holder_in waits.objects x) (holder_in waits.pages x)
 
--- the waits that are looked at
-abbrev pub seen_along : Along → Waits → Waits
-seen_along along.Objects waits = record waits { pages = [] }
-seen_along along.All waits = waits
-
--- for whom x waits by one of these, by the first of them
-abbrev pub holder_among : Along → Waits → ℕ → Option ℕ
-holder_among along.Objects waits x = holder_in waits.objects x
-holder_among along.All waits x = holder_of waits x
+-- the waits for objects alone
+abbrev pub for_objects : Waits → Waits
+for_objects waits = record waits { pages = [] }
 
 -- x waits for the first of these, each for the next, and the last for y; where there is none, x is y
 abbrev pub LeadsBy : Waits → ℕ → List ℕ → ℕ → Type 0
@@ -111,7 +119,22 @@ CantJoin awaited wait waits =
     ⊎ (((y : ℕ) × IsFor waits wait.waiter y)
     ⊎ LeadsTo waits wait.holder wait.waiter)
 
--- the wait is for an object, and would close a circle of such waits alone
-abbrev pub Deadlocks : Awaited → Waiting → Waits → Type 0
-Deadlocks awaited.Objects wait waits = LeadsTo (seen_along along.Objects waits) wait.holder wait.waiter
-Deadlocks awaited.Pages wait waits = ⊥
+-- the wait would close a circle with waits for objects alone
+abbrev pub Deadlocks : Waiting → Waits → Type 0
+Deadlocks wait waits = LeadsTo (for_objects waits) wait.holder wait.waiter
+
+-- The wait, for an object, stands on the way from x to y.
+pub record IsOnWay (waits : Waits) (x y : ℕ) (wait : Waiting) : Type 0 where
+  pub stands : wait_in waits.objects wait.waiter ≡ Some wait
+  pub before : LeadsTo (for_objects waits) x wait.waiter
+  pub behind : LeadsTo (for_objects waits) wait.holder y
+
+-- one is the wait itself, or stands on the way that leads back to it
+abbrev pub IsOfCircle : Waiting → Waits → Waiting → Type 0
+IsOfCircle wait waits one = (one ≡ wait) ⊎ IsOnWay waits wait.holder wait.waiter one
+
+-- The wait would close a circle, of which none is younger than this one.
+pub record IsYoungest (wait : Waiting) (waits : Waits) (one : Waiting) : Type 0 where
+  pub closes : Deadlocks wait waits
+  pub of_circle : IsOfCircle wait waits one
+  pub youngest : (other : Waiting) → IsOfCircle wait waits other → is_younger other one ≡ false

@@ -1,7 +1,7 @@
 //! One wait: who waits, for what and for whom, and what wakes it.
 
 ghost use Rattle.std.specs.Prelude.{◌≡◌};
-ghost use Rattle.mlt_work_waits.specs.Waits.{is_for};
+ghost use Rattle.mlt_work_waits.specs.Waits.{is_for, is_younger};
 
 use arrayvec::ArrayVec;
 use mlt_types::TxId;
@@ -15,12 +15,16 @@ pub enum Awaited {
     Pages,
 }
 
-/// Whose locks are given back.
+/// Which waits end.
 #[derive(Clone, Copy, Debug, PartialEq, Eq)]
 pub enum Whose {
-    /// Those of one transaction.
+    /// Those for one transaction.
     One(TxId),
-    /// Those of all.
+    /// Those that are for a turn behind one transaction.
+    Turn(TxId),
+    /// Those of one transaction itself.
+    Of(TxId),
+    /// All.
     All,
 }
 
@@ -31,22 +35,36 @@ pub struct Waker(pub u8);
 /// Those of sleepers that are to be woken, in turn: room for all who wait, and for those who wait for one kind of lock once more.
 pub type Wakers = ArrayVec<Waker, 192>;
 
-/// One transaction waits for a lock of another, and is woken by its waker.
+/// One transaction waits for a lock of another, or for its turn behind it, and is woken by its waker.
 #[derive(Clone, Copy, Debug)]
 pub struct Waiting {
     pub waiter: TxId,
     pub holder: TxId,
     pub waker: Waker,
+    /// The timestamp of one that waits for a lock: who has a greater one is younger. One that only waits for its turn has none.
+    pub timestamp: Option<u64>,
 }
 
 impl Waiting {
-    /// Whether it is a wait for locks that are given back.
+    /// Whether it is one of the waits that end.
     pub(crate) fn is_for(&self, whose: Whose) -> bool
         ensures { result ≡ is_for whose self.now }
     {
         match whose {
             Whose::One(holder) => self.holder == holder,
+            Whose::Turn(holder) => self.holder == holder && self.timestamp.is_none(),
+            Whose::Of(waiter) => self.waiter == waiter,
             Whose::All => true,
+        }
+    }
+
+    /// Whether it is to give way before another: one that is for a turn does so before those for a lock, and of these the younger.
+    pub(crate) fn is_younger(&self, other: &Waiting) -> bool
+        ensures { result ≡ is_younger self.now other.now }
+    {
+        match (self.timestamp, other.timestamp) {
+            (Some(own), Some(others)) => own > others,
+            (own, others) => own.is_none() && others.is_some(),
         }
     }
 }
@@ -57,6 +75,7 @@ impl Default for Waiting {
             waiter: TxId(0),
             holder: TxId(0),
             waker: Waker(0),
+            timestamp: None,
         }
     }
 }

@@ -1,7 +1,8 @@
 //! The graph.
 
-ghost use Rattle.std.specs.Prelude.{ℕ, ◌≡◌, ◌++◌, ◌+◌, ◌≤◌, ◌⊎◌, ◌<◌, true, false, length};
-ghost use Rattle.mlt_work_waits.specs.Waits.{CanJoin, CantJoin, Deadlocks, holder_among, holder_in, IsAcyclic, IsAwake, IsFor, joined, LeadsTo, LeadToAwake, nobody_waits, others_in, released, seen_along, waits_of, wakers_in};
+ghost use Rattle.std.specs.Prelude.{ℕ, ◌≡◌, ◌++◌, ◌+◌, ◌≤◌, ◌⊎◌, ◌<◌, true, false, length, IfNone, IfSome};
+ghost use Rattle.std.specs.Option.{option_copied};
+ghost use Rattle.mlt_work_waits.specs.Waits.{CanJoin, CantJoin, Deadlocks, holder_in, holder_of, IsAcyclic, IsAwake, IsFor, IsYoungest, joined, LeadsTo, LeadToAwake, nobody_waits, others_in, released, wait_in, waits_of, wakers_in};
 
 use crate::wait::{Awaited, Waiting, Wakers, Whose};
 use arrayvec::ArrayVec;
@@ -52,17 +53,17 @@ impl WaitsFor {
         ensures awake { result ≡ true → IsAwake self.now tx }
         ensures waits { result ≡ false → (y : ℕ) × IsFor self.now tx y }
     {
-        self.holder_of(Along::All, tx).is_none()
+        self.holder_of(tx).is_none()
     }
 
-    /// Whether a wait is for an object, and would close a circle of such waits alone.
-    pub fn deadlocks(&self, awaited: Awaited, wait: &Waiting) -> bool
-        ensures deadlocks { result ≡ true → Deadlocks awaited wait.now self.now }
-        ensures free { result ≡ false → Deadlocks awaited wait.now self.now → ⊥ }
+    /// The youngest wait of the circle that this one would close with others for objects, if it would close one.
+    pub fn youngest(&self, wait: &Waiting) -> Option<Waiting>
+        ensures youngest { IfSome result (IsYoungest wait.now self.now) }
+        ensures free { IfNone result (Deadlocks wait.now self.now → ⊥) }
     {
         // That no circle stands is known where the waits are read.
         let _objects = &self.objects;
-        awaited == Awaited::Objects && self.leads(Along::Objects, wait.holder, wait.waiter)
+        self.youngest_along(wait)
     }
 
     /// A transaction begins to wait. Where that would close a circle it doesn't, and it doesn't where there is no room for
@@ -84,8 +85,7 @@ impl WaitsFor {
         true
     }
 
-    /// Such locks of one transaction, or of all, are given back: nobody waits for them from now on. The wakers of those who
-    /// did join the others.
+    /// Such waits end: those for one transaction, say, whose locks were given back. Their wakers join the others.
     pub fn release(&mut self, awaited: Awaited, whose: Whose, wakers: &mut Wakers)
         requires { length wakers.old.items ≤ 128 }
         ensures releases { self.new ≡ released awaited whose self.old }
@@ -108,9 +108,9 @@ impl WaitsFor {
         if self.is_full(awaited) {
             return false;
         }
-        match self.holder_of(Along::All, wait.waiter) {
+        match self.holder_of(wait.waiter) {
             Some(_) => false,
-            None => !self.leads(Along::All, wait.holder, wait.waiter),
+            None => !self.leads(wait.holder, wait.waiter),
         }
     }
 
@@ -125,58 +125,71 @@ impl WaitsFor {
         }
     }
 
-    /// For whom a transaction waits by one of the waits that are looked at, if it does.
-    fn holder_of(&self, along: Along, waiter: TxId) -> Option<TxId>
-        ensures { result ≡ holder_among along self.now waiter }
+    /// For whom a transaction waits, if it does.
+    fn holder_of(&self, waiter: TxId) -> Option<TxId>
+        ensures { result ≡ holder_of self.now waiter }
     {
-        let object = holder_in(&self.objects, waiter);
-        match along {
-            Along::Objects => object,
-            Along::All => object.or(holder_in(&self.pages, waiter)),
-        }
+        holder_in(&self.objects, waiter).or(holder_in(&self.pages, waiter))
     }
 
-    /// Whether the waits that are looked at lead from one transaction to another. No more follow each other than there are.
-    fn leads(&self, along: Along, from: TxId, to: TxId) -> bool
-        ensures leads { IsAcyclic self.now
-            → LeadsTo (seen_along along self.now) from to → result ≡ true }
-        ensures cause { IsAcyclic self.now
-            → result ≡ true → LeadsTo (seen_along along self.now) from to }
+    /// Whether the waits lead from one transaction to another. No more follow each other than there are.
+    fn leads(&self, from: TxId, to: TxId) -> bool
+        ensures leads { IsAcyclic self.now → LeadsTo self.now from to → result ≡ true }
+        ensures cause { IsAcyclic self.now → result ≡ true → LeadsTo self.now from to }
     {
         let mut at = from;
         for _ in 0..=self.count() {
             if at == to {
                 return true;
             }
-            match self.holder_of(along, at) {
+            match self.holder_of(at) {
                 Some(holder) => at = holder,
                 None => return false,
             }
         }
         true
     }
+
+    /// The youngest wait of the circle that this one would close with others for objects, if it would close one.
+    fn youngest_along(&self, wait: &Waiting) -> Option<Waiting>
+        ensures youngest { IsAcyclic self.now → IfSome result (IsYoungest wait.now self.now) }
+        ensures free { IsAcyclic self.now → IfNone result (Deadlocks wait.now self.now → ⊥) }
+    {
+        let mut youngest = *wait;
+        let mut at = wait.holder;
+        // At most all others follow each other, and then comes the waiter.
+        let most = self.objects.len() + 1;
+        for _ in 0..most {
+            if at == wait.waiter {
+                return Some(youngest);
+            }
+            let Some(next) = wait_in(&self.objects, at) else {
+                return None;
+            };
+            if next.is_younger(&youngest) {
+                youngest = *next;
+            }
+            at = next.holder;
+        }
+        None
+    }
 }
 
-/// Which waits are looked at.
-#[derive(Clone, Copy, Debug, PartialEq, Eq)]
-pub(crate) enum Along {
-    /// Those for objects.
-    Objects,
-    All,
-}
-
-/// Takes away the waits for locks that are given back, and adds their wakers to the others.
+/// Takes away the waits that end, and adds their wakers to the others.
 fn release_in(waits: &mut ArrayVec<Waiting, 64>, whose: Whose, wakers: &mut Wakers)
     requires { length wakers.old.items ≤ 128 }
     ensures releases { waits.new.items ≡ others_in whose waits.old.items }
     ensures wakes { wakers.new.items ≡ wakers.old.items ++ wakers_in whose waits.old.items }
     ensures few { length wakers.new.items ≤ length wakers.old.items + 64 }
 {
+    if waits.is_empty() {
+        return;
+    }
     add_wakers(waits, whose, wakers);
     waits.retain(|wait| !wait.is_for(whose));
 }
 
-/// Adds the wakers of those who wait for locks that are given back to the others.
+/// Adds the wakers of the waits that end to the others.
 fn add_wakers(waits: &[Waiting], whose: Whose, wakers: &mut Wakers)
     requires few { length waits.now ≤ 64 }
     requires room { length wakers.old.items ≤ 128 }
@@ -200,4 +213,11 @@ fn holder_in(waits: &[Waiting], waiter: TxId) -> Option<TxId>
         .iter()
         .find(|wait| wait.waiter == waiter)
         .map(|wait| wait.holder)
+}
+
+/// The first of these that is a wait of a transaction.
+fn wait_in(waits: &[Waiting], waiter: TxId) -> Option<&Waiting>
+    ensures { option_copied result ≡ wait_in waits.now waiter }
+{
+    waits.iter().find(|wait| wait.waiter == waiter)
 }

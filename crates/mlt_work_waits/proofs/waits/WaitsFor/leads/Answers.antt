@@ -1,47 +1,35 @@
 use Rattle.std.proofs.Common.{◌∙◌, ◌+◌, ◌≤◌, ℕ, List, [], ◌∷◌, ◌++◌, length, sym, subst, ap, arith}
 use Rattle.std.proofs.lemmas.Bool.{eq-eqb, eqb-true, false≢true}
-use Rattle.mlt_work_waits.specs.declared.waits.Along.{Along}
-use Rattle.mlt_work_waits.specs.declared.waits.Along.TheVariants as along
-use Rattle.mlt_work_waits.specs.Waits.{IsAcyclic, LeadsBy, Waits, seen_along}
-use Rattle.mlt_work_waits.proofs.Acyclic.{seen_are_acyclic}
-use Rattle.mlt_work_waits.proofs.Found.{found_is_for, holder_seen}
+use Rattle.mlt_work_waits.specs.Waits.{IsAcyclic, LeadsBy}
+use Rattle.mlt_work_waits.proofs.Found.{found_is_for}
 use Rattle.mlt_work_waits.proofs.Ends.{ways_end}
 use Rattle.mlt_work_waits.proofs.Ways.{leads_by_holder, leads_nowhere, one_longer, one_more_by}
 use Rattle.mlt_work_waits.proofs.waits.WaitsFor.leads.Goals as goal
 
--- no more waits are looked at than there are
-few_seen : (seen : Along) (waits : Waits) (x y : ℕ) (path : List ℕ) → IsAcyclic waits → LeadsBy (seen_along seen waits) x path y
-    → length path ≤ length waits.objects + length waits.pages
-few_seen along.Objects waits x y path acyclic by =
-    let ends = ways_end (seen_along along.Objects waits) x y path (seen_are_acyclic along.Objects waits acyclic) by in omega (arith, ends)
-few_seen along.All waits x y path acyclic by = ways_end waits x y path acyclic by
-
 pub returns-in-None-clause-leads : goal.returns-in-None-clause-leads
 returns-in-None-clause-leads c acyclic leads =
-    let seen = seen_along c.args.along c.args.self.now in
-    let none = sym (holder_seen c.args.along c.args.self.now c.loop.at) ∙ sym c.holder_of.ensures ∙ c.in-None.is in
-    absurd (leads_nowhere seen c.loop.at c.args.to none (λ same. false≢true (sym c.if-eq.false ∙ c.eq.ensures ∙ eq-eqb c.loop.at c.args.to same)) (c.loop.invariant.leads acyclic leads))
+    let none = sym c.holder_of.ensures ∙ c.in-None.is in
+    absurd (leads_nowhere c.args.self.now c.loop.at c.args.to none (λ same. false≢true (sym c.if-eq.false ∙ c.eq.ensures ∙ eq-eqb c.loop.at c.args.to same)) (c.loop.invariant.leads acyclic leads))
 
 pub loop-preserved : goal.loop-preserved
 loop-preserved c =
-    let seen = seen_along c.args.along c.args.self.now in
-    let holder = sym (holder_seen c.args.along c.args.self.now c.loop.at) ∙ sym c.holder_of.ensures ∙ c.in-Some.is in
+    let waits = c.args.self.now in
+    let holder = sym c.holder_of.ensures ∙ c.in-Some.is in
     record {
-      leads = λ acyclic leads. leads_by_holder seen c.loop.at c.args.to c.in-Some.holder (seen_are_acyclic c.args.along c.args.self.now acyclic).functional holder (λ same. false≢true (sym c.if-eq.false ∙ c.eq.ensures ∙ eq-eqb c.loop.at c.args.to same)) (c.loop.invariant.leads acyclic leads);
+      leads = λ acyclic leads. leads_by_holder waits c.loop.at c.args.to c.in-Some.holder acyclic.functional holder (λ same. false≢true (sym c.if-eq.false ∙ c.eq.ensures ∙ eq-eqb c.loop.at c.args.to same)) (c.loop.invariant.leads acyclic leads);
       path = c.loop.invariant.path ++ c.in-Some.holder ∷ [];
-      by = one_more_by seen c.args.from c.loop.at c.in-Some.holder c.loop.invariant.path c.loop.invariant.by (found_is_for seen c.loop.at c.in-Some.holder holder);
+      by = one_more_by waits c.args.from c.loop.at c.in-Some.holder c.loop.invariant.path c.loop.invariant.by (found_is_for waits c.loop.at c.in-Some.holder holder);
       long = one_longer c.loop.invariant.path c.in-Some.holder ∙ ap (λ n. n + 1) c.loop.invariant.long;
     }
 
 pub returns-in-Some-clause-cause : goal.returns-in-Some-clause-cause
 returns-in-Some-clause-cause c acyclic _ =
-    let seen = seen_along c.args.along c.args.self.now in
-    let holder = sym (holder_seen c.args.along c.args.self.now c.loop.at) ∙ sym c.holder_of.ensures ∙ c.in-Some.is in
-    let by = one_more_by seen c.args.from c.loop.at c.in-Some.holder c.loop.invariant.path c.loop.invariant.by (found_is_for seen c.loop.at c.in-Some.holder holder) in
-    let ends = few_seen c.args.along c.args.self.now c.args.from c.in-Some.holder (c.loop.invariant.path ++ c.in-Some.holder ∷ []) acyclic by in
+    let waits = c.args.self.now in
+    let holder = sym c.holder_of.ensures ∙ c.in-Some.is in
+    let by = one_more_by waits c.args.from c.loop.at c.in-Some.holder c.loop.invariant.path c.loop.invariant.by (found_is_for waits c.loop.at c.in-Some.holder holder) in
+    let ends = ways_end waits c.args.from c.in-Some.holder (c.loop.invariant.path ++ c.in-Some.holder ∷ []) acyclic by in
     absurd (omega (arith, ends, one_longer c.loop.invariant.path c.in-Some.holder, c.loop.auto.counter-end, c.loop.invariant.long, c.count-end.ensures.count))
 
 pub returns-then-eq-clause-cause : goal.returns-then-eq-clause-cause
 returns-then-eq-clause-cause c _ _ =
-    let seen = seen_along c.args.along c.args.self.now in
-    (c.loop.invariant.path, subst (LeadsBy seen c.args.from c.loop.invariant.path) (eqb-true c.loop.at c.args.to (sym c.eq.ensures ∙ c.if-eq.true)) c.loop.invariant.by)
+    (c.loop.invariant.path, subst (LeadsBy c.args.self.now c.args.from c.loop.invariant.path) (eqb-true c.loop.at c.args.to (sym c.eq.ensures ∙ c.if-eq.true)) c.loop.invariant.by)

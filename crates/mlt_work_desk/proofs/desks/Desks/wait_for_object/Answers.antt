@@ -1,0 +1,45 @@
+use Rattle.std.proofs.Common.{rules, ◌≡◌, ◌∙◌, [], None, Some, refl, sym, subst, ap, arith}
+use Rattle.std.proofs.lemmas.Bool.{eq-eqb, false≢true}
+use Rattle.mlt_work_waits.specs.declared.wait.Awaited.TheVariants as awaited
+use Rattle.mlt_work_waits.specs.declared.wait.Whose.TheVariants as whose
+use Rattle.mlt_work_waits.specs.Waits.{released, wakers_in}
+use Rattle.mlt_work_desk.specs.declared.desks.Desks.{Desks}
+use Rattle.mlt_work_desk.specs.Waits.{CantSleep, waiting}
+use Rattle.mlt_work_desk.proofs.Fewer.{fewer_wait}
+use Rattle.mlt_work_desk.proofs.desks.Desks.wait_for_object.Goals.{in-Some+else-eq, in_default}
+use Rattle.mlt_work_desk.proofs.desks.Desks.wait_for_object.Goals as goal
+
+pub invariant_of-self : goal.invariant_of-self
+invariant_of-self c =
+    let before = c.args.self.now.waits in
+    record { awake = omega (arith, ap waiting c.release.ensures.releases, fewer_wait awaited.Objects (whose.Of c.in-Some.youngest.waiter) before, c.args.self.now.awake) }
+
+-- it can't sleep among those that are left, who stay
+abbrev TriesAtOnce : goal.Else-join → Desks → Type 0
+TriesAtOnce c desks = CantSleep desks.count awaited.Objects c.args.wait desks.waits × (c.join.new.self.waits ≡ desks.waits)
+
+tries_at_once : (c : goal.Else-join) → TriesAtOnce c c.match-youngest.self
+tries_at_once c = (c.join.ensures.cant c.if-join.false, c.join.ensures.stays c.if-join.false)
+
+pub returns-else-join-clause-turns : goal.returns-else-join-clause-turns
+returns-else-join-clause-turns c = elim c.match-youngest.branch [
+  | in-Some+else-eq w ↦ (
+    wakers_in (whose.Of w.in-Some.youngest.waiter) c.args.self.now.waits.objects,
+    ap (λ x. x.items) w.wakers-is ∙ w.release.ensures.wakes,
+    (
+      Some w.in-Some.youngest,
+      record {
+        youngest = w.in-Some.ensures.youngest;
+        is_other = λ same. false≢true (sym w.if-eq.false ∙ w.eq.ensures ∙ eq-eqb w.in-Some.youngest.waiter c.args.wait.waiter same);
+      },
+      refl,
+      subst (λ waits. CantSleep c.args.self.now.count awaited.Objects c.args.wait waits × (c.join.new.self.waits ≡ waits)) w.release.ensures.releases
+          (subst (TriesAtOnce c) w.self-is (tries_at_once c)),
+    ),
+  )
+  | in_default w ↦ (
+    [],
+    search rules,
+    (None, w.in_default.ensures.free, refl, subst (TriesAtOnce c) w.self-is (tries_at_once c)),
+  )
+]

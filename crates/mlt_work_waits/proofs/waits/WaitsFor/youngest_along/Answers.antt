@@ -1,0 +1,36 @@
+use Rattle.std.proofs.Common.{◌≡◌, ◌∙◌, ◌<◌, ◌≤◌, ◌+◌, true, false, None, Some, length, sym, subst, ap, inl, inr, arith}
+use Rattle.std.specs.Option.{option_copied}
+use Rattle.std.proofs.lemmas.Bool.{eq-eqb, eqb-true, false≢true}
+use Rattle.mlt_work_waits.specs.declared.wait.Waiting.{Waiting}
+use Rattle.mlt_work_waits.specs.Waits.{Waits, wait_in}
+use Rattle.mlt_work_waits.proofs.Youngest.{IsPicked, Walked, walked_around, walked_no_longer, walked_none, walked_on, walked_to_end}
+use Rattle.mlt_work_waits.proofs.waits.WaitsFor.youngest_along.Goals.{then-is_younger, else-is_younger}
+use Rattle.mlt_work_waits.proofs.waits.WaitsFor.youngest_along.Goals as goal
+
+pub returns-then-eq-clause-youngest : goal.returns-then-eq-clause-youngest
+returns-then-eq-clause-youngest c acyclic =
+    walked_around c.args.self.now acyclic c.args.wait.now c.loop.youngest c.loop.at c.loop.counter (c.loop.invariant acyclic)
+    (eqb-true c.loop.at c.args.wait.now.waiter (sym c.eq.ensures ∙ c.if-eq.true))
+
+pub returns-in_default-clause-free : goal.returns-in_default-clause-free
+returns-in_default-clause-free c acyclic =
+    walked_to_end c.args.self.now acyclic c.args.wait.now c.loop.youngest c.loop.at c.loop.counter (c.loop.invariant acyclic)
+    (λ same. false≢true (sym c.if-eq.false ∙ c.eq.ensures ∙ eq-eqb c.loop.at c.args.wait.now.waiter same))
+    (ap (λ items. wait_in items c.loop.at) (sym (c.deref.ensures.0 ∙ ap (λ (w : Waits). w.objects) c.self.view_is)) ∙ sym c.in_default.ensures)
+
+pub loop-preserved : goal.loop-preserved
+loop-preserved c acyclic =
+    let found : wait_in c.args.self.now.objects c.loop.at ≡ Some c.in-Some.next.now =
+    ap (λ items. wait_in items c.loop.at) (sym (c.deref.ensures.0 ∙ ap (λ (w : Waits). w.objects) c.self.view_is)) ∙ sym c.in-Some.ensures in
+    walked_on c.args.self.now acyclic c.args.wait.now c.loop.youngest c.in-Some.next.now c.if-is_younger.youngest c.loop.at c.loop.counter (c.loop.invariant acyclic)
+    (λ same. false≢true (sym c.if-eq.false ∙ c.eq.ensures ∙ eq-eqb c.loop.at c.args.wait.now.waiter same)) found
+    (elim c.if-is_younger.branch [
+      | then-is_younger w ↦ inl (sym c.is_younger.ensures ∙ w.if-is_younger.true, w.youngest-is)
+      | else-is_younger w ↦ inr (sym c.is_younger.ensures ∙ w.if-is_younger.false, w.youngest-is)
+    ])
+
+pub returns-clause-free : goal.returns-clause-free
+returns-clause-free c acyclic =
+    let few = ap (λ (w : Waits). length w.objects) c.self.view_is in
+    absurd (walked_no_longer c.args.self.now acyclic c.args.wait.now c.loop.youngest c.loop.at c.loop.counter (c.loop.invariant acyclic)
+    (omega (arith, c.loop-test.false, c.len-most.ensures.value, few)))

@@ -1,0 +1,7 @@
+use Rattle.mlt_work_waits.specs.Waits.{IsAcyclic}
+use Rattle.mlt_work_waits.proofs.Youngest.{Walked}
+use Rattle.mlt_work_waits.proofs.waits.WaitsFor.youngest_along.Given as goal
+
+-- so many waits were followed, and the youngest of them kept
+abbrev pub invariant-loop : goal.invariant-loop
+invariant-loop l = (acyclic : IsAcyclic l.fn.self) → Walked l.fn.self acyclic l.fn.wait l.at l.youngest l.counter
