@@ -1,4 +1,6 @@
 """`run` by many workers: how many clients run side by side, and scripts that spend their tries."""
+import random
+
 from harness import each, holds, lines, same, test
 
 # How often a run is tried until something is seen that a schedule need not show.
@@ -88,3 +90,23 @@ def whoever_ends_lets_the_next_one_begin(mltx):
     ran = mltx.run("run", "-", given=given, timeout=20)
     same((ran.status, ran.err), (0, b""), "a run of 900 scripts")
     same(ran.out.splitlines()[-1], b"counter 7 300", "the base")
+
+
+@test(seconds=1)
+def transfers_over_four_accounts_seldom_give_up(mltx):
+    """Eight clients by eight workers, each with transfers that look at both accounts first: at most one gives up for one that
+    commits, and no money is lost."""
+    source, clients, scripts = random.Random(1), range(1, 9), 500
+    opened = "|".join(f"open {account}|deposit {account} 1000000" for account in range(1, 5))
+    transfers = [
+        lines(f"begin {client}|balance {one}|balance {other}|withdraw {one} 1|deposit {other} 1|commit")
+        for client in clients
+        for one, other in (source.sample(range(1, 5), 2) for _ in range(scripts))
+    ]
+    ran = mltx.run("run", "--workers", 8, "-", given=lines(f"begin 0|{opened}|commit") + "".join(transfers))
+    same((ran.status, ran.err), (0, b""), "run")
+    ends = [told[-1].split()[0] for client, told in outcomes(ran.out) if client != "0"]
+    same(len(ends), len(clients) * scripts, "how many scripts ended")
+    holds(ends.count("aborted") <= ends.count("committed"), f"{ends.count('aborted')} gave up, {ends.count('committed')} committed")
+    money = [int(line.split()[2]) for line in ran.out.decode().splitlines() if line.startswith("account ")]
+    same(sum(money), 4_000_000, "what the accounts have")
