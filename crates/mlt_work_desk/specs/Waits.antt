@@ -1,6 +1,6 @@
 -- How desks wait, and what wakes them.
-use Rattle.std.specs.Prelude.{ℕ, ◌≡◌, ◌==◌, ◌+◌, ◌<◌, ◌≤◌, ◌⊎◌, nat_lt, length, if◌then◌else◌, Bool, true, false, List, [], ◌++◌, Option, None, Some}
-use Rattle.mlt_object_kinds.specs.declared.operation.ObjOp.{ObjOp}
+use Rattle.std.specs.Prelude.{ℕ, ◌≡◌, ◌==◌, ◌+◌, ◌<◌, ◌≤◌, ◌⊎◌, nat_lt, length, if◌then◌else◌, Bool, true, false, List, [], ◌++◌, ◌||◌, is_some, Option, None, Some}
+use Rattle.std.specs.List.{list_all}
 use Rattle.mlt_event.specs.declared.answer.Answer.{Answer}
 use Rattle.mlt_event.specs.declared.answer.Answer.TheVariants as answer
 use Rattle.mlt_event.specs.declared.event.Event.{Event}
@@ -14,7 +14,7 @@ use Rattle.mlt_work_waits.specs.declared.wait.Waker.{Waker}
 use Rattle.mlt_work_waits.specs.declared.wait.Waiting.{Waiting}
 use Rattle.mlt_work_waits.specs.declared.wait.Whose.TheVariants as whose
 use Rattle.mlt_work_queue.specs.declared.blocked_queue.Blocked.{Blocked}
-use Rattle.mlt_work_queue.specs.Queues.{with_blocked, without}
+use Rattle.mlt_work_queue.specs.Queues.{stands, with_blocked, without}
 use Rattle.mlt_work_desk.specs.declared.turn.GivenBack.{GivenBack}
 use Rattle.mlt_work_desk.specs.declared.turn.GivenBack.TheVariants as given
 use Rattle.mlt_work_desk.specs.declared.turn.Sleeper.{Sleeper}
@@ -163,6 +163,14 @@ TurnsIfWaits count (Some (awaited.Objects, wait)) before taken after woken =
     ObjectTurns count wait before taken after woken
 TurnsIfWaits count (Some (awaited.Pages, wait)) before taken after woken =
     PageTurns count wait before taken after woken
+
+-- it waits for a lock, or for its turn behind one that stands in the queue
+abbrev pub waits_in_turn : List Blocked → Waiting → Bool
+waits_in_turn queue wait = is_some wait.timestamp || stands wait.holder queue
+
+-- and so does each of these
+abbrev pub AreInTurn : List Waiting → List Blocked → Type 0
+AreInTurn waits queue = list_all (waits_in_turn queue) waits ≡ true
 
 -- who is blocked once locks were given back: no longer one whose operation has ended
 abbrev pub queue_after : GivenBack → List Blocked → List Blocked

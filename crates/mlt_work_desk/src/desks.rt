@@ -1,9 +1,9 @@
 //! The desks over a lock, which of them wait, who is blocked, and which has precedence.
 
-ghost use Rattle.std.specs.Prelude.{ℕ, ◌≡◌, ◌++◌, ◌+◌, ◌-◌, ◌<◌, ◌≤◌, ◌^◌, ◌⊎◌, [], List, true, false, None, Some, length, min};
+ghost use Rattle.std.specs.Prelude.{ℕ, ◌≡◌, ◌++◌, ◌+◌, ◌-◌, ◌<◌, ◌≤◌, ◌^◌, ◌⊎◌, [], List, true, false, None, Some, length, min, IfSome};
 ghost use Rattle.mlt_work_waits.specs.Waits.{joined};
 ghost use Rattle.mlt_work_queue.specs.Queues.{last_before};
-ghost use Rattle.mlt_work_desk.specs.Waits.{CanSleep, CantSleep, ObjectTurns, PageTurns, precedence_after, precedence_if, precedence_with, queue_after, queue_if, queue_with, turn_behind, TurnsIfWaits, wait_for, wait_if, waiting, waits_after, waits_of_others, woken_by, woken_by_end};
+ghost use Rattle.mlt_work_desk.specs.Waits.{AreInTurn, CanSleep, CantSleep, ObjectTurns, PageTurns, precedence_after, precedence_if, precedence_with, queue_after, queue_if, queue_with, turn_behind, TurnsIfWaits, wait_for, wait_if, waiting, waits_after, waits_in_turn, waits_of_others, woken_by, woken_by_end};
 
 use crate::turn::{GivenBack, Sleeper, Turn, wait_for, wait_of};
 use mlt_event::{Answer, Told};
@@ -25,6 +25,7 @@ pub(crate) struct Desks {
     /// The transaction that has precedence: others yield to it before they call an operation.
     precedence: Option<TxId>,
     ghost awake: { waiting waits ≤ count - 1 },
+    ghost turns: { AreInTurn waits.objects queue },
 }
 
 impl Desks {
@@ -144,7 +145,8 @@ impl Desks {
     /// What a desk does that is to wait so, if it is to.
     #[inline(always)]
     pub(crate) fn turn(&mut self, to_wait: Option<(Awaited, Waiting)>, wakers: &mut Wakers) -> Turn
-        requires { length wakers.old.items ≤ 128 }
+        requires few { length wakers.old.items ≤ 128 }
+        requires turn { IfSome to_wait (λ wait. waits_in_turn self.old.queue wait.1 ≡ true) }
         ensures turns { (woken : List Waker) × (wakers.new.items ≡ wakers.old.items ++ woken)
             × TurnsIfWaits self.old.count to_wait self.old.waits result self.new.waits woken }
         ensures queue { self.new.queue ≡ self.old.queue }
@@ -165,7 +167,8 @@ impl Desks {
     /// desk sleeps, and is counted; where all others sleep it tries at once.
     #[tactic(auto, using(crate::proofs::Fewer::fewer_wait))]
     fn wait_for_object(&mut self, wait: Waiting, wakers: &mut Wakers) -> Turn
-        requires { length wakers.old.items ≤ 128 }
+        requires few { length wakers.old.items ≤ 128 }
+        requires turn { waits_in_turn self.old.queue wait ≡ true }
         ensures turns { (woken : List Waker) × (wakers.new.items ≡ wakers.old.items ++ woken)
             × ObjectTurns self.old.count wait self.old.waits result self.new.waits woken }
         ensures queue { self.new.queue ≡ self.old.queue }
@@ -192,7 +195,8 @@ impl Desks {
     /// too: a pass that is to start anew gives its pages back as well, and is told to go on. Any other desk sleeps, and is counted.
     #[tactic(auto, using(crate::proofs::Fewer::fewer_wait))]
     fn wait_for_page(&mut self, wait: Waiting, wakers: &mut Wakers) -> Turn
-        requires { length wakers.old.items ≤ 128 }
+        requires few { length wakers.old.items ≤ 128 }
+        requires turn { waits_in_turn self.old.queue wait ≡ true }
         ensures turns { (woken : List Waker) × (wakers.new.items ≡ wakers.old.items ++ woken)
             × PageTurns self.old.count wait self.old.waits result self.new.waits woken }
         ensures queue { self.new.queue ≡ self.old.queue }
@@ -271,6 +275,7 @@ impl Desks {
 
     /// One more waits from now on, if another desk is awake and its wait can join. It answers whether it does.
     fn join(&mut self, awaited: Awaited, wait: Waiting) -> bool
+        requires { waits_in_turn self.old.queue wait ≡ true }
         ensures can { result ≡ true → CanSleep self.old.count awaited wait self.old.waits }
         ensures joins { result ≡ true → self.new.waits ≡ joined awaited wait self.old.waits }
         ensures cant { result ≡ false → CantSleep self.old.count awaited wait self.old.waits }

@@ -2,17 +2,22 @@ use Rattle.std.proofs.Common.{rules, ◌≡◌, ◌∙◌, [], None, Some, refl,
 use Rattle.std.proofs.lemmas.Bool.{eq-eqb, false≢true}
 use Rattle.mlt_work_waits.specs.declared.wait.Awaited.TheVariants as awaited
 use Rattle.mlt_work_waits.specs.declared.wait.Whose.TheVariants as whose
-use Rattle.mlt_work_waits.specs.Waits.{released, wakers_in}
+use Rattle.mlt_work_waits.specs.Waits.{Waits, others_in, wakers_in}
 use Rattle.mlt_work_desk.specs.declared.desks.Desks.{Desks}
 use Rattle.mlt_work_desk.specs.Waits.{CantSleep, waiting}
 use Rattle.mlt_work_desk.proofs.Fewer.{fewer_wait}
+use Rattle.mlt_work_desk.proofs.InTurn.{same_turns, stay_in_turn}
 use Rattle.mlt_work_desk.proofs.desks.Desks.wait_for_object.Goals.{in-Some+else-eq, in_default}
 use Rattle.mlt_work_desk.proofs.desks.Desks.wait_for_object.Goals as goal
 
 pub invariant_of-self : goal.invariant_of-self
 invariant_of-self c =
-    let before = c.args.self.now.waits in
-    record { awake = omega (arith, ap waiting c.release.ensures.releases, fewer_wait awaited.Objects (whose.Of c.in-Some.youngest.waiter) before, c.args.self.now.awake) }
+    let before = c.args.self.now in
+    let one = whose.Of c.in-Some.youngest.waiter in
+    record {
+      awake = omega (arith, ap waiting c.release.ensures.releases, fewer_wait awaited.Objects one before.waits, before.awake);
+      turns = same_turns (others_in one before.waits.objects) _ before.queue _ (ap (λ (w : Waits). w.objects) c.release.ensures.releases) refl (stay_in_turn one before.waits.objects before.queue before.turns);
+    }
 
 -- it can't sleep among those that are left, who stay
 abbrev TriesAtOnce : goal.Else-join → Desks → Type 0
