@@ -26,7 +26,7 @@ SHELL = [sys.executable, "-B", str(FOLDER / "mltx_shell.py")]
 def typed(address, given, *, cwd=None):
     """What the prompt comes to where its lines are given by a pipe."""
     words = [*SHELL, "%s:%d" % address]
-    ran = subprocess.run(words, input=given.encode(), capture_output=True, cwd=cwd, timeout=PATIENCE)
+    ran = subprocess.run(words, input=given.encode("utf-8", "surrogateescape"), capture_output=True, cwd=cwd, timeout=PATIENCE)
     return Ran(ran.returncode, ran.stdout, ran.stderr)
 
 
@@ -87,15 +87,18 @@ FAILS = {
     ),
     "prompt-of-too-few-numbers": (
         "add 4",
-        "add takes set, element, and was given 1 numbers; it is `add SET ELEMENT`; nothing was sent",
+        "add takes set, element, and was given 1 number; it is `add SET ELEMENT`; nothing was sent",
     ),
+    "prompt-of-a-byte-that-is-no-character": ("\udcff up", r"\xff: there is no such line; `help` lists all"),
     "prompt-of-no-number": ("up 7 x", "it is `up COUNTER AMOUNT`, with numbers; nothing was sent"),
     "prompt-of-a-file-that-is-not-there": (
         "source none.txt",
         "source none.txt: the file can't be read ([Errno 2] No such file or directory: 'none.txt')",
     ),
 }
-PIPED |= {name: (line, "", f"{said}|standard input, line 1: {line}") for name, (line, said) in FAILS.items()}
+PIPED |= {
+    name: (line, "", f"{said}|standard input, line 1: {line}".replace("\udcff", r"\xff")) for name, (line, said) in FAILS.items()
+}
 
 
 @each(PIPED)
@@ -166,7 +169,8 @@ def servers_that_go_away_from_a_prompt(mltx):
         (
             ("before", "up 7 1"),
             "begun 1",
-            "the server ended the connection; transaction 1 is taken back|standard input, line 2: up 7 1",
+            "the server ended the connection: it was stopped, or the connection was idle for too long; transaction 1 is taken back"
+            "|standard input, line 2: up 7 1",
         ),
         (
             ("after", "commit"),

@@ -244,7 +244,8 @@ class Form(Generic[Result]):
         """The operation with these numbers. Raises a TypeError or a ValueError where one is none that it may be."""
         if len(values) != len(self.arguments):
             wanted = ", ".join(argument.name for argument in self.arguments)
-            raise TypeError(f"{self.word} takes {wanted}, and was given {len(values)} numbers")
+            given = "1 number" if len(values) == 1 else f"{len(values)} numbers"
+            raise TypeError(f"{self.word} takes {wanted}, and was given {given}")
         for argument, value in zip(self.arguments, values):
             argument.check(value)
         # An integer of some kinds, as an IntEnum, would not be written in digits.
@@ -440,7 +441,8 @@ class Session:
         with self._closed_at_a_failure():
             answer = self._answers.readline(MOST_ANSWER_BYTES)
             if not answer.endswith(b"\n"):
-                raise ConnectionLost("the server ended the connection")
+                # Nothing more is known here: a server ends a connection without a word.
+                raise ConnectionLost("the server ended the connection: it was stopped, or the connection was idle for too long")
             if not self.is_held:
                 self.is_held, self._timeout = True, self._answer_timeout
                 self._socket.settimeout(self._timeout)

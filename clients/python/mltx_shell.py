@@ -15,6 +15,7 @@ import argparse
 import atexit
 import cmd
 import glob
+import io
 import os
 import sys
 from collections.abc import Iterable
@@ -252,7 +253,7 @@ class Shell(cmd.Cmd):
     def fail(self, text: str) -> None:
         self.failed = True
         sys.stdout.flush()
-        print(text, file=sys.stderr, flush=True)
+        print(readable(text), file=sys.stderr, flush=True)
 
     def do_help(self, arg: str) -> None:
         """help
@@ -318,6 +319,11 @@ def in_words(answer: str) -> str:
     return f"{answer}: {meaning}" if meaning else answer
 
 
+def readable(text: str) -> str:
+    """A text in which bytes that are no UTF-8 stand as `\\xff`, and not as the halves of characters that Python reads them as."""
+    return text.encode("utf-8", "surrogateescape").decode("utf-8", "backslashreplace")
+
+
 def keep_history() -> None:
     """Reads the history of earlier uses, and writes it at the end, if it can be."""
     path = os.path.expanduser(os.environ.get("MLTX_HISTORY", "~/.mltx_history"))
@@ -345,6 +351,9 @@ def run_input(shell: Shell) -> int:
 
 def run_shell(shell: Shell) -> int:
     """Reads lines at a terminal, or else from standard input. Answers the status."""
+    if isinstance(sys.stdin, io.TextIOWrapper):
+        # A byte that is no UTF-8 makes its line fail, and not the prompt.
+        sys.stdin.reconfigure(errors="surrogateescape")
     if not sys.stdin.isatty():
         return run_input(shell)
     if readline:
