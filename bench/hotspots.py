@@ -1,6 +1,8 @@
-"""What is measured of transactions that all change the same counter or account, with and without time to think."""
+"""What is measured of transactions that all change the same counter or account, with and without time to think, of which some
+are aborted."""
 import socket
 import sys
+import tempfile
 from collections.abc import Iterator
 from dataclasses import dataclass, replace
 from functools import partial
@@ -8,10 +10,10 @@ from pathlib import Path
 
 import postgres
 import tools
-from machine import LOCAL, ROOT, START, Failed, Server, redis
+from machine import LOCAL, ROOT, START, Failed, Server, Words, redis, run
 from postgres import RICH
 from sessions import CLIENT_THREADS, Load, figures_of, mltx_server, open_accounts, transaction
-from works import SECONDS, Bench, Group, Sample, Side, Work
+from works import SECONDS, Bench, Group, Limit, Sample, Side, Work
 
 sys.path.insert(0, str(ROOT / "tools"))
 from pictures.plot import Curve, picture  # noqa: E402
@@ -23,12 +25,20 @@ LIMIT = "no lock"
 
 # The cells: some of which each transaction draws one, and the hot one behind them.
 DRAWN, HOT = 4, 4
-# How long a client thinks after each change, in microseconds, and that one of so many transactions is aborted.
-THINK, ABORTED = 2_000, 10
+# How long a client thinks after each change, in microseconds.
+THINK = 2_000
+# That one of so many transactions is aborted: usually, and beside that; 0 is none.
+ABORTS, OTHER_ABORTS = 10, (0, 2)
 # How many transactions there are where it is to be quick.
 FEW = 40
 BEGINS = {"PostgreSQL": "BEGIN;", "PostgreSQL SSI": "BEGIN ISOLATION LEVEL SERIALIZABLE;"}
 UPDATE = "UPDATE counter SET value = value"
+# The table of SQLite. Readers go on beside a writer, and nothing waits for a disk.
+SQLITE_TABLE = (
+    "PRAGMA journal_mode = WAL; PRAGMA synchronous = OFF;"
+    "CREATE TABLE counter (id INTEGER PRIMARY KEY, value INTEGER NOT NULL);"
+    f"INSERT INTO counter VALUES {', '.join(f'({cell}, {RICH})' for cell in range(HOT + 1))}"
+)
 
 
 @dataclass(frozen=True)
@@ -38,35 +48,37 @@ class Changes:
     cell: str
     mltx: tuple[str, str]
     redis: tuple[str, str]
-    postgres: tuple[str, str]
+    sql: tuple[str, str]
 
 
-DEPOSIT = f"{UPDATE} + 1 WHERE id = :drawn;"
+DEPOSIT = f"{UPDATE} + 1 WHERE id = :drawn"
 COUNTERS = Changes(
-    "counter", (f"up {HOT} 1", "up @1 1"), (f"INCRBY {HOT} 1", "INCRBY @1 1"), (f"{UPDATE} + 1 WHERE id = {HOT};", DEPOSIT)
+    "counter", (f"up {HOT} 1", "up @1 1"), (f"INCRBY {HOT} 1", "INCRBY @1 1"), (f"{UPDATE} + 1 WHERE id = {HOT}", DEPOSIT)
 )
 ACCOUNTS = Changes(
     "account",
     (f"withdraw {HOT} 1", "deposit @1 1"),
     (f"DECRBY {HOT} 1", "INCRBY @1 1"),
-    (f"{UPDATE} - 1 WHERE id = {HOT} AND value >= 1;", DEPOSIT),
+    (f"{UPDATE} - 1 WHERE id = {HOT} AND value >= 1", DEPOSIT),
 )
 
 
 @dataclass(frozen=True)
 class Case:
-    """So many clients that make these changes, and think for so many microseconds after each."""
+    """So many clients that make these changes, and think for so many microseconds after each; one of so many transactions is
+    aborted, and none where that is 0."""
 
     changes: Changes
     clients: int
     think: int
+    aborts: int = ABORTS
 
     def with_thought(self, steps: tuple[str, str], pause: str) -> list[str]:
         """Two steps, each with a pause behind it where the clients think."""
         return [line for step in steps for line in (step, *[pause] * (self.think > 0))]
 
     def load(self, *lines: str, is_redis: bool = False) -> Load:
-        return Load(lines, self.clients, counters=DRAWN, threads=self.threads(), aborts=ABORTED, redis=is_redis)
+        return Load(lines, self.clients, counters=DRAWN, threads=self.threads(), aborts=self.aborts, redis=is_redis)
 
     def threads(self) -> int:
         return min(self.clients, CLIENT_THREADS)
@@ -85,20 +97,31 @@ class Case:
         return self.load(f"WATCH {HOT} @1", *reads, "MULTI", *changes, "+EXEC", is_redis=True)
 
     def on_postgres(self, begin: str) -> list[postgres.Weighed]:
-        """Two scripts: most transactions commit."""
-        changes = self.with_thought(self.changes.postgres, f"\\sleep {self.think} us")
+        """A script that commits, and where some are aborted one that is."""
+        hot, drawn = self.changes.sql
+        changes = self.with_thought((f"{hot};", f"{drawn};"), f"\\sleep {self.think} us")
         lines = [f"\\set drawn random(0, {DRAWN - 1})", begin, *changes]
-        ends = {"COMMIT;": ABORTED - 1, "ROLLBACK;": 1}
+        ends = {"COMMIT;": self.aborts - 1, "ROLLBACK;": 1} if self.aborts else {"COMMIT;": 1}
         return [postgres.Weighed("\n".join([*lines, end, ""]), weight) for end, weight in ends.items()]
+
+    def on_sqlite(self, seed: int, limit: Limit) -> Words:
+        """The options of the threads that write, and what they do."""
+        words: list[object] = ["--clients", self.clients, "--think", self.think, "--aborts", self.aborts, "--drawn", DRAWN]
+        words += ["--seed", seed, "--seconds", limit.seconds]
+        return words + (["--transactions", limit.transactions] if limit.transactions else [])
+
+    def committed(self) -> float:
+        """How many of the transactions commit."""
+        return 1 - 1 / self.aborts if self.aborts else 1
 
     def limit(self) -> dict[str, float]:
         """How many would commit in a second if they only thought; nothing where they don't."""
-        commits = self.clients * (1 - 1 / ABORTED)
-        return {LIMIT: commits * 1e6 / (2 * self.think)} if self.think else {}
+        return {LIMIT: self.clients * self.committed() * 1e6 / (2 * self.think)} if self.think else {}
 
     def what(self) -> str:
         clients = f"{self.clients} client{'s' * (self.clients > 1)}"
-        return f"{clients}, a hot {self.changes.cell}, {f'{self.think // 1_000} ms to think' if self.think else 'no time to think'}"
+        think = f"{self.think // 1_000} ms to think" if self.think else "no time to think"
+        return f"{clients}, a hot {self.changes.cell}, {think}, {100 - 100 * self.committed():.0f} % aborted"
 
 
 def commits(told: dict[str, float], **more: float) -> Sample:
@@ -136,10 +159,21 @@ def on_postgres(case: Case, begin: str, bench: Bench, _program: Path) -> Sample:
     return Sample(told.per_second, *postgres.percentiles(told.times), {"lost/commit": lost})
 
 
+def on_sqlite(case: Case, bench: Bench, _program: Path) -> Sample:
+    """A file, since a database in memory is not shared by connections that write side by side."""
+    with tempfile.TemporaryDirectory(dir=bench.folder) as folder:
+        words = [bench.tools.paths["writers"], *case.on_sqlite(bench.seed, bench.limit(FEW))]
+        told = run([*words, Path(folder) / "counters", SQLITE_TABLE, *case.changes.sql])[0].decode().split()
+    figures = dict(zip(told[::2], map(float, told[1::2])))
+    # None is tried again: a transaction that begins while another one writes waits.
+    return commits({**figures, "refused": 0})
+
+
 def sides_of(case: Case) -> Iterator[Side]:
     yield Side("mltx", partial(on_mltx, case), ("load",))
     for name, begin in BEGINS.items():
         yield Side(name, partial(on_postgres, case, begin), ("postgres",))
+    yield Side("SQLite", partial(on_sqlite, case), ("writers",))
     needs = ("load", "redis-server")
     yield Side("Redis WATCH", partial(on_redis, case.on_redis_that_watches()), needs)
     if not case.think:
@@ -147,14 +181,21 @@ def sides_of(case: Case) -> Iterator[Side]:
 
 
 def works() -> Iterator[Work]:
-    """Those of the plot, the same without thought, and accounts."""
+    """Those of the plot, the same without thought, and accounts; then all of 32 clients with none and half of the transactions
+    aborted."""
     for think in (THINK, 0):
         for clients in (1, 8, 32, 64):
             case = Case(COUNTERS, clients, think)
             work = Work("hotspots", case.what(), "commits/s", tuple(sides_of(case)))
             yield replace(work, plotted_at=clients) if think else work
-    for think in (THINK, 0):
-        case = Case(ACCOUNTS, 32, think)
+    cases = [Case(ACCOUNTS, 32, think) for think in (THINK, 0)]
+    cases += [
+        Case(changes, 32, think, aborts)
+        for changes in (COUNTERS, ACCOUNTS)
+        for think in (THINK, 0)
+        for aborts in OTHER_ABORTS
+    ]
+    for case in cases:
         yield Work("hotspots", case.what(), "commits/s", tuple(sides_of(case)))
 
 
@@ -163,18 +204,19 @@ ABOUT = (
     f"Each adds to a counter that all share, thinks {THINK // 1_000} ms, adds to one of four others, thinks {THINK // 1_000} ms,"
     " and commits, or is aborted in one case of ten. Dashed is what clients would do that no lock held up."
     " PostgreSQL locks rows (read committed), or is serializable (SSI) and tries again, as Redis does, which watches keys."
+    " SQLite lets one transaction write at a time (BEGIN IMMEDIATE)."
 )
 
 
 def plot(curves: Curves, bench: Bench, runs: int) -> str:
     """The medians of each system by clients as an SVG, and on what they were measured. The limit is drawn last."""
     drawn = [Curve(name, sorted(curves[name].items()), name == LIMIT) for name in sorted(curves, key=LIMIT.__eq__)]
-    versions = [version for version in tools.versions(bench.tools) if version.split()[0] in ("PostgreSQL", "Redis")]
+    versions = [version for version in tools.versions(bench.tools) if version.split()[0] in ("PostgreSQL", "SQLite", "Redis")]
     where = f"Medians of {runs} run{'s' * (runs > 1)} on {', '.join([tools.description(), *versions])}."
     about = [ABOUT, where, *["Quick: the figures mean nothing."] * bench.quick]
     return picture(TITLE, " ".join(about), "clients", "commits a second", drawn)
 
 
 GROUPS = {
-    "hotspots": Group("1 to 64 sessions that all change one counter or account, against PostgreSQL and Redis", works)
+    "hotspots": Group("1 to 64 sessions that all change one counter or account, against PostgreSQL, SQLite and Redis", works)
 }

@@ -8,6 +8,7 @@ import socketserver
 import subprocess
 import threading
 import time
+from contextlib import closing
 from pathlib import Path
 
 from harness import PATIENCE, ROOT, holds, may_break_off, same, test
@@ -56,6 +57,28 @@ def check_plot(plot, rows):
     same(len(list(plot.time.iter("circle"))), 4 * len(figures), "the points")
 
 
+def check_hotspots(rows, left_out):
+    """Each work is told with the part that is aborted, which the limit of those that think goes by: a client that thinks 4
+    milliseconds in each transaction. Each system that was not left out is told of in each of them."""
+    if not shutil.which("cc"):
+        return
+    works = {cells[0] for cells in rows}
+    aborted = {work: int(re.search(r", (\d+) % aborted$", work)[1]) for work in works}
+    for cell in ("counter", "account"):
+        for think in ("2 ms to think", "no time to think"):
+            of_32 = {part for work, part in aborted.items() if f": 32 clients, a hot {cell}, {think}," in work}
+            same(of_32, {0, 10, 50}, f"what is aborted of a hot {cell} with {think}")
+    for work in works:
+        told = [cells for cells in rows if cells[0] == work]
+        systems = {cells[2] for cells in told if cells[2] != "-"}
+        for name in ("SQLite", "PostgreSQL", "PostgreSQL SSI", "Redis WATCH"):
+            holds((name in systems) != (f"{name} in hotspots" in left_out), f"{name} in {work}: it is told of, or left out")
+        if "2 ms" in work:
+            clients = int(re.search(r"(\d+) client", work)[1])
+            limit = f"no lock {clients * (100 - aborted[work]) * 10 // 4:,}"
+            holds(all(limit in " ".join(cells) for cells in told), f"{work}: {limit} in {told}")
+
+
 @test(seconds=20)
 def each_benchmark_runs_through(mltx):
     """Each group has lines with a figure, or is told to be left out, which nothing is that needs a C compiler alone."""
@@ -64,11 +87,13 @@ def each_benchmark_runs_through(mltx):
     ran = subprocess.run(words, capture_output=True, text=True, env=in_folder(mltx), timeout=PATIENCE)
     same((ran.returncode, ran.stderr), (0, ""), f"the status and standard error; standard output was {ran.stdout}")
     measured = {cells[0].partition(":")[0] for cells in rows(ran.stdout)}
-    left_out = set(re.findall(r"(?m)^left out: (\w+), which needs", ran.stdout))
-    same(sorted(measured | left_out), sorted(groups()), "the groups that are told of")
-    holds(not shutil.which("cc") or left_out <= NEED_MORE, f"these are left out: {left_out}")
+    left_out = set(re.findall(r"(?m)^left out: (.*), which needs", ran.stdout))
+    groups_left_out = left_out & set(groups())
+    same(sorted(measured | groups_left_out), sorted(groups()), "the groups that are told of")
+    holds(not shutil.which("cc") or groups_left_out <= NEED_MORE, f"these are left out: {left_out}")
     for cells in rows(ran.stdout):
         holds(re.fullmatch(r"-?[\d,.]+", cells[3]), f"this line has no figure: {cells}")
+    check_hotspots([cells for cells in rows(ran.stdout) if cells[0].startswith("hotspots: ")], left_out)
     if shutil.which("cc"):
         check_plot(Picture(plot.read_text()), [cells for cells in rows(ran.stdout) if ": 64 clients, a hot counter, 2 ms" in cells[0]])
     same(list(mltx.folder.glob("mltx-bench-*")), [], "the folders that are left behind")
@@ -109,6 +134,40 @@ def load_generator_tells_what_the_server_keeps(mltx):
     same([int(word) for word in kept if word.isdigit()][1:], [commits] * 3, "the counters")
     holds(0 < told["aborted"] < 200, "nothing, or all, is aborted")
     holds(told["seconds"] >= 0.1 and told["median"] >= 500, f"it does not think: {told}")
+
+
+def writers(mltx, *words):
+    """What the threads that write to a file of SQLite tell, by name; None where there is nothing to build them with."""
+    program = mltx.folder / "writers"
+    built = ["cc", "-o", program, ROOT / "bench/writers.c", "-lsqlite3", "-pthread"]
+    if not shutil.which("cc") or subprocess.run(built, capture_output=True).returncode:
+        return None
+    ran = subprocess.run([program, *words], capture_output=True, text=True, check=True, timeout=PATIENCE)
+    told = ran.stdout.split()
+    return {name: float(figure) for name, figure in zip(told[::2], told[1::2])}
+
+
+@test(seconds=1)
+def writers_tell_what_the_file_keeps(mltx):
+    """Of 100 transactions of four threads those that were not aborted have changed both rows, and each has thought twice."""
+    file = mltx.folder / "counters"
+    setup = "PRAGMA journal_mode = WAL; CREATE TABLE counter (id INTEGER PRIMARY KEY, value INTEGER);"
+    setup += "INSERT INTO counter VALUES (0, 0), (1, 0), (2, 0)"
+    options = ["--clients", "4", "--transactions", "100", "--seconds", str(PATIENCE), "--think", "1000"]
+    add = "UPDATE counter SET value = value + 1 WHERE id ="
+    told = writers(mltx, *options, "--aborts", "3", "--drawn", "2", file, setup, f"{add} 2", f"{add} :drawn")
+    if told is None:
+        return
+    # Where SQLite can be built with, Python has it too.
+    import sqlite3
+
+    with closing(sqlite3.connect(file)) as database:
+        kept = [value for (value,) in database.execute("SELECT value FROM counter ORDER BY id")]
+    commits = told["transactions"] - told["aborted"]
+    same((told["transactions"], kept[2], sum(kept[:2])), (100, commits, commits), f"{told}, {kept}")
+    holds(0 < told["aborted"] < 100 and min(kept) > 0, f"nothing, or all, is aborted, or one row is never drawn: {told}, {kept}")
+    # One transaction writes at a time, also while it thinks.
+    holds(told["seconds"] >= 0.2 and told["median"] >= 2_000, f"{told}")
 
 
 class GivesUp(socketserver.StreamRequestHandler):
