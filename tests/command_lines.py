@@ -73,16 +73,16 @@ def standard_input_is_read(mltx):
 
 
 # What the help has to name: the subcommands or arguments, the options and their ranges.
-OPTIONS = ("--hash", "mult", "low", "--trace <FILE>")
+OPTIONS = ("-v, --verbose", "--hash", "mult", "low", "--trace <FILE>")
 HELP = {
-    "help": ("Usage: mltx", "solo", "steps", "run", "check", "serve", "--help", "--version", "solo -"),
+    "help": ("Usage: mltx", "solo", "steps", "run", "check", "serve", "--help", "--version", "-v, --verbose", "solo -"),
     "help-solo": ("mltx solo [OPTIONS] <FILE>", "standard input", *OPTIONS),
     "help-steps": ("mltx steps [OPTIONS] <FILE>", "standard input", *OPTIONS),
     "help-run": (
         *("mltx run [OPTIONS] <FILE>", "standard input", *OPTIONS),
         *("--workers <N>", "1 to 8; without it 4", "--tries <N>", "1 to 1000000; without it 10000"),
     ),
-    "help-check": ("mltx check <FILE>", "standard input"),
+    "help-check": ("mltx check [OPTIONS] <FILE>", "standard input", "-v, --verbose"),
     "help-serve": (
         *("mltx serve [OPTIONS] <ADDR>", "127.0.0.1:7000", *OPTIONS, "--sessions <N>", "1 to 64; without it 8"),
         *("--limit <N>", "1 to 1000000; without it 1", "--tries <N>", "1 to 1000000; without it 10000"),
@@ -216,6 +216,15 @@ def numbers_out_of_range(mltx, case):
     option, subcommand, least, most, rest = case
     for number in (least - 1, most + 1, f"{least - 1:02}", "-1", "two", "1.0", "", 2**64 + 1, "1 "):
         is_wrong(mltx, (subcommand, f"--{option}={number}", rest), f"--{option}")
+
+
+@each({f"negative-{name}": (name.split("-")[0], *case) for name, case in NUMBERS.items()})
+def negative_number_behind_an_option(mltx, case):
+    """It is the number that is wrong, and nothing is suggested."""
+    option, subcommand, least, most, rest = case
+    for words in ((f"--{option}", "-1", rest), (rest, f"--{option}", "-007")):
+        is_wrong(mltx, (subcommand, *words), f"invalid value '{words[words.index(f'--{option}') + 1]}' for '--{option} <")
+        same(b"tip" in mltx.run(subcommand, *words, given=FIRST_RUN).err, False, f"{words}")
 
 
 @test

@@ -1,13 +1,13 @@
 -- The words that `clap` reads, and the job that it finds.
-use Rattle.std.proofs.Common.{◌≡◌, ◌≢◌, ℕ, true, List, [], ◌∷◌, Option, None, Some, refl, sym, ap, ap₂, ◌∙◌, subst, codes, map, length, option_map, inl, inr}
+use Rattle.std.proofs.Common.{◌≡◌, ◌≢◌, ℕ, Bool, true, List, [], ◌∷◌, Option, None, Some, refl, sym, ap, ap₂, ◌∙◌, subst, codes, map, length, option_map, inl, inr}
 use Rattle.std.specs.Prelude.{nat_eq, false, option_map}
-use Rattle.clap.specs.Words.{App, HasKind, IsAmong, kind_of, Row, Rule, Text, fault_of, first_of, is_simple, is_simple_and_free, rule_of, subcommand_of}
+use Rattle.clap.specs.Words.{App, HasKind, IsAmong, kind_of, Row, Rule, Text, fault_of, first_of, matches_of, is_simple, is_simple_and_free, rule_of, subcommand_of}
 use Rattle.clap.specs.declared.builder.arg.Arg.{Arg}
 use Rattle.clap.specs.declared.builder.value_parser.ValueParser.{ValueParser}
 use Rattle.clap.proofs.OnLiterals.{clap_on_literals}
 use Rattle.clap.specs.declared.error.Error.{Error}
 use Rattle.clap.specs.declared.error.kind.ErrorKind.TheVariants.{MissingRequiredArgument, OutOfMemory}
-use Rattle.mlt_cli.specs.CommandLine.{AreHashNames, AskFor, Asked, FailsAt, IsFileWord, NameList, Subcommand, asked_by, asked_in, begins_with_hyphen, hash_named, mltx_app, run_in, run_of, subcommand_name, with_input}
+use Rattle.mlt_cli.specs.CommandLine.{AreHashNames, AskFor, Asked, FailsAt, IsFileWord, NameList, SaysVerbose, Subcommand, asked_by, asked_in, begins_with_hyphen, hash_named, is_verbose_in, mltx_app, run_in, run_of, subcommand_name, with_input}
 use Rattle.mlt_cli.specs.declared.words.Hash.{Hash}
 use Rattle.mlt_cli.specs.CommandLine.Subcommand.{solo, steps, run, check, serve}
 
@@ -131,6 +131,12 @@ module _ (names : NameList) (are : AreHashNames names) (app : App) (is : app ≡
   asks [] asked some none found = absurd (some refl)
   asks (word ∷ words) asked some none found =
       (names, are, subst (λ a. fault_of a (word ∷ words) ≡ []) is none, subst (λ a. asked_in (subcommand_of a (word ∷ words)) ≡ Some asked) is found)
+
+  pub says_verbose : (words : List Text) (verbose : Bool) → words ≢ []
+      → verbose ≡ is_verbose_in (matches_of app words) (subcommand_of app words) → SaysVerbose words verbose
+  says_verbose [] verbose some told = absurd (some refl)
+  says_verbose (word ∷ words) verbose some told =
+      (names, are, subst (λ a. verbose ≡ is_verbose_in (matches_of a (word ∷ words)) (subcommand_of a (word ∷ words))) is told)
 
   pub fails_by_kind : (words : List Text) (error : Error) → words ≢ [] → HasKind (fault_of app words) error → FailsAt words error
   fails_by_kind [] error some kind = absurd (some refl)

@@ -1,13 +1,15 @@
 -- What the words of a command line ask for.
-use Rattle.std.specs.Prelude.{◌≡◌, ◌==◌, ◌⊎◌, ◌≤◌, ◌<◌, ◌&&◌, ℕ, Bool, true, false, List, [], ◌∷◌, map, length, nat_lt, nat_le, Option, Some, None, option_map, codes, if◌then◌else◌}
+use Rattle.std.specs.Prelude.{◌≡◌, ◌==◌, ◌⊎◌, ◌≤◌, ◌<◌, ◌&&◌, ◌||◌, ℕ, Bool, true, false, List, [], ◌∷◌, map, length, nat_lt, nat_le, Option, Some, None, option_map, codes, if◌then◌else◌}
 use Rattle.std.specs.Borrow.{Bor}
 use Rattle.std.specs.Char.{digit_value}
 use Rattle.std.specs.List.{list_all}
+use Rattle.std.specs.Option.{option_map_or}
 use Rattle.std.specs.String.{string_bytes}
 use Rattle.std.specs.Str.{bytes_eq}
 use Rattle.std.specs.Str.Parse.{digits_value, without_leading_plus}
-use Rattle.clap.specs.Words.{App, IsAmong, Row, Rule, Text, fault_of, first_of, kind_of, new_app, new_rule, subcommand_of, with_rule, with_subcommand}
+use Rattle.clap.specs.Words.{App, IsAmong, Row, Rule, Text, fault_of, first_of, kind_of, matches_of, new_app, new_rule, subcommand_of, with_rule, with_subcommand}
 use Rattle.clap.specs.declared.builder.value_parser.ValueParser.TheVariants.{Names, Unsigned}
+use Rattle.clap.specs.declared.builder.action.ArgAction.TheVariants.{SetTrue}
 use Rattle.clap.specs.declared.error.kind.ErrorKind.{ErrorKind}
 use Rattle.clap.specs.declared.error.kind.ErrorKind.TheVariants.{DisplayHelp, DisplayVersion, MissingRequiredArgument, OutOfMemory}
 use Rattle.clap.specs.declared.error.Error.{Error}
@@ -43,6 +45,14 @@ hash_rule names = record (new_rule (codes "hash")) {
 abbrev pub trace_rule : Rule
 trace_rule = record (new_rule (codes "trace")) { long = Some (codes "trace"); value_names = 1 }
 
+-- what asks for the second line of a fault, `-v` (118) or `--verbose`
+abbrev pub verbose_rule : Rule
+verbose_rule = record (new_rule (codes "verbose")) {
+  long = Some (codes "verbose");
+  short = Some 118;
+  action = Some SetTrue;
+}
+
 -- an option of this name that takes a number from the least to the most
 abbrev pub number_rule : Text → ℕ → ℕ → Rule
 number_rule name least most = record (new_rule name) {
@@ -53,7 +63,7 @@ number_rule name least most = record (new_rule name) {
 
 -- a subcommand with an input
 abbrev pub input_app : Text → App
-input_app name = with_rule (new_app name) input_rule
+input_app name = with_rule (with_rule (new_app name) input_rule) verbose_rule
 
 -- a subcommand that runs what it reads
 abbrev pub run_app : NameList → Text → App
@@ -79,13 +89,13 @@ serve_app names =
 
 abbrev pub bare_app : App
 bare_app = let named = new_app (codes "mltx") in
-    record named {
+    with_rule (record named {
       top = record named.top {
         no_binary_name = true;
         subcommand_required = true;
         has_version = true;
       };
-    }
+    }) verbose_rule
 
 -- `mltx` with its subcommands; the words that it reads are those after the program's name
 abbrev pub mltx_app : NameList → App
@@ -279,6 +289,22 @@ AskFor [] asked = asked ≡ with_input solo (codes "-")
 AskFor (word ∷ words) asked = (names : NameList) × AreHashNames names
     × (fault_of (mltx_app names) (word ∷ words) ≡ [])
     × (asked_in (subcommand_of (mltx_app names) (word ∷ words)) ≡ Some asked)
+
+-- what was found has the flag
+abbrev pub is_verbose : List Row → Bool
+is_verbose rows = option_map_or (λ text. bytes_eq text (codes "true")) (first_of (codes "verbose") rows) false
+
+-- the flag stands before the subcommand or behind it
+abbrev pub is_verbose_in : List Row → Option (Text × List Row) → Bool
+is_verbose_in rows None = is_verbose rows
+is_verbose_in rows (Some met) = is_verbose rows || is_verbose met.1
+
+-- the second line of a fault is asked for exactly where `clap` finds the flag; no words at all have none
+abbrev pub SaysVerbose : List Text → Bool → Type 0
+SaysVerbose [] verbose = verbose ≡ false
+SaysVerbose (word ∷ words) verbose = (names : NameList) × AreHashNames names
+    × (verbose ≡ is_verbose_in (matches_of (mltx_app names) (word ∷ words))
+    (subcommand_of (mltx_app names) (word ∷ words)))
 
 -- something is wrong with the words, and the error is of its kind; or no input is found in them
 abbrev pub IsWrongBy : NameList → List Text → Error → Type 0

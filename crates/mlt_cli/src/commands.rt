@@ -3,10 +3,10 @@
 ghost use Rattle.std.specs.Prelude.{◌≡◌, IfOk, false};
 ghost use Rattle.clap.specs.Words.{app_of, rule_of};
 ghost use Rattle.clap.specs.declared.builder.command.Command.TheViews.{out-Command};
-ghost use Rattle.mlt_cli.specs.CommandLine.{bare_app, input_app, mltx_app, number_rule, run_app, serve_app, work_app};
+ghost use Rattle.mlt_cli.specs.CommandLine.{bare_app, input_app, mltx_app, number_rule, run_app, serve_app, verbose_rule, work_app};
 
 use clap::builder::ValueParser;
-use clap::{Arg, Command};
+use clap::{Arg, ArgAction, Command};
 use std::alloc::{AllocError, Global};
 
 const VERSION: &str = "0.1.0";
@@ -138,6 +138,9 @@ const LIMIT_HELP: &str = "How many connections are served in all, from 1 to 1000
 const IDLE_HELP: &str =
     "How many seconds a connection may be idle, from 0, which is for ever, to 86400; without it 0";
 
+const VERBOSE_HELP: &str =
+    "At a fault, a second line says which file or address, why, and what was expected";
+
 // How help shows what a subcommand takes, and what it says of it.
 #[derive(Clone, Copy)]
 struct InputHelp {
@@ -173,7 +176,20 @@ fn bare_command<'a>(alloc: Global) -> Result<Command<'a>, AllocError>
         .after_help(NO_WORDS)
         .no_binary_name(true)
         .subcommand_required(true)
-        .bin_name("mltx")
+        .bin_name("mltx")?
+        .arg(verbose_flag(alloc))
+}
+
+// The flag that asks for the second line of a fault.
+fn verbose_flag<'a>(alloc: Global) -> Arg<'a>
+    ensures rule { rule_of result ≡ verbose_rule }
+    ensures local { result.global ≡ false }
+{
+    Arg::new(alloc, "verbose")
+        .short('v')
+        .long("verbose")
+        .action(ArgAction::SetTrue)
+        .help(VERBOSE_HELP)
 }
 
 // A subcommand with an input.
@@ -194,7 +210,8 @@ fn input_command<'a>(
     Command::new(alloc, name)
         .about(about)
         .after_help(example)
-        .arg(arg)
+        .arg(arg)?
+        .arg(verbose_flag(alloc))
 }
 
 // A subcommand that runs what it reads, where these are the names of the hash functions.

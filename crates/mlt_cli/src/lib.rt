@@ -9,4 +9,4 @@ mod words;
 
 pub use fault::{FaultLine, report_fault, status};
 pub use report::{command_line_status, report_command_line};
-pub use words::{Hash, Job, Run, Serve, Work, read_words};
+pub use words::{CommandLine, Hash, Job, Run, Serve, Work, read_words};

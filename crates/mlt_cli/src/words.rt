@@ -4,7 +4,7 @@ ghost use Rattle.std.specs.Prelude.{◌≡◌, ◌≤◌, ℕ, List, [], ◌∷�
 ghost use Rattle.std.specs.Str.Parse.{without_leading_plus};
 ghost use Rattle.std.specs.String.{string_bytes};
 ghost use Rattle.clap.specs.Words.{first_of, found_of, kind_of, rows_of, subcommand_rows_of};
-ghost use Rattle.mlt_cli.specs.CommandLine.{AskFor, FailsAt, IsFileWord, IsWithinBounds, Subcommand, asked_by, asked_in, asked_of, form_of_run, form_of_serve, form_of_work, hash_named, number_named, number_of_digits, run_in, serve_in, subcommand_name, tries_in, with_input, work_in};
+ghost use Rattle.mlt_cli.specs.CommandLine.{AskFor, FailsAt, IsFileWord, IsWithinBounds, SaysVerbose, Subcommand, asked_by, asked_in, asked_of, form_of_run, form_of_serve, form_of_work, hash_named, is_verbose, is_verbose_in, number_named, number_of_digits, run_in, serve_in, subcommand_name, tries_in, with_input, work_in};
 ghost use Rattle.mlt_cli.specs.CommandLine.Subcommand.{solo};
 
 use crate::commands::mltx_command;
@@ -77,48 +77,68 @@ pub enum Job {
     Serve(Serve),
 }
 
+/// What the words of the command line ask for.
+#[derive(Debug, Drop)]
+pub struct CommandLine {
+    /// What is to be done.
+    pub job: Job,
+    /// Whether a fault is to have its second line.
+    pub verbose: bool,
+}
+
 // The names of the hash functions.
 static HASH_NAMES: [&str; 2] = ["mult", "low"];
 
-/// The job that the words after the program's name ask for. With no words it is `solo -`.
+/// The job that the words after the program's name ask for, and whether they have `-v` or `--verbose`. With no words it is
+/// `solo -`.
 ///
 /// # Errors
 /// `clap`'s own, where the words ask for help or the version or are wrong, or memory runs out.
-pub fn read_words(alloc: Global, words: &[String]) -> Result<Job, Error>
+pub fn read_words(alloc: Global, words: &[String]) -> Result<CommandLine, Error>
     // with no words standard input is run, if there is memory
     ensures none { words.now ≡ []
-        → IfOk result (λ job. asked_of job ≡ with_input solo (codes "-")) }
+        → IfOk result (λ line. asked_of line.job ≡ with_input solo (codes "-")) }
     ensures none_err { words.now ≡ []
         → IfErr result (λ error. kind_of error ≡ ErrorKind.OutOfMemory) }
     // after a subcommand a file or an address goes as it stands, if there is memory
     ensures input { (subcommand : Subcommand) (input : List ℕ)
         → map string_bytes words.now ≡ subcommand_name subcommand ∷ input ∷ [] → IsFileWord input
-        → IfOk result (λ job. asked_of job ≡ with_input subcommand input) }
+        → IfOk result (λ line. asked_of line.job ≡ with_input subcommand input) }
     ensures input_err { (subcommand : Subcommand) (input : List ℕ)
         → map string_bytes words.now ≡ subcommand_name subcommand ∷ input ∷ [] → IsFileWord input
         → IfErr result (λ error. kind_of error ≡ ErrorKind.OutOfMemory) }
     // the job is the one that `clap` finds in the words, and it finds nothing wrong with them
-    ensures ok { IfOk result (λ job. AskFor (map string_bytes words.now) (asked_of job)) }
+    ensures ok { IfOk result (λ line.
+        AskFor (map string_bytes words.now) (asked_of line.job)) }
     // its numbers are within their bounds
-    ensures bounds { IfOk result IsWithinBounds }
+    ensures bounds { IfOk result (λ line. IsWithinBounds line.job) }
+    // the flag is told where `clap` finds it, before the subcommand or behind it
+    ensures verbose { IfOk result (λ line.
+        SaysVerbose (map string_bytes words.now) line.verbose) }
     // an error is of a kind that the words call for, or memory ran out
     ensures err { IfErr result (λ error. FailsAt (map string_bytes words.now) error) }
 {
     read_job(alloc, words)
 }
 
-fn read_job(alloc: Global, words: &[String]) -> Result<Job, Error>
-    ensures ok { IfOk result (λ job. AskFor (map string_bytes words.now) (asked_of job)) }
-    ensures bounds { IfOk result IsWithinBounds }
+fn read_job(alloc: Global, words: &[String]) -> Result<CommandLine, Error>
+    ensures ok { IfOk result (λ line. AskFor (map string_bytes words.now) (asked_of line.job)) }
+    ensures bounds { IfOk result (λ line. IsWithinBounds line.job) }
+    ensures verbose { IfOk result (λ line.
+        SaysVerbose (map string_bytes words.now) line.verbose) }
     ensures err { IfErr result (λ error. FailsAt (map string_bytes words.now) error) }
 {
     if words.is_empty() {
-        return Ok(standard_input(alloc)?);
+        return Ok(CommandLine {
+            job: standard_input(alloc)?,
+            verbose: false,
+        });
     }
     let mut command = mltx_command(alloc, HASH_NAMES.as_slice())?;
     let matches = command.try_get_matches_from_mut(words)?;
+    let verbose = is_verbose_in(&matches);
     match job_in(alloc, &matches)? {
-        Some(job) => Ok(job),
+        Some(job) => Ok(CommandLine { job, verbose }),
         None => Err(command.error(ErrorKind::MissingRequiredArgument, "an input is wanted")?),
     }
 }
@@ -132,6 +152,26 @@ fn standard_input(alloc: Global) -> Result<Job, AllocError>
         hash: Hash::Mult,
         trace: None,
     }))
+}
+
+// Whether the flag stands before the subcommand or behind it.
+fn is_verbose_in(matches: &ArgMatches<'_>) -> bool
+    ensures { result
+        ≡ is_verbose_in (rows_of (found_of matches.now)) (subcommand_rows_of matches.now) }
+{
+    match matches.subcommand() {
+        Some((_, found)) => is_verbose(matches) || is_verbose(found),
+        None => is_verbose(matches),
+    }
+}
+
+fn is_verbose(found: &ArgMatches<'_>) -> bool
+    ensures { result ≡ is_verbose (rows_of (found_of found.now)) }
+{
+    match found.get_str("verbose") {
+        Some(text) => text == "true",
+        None => false,
+    }
 }
 
 fn job_in(alloc: Global, matches: &ArgMatches<'_>) -> Result<Option<Job>, AllocError>

@@ -15,12 +15,14 @@ fn words_of(alloc: Global, words: &[&str]) -> Result<Vec<String>, Fail> {
     Ok(all)
 }
 
-const RUN: &[&str] = &["run", "a.txt", "--workers", "2"];
+const RUN: &[&str] = &["run", "a.txt", "--workers", "2", "-v"];
 
 #[test]
 fn job_of_words(rt: HostRuntime) -> Result<(), Fail> {
     let words = words_of(rt.alloc(), RUN)?;
-    match read_words(rt.alloc(), &words)? {
+    let line = read_words(rt.alloc(), &words)?;
+    same(&line.verbose, &true)?;
+    match &line.job {
         Job::Work(work) => same(&(work.run.input.as_str(), work.workers), &("a.txt", 2)),
         _ => Err(Fail::new("another job")),
     }

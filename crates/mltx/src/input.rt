@@ -1,40 +1,90 @@
 //! What the program reads: a file or standard input.
 
-use mlt_types::Refusal;
+use mlt_text::MAX_INPUT;
 use std::fs::File;
 use std::io;
 use std::io::{Read, Stdin};
 
-/// Where the program reads from.
+// Where the program reads from.
 #[derive(Drop)]
-pub(crate) enum Input {
-    /// Standard input.
+enum Source {
+    // Standard input.
     Standard(Stdin),
-    /// A file.
+    // A file.
     Opened(File),
 }
 
+/// An input, and what is known of it once it was read.
+#[derive(Drop)]
+pub(crate) struct Input {
+    source: Source,
+    // How many bytes came.
+    length: usize,
+    // These bytes, where they are kept.
+    kept: Option<Vec<u8>>,
+    // Why the last read that failed did.
+    failed: Option<io::Error>,
+}
+
 impl Input {
-    /// The input of this name on the command line; `-` is standard input.
+    /// The input of this name on the command line; `-` is standard input. What is read is kept where that is wanted, as long
+    /// as there is memory.
     ///
     /// # Errors
-    /// `Io` where the file can't be opened.
-    pub(crate) fn open(rt: &HostRuntime, file: &str) -> Result<Input, Refusal> {
-        if file == "-" {
-            return Ok(Input::Standard(rt.stdin()));
-        }
-        match File::open(rt, file) {
-            Ok(opened) => Ok(Input::Opened(opened)),
-            Err(_) => Err(Refusal::Io),
+    /// The system's, where the file can't be opened.
+    pub(crate) fn open(rt: &HostRuntime, file: &str, keeps: bool) -> io::Result<Input> {
+        let source = if file == "-" {
+            Source::Standard(rt.stdin())
+        } else {
+            Source::Opened(File::open(rt, file)?)
+        };
+        Ok(Input {
+            source,
+            length: 0,
+            kept: if keeps {
+                Some(Vec::new(rt.alloc()))
+            } else {
+                None
+            },
+            failed: None,
+        })
+    }
+
+    /// Why a read failed, if one did.
+    pub(crate) fn failure(&self) -> Option<io::Error> {
+        self.failed
+    }
+
+    /// Whether more bytes came than an input may have.
+    pub(crate) fn is_long(&self) -> bool {
+        self.length > MAX_INPUT
+    }
+
+    /// What was read, if it was kept.
+    pub(crate) fn text(self) -> Option<Vec<u8>> {
+        self.kept
+    }
+
+    fn keep(&mut self, bytes: &[u8]) {
+        self.length = self.length.saturating_add(bytes.len());
+        if let Some(mut kept) = self.kept.take() {
+            if kept.extend_from_slice(bytes).is_ok() {
+                self.kept = Some(kept);
+            }
         }
     }
 }
 
 impl Read for Input {
     fn read(&mut self, buf: &mut [u8]) -> io::Result<usize> {
-        match self {
-            Input::Standard(stdin) => stdin.read(buf),
-            Input::Opened(file) => file.read(buf),
+        let told = match &mut self.source {
+            Source::Standard(stdin) => stdin.read(buf),
+            Source::Opened(file) => file.read(buf),
+        };
+        match told {
+            Ok(count) => self.keep(&buf[..count]),
+            Err(error) => self.failed = Some(error),
         }
+        told
     }
 }

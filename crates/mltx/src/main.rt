@@ -1,13 +1,20 @@
 //! The program `mltx`: it reads the command line, opens the files and ends with a status.
 #![tactic(auto)]
 
+mod arguments;
+mod failure;
 mod input;
+mod output;
 
 ghost use Rattle.std.specs.Prelude.{◌≤◌, ◌<◌};
 ghost use Rattle.mlt_cli.specs.CommandLine.{IsWithinBounds};
 
+use arguments::words;
+use failure::{Failure, Known, explain};
 use input::Input;
-use mlt_cli::{Hash, Job, Run, Serve, Work, read_words, report_command_line, report_fault, status};
+use mlt_cli::{
+    CommandLine, Hash, Job, Run, Serve, Work, read_words, report_command_line, report_fault, status,
+};
 use mlt_manager_laws::{
     aborts_of_a_run_take_few_steps, managers_of_a_run_keep_their_promises,
     operations_of_a_run_take_few_steps,
@@ -20,14 +27,14 @@ use mlt_trace::{KeptItem, write_trace};
 use mlt_trace_check::check_trace;
 use mlt_types::{Limits, Low, Mult, Pseudo, Refusal};
 use mlt_work::{BeginQueue, RunOptions, run_scripts};
+use output::Output;
 use std::fs::File;
-use std::io::ErrorKind;
+use std::io;
 use std::net::TcpListener;
 use std::process::ExitCode;
 use std::sync::Wait;
 use std::thread::Threads;
 use std::time::{Clock, Duration};
-use std::{env, io};
 
 fn main(rt: HostRuntime) -> ExitCode {
     ExitCode::from(run(&rt, &rt))
@@ -38,56 +45,68 @@ fn main(rt: HostRuntime) -> ExitCode {
 fn run<T: Threads + Wait + Clock + Sync>(rt: &HostRuntime, threads: &T) -> u8 {
     let outcome = match words(rt) {
         Ok(words) => match read_words(rt.alloc(), words.as_slice()) {
-            Ok(job) => do_job(rt, threads, &job),
+            Ok(line) => return do_line(rt, threads, &line),
             Err(error) => {
                 match report_command_line(&error, &mut io::writer(rt), &mut rt.stderr()) {
                     Ok(status) => return status,
-                    Err(refusal) => Err(refusal),
+                    Err(refusal) => refusal,
                 }
             }
         },
-        Err(refusal) => Err(refusal),
+        Err(refusal) => refusal,
     };
-    if let Err(refusal) = &outcome {
-        // The status tells of the fault also where its line can't be written.
-        let _ = report_fault(refusal, &mut rt.stderr());
-    }
-    status(&outcome)
+    told_status(rt, outcome)
 }
 
-// The words after the program's name.
-fn words(rt: &HostRuntime) -> Result<Vec<String>, Refusal> {
-    match env::args(rt) {
-        Ok(args) => Ok(args.skip(1).collect(rt.alloc())?),
-        Err(error) if error.kind() == ErrorKind::OutOfMemory => Err(Refusal::OutOfMemory),
-        Err(_) => Err(Refusal::Io),
+// The status of a fault, of which the line is written.
+fn told_status(rt: &HostRuntime, refusal: Refusal) -> u8 {
+    // The status tells of the fault also where its line can't be written.
+    let _ = report_fault(&refusal, &mut rt.stderr());
+    status(&Err(refusal))
+}
+
+// Does what the command line asks for. The second line of a fault comes behind the first.
+fn do_line<T: Threads + Wait + Clock + Sync>(
+    rt: &HostRuntime,
+    threads: &T,
+    line: &CommandLine,
+) -> u8
+    requires { IsWithinBounds line.now.job }
+{
+    match do_job(rt, threads, line) {
+        Ok(()) => status(&Ok(())),
+        Err(failure) => {
+            let status = told_status(rt, failure.refusal);
+            if line.verbose {
+                let _ = explain(rt, &line.job, &failure);
+            }
+            status
+        }
     }
 }
 
 fn do_job<T: Threads + Wait + Clock + Sync>(
     rt: &HostRuntime,
     threads: &T,
-    job: &Job,
-) -> Result<(), Refusal>
-    requires { IsWithinBounds job.now }
+    line: &CommandLine,
+) -> Result<(), Failure>
+    requires { IsWithinBounds line.now.job }
 {
-    match job {
+    let keeps = line.verbose;
+    match &line.job {
         Job::Solo(run) => match run.hash {
-            Hash::Mult => run_solo(rt, run, Mult),
-            Hash::Low => run_solo(rt, run, Low),
+            Hash::Mult => run_solo(rt, run, keeps, Mult),
+            Hash::Low => run_solo(rt, run, keeps, Low),
         },
         Job::Steps(run) => match run.hash {
-            Hash::Mult => run_steps(rt, run, Mult),
-            Hash::Low => run_steps(rt, run, Low),
+            Hash::Mult => run_steps(rt, run, keeps, Mult),
+            Hash::Low => run_steps(rt, run, keeps, Low),
         },
         Job::Work(work) => match work.run.hash {
-            Hash::Mult => run_work(rt, threads, work, Mult),
-            Hash::Low => run_work(rt, threads, work, Low),
+            Hash::Mult => run_work(rt, threads, work, keeps, Mult),
+            Hash::Low => run_work(rt, threads, work, keeps, Low),
         },
-        Job::Check { file } => {
-            let mut input = Input::open(rt, file.as_str())?;
-            check_trace(rt.alloc(), &mut input, &mut io::writer(rt))
-        }
+        Job::Check { file } => run_check(rt, file.as_str(), keeps),
         Job::Serve(serve) => match serve.run.hash {
             Hash::Mult => run_server(rt, threads, serve, Mult),
             Hash::Low => run_server(rt, threads, serve, Low),
@@ -95,19 +114,63 @@ fn do_job<T: Threads + Wait + Clock + Sync>(
     }
 }
 
-fn run_solo<P: Pseudo + Drop>(rt: &HostRuntime, run: &Run, pseudo: P) -> Result<(), Refusal> {
-    let mut input = Input::open(rt, run.input.as_str())?;
-    let limits = Limits::program();
-    let manager = solo(rt.alloc(), &mut input, &mut io::writer(rt), limits, pseudo)?;
+// The input of this name, which is kept as it is read where that is wanted.
+fn open(rt: &HostRuntime, file: &str, keeps: bool) -> Result<Input, Failure> {
+    match Input::open(rt, file, keeps) {
+        Ok(input) => Ok(input),
+        Err(error) => Err(Failure::of_call(Known::OfInput(error))),
+    }
+}
+
+// What a run of this input gave, and else why it was refused.
+fn run_outcome<V>(
+    told: Result<V, Refusal>,
+    input: Input,
+    written: Option<io::Error>,
+) -> Result<V, Failure> {
+    match told {
+        Ok(value) => Ok(value),
+        Err(refusal) => Err(Failure::of_run(refusal, input, written)),
+    }
+}
+
+fn run_solo<P: Pseudo + Drop>(
+    rt: &HostRuntime,
+    run: &Run,
+    keeps: bool,
+    pseudo: P,
+) -> Result<(), Failure> {
+    let mut input = open(rt, run.input.as_str(), keeps)?;
+    let mut output = Output::new(io::writer(rt));
+    let told = solo(
+        rt.alloc(),
+        &mut input,
+        &mut output,
+        Limits::program(),
+        pseudo,
+    );
+    let manager = run_outcome(told, input, output.failure())?;
     let written = write_history(rt, manager.history(), run);
     manager.close();
     written
 }
 
-fn run_steps<P: Pseudo + Drop>(rt: &HostRuntime, run: &Run, pseudo: P) -> Result<(), Refusal> {
-    let mut input = Input::open(rt, run.input.as_str())?;
-    let limits = Limits::program();
-    let manager = steps(rt.alloc(), &mut input, &mut io::writer(rt), limits, pseudo)?;
+fn run_steps<P: Pseudo + Drop>(
+    rt: &HostRuntime,
+    run: &Run,
+    keeps: bool,
+    pseudo: P,
+) -> Result<(), Failure> {
+    let mut input = open(rt, run.input.as_str(), keeps)?;
+    let mut output = Output::new(io::writer(rt));
+    let told = steps(
+        rt.alloc(),
+        &mut input,
+        &mut output,
+        Limits::program(),
+        pseudo,
+    );
+    let manager = run_outcome(told, input, output.failure())?;
     // What held between any two events, and how many steps its operations took, and its aborts.
     managers_of_a_run_keep_their_promises::<P>();
     operations_of_a_run_take_few_steps::<P>();
@@ -117,30 +180,40 @@ fn run_steps<P: Pseudo + Drop>(rt: &HostRuntime, run: &Run, pseudo: P) -> Result
     written
 }
 
+fn run_check(rt: &HostRuntime, file: &str, keeps: bool) -> Result<(), Failure> {
+    let mut input = open(rt, file, keeps)?;
+    let mut output = Output::new(io::writer(rt));
+    let told = check_trace(rt.alloc(), &mut input, &mut output);
+    run_outcome(told, input, output.failure())
+}
+
 fn run_work<P: Pseudo + Drop + Send, T: Threads + Wait + Clock + Sync>(
     rt: &HostRuntime,
     threads: &T,
     work: &Work,
+    keeps: bool,
     pseudo: P,
-) -> Result<(), Refusal>
+) -> Result<(), Failure>
     requires some { 0 < work.now.workers }
     requires most { work.now.workers ≤ 8 }
 {
-    let mut input = Input::open(rt, work.run.input.as_str())?;
+    let mut input = open(rt, work.run.input.as_str(), keeps)?;
+    let mut output = Output::new(io::writer(rt));
     let options = RunOptions {
         limits: Limits::program(),
         workers: work.workers,
         tries: work.tries,
     };
-    let manager = run_scripts(
+    let told = run_scripts(
         threads,
         rt.alloc(),
         &mut input,
-        &mut io::writer(rt),
+        &mut output,
         pseudo,
         &options,
         &BeginQueue::new(threads),
-    )?;
+    );
+    let manager = run_outcome(told, input, output.failure())?;
     let written = write_history(rt, manager.history(), &work.run);
     manager.close();
     written
@@ -151,12 +224,13 @@ fn run_server<P: Pseudo + Drop + Send, T: Threads + Wait + Clock + Sync>(
     threads: &T,
     serve: &Serve,
     pseudo: P,
-) -> Result<(), Refusal>
+) -> Result<(), Failure>
     requires some { 0 < serve.now.sessions }
     requires most { serve.now.sessions ≤ 64 }
 {
-    let Ok(listener) = TcpListener::bind(rt, serve.run.input.as_str()) else {
-        return Err(Refusal::Io);
+    let listener = match TcpListener::bind(rt, serve.run.input.as_str()) {
+        Ok(listener) => listener,
+        Err(error) => return Err(Failure::of_call(Known::OfInput(error))),
     };
     report_address(rt, &listener)?;
     let options = ServeOptions {
@@ -177,32 +251,48 @@ fn run_server<P: Pseudo + Drop + Send, T: Threads + Wait + Clock + Sync>(
 
 // Tells on standard error where the server listens, with the port that it got where port 0 was asked for. A server whose
 // line can't be written goes on.
-fn report_address(rt: &HostRuntime, listener: &TcpListener) -> Result<(), Refusal> {
-    let Ok(address) = listener.local_addr() else {
-        return Err(Refusal::Io);
+fn report_address(rt: &HostRuntime, listener: &TcpListener) -> Result<(), Failure> {
+    let address = match listener.local_addr() {
+        Ok(address) => address,
+        Err(error) => return Err(Failure::of_call(Known::OfInput(error))),
     };
-    let mut text = String::new(rt.alloc());
-    writeln!(text, "mltx: listening on {address}")?;
+    let text = match format!(in rt.alloc(); "mltx: listening on {address}\n") {
+        Ok(text) => text,
+        Err(refused) => return Err(Failure::from(Refusal::from(refused))),
+    };
     let _ = write_text(&mut rt.stderr(), text.as_bytes());
     Ok(())
 }
 
 // Writes how many connections were served, and then the trace.
-fn write_served(rt: &HostRuntime, serve: &Serve, items: &[KeptItem]) -> Result<(), Refusal> {
+fn write_served(rt: &HostRuntime, serve: &Serve, items: &[KeptItem]) -> Result<(), Failure> {
     let limit = serve.limit;
-    let mut text = String::new(rt.alloc());
-    writeln!(text, "served {limit}")?;
-    write_text(&mut io::writer(rt), text.as_bytes())?;
+    let text = match format!(in rt.alloc(); "served {limit}\n") {
+        Ok(text) => text,
+        Err(refused) => return Err(Failure::from(Refusal::from(refused))),
+    };
+    let mut output = Output::new(io::writer(rt));
+    if let Err(refusal) = write_text(&mut output, text.as_bytes()) {
+        return Err(match output.failure() {
+            Some(error) => Failure::of_call(Known::OfOutput(error)),
+            None => Failure::from(refusal),
+        });
+    }
     write_history(rt, items, &serve.run)
 }
 
 // Writes the trace of what the transactions did, where a file for it is named.
-fn write_history(rt: &HostRuntime, items: &[KeptItem], run: &Run) -> Result<(), Refusal> {
-    match &run.trace {
-        Some(file) => match File::create(rt, file.as_str()) {
-            Ok(mut created) => write_trace(items, &mut created),
-            Err(_) => Err(Refusal::Io),
-        },
-        None => Ok(()),
+fn write_history(rt: &HostRuntime, items: &[KeptItem], run: &Run) -> Result<(), Failure> {
+    let Some(file) = &run.trace else {
+        return Ok(());
+    };
+    let mut output = match File::create(rt, file.as_str()) {
+        Ok(created) => Output::new(created),
+        Err(error) => return Err(Failure::of_call(Known::OfTrace(error))),
+    };
+    match (write_trace(items, &mut output), output.failure()) {
+        (Ok(()), _) => Ok(()),
+        (Err(_), Some(error)) => Err(Failure::of_call(Known::OfTrace(error))),
+        (Err(refusal), None) => Err(Failure::from(refusal)),
     }
 }

@@ -1,9 +1,9 @@
-use Rattle.std.proofs.Common.{rules, ◌≡◌, ◌≢◌, [], Some, None, map, option_map, ap, sym, ◌∙◌}
+use Rattle.std.proofs.Common.{rules, ◌≡◌, ◌≢◌, [], Some, None, map, option_map, ap, ap₂, sym, ◌∙◌}
 use Rattle.std.proofs.lemmas.Result.{err_from_is_err_and}
 use Rattle.std.specs.String.{string_bytes}
 use Rattle.clap.specs.Words.{app_of, is_simple, is_simple_and_free, subcommand_of, subcommand_rows_of}
-use Rattle.mlt_cli.specs.CommandLine.{AreHashNames, asked_in, asked_of, mltx_app}
-use Rattle.mlt_cli.proofs.Asked.{asks, fails_by_kind, fails_by_want, fails_for_memory, mltx_is_free, mltx_is_simple, not_empty}
+use Rattle.mlt_cli.specs.CommandLine.{AreHashNames, asked_in, asked_of, is_verbose_in, mltx_app}
+use Rattle.mlt_cli.proofs.Asked.{asks, fails_by_kind, fails_by_want, fails_for_memory, mltx_is_free, mltx_is_simple, not_empty, says_verbose}
 use Rattle.mlt_cli.proofs.words.read_job.Goals as goal
 
 pub returns-in_err-matches-clause-err : goal.returns-in_err-matches-clause-err
@@ -33,6 +33,17 @@ returns-in-Some-clause-ok c =
     let found : Some (asked_of c.in-Some.job) ≡ asked_in (subcommand_rows_of c.in_ok-matches.matches) = ap (option_map asked_of) (sym c.in-Some.is) ∙ c.in_ok-job.ensures.asked in
     asks names are (app_of c.in_ok-command.command) app words (asked_of c.in-Some.job) some
     (c.in_ok-matches.ensures.kinds (ap is_simple_and_free app ∙ mltx_is_free names)) (ap asked_in (sym met) ∙ sym found)
+
+pub returns-in-Some-clause-verbose : goal.returns-in-Some-clause-verbose
+returns-in-Some-clause-verbose c =
+    let words = map string_bytes c.args.words.now in
+    let some : words ≢ [] = not_empty string_bytes c.args.words.now (search rules) in
+    let names = c.as_slice.result in
+    let are : AreHashNames names = search rules in
+    let app : app_of c.in_ok-command.command ≡ mltx_app names = c.in_ok-command.ensures in
+    let met = c.in_ok-matches.ensures.ok.2 (ap is_simple app ∙ mltx_is_simple names) in
+    says_verbose names are (app_of c.in_ok-command.command) app words c.is_verbose_in-verbose.result some
+    (c.is_verbose_in-verbose.ensures ∙ ap₂ is_verbose_in met.0 met.1)
 
 pub returns-in_err-error-in-None-clause-err : goal.returns-in_err-error-in-None-clause-err
 returns-in_err-error-in-None-clause-err c =

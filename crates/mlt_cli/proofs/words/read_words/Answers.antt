@@ -7,7 +7,7 @@ use Rattle.mlt_cli.proofs.words.read_words.Goals as goal
 
 pub returns-clause-input : goal.returns-clause-input
 returns-clause-input c subcommand input e is =
-    IfOk-weaker c.read_job.result _ _ (λ job asks. asked_with_input (map string_bytes c.args.words.now) subcommand input (asked_of job) e is asks) c.read_job.ensures.ok
+    IfOk-weaker c.read_job.result _ _ (λ line asks. asked_with_input (map string_bytes c.args.words.now) subcommand input (asked_of line.job) e is asks) c.read_job.ensures.ok
 
 pub returns-clause-input_err : goal.returns-clause-input_err
 returns-clause-input_err c subcommand input e is =

@@ -1,0 +1,186 @@
+//! The forms of lines, by their first words.
+
+ghost use Rattle.std.specs.Prelude.{◌≡◌, map, option_map};
+ghost use Rattle.mlt_cli_verbose.specs.Forms.{form_among, form_of, forms_of};
+ghost use Rattle.mlt_cli_verbose.specs.Rows.{form_text};
+
+use crate::kind::TextKind;
+
+// The first word of a line, and the form of lines that begin so.
+#[derive(Clone, Copy)]
+struct Form {
+    word: &'static str,
+    form: &'static str,
+}
+
+static SCRIPT_FORMS: [Form; 20] = [
+    Form {
+        word: "begin",
+        form: "`begin`, or `begin K` with K of 0 to 999",
+    },
+    Form {
+        word: "commit",
+        form: "`commit`",
+    },
+    Form {
+        word: "abort",
+        form: "`abort`",
+    },
+    Form {
+        word: "open",
+        form: "`open A`, A below 2^32",
+    },
+    Form {
+        word: "close",
+        form: "`close A`, A below 2^32",
+    },
+    Form {
+        word: "deposit",
+        form: "`deposit A n`, A below 2^32, n below 2^64 or a variable",
+    },
+    Form {
+        word: "withdraw",
+        form: "`withdraw A n`, A below 2^32, n below 2^64 or a variable",
+    },
+    Form {
+        word: "balance",
+        form: "`balance A`, A below 2^32",
+    },
+    Form {
+        word: "add",
+        form: "`add S e`, S below 2^16, e below 2^32",
+    },
+    Form {
+        word: "remove",
+        form: "`remove S e`, S below 2^16, e below 2^32",
+    },
+    Form {
+        word: "has",
+        form: "`has S e`, S below 2^16, e below 2^32",
+    },
+    Form {
+        word: "size",
+        form: "`size S`, S below 2^16",
+    },
+    Form {
+        word: "up",
+        form: "`up C n`, C below 2^32, n below 2^64 or a variable",
+    },
+    Form {
+        word: "down",
+        form: "`down C n`, C below 2^32, n below 2^64 or a variable",
+    },
+    Form {
+        word: "read",
+        form: "`read C`, C below 2^32",
+    },
+    Form {
+        word: "need",
+        form: "`need OP is REPLY`, as `need withdraw 1 5 is done`",
+    },
+    Form {
+        word: "let",
+        form: "`let v = balance A`, `let v = read C` or `let v = size S`",
+    },
+    Form {
+        word: "if",
+        form: "`if OP is REPLY`, as `if withdraw 1 5 is done`",
+    },
+    Form {
+        word: "else",
+        form: "`else`",
+    },
+    Form {
+        word: "end",
+        form: "`end`",
+    },
+];
+
+static SCHEDULE_FORMS: [Form; 8] = [
+    Form {
+        word: "begin",
+        form: "`begin`",
+    },
+    Form {
+        word: "call",
+        form: "`call T OP`, as `call 1 deposit 1 5`",
+    },
+    Form {
+        word: "step",
+        form: "`step T`, or `step T N` with N of 1 to 1000",
+    },
+    Form {
+        word: "cancel",
+        form: "`cancel T`",
+    },
+    Form {
+        word: "commit",
+        form: "`commit T`",
+    },
+    Form {
+        word: "abort",
+        form: "`abort T`",
+    },
+    Form {
+        word: "whole",
+        form: "`whole T OP`, as `whole 1 deposit 1 5`",
+    },
+    Form {
+        word: "undo",
+        form: "`undo T`",
+    },
+];
+
+static TRACE_FORMS: [Form; 5] = [
+    Form {
+        word: "begin",
+        form: "`begin T`, T from 1 on",
+    },
+    Form {
+        word: "op",
+        form: "`op T OP REPLY`, as `op 1 balance 1 is 7`",
+    },
+    Form {
+        word: "back",
+        form: "`back T`, T from 1 on",
+    },
+    Form {
+        word: "commit",
+        form: "`commit T N`, T and N from 1 on",
+    },
+    Form {
+        word: "abort",
+        form: "`abort T`, T from 1 on",
+    },
+];
+
+// The forms of the lines of a text of this kind.
+fn forms(kind: TextKind) -> &'static [Form]
+    ensures { map form_text result.now ≡ forms_of kind }
+{
+    match kind {
+        TextKind::Scripts => SCRIPT_FORMS.as_slice(),
+        TextKind::Schedule => SCHEDULE_FORMS.as_slice(),
+        TextKind::Trace => TRACE_FORMS.as_slice(),
+    }
+}
+
+// The form that goes with this word, the first of these.
+fn find_among(forms: &'static [Form], word: &[u8]) -> Option<&'static str>
+    ensures { option_map (λ text. text.now) result
+        ≡ form_among (map form_text forms.now) word.now }
+{
+    for form in forms {
+        if form.word.as_bytes() == word {
+            return Some(form.form);
+        }
+    }
+    None
+}
+
+/// The form of the lines that begin with this word, where a text of this kind has such.
+pub(crate) fn find_form(kind: TextKind, word: &[u8]) -> Option<&'static str>
+    ensures { option_map (λ text. text.now) result ≡ form_of kind word.now }
+{
+    find_among(forms(kind), word)
+}

@@ -1,0 +1,169 @@
+//! A fault, and what else is known of it.
+
+use crate::input::Input;
+use mlt_cli::{Job, Run};
+use mlt_cli_verbose::{Detail, TextFault, report_verbose};
+use mlt_text::MAX_INPUT;
+use mlt_types::Refusal;
+use std::io;
+use std::io::ErrorKind;
+
+/// Why a job was not done.
+#[derive(Drop)]
+pub(crate) struct Failure {
+    pub(crate) refusal: Refusal,
+    pub(crate) known: Known,
+}
+
+/// What is known of a fault beside its refusal.
+#[derive(Drop)]
+pub(crate) enum Known {
+    /// Nothing more.
+    Nothing,
+    /// What the system says of the input, or of the address.
+    OfInput(io::Error),
+    /// The input has more bytes than one may have.
+    LongInput,
+    /// What the system says of standard output.
+    OfOutput(io::Error),
+    /// What the system says of the file for the trace.
+    OfTrace(io::Error),
+    /// The input's text, in which the refusal names a line.
+    Text(Vec<u8>),
+}
+
+impl Failure {
+    /// A call that failed, and where.
+    pub(crate) fn of_call(known: Known) -> Failure {
+        Failure {
+            refusal: Refusal::Io,
+            known,
+        }
+    }
+
+    /// A run of this input that was refused, where this is what the system said of standard output.
+    pub(crate) fn of_run(refusal: Refusal, input: Input, written: Option<io::Error>) -> Failure {
+        let known = match refusal {
+            Refusal::ScriptFault { .. } | Refusal::TraceFault { .. } => match input.text() {
+                Some(text) => Known::Text(text),
+                None => Known::Nothing,
+            },
+            Refusal::Io => of_streams(&input, written),
+            _ => Known::Nothing,
+        };
+        Failure { refusal, known }
+    }
+}
+
+impl From<Refusal> for Failure {
+    fn from(refusal: Refusal) -> Failure {
+        Failure {
+            refusal,
+            known: Known::Nothing,
+        }
+    }
+}
+
+// The input was read before anything was written.
+fn of_streams(input: &Input, written: Option<io::Error>) -> Known {
+    match (input.failure(), written) {
+        (Some(error), _) => Known::OfInput(error),
+        (None, _) if input.is_long() => Known::LongInput,
+        (None, Some(error)) => Known::OfOutput(error),
+        (None, None) => Known::Nothing,
+    }
+}
+
+/// Writes the second line of a fault of this job on standard error. The line that a refusal names is shown where the text
+/// is there.
+///
+/// # Errors
+/// `OutOfMemory` where memory runs out, and `Io` where it can't be written.
+pub(crate) fn explain(rt: &HostRuntime, job: &Job, failure: &Failure) -> Result<(), Refusal> {
+    let subject = input_name(job);
+    match &failure.known {
+        Known::Nothing => {
+            let refusal = failure.refusal;
+            let words = format!(in rt.alloc(); "{refusal}")?;
+            say(rt, subject, words.as_str())
+        }
+        Known::OfInput(error) => say_of_input(rt, job, *error),
+        Known::LongInput => {
+            let words = format!(in rt.alloc(); "it has more than {MAX_INPUT} bytes")?;
+            say(rt, subject, words.as_str())
+        }
+        Known::OfOutput(error) => say_error(rt, "standard output", *error),
+        Known::OfTrace(error) => say_error(rt, trace_name(job), *error),
+        Known::Text(text) => match fault_of(job, failure.refusal) {
+            Some((fault, line)) => {
+                let detail = Detail::Faulty(fault, line, text.as_slice());
+                report_verbose(rt.alloc(), subject, &detail, &mut rt.stderr())
+            }
+            None => Ok(()),
+        },
+    }
+}
+
+fn say(rt: &HostRuntime, subject: &str, words: &str) -> Result<(), Refusal> {
+    report_verbose(rt.alloc(), subject, &Detail::Said(words), &mut rt.stderr())
+}
+
+fn say_error(rt: &HostRuntime, subject: &str, error: io::Error) -> Result<(), Refusal> {
+    let words = format!(in rt.alloc(); "{error}")?;
+    say(rt, subject, words.as_str())
+}
+
+// What the system says of FILE or ADDR, and how an ADDR is written where it is none.
+fn say_of_input(rt: &HostRuntime, job: &Job, error: io::Error) -> Result<(), Refusal> {
+    match job {
+        Job::Serve(serve) if error.kind() == ErrorKind::InvalidInput => {
+            let words = format!(in rt.alloc();
+                "{error}; expected: an IP address or the name of a host, a colon, and a port of 0 to 65535, as 127.0.0.1:7000"
+            )?;
+            say(rt, serve.run.input.as_str(), words.as_str())
+        }
+        _ => say_error(rt, input_name(job), error),
+    }
+}
+
+// FILE or ADDR, as it stands on the command line.
+fn input_name(job: &Job) -> &str {
+    match job {
+        Job::Solo(run) | Job::Steps(run) => file_name(run.input.as_str()),
+        Job::Work(work) => file_name(work.run.input.as_str()),
+        Job::Check { file } => file_name(file.as_str()),
+        Job::Serve(serve) => serve.run.input.as_str(),
+    }
+}
+
+fn file_name(file: &str) -> &str {
+    if file == "-" { "standard input" } else { file }
+}
+
+fn trace_name(job: &Job) -> &str {
+    match job {
+        Job::Solo(run) | Job::Steps(run) => trace_of(run),
+        Job::Work(work) => trace_of(&work.run),
+        Job::Serve(serve) => trace_of(&serve.run),
+        Job::Check { .. } => "",
+    }
+}
+
+fn trace_of(run: &Run) -> &str {
+    match &run.trace {
+        Some(file) => file.as_str(),
+        None => "",
+    }
+}
+
+// The fault of a text that a job read, and its line.
+fn fault_of(job: &Job, refusal: Refusal) -> Option<(TextFault, u64)> {
+    match (job, refusal) {
+        (Job::Steps(_), Refusal::ScriptFault { line, cause }) => {
+            Some((TextFault::Schedule(cause), line))
+        }
+        (_, Refusal::ScriptFault { line, cause }) => Some((TextFault::Scripts(cause), line)),
+        (_, Refusal::TraceFault { line, cause }) => Some((TextFault::Trace(cause), line)),
+        _ => None,
+    }
+}

@@ -1,0 +1,263 @@
+"""The second line of a fault, with `-v`: the file or address, the system's own words, and what was expected of a faulty text."""
+import errno
+import os
+import socket
+from collections.abc import Mapping, Sequence
+from pathlib import Path
+
+from harness import MOST_BYTES, Program, each, expect, lines, same, test
+
+IO = "mltx: 13 Io\n"
+SCRIPTS = lines("begin|open 1|commit")
+EVENTS = lines("begin|whole 1 open 1|commit 1")
+TRACE = lines("begin 1|op 1 open 1 opened|commit 1 1")
+TEXTS = {"solo": SCRIPTS, "run": SCRIPTS, "steps": EVENTS, "check": TRACE}
+# Where ADDR is none, what stands behind the words of the system.
+ADDRESS = "; expected: an IP address or the name of a host, a colon, and a port of 0 to 65535, as 127.0.0.1:7000"
+
+
+def of_system(number: int) -> str:
+    """The system's own words for an error, as a Rust program writes them."""
+    return f"{os.strerror(number)} (os error {number})"
+
+
+def is_said(mltx: Program, words: Sequence[object], fault: str, second: str, out: str = "", given: str = "") -> None:
+    """The fault line, and with the flag, wherever it stands, the second line behind it. All else is the same."""
+    expect(mltx.run(*words, given=given), status=1, out=out, err=fault, what=f"{words}")
+    for flag in ("-v", "--verbose"):
+        for put in ([flag, *words], [words[0], flag, *words[1:]], [*words, flag]):
+            expect(mltx.run(*put, given=given), status=1, out=out, err=fault + second, what=f"{put}")
+
+
+@each({f"second-line-of-{name}": (name, text) for name, text in TEXTS.items()})
+def second_line_of_a_file(mltx: Program, case: tuple[str, str]) -> None:
+    command, text = case
+    plain = mltx.file("plain", text)
+    for file, number in (("nosuch.txt", errno.ENOENT), (".", errno.EISDIR), (f"{plain}/x", errno.ENOTDIR), ("", errno.ENOENT)):
+        is_said(mltx, (command, file), IO, f"mltx: {file}: {of_system(number)}\n")
+    expect(mltx.run("-v", command, "-", redirect="<."), status=1, err=f"{IO}mltx: standard input: {of_system(errno.EISDIR)}\n")
+
+
+@test(seconds=2)
+def second_line_of_a_long_file(mltx: Program) -> None:
+    long = mltx.file("long.txt", b"\n" * (MOST_BYTES + 1))
+    for command in TEXTS:
+        ran = mltx.run(command, "-v", long)
+        expect(ran, status=1, err=f"{IO}mltx: {long}: it has more than {MOST_BYTES} bytes\n", what=command)
+
+
+@test
+def second_line_of_a_trace(mltx: Program) -> None:
+    """All goes to standard output before, with the flag too."""
+    script, schedule = mltx.file("script", SCRIPTS), mltx.file("schedule", EVENTS)
+    told = {
+        "solo": lines("opened|committed 1"),
+        "run": lines("client 0 script 1|opened|committed 1|account 1 0"),
+        "steps": lines("begun 1|done opened|committed 1|account 1 0|depth 0"),
+    }
+    for command, out in told.items():
+        file = schedule if command == "steps" else script
+        for trace, number in (("/nosuch/x", errno.ENOENT), (".", errno.EISDIR), ("/dev/full", errno.ENOSPC)):
+            is_said(mltx, (command, "--trace", trace, file), IO, f"mltx: {trace}: {of_system(number)}\n", out)
+
+
+@test
+def second_line_of_standard_output(mltx: Program) -> None:
+    for command, text in TEXTS.items():
+        ran = mltx.run(command, "-v", mltx.file("text", text), redirect=">/dev/full")
+        expect(ran, status=1, err=f"{IO}mltx: standard output: {of_system(errno.ENOSPC)}\n", what=command)
+
+
+NO_ADDRESSES = {
+    "127.0.0.1": "invalid socket address" + ADDRESS,
+    "no address": "invalid socket address" + ADDRESS,
+    "-": "invalid socket address" + ADDRESS,
+    "127.0.0.1:99999": "invalid port value" + ADDRESS,
+    "127.0.0.1:": "invalid port value" + ADDRESS,
+    "127.0.0.1:http": "invalid port value" + ADDRESS,
+    "192.0.2.1:7000": of_system(errno.EADDRNOTAVAIL),
+}
+
+
+@test
+def second_line_of_an_address(mltx: Program) -> None:
+    for address, why in NO_ADDRESSES.items():
+        is_said(mltx, ("serve", address), IO, f"mltx: {address}: {why}\n")
+    with socket.socket() as used:
+        used.bind(("127.0.0.1", 0))
+        used.listen()
+        in_use = "%s:%d" % used.getsockname()
+        is_said(mltx, ("serve", in_use), IO, f"mltx: {in_use}: {of_system(errno.EADDRINUSE)}\n")
+
+
+@test
+def flag_changes_nothing_where_there_is_no_fault(mltx: Program) -> None:
+    for command, text in TEXTS.items():
+        file = mltx.file("text", text)
+        quiet = mltx.run(command, file)
+        same(quiet.status, 0, command)
+        for words in (("-v", command, file), (command, "--verbose", file), (command, file, "-v")):
+            expect(mltx.run(*words), out=quiet.out, what=f"{words}")
+    with mltx.serve("--verbose") as server:
+        same(server.talk("begin\nquit\n"), b"begun 1\nbye\n", "serve --verbose")
+        expect(server.end(), out="served 1\n", what="serve --verbose")
+
+
+BEGINNINGS = {
+    "solo": "a line that begins with begin, commit, abort, open, close, deposit, withdraw, balance, add, remove, has, size, "
+    "up, down, read, need, let, if, else or end",
+    "steps": "a line that begins with begin, call, step, cancel, commit, abort, whole or undo",
+    "check": "a line that begins with begin, op, back, commit or abort",
+}
+WITHDRAW = "`withdraw A n`, A below 2^32, n below 2^64 or a variable"
+DEPOSIT = "`deposit A n`, A below 2^32, n below 2^64 or a variable"
+OF_SCRIPTS = "a line of scripts begins so, which `solo` and `run` read; "
+OF_A_SCHEDULE = "a line of a schedule begins so, which `steps` reads; "
+OF_A_TRACE = "a line of a trace begins so, which `check` reads; "
+PRINTED = "expected: tabs and bytes of 0x20 to 0x7e alone"
+IN_COMMENTS = ", but in comments, which have lines of their own"
+OPEN_TX = "expected: a transaction that is open, and has "
+# A subcommand, its text, the line and the cause of the fault, the line as it is shown, and what is said of it.
+FAULTY: Mapping[str, tuple[str, str | bytes, int, str, str, str]] = {
+    "schedule-given-to-solo": (
+        "solo", EVENTS, 2, "Words", "whole 1 open 1", f"{OF_A_SCHEDULE}expected: {BEGINNINGS['solo']}"
+    ),
+    "trace-given-to-solo": (
+        "solo", TRACE, 2, "Words", "op 1 open 1 opened", f"{OF_A_TRACE}expected: {BEGINNINGS['solo']}"
+    ),
+    "script-given-to-steps": ("steps", SCRIPTS, 2, "Words", "open 1", f"{OF_SCRIPTS}expected: {BEGINNINGS['steps']}"),
+    "scripts-of-clients-given-to-steps": (
+        "steps", "begin 1\nup 1 1\ncommit\n", 1, "Words", "begin 1",
+        "scripts that `run` reads, or a trace that `check` reads, begin so; expected: `begin`",
+    ),
+    "script-given-to-check": (
+        "check", SCRIPTS, 1, "Words", "begin",
+        "scripts that `solo` and `run` read, or a schedule that `steps` reads, begin so; expected: `begin T`, T from 1 on",
+    ),
+    "scripts-of-clients-given-to-check": (
+        "check", "begin 1\nup 1 1\ncommit\n", 2, "Words", "up 1 1", f"{OF_SCRIPTS}expected: {BEGINNINGS['check']}"
+    ),
+    "byte-order-mark": (
+        "solo", b"\xef\xbb\xbf" + SCRIPTS.encode(), 1, "Line", "\\xef\\xbb\\xbfbegin",
+        "a byte order mark stands in front; expected: a text without one",
+    ),
+    "number-too-large": (
+        "solo", "begin\nopen 1\ndeposit 1 12345678901234567890123\ncommit\n", 3, "Words", "deposit 1 12345678901234567890123",
+        f"a number has at most 20 digits, and is below 2^64; expected: {DEPOSIT}",
+    ),
+    "number-of-2-to-64": (
+        "steps", "begin\nwhole 1 deposit 1 18446744073709551616\n", 2, "Words", "whole 1 deposit 1 18446744073709551616",
+        "a number has at most 20 digits, and is below 2^64; expected: `whole T OP`, as `whole 1 deposit 1 5`",
+    ),
+    "negative-number": (
+        "solo", "begin\nwithdraw 1 -5\ncommit\n", 2, "Words", "withdraw 1 -5", f"a number has no sign; expected: {WITHDRAW}"
+    ),
+    "comment-behind-a-statement": (
+        "solo", "begin\nopen 1 # c\ncommit\n", 2, "Words", "open 1 # c",
+        "a comment has a line of its own; expected: `open A`, A below 2^32",
+    ),
+    "unknown-keyword": ("solo", "begin\nopn 1\ncommit\n", 2, "Words", "opn 1", f"expected: {BEGINNINGS['solo']}"),
+    "keyword-in-capitals": ("steps", "Begin\n", 1, "Words", "Begin", f"expected: {BEGINNINGS['steps']}"),
+    "unknown-keyword-of-a-trace": ("check", "start 1\n", 1, "Words", "start 1", f"expected: {BEGINNINGS['check']}"),
+    "missing-argument": ("solo", "begin\r\ndeposit 1\r\ncommit\r\n", 2, "Words", "deposit 1", f"expected: {DEPOSIT}"),
+    "missing-operation": ("steps", "begin\ncall 1\n", 2, "Words", "call 1", "expected: `call T OP`, as `call 1 deposit 1 5`"),
+    "missing-reply": (
+        "check", "begin 1\nop 1 balance 1\n", 2, "Words", "op 1 balance 1", "expected: `op T OP REPLY`, as `op 1 balance 1 is 7`"
+    ),
+    "client-out-of-range": ("run", "begin 1000\n", 1, "Words", "begin 1000", "expected: `begin`, or `begin K` with K of 0 to 999"),
+    "line-of-201-bytes": ("solo", "begin\n" + "x" * 201 + "\n", 2, "Line", "x" * 60 + "..", "expected: at most 200 bytes"),
+    "line-of-200-bytes": (
+        "solo", "begin\n" + "x" * 200 + "\n", 2, "Words", "x" * 60 + "..", f"expected: {BEGINNINGS['solo']}"
+    ),
+    "line-of-60-bytes": ("solo", "begin\n" + "x" * 60, 2, "Words", "x" * 60, f"expected: {BEGINNINGS['solo']}"),
+    "bytes-that-are-not-printed": (
+        "solo", b"begin\nopen\t1\x1b[2J\xe9\r\n", 2, "Line", "open\\t1\\x1b[2J\\xe9\\x0d", PRINTED + IN_COMMENTS
+    ),
+    "carriage-return-at-the-end": ("solo", "begin\ncommit\r", 2, "Line", "commit\\x0d", PRINTED + IN_COMMENTS),
+    "byte-of-a-trace": ("check", b"begin 1\n# \xc3\xa4\n", 2, "Line", "# \\xc3\\xa4", PRINTED),
+    "statement-outside-a-script": ("solo", "open 1\n", 1, "Place", "open 1", "expected: a `begin` before it"),
+    "begin-inside-a-script": (
+        "solo", "begin\nbegin\n", 2, "Place", "begin", "expected: a `commit` or an `abort` before it"
+    ),
+    "commit-inside-an-if": (
+        "solo", "begin\nif has 1 1 is yes\ncommit\n", 3, "Place", "commit",
+        "expected: a `begin` before it, and an `end` for each `if`",
+    ),
+    "end-without-an-if": (
+        "solo", "begin\nend\n", 2, "Place", "end",
+        "expected: an `if` before it that is open, and that has no `else` where this is one",
+    ),
+    "ifs-in-one-another": (
+        "solo", "begin\n" + "if has 1 1 is yes\n" * 17, 18, "Deep", "if has 1 1 is yes", "expected: at most 16 `if` in one another"
+    ),
+    "path-of-257-operations": (
+        "solo", "begin\n" + "up 1 1\n" * 257 + "commit\n", 258, "Long", "up 1 1",
+        "expected: at most 256 operations on each path from `begin` up to here",
+    ),
+    "script-that-does-not-end": (
+        "run", "begin\nopen 1\n", 2, "Unfinished", "open 1", "the text ends inside a script; expected: a `commit` or an `abort`"
+    ),
+    "script-that-ends-in-a-blank-line": (
+        "run", "begin\n\n", 2, "Unfinished", "", "the text ends inside a script; expected: a `commit` or an `abort`"
+    ),
+    "trace-that-is-cut": (
+        "check", "begin 1\ncommit 1 1", 2, "Cut", "commit 1 1", "the text ends inside this line; expected: a line feed at its end"
+    ),
+    "begin-of-a-lower-number": (
+        "check", "begin 2\nbegin 1\n", 2, "Place", "begin 1", "expected: a number above those of all transactions before it"
+    ),
+    "operation-of-no-transaction": (
+        "check", "op 1 open 1 opened\n", 1, "Place", "op 1 open 1 opened", f"{OPEN_TX}no `back` before it"
+    ),
+    "nothing-to-take-back": ("check", "begin 1\nback 1\n", 2, "Place", "back 1", f"{OPEN_TX}an operation left"),
+    "commit-under-a-wrong-number": (
+        "check", "begin 1\ncommit 1 2\n", 2, "Place", "commit 1 2",
+        f"{OPEN_TX}no `back` before it, and as N one more than the commits before it",
+    ),
+    "abort-with-an-operation-left": (
+        "check", "begin 1\nop 1 open 1 opened\nabort 1\n", 3, "Place", "abort 1", f"{OPEN_TX}no operation left"
+    ),
+    "reply-that-is-not-right": (
+        "check", "begin 1\nop 1 open 1 exists\ncommit 1 1\n", 2, "Reply", "op 1 open 1 exists",
+        "expected: what the operation is told where the transactions run one after another, as they commit",
+    ),
+}
+
+
+@each({f"faulty-{name}": case for name, case in FAULTY.items()})
+def faulty_text(mltx: Program, case: tuple[str, str | bytes, int, str, str, str]) -> None:
+    """Of a file, and of standard input."""
+    command, text, line, cause, shown, said = case
+    fault = f"mltx: {'11 TraceFault' if command == 'check' else '10 ScriptFault'} line {line} {cause}\n"
+    file = mltx.file("text", text)
+    is_said(mltx, (command, file), fault, f"mltx: {file}, line {line}: `{shown}`: {said}\n")
+    ran = mltx.run(command, "-", "-v", redirect=f"<{file}")
+    expect(ran, status=1, err=f"{fault}mltx: standard input, line {line}: `{shown}`: {said}\n", what=f"{command} -")
+
+
+@test
+def name_is_shown_in_one_line(mltx: Program) -> None:
+    """A file whose name has a line feed, a tab and bytes beyond ASCII."""
+    name = "a\nb\tc\u00e4"
+    expect(mltx.run("solo", "-v", name), status=1, err=f"{IO}mltx: a\\x0ab\\tc\\xc3\\xa4: {of_system(errno.ENOENT)}\n")
+    (Path(mltx.folder) / name).write_text("opn\n")
+    fault = "mltx: 10 ScriptFault line 1 Words\n"
+    second = f"mltx: a\\x0ab\\tc\\xc3\\xa4, line 1: `opn`: expected: {BEGINNINGS['solo']}\n"
+    expect(mltx.run("solo", "-v", name), status=1, err=fault + second)
+
+
+@test
+def flag_is_given_once(mltx: Program) -> None:
+    file = mltx.file("text", SCRIPTS)
+    for words in (("solo", "-v", "-v", file), ("solo", "-vv", file), ("-v", "--verbose", "solo", file)):
+        ran = mltx.run(*words)
+        same((ran.status, ran.out), (2, b""), f"{words}")
+        same(b"'--verbose'" in ran.err, True, f"{ran}")
+
+
+@test
+def flag_alone_is_wrong(mltx: Program) -> None:
+    """Without a subcommand nothing is run, and no other option is suggested."""
+    for flag in ("-v", "--verbose"):
+        ran = mltx.run(flag, given="opn\n")
+        same((ran.status, ran.out, b"subcommand" in ran.err, b"--version" in ran.err), (2, b"", True, False), f"{ran}")
