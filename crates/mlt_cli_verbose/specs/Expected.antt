@@ -1,5 +1,5 @@
 -- What was expected in place of a faulty line.
-use Rattle.std.specs.Prelude.{◌==◌, ◌&&◌, ◌||◌, ℕ, Bool, List, [], ◌∷◌, ◌++◌, Option, Some, None, codes, length, nat_le, nat_lt, slice_index, unwrap_or, if◌then◌else◌}
+use Rattle.std.specs.Prelude.{◌==◌, ◌&&◌, ◌||◌, ℕ, Bool, List, [], ◌∷◌, ◌++◌, codes, length, nat_le, nat_lt, slice_index, unwrap_or, if◌then◌else◌}
 use Rattle.std.specs.Str.{bytes_eq}
 use Rattle.mlt_text_words.specs.Words.{raw_words}
 use Rattle.mlt_types.specs.declared.refusal.ScriptCause.{ScriptCause}
