@@ -75,7 +75,7 @@ def standard_input_is_read(mltx):
 # What the help has to name: the subcommands or arguments, the options and their ranges.
 OPTIONS = ("-v, --verbose", "--hash", "mult", "low", "--trace <FILE>")
 HELP = {
-    "help": ("Usage: mltx", "solo", "steps", "run", "check", "serve", "--help", "--version", "-v, --verbose", "solo -"),
+    "help": ("Usage: mltx", "solo", "steps", "run", "check", "serve", "tables", "--help", "--version", "-v, --verbose", "solo -"),
     "help-solo": ("mltx solo [OPTIONS] <FILE>", "standard input", *OPTIONS),
     "help-steps": ("mltx steps [OPTIONS] <FILE>", "standard input", *OPTIONS),
     "help-run": (
@@ -83,6 +83,7 @@ HELP = {
         *("--workers <N>", "1 to 8; without it 4", "--tries <N>", "1 to 1000000; without it 10000"),
     ),
     "help-check": ("mltx check [OPTIONS] <FILE>", "standard input", "-v, --verbose"),
+    "help-tables": ("mltx tables [OPTIONS] [TABLE]", "account", "set", "counter", "without it all of them", "-v, --verbose"),
     "help-serve": (
         *("mltx serve [OPTIONS] <ADDR>", "127.0.0.1:7000", *OPTIONS, "--sessions <N>", "1 to 64; without it 8"),
         *("--limit <N>", "1 to 1000000; without it 1", "--tries <N>", "1 to 1000000; without it 10000"),

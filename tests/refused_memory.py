@@ -5,7 +5,7 @@ stand. What that gives comes from a run with ample memory over the text without 
 import dataclasses
 import re
 
-from harness import Failed, Ran, each, holds, lines, same
+from harness import Failed, Ran, each, holds, lines, same, test
 
 WANT = b"mltx: 1 OutOfMemory\n"
 REFUSED = "refused 1 OutOfMemory"
@@ -324,6 +324,22 @@ def later_script(mltx, workers):
         if not is_given_up(came):
             same((came.status, came.err), (0, ""), what)
             holds(came.out in map(lines, wanted), f"{what}: {came.out!r}, which is none of {wanted}")
+
+
+@test(seconds=2)
+def refused_growths_of_tables(mltx):
+    """The run is given up, and nothing is written."""
+    runs, ample, met = Runs(mltx, "tables", traced=False), mltx.run("tables").out.decode(), 0
+
+    def run(number):
+        ran = mltx.run("tables", env=runs.refusing(first=number))
+        return Came(ran.status, ran.out.decode(), ran.err.decode())
+
+    for what, came in runs.one_refused(run):
+        if came != Came(0, ample, ""):
+            holds(is_given_up(came), f"{what}: {came}")
+            met += 1
+    holds(met > 0, "no request for memory was refused")
 
 
 CHECKS = {

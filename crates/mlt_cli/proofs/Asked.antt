@@ -7,23 +7,23 @@ use Rattle.clap.specs.declared.builder.value_parser.ValueParser.{ValueParser}
 use Rattle.clap.proofs.OnLiterals.{clap_on_literals}
 use Rattle.clap.specs.declared.error.Error.{Error}
 use Rattle.clap.specs.declared.error.kind.ErrorKind.TheVariants.{MissingRequiredArgument, OutOfMemory}
-use Rattle.mlt_cli.specs.CommandLine.{AreHashNames, AskFor, Asked, FailsAt, IsFileWord, NameList, SaysVerbose, Subcommand, asked_by, asked_in, begins_with_hyphen, hash_named, is_verbose_in, mltx_app, run_in, run_of, subcommand_name, with_input}
+use Rattle.mlt_cli.specs.CommandLine.{AreNames, AskFor, Asked, FailsAt, IsFileWord, NameLists, SaysVerbose, Subcommand, asked_by, asked_in, begins_with_hyphen, hash_named, is_verbose_in, mltx_app, run_in, run_of, subcommand_name, with_input}
 use Rattle.mlt_cli.specs.declared.words.Hash.{Hash}
 use Rattle.mlt_cli.specs.CommandLine.Subcommand.{solo, steps, run, check, serve}
 
 -- ---- the program's description, wherever the names of hash functions lie
 
-pub mltx_is_simple : (names : NameList) → is_simple (mltx_app names) ≡ true
+pub mltx_is_simple : (names : NameLists) → is_simple (mltx_app names) ≡ true
 unfolding clap_on_literals
 mltx_is_simple names = refl
 
-pub mltx_is_free : (names : NameList) → is_simple_and_free (mltx_app names) ≡ true
+pub mltx_is_free : (names : NameLists) → is_simple_and_free (mltx_app names) ≡ true
 unfolding clap_on_literals
 mltx_is_free names = refl
 
 -- ---- a subcommand and a file that begins with no hyphen, or that is `-`
 
-module _ (names : NameList) where
+module _ (names : NameLists) where
   asked_plain : (subcommand : Subcommand) (x : ℕ) (xs : List ℕ) → nat_eq x 45 ≡ false
       → asked_in (subcommand_of (mltx_app names) (subcommand_name subcommand ∷ (x ∷ xs) ∷ [])) ≡ Some (with_input subcommand (x ∷ xs))
   unfolding clap_on_literals
@@ -126,7 +126,7 @@ pub fails_for_memory : (words : List Text) (error : Error) → kind_of error ≡
 fails_for_memory [] error memory = memory
 fails_for_memory (word ∷ words) error memory = inl memory
 
-module _ (names : NameList) (are : AreHashNames names) (app : App) (is : app ≡ mltx_app names) where
+module _ (names : NameLists) (are : AreNames names) (app : App) (is : app ≡ mltx_app names) where
   pub asks : (words : List Text) (asked : Asked) → words ≢ [] → fault_of app words ≡ [] → asked_in (subcommand_of app words) ≡ Some asked → AskFor words asked
   asks [] asked some none found = absurd (some refl)
   asks (word ∷ words) asked some none found =

@@ -13,6 +13,8 @@ use Rattle.clap.specs.declared.builder.action.ArgAction.TheVariants.{SetTrue}
 use Rattle.clap.specs.declared.error.kind.ErrorKind.{ErrorKind}
 use Rattle.clap.specs.declared.error.kind.ErrorKind.TheVariants.{DisplayHelp, DisplayVersion, MissingRequiredArgument, OutOfMemory}
 use Rattle.clap.specs.declared.error.Error.{Error}
+use Rattle.mlt_object_tables.specs.declared.tables.TableName.{TableName}
+use Rattle.mlt_object_tables.specs.declared.tables.TableName.TheVariants as table
 use Rattle.mlt_cli.specs.declared.words.Hash.{Hash}
 use Rattle.mlt_cli.specs.declared.words.Hash.TheVariants.{Mult, Low}
 use Rattle.mlt_cli.specs.declared.words.Run.{Run}
@@ -27,9 +29,18 @@ use Rattle.mlt_cli.specs.declared.words.Job.TheVariants as job
 abbrev pub NameList : Type 0
 NameList = Bor (List (Bor Text))
 
--- the names of the hash functions, wherever they lie
-abbrev pub AreHashNames : NameList → Type 0
-AreHashNames names = map (λ name. name.now) names.now ≡ codes "mult" ∷ codes "low" ∷ []
+-- the names of the hash functions, and of the conflict tables
+pub record NameLists : Type 0 where
+  pub hashes : NameList
+  pub tables : NameList
+
+abbrev pub names_of : NameList → NameList → NameLists
+names_of hashes tables = record { hashes = hashes; tables = tables }
+
+-- they are the program's, wherever they lie
+abbrev pub AreNames : NameLists → Type 0
+AreNames names = (map (λ name. name.now) names.hashes.now ≡ codes "mult" ∷ codes "low" ∷ [])
+    × (map (λ name. name.now) names.tables.now ≡ codes "account" ∷ codes "set" ∷ codes "counter" ∷ [])
 
 -- what is read or listened on: a file, or an address
 abbrev pub input_rule : Rule
@@ -87,6 +98,16 @@ serve_app names =
     (number_rule (codes "limit") 1 1000000)) tries_rule)
     (number_rule (codes "idle") 0 86400)
 
+abbrev pub table_rule : NameList → Rule
+table_rule names = record (new_rule (codes "table")) {
+  value_names = 1;
+  parser = Some (Names names);
+}
+
+-- `tables`, which may name a table
+abbrev pub tables_app : NameList → App
+tables_app names = with_rule (with_rule (new_app (codes "tables")) verbose_rule) (table_rule names)
+
 abbrev pub bare_app : App
 bare_app = let named = new_app (codes "mltx") in
     with_rule (record named {
@@ -98,17 +119,19 @@ bare_app = let named = new_app (codes "mltx") in
     }) verbose_rule
 
 -- `mltx` with its subcommands; the words that it reads are those after the program's name
-abbrev pub mltx_app : NameList → App
+abbrev pub mltx_app : NameLists → App
 mltx_app names =
     with_subcommand
     (with_subcommand
     (with_subcommand
     (with_subcommand
-    (with_subcommand bare_app (run_app names (codes "solo")).top)
-    (run_app names (codes "steps")).top)
-    (work_app names).top)
+    (with_subcommand
+    (with_subcommand bare_app (run_app names.hashes (codes "solo")).top)
+    (run_app names.hashes (codes "steps")).top)
+    (work_app names.hashes).top)
     (input_app (codes "check")).top)
-    (serve_app names).top
+    (serve_app names.hashes).top)
+    (tables_app names.tables).top
 
 -- ---- the job
 
@@ -140,6 +163,7 @@ pub data Asked : Type 0 where
   to_work : WorkForm → Asked
   to_check : Text → Asked
   to_serve : ServeForm → Asked
+  to_tables : Option TableName → Asked
 
 abbrev pub form_of_run : Run → RunForm
 form_of_run run = record {
@@ -168,6 +192,7 @@ asked_of (job.Steps run) = to_steps (form_of_run run)
 asked_of (job.Work work) = to_work (form_of_work work)
 asked_of (job.Check file) = to_check (string_bytes file)
 asked_of (job.Serve serve) = to_serve (form_of_serve serve)
+asked_of (job.Tables name) = to_tables name
 
 -- the numbers of a job are within their bounds
 abbrev pub IsWithinBounds : Job → Type 0
@@ -182,7 +207,7 @@ IsWithinBounds other = Unit {0}
 abbrev pub plain_run : Text → RunForm
 plain_run input = record { input = input; hash = Mult; trace = None }
 
--- the subcommands of the program
+-- the subcommands of the program that have an input
 pub data Subcommand : Type 0 where
   solo : Subcommand
   steps : Subcommand
@@ -269,6 +294,20 @@ serve_in rows = serve_of (run_in rows) (number_named 1 64 8 (first_of (codes "se
     (number_named 1 1000000 1 (first_of (codes "limit") rows)) (tries_in rows)
     (number_named 0 86400 0 (first_of (codes "idle") rows))
 
+-- the conflict table of a name
+abbrev pub table_named : Text → Option TableName
+table_named name = if bytes_eq name (codes "account") then Some table.Account
+    else (if bytes_eq name (codes "set") then Some table.Set
+    else (if bytes_eq name (codes "counter") then Some table.Counter else None))
+
+abbrev pub table_of : Option Text → Option (Option TableName)
+table_of None = Some None
+table_of (Some name) = option_map Some (table_named name)
+
+-- what the matches of `tables` ask for: a table, or all of them
+abbrev pub tables_in : List Row → Option (Option TableName)
+tables_in rows = table_of (first_of (codes "table") rows)
+
 -- what the subcommand of this name asks for, by its matches
 abbrev pub asked_by : Text → List Row → Option Asked
 asked_by name rows = if bytes_eq name (codes "solo") then option_map to_solo (run_in rows)
@@ -276,7 +315,8 @@ asked_by name rows = if bytes_eq name (codes "solo") then option_map to_solo (ru
     else (if bytes_eq name (codes "run") then option_map to_work (work_in rows)
     else (if bytes_eq name (codes "check") then option_map to_check (first_of (codes "input") rows)
     else (if bytes_eq name (codes "serve") then option_map to_serve (serve_in rows)
-    else None))))
+    else (if bytes_eq name (codes "tables") then option_map to_tables (tables_in rows)
+    else None)))))
 
 -- what the subcommand asks for, if one was met
 abbrev pub asked_in : Option (Text × List Row) → Option Asked
@@ -286,7 +326,7 @@ asked_in (Some met) = asked_by met.0 met.1
 -- `clap` finds the job in the words by the program's description, and nothing wrong with them; no words at all are `solo -`
 abbrev pub AskFor : List Text → Asked → Type 0
 AskFor [] asked = asked ≡ with_input solo (codes "-")
-AskFor (word ∷ words) asked = (names : NameList) × AreHashNames names
+AskFor (word ∷ words) asked = (names : NameLists) × AreNames names
     × (fault_of (mltx_app names) (word ∷ words) ≡ [])
     × (asked_in (subcommand_of (mltx_app names) (word ∷ words)) ≡ Some asked)
 
@@ -302,12 +342,12 @@ is_verbose_in rows (Some met) = is_verbose rows || is_verbose met.1
 -- the second line of a fault is asked for exactly where `clap` finds the flag; no words at all have none
 abbrev pub SaysVerbose : List Text → Bool → Type 0
 SaysVerbose [] verbose = verbose ≡ false
-SaysVerbose (word ∷ words) verbose = (names : NameList) × AreHashNames names
+SaysVerbose (word ∷ words) verbose = (names : NameLists) × AreNames names
     × (verbose ≡ is_verbose_in (matches_of (mltx_app names) (word ∷ words))
     (subcommand_of (mltx_app names) (word ∷ words)))
 
 -- something is wrong with the words, and the error is of its kind; or no input is found in them
-abbrev pub IsWrongBy : NameList → List Text → Error → Type 0
+abbrev pub IsWrongBy : NameLists → List Text → Error → Type 0
 IsWrongBy names words error = IsAmong (kind_of error) (fault_of (mltx_app names) words)
     ⊎ ((asked_in (subcommand_of (mltx_app names) words) ≡ None) × (kind_of error ≡ MissingRequiredArgument))
 
@@ -315,7 +355,7 @@ IsWrongBy names words error = IsAmong (kind_of error) (fault_of (mltx_app names)
 abbrev pub FailsAt : List Text → Error → Type 0
 FailsAt [] error = kind_of error ≡ OutOfMemory
 FailsAt (word ∷ words) error = (kind_of error ≡ OutOfMemory)
-    ⊎ ((names : NameList) × AreHashNames names × IsWrongBy names (word ∷ words) error)
+    ⊎ ((names : NameLists) × AreNames names × IsWrongBy names (word ∷ words) error)
 
 -- ---- words and statuses
 

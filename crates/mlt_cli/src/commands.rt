@@ -3,7 +3,7 @@
 ghost use Rattle.std.specs.Prelude.{◌≡◌, IfOk, false};
 ghost use Rattle.clap.specs.Words.{app_of, rule_of};
 ghost use Rattle.clap.specs.declared.builder.command.Command.TheViews.{out-Command};
-ghost use Rattle.mlt_cli.specs.CommandLine.{bare_app, input_app, mltx_app, number_rule, run_app, serve_app, verbose_rule, work_app};
+ghost use Rattle.mlt_cli.specs.CommandLine.{bare_app, input_app, mltx_app, names_of, number_rule, run_app, serve_app, tables_app, verbose_rule, work_app};
 
 use clap::builder::ValueParser;
 use clap::{Arg, ArgAction, Command};
@@ -116,6 +116,26 @@ const CHECK_EXAMPLE: &str = "Example: mltx check trace.txt
 
 With `over` in place of `done` it is `mltx: 11 TraceFault line 4 Reply` on standard error.";
 
+const TABLES_ABOUT: &str =
+    "Prints which operations conflict: the conflict tables, and an example of each conflict in both orders.";
+
+const TABLES_EXAMPLE: &str = "Example: mltx tables counter
+
+  counter    Counted Read
+  Counted          .    x
+  Read             x    .
+
+  Counted, then Read, from counter 1 0:
+    held up 1 1 done, asked read 1 is 1: counter 1 1
+    asked read 1 is 0, held up 1 1 done: counter 1 1
+  Read, then Counted, from counter 1 0:
+    held read 1 is 0, asked up 1 1 done: counter 1 1
+    asked up 1 1 done, held read 1 is 1: counter 1 1
+
+What one transaction holds stands on the left, and what another one asks for at the top. They
+conflict, where `x` stands, since some two such operations are told otherwise, or leave
+something else, in the other order.";
+
 const FILE: InputHelp = InputHelp {
     value_name: "FILE",
     help: "The file to read; `-` is standard input",
@@ -125,6 +145,8 @@ const ADDRESS: InputHelp = InputHelp {
     value_name: "ADDR",
     help: "The IP address and port to listen on, as `127.0.0.1:7000`",
 };
+
+const TABLE_HELP: &str = "The table that is printed; without it all of them";
 
 const TRIES_HELP: &str =
     "How often a script, or an operation of a session, may be told to wait, from 1 to 1000000; without it 10000";
@@ -148,12 +170,14 @@ struct InputHelp {
     help: &'static str,
 }
 
-// The program's description, where these are the names of the hash functions.
+// The program's description, where these are the names of the hash functions and of the tables.
 pub(crate) fn mltx_command<'a>(
     alloc: Global,
     names: &'a [&'a str],
+    tables: &'a [&'a str],
 ) -> Result<Command<'a>, AllocError>
-    ensures { IfOk result (λ command. app_of command ≡ mltx_app names.entry) }
+    ensures { IfOk result
+        (λ command. app_of command ≡ mltx_app (names_of names.entry tables.entry)) }
 {
     let solo = run_command(alloc, "solo", FILE, names, SOLO_ABOUT, SOLO_EXAMPLE)?;
     let command = bare_command(alloc)?.subcommand(solo)?;
@@ -164,7 +188,9 @@ pub(crate) fn mltx_command<'a>(
     let check = input_command(alloc, "check", FILE, CHECK_ABOUT, CHECK_EXAMPLE)?;
     let command = command.subcommand(check)?;
     let serve = serve_command(alloc, names)?;
-    command.subcommand(serve)
+    let command = command.subcommand(serve)?;
+    let tables = tables_command(alloc, tables)?;
+    command.subcommand(tables)
 }
 
 fn bare_command<'a>(alloc: Global) -> Result<Command<'a>, AllocError>
@@ -238,6 +264,22 @@ fn run_command<'a>(
     input_command(alloc, name, input, about, example)?
         .arg(hash)?
         .arg(trace)
+}
+
+// `tables`, where these are the names of the tables.
+fn tables_command<'a>(alloc: Global, names: &'a [&'a str]) -> Result<Command<'a>, AllocError>
+    ensures app { IfOk result (λ command. app_of command ≡ tables_app names.entry) }
+    ensures globals { IfOk result (λ command. (out-Command command).has_globals ≡ false) }
+{
+    let table = Arg::new(alloc, "table")
+        .value_name("TABLE")
+        .help(TABLE_HELP)
+        .value_parser(names);
+    Command::new(alloc, "tables")
+        .about(TABLES_ABOUT)
+        .after_help(TABLES_EXAMPLE)
+        .arg(verbose_flag(alloc))?
+        .arg(table)
 }
 
 // An option that takes a number within these bounds. Help shows it by this name.

@@ -4,12 +4,13 @@ ghost use Rattle.std.specs.Prelude.{◌≡◌, ◌≤◌, ℕ, List, [], ◌∷�
 ghost use Rattle.std.specs.Str.Parse.{without_leading_plus};
 ghost use Rattle.std.specs.String.{string_bytes};
 ghost use Rattle.clap.specs.Words.{first_of, found_of, kind_of, rows_of, subcommand_rows_of};
-ghost use Rattle.mlt_cli.specs.CommandLine.{AskFor, FailsAt, IsFileWord, IsWithinBounds, SaysVerbose, Subcommand, asked_by, asked_in, asked_of, form_of_run, form_of_serve, form_of_work, hash_named, is_verbose, is_verbose_in, number_named, number_of_digits, run_in, serve_in, subcommand_name, tries_in, with_input, work_in};
+ghost use Rattle.mlt_cli.specs.CommandLine.{AskFor, FailsAt, IsFileWord, IsWithinBounds, SaysVerbose, Subcommand, asked_by, asked_in, asked_of, form_of_run, form_of_serve, form_of_work, hash_named, is_verbose, is_verbose_in, number_named, number_of_digits, run_in, serve_in, subcommand_name, table_named, tables_in, tries_in, with_input, work_in};
 ghost use Rattle.mlt_cli.specs.CommandLine.Subcommand.{solo};
 
 use crate::commands::mltx_command;
 use clap::error::ErrorKind;
 use clap::{ArgMatches, Error};
+use mlt_object_tables::TableName;
 use std::alloc::{AllocError, Global};
 
 /// A hash function of the pages, by its name.
@@ -75,6 +76,8 @@ pub enum Job {
     },
     /// To serve connections.
     Serve(Serve),
+    /// To write the conflict table of this name, or all of them.
+    Tables(Option<TableName>),
 }
 
 /// What the words of the command line ask for.
@@ -88,6 +91,9 @@ pub struct CommandLine {
 
 // The names of the hash functions.
 static HASH_NAMES: [&str; 2] = ["mult", "low"];
+
+// The names of the conflict tables.
+static TABLE_NAMES: [&str; 3] = ["account", "set", "counter"];
 
 /// The job that the words after the program's name ask for, and whether they have `-v` or `--verbose`. With no words it is
 /// `solo -`.
@@ -134,7 +140,7 @@ fn read_job(alloc: Global, words: &[String]) -> Result<CommandLine, Error>
             verbose: false,
         });
     }
-    let mut command = mltx_command(alloc, HASH_NAMES.as_slice())?;
+    let mut command = mltx_command(alloc, HASH_NAMES.as_slice(), TABLE_NAMES.as_slice())?;
     let matches = command.try_get_matches_from_mut(words)?;
     let verbose = is_verbose_in(&matches);
     match job_in(alloc, &matches)? {
@@ -200,6 +206,8 @@ fn job_of(alloc: Global, name: &str, found: &ArgMatches<'_>) -> Result<Option<Jo
         Ok(text_found(alloc, found, "input")?.map(|file| Job::Check { file }))
     } else if name == "serve" {
         Ok(serve_found(alloc, found)?.map(Job::Serve))
+    } else if name == "tables" {
+        Ok(tables_found(found).map(Job::Tables))
     } else {
         Ok(None)
     }
@@ -269,6 +277,30 @@ fn serve_found(alloc: Global, found: &ArgMatches<'_>) -> Result<Option<Serve>, A
         tries,
         idle,
     }))
+}
+
+// The table that is named, if one is; None where there is none of the name.
+fn tables_found(found: &ArgMatches<'_>) -> Option<Option<TableName>>
+    ensures { result ≡ tables_in (rows_of (found_of found.now)) }
+{
+    match found.get_str("table") {
+        Some(name) => table_of(name).map(Some),
+        None => Some(None),
+    }
+}
+
+fn table_of(name: &str) -> Option<TableName>
+    ensures { result ≡ table_named name.now }
+{
+    if name == "account" {
+        Some(TableName::Account)
+    } else if name == "set" {
+        Some(TableName::Set)
+    } else if name == "counter" {
+        Some(TableName::Counter)
+    } else {
+        None
+    }
 }
 
 fn text_found(alloc: Global, found: &ArgMatches<'_>, id: &str) -> Result<Option<String>, AllocError>

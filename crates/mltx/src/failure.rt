@@ -126,13 +126,14 @@ fn say_of_input(rt: &HostRuntime, job: &Job, error: io::Error) -> Result<(), Ref
     }
 }
 
-// FILE or ADDR, as it stands on the command line.
+// FILE or ADDR, as it stands on the command line; what is written to where there is none.
 fn input_name(job: &Job) -> &str {
     match job {
         Job::Solo(run) | Job::Steps(run) => file_name(run.input.as_str()),
         Job::Work(work) => file_name(work.run.input.as_str()),
         Job::Check { file } => file_name(file.as_str()),
         Job::Serve(serve) => serve.run.input.as_str(),
+        Job::Tables(_) => "standard output",
     }
 }
 
@@ -145,7 +146,7 @@ fn trace_name(job: &Job) -> &str {
         Job::Solo(run) | Job::Steps(run) => trace_of(run),
         Job::Work(work) => trace_of(&work.run),
         Job::Serve(serve) => trace_of(&serve.run),
-        Job::Check { .. } => "",
+        Job::Check { .. } | Job::Tables(_) => "",
     }
 }
 

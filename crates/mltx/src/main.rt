@@ -21,6 +21,7 @@ use mlt_manager_laws::{
 };
 use mlt_manager_solo::solo;
 use mlt_manager_steps::steps;
+use mlt_object_tables::{TableName, write_tables};
 use mlt_serve::{ServeOptions, serve_on};
 use mlt_text::write_text;
 use mlt_trace::{KeptItem, write_trace};
@@ -111,6 +112,7 @@ fn do_job<T: Threads + Wait + Clock + Sync>(
             Hash::Mult => run_server(rt, threads, serve, Mult),
             Hash::Low => run_server(rt, threads, serve, Low),
         },
+        Job::Tables(name) => run_tables(rt, *name),
     }
 }
 
@@ -185,6 +187,14 @@ fn run_check(rt: &HostRuntime, file: &str, keeps: bool) -> Result<(), Failure> {
     let mut output = Output::new(io::writer(rt));
     let told = check_trace(rt.alloc(), &mut input, &mut output);
     run_outcome(told, input, output.failure())
+}
+
+fn run_tables(rt: &HostRuntime, name: Option<TableName>) -> Result<(), Failure> {
+    let mut output = Output::new(io::writer(rt));
+    match (write_tables(rt.alloc(), name, &mut output), output.failure()) {
+        (Err(Refusal::Io), Some(error)) => Err(Failure::of_call(Known::OfOutput(error))),
+        (told, _) => Ok(told?),
+    }
 }
 
 fn run_work<P: Pseudo + Drop + Send, T: Threads + Wait + Clock + Sync>(

@@ -1,0 +1,16 @@
+use Rattle.std.proofs.Common.{rules, ◌≡◌, ◌∙◌, ap, ap₂, codes, false, Some}
+use Rattle.std.specs.Prelude.{◌||◌}
+use Rattle.std.proofs.lemmas.Result.{IfOk-weaker}
+use Rattle.clap.specs.Words.{new_rule, rule_of, with_rule}
+use Rattle.clap.specs.declared.builder.command.Command.TheViews.{out-Command}
+use Rattle.mlt_cli.specs.CommandLine.{table_rule}
+use Rattle.mlt_cli.proofs.Asked.{with_parser}
+use Rattle.mlt_cli.proofs.commands.tables_command.Goals as goal
+
+pub returns-clause-app : goal.returns-clause-app
+returns-clause-app c =
+    let plain_is : rule_of c.help.result ≡ record (new_rule (codes "table")) { value_names = 1 } = search rules in
+    let given = c.value_parser-table.ensures.given in
+    let table_is : rule_of c.value_parser-table.result ≡ table_rule c.args.names =
+    with_parser c.help.result c.value_parser-table.result _ _ c.value_parser-table.ensures.others (given.1 ∙ ap Some given.2) plain_is in
+    IfOk-weaker c.arg.result _ _ (λ command adds. adds.shape (search rules) ∙ ap₂ with_rule (search rules) table_is) c.arg.ensures

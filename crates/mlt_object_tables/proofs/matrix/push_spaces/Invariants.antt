@@ -1,0 +1,7 @@
+use Rattle.std.proofs.Common.{◌≡◌, ◌++◌}
+use Rattle.std.specs.String.{string_bytes}
+use Rattle.mlt_object_tables.specs.Matrices.{spaces}
+use Rattle.mlt_object_tables.proofs.matrix.push_spaces.Given as goal
+
+abbrev pub invariant-loop-at : goal.invariant-loop-at
+invariant-loop-at l = string_bytes l.text ≡ string_bytes l.initial.text ++ spaces l.at

@@ -1,0 +1,4 @@
+use Rattle.mlt_object_tables.proofs.tables.push_all.Goals as goal
+
+pub returns-clause-text : goal.returns-clause-text
+returns-clause-text c = ?

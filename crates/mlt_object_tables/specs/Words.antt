@@ -1,0 +1,98 @@
+-- The words of classes, and the objects on which operations are shown.
+use Rattle.std.specs.Prelude.{ℕ, Bool, List, [], ◌∷◌, Contains, Option, codes}
+use Rattle.std.proofs.Common.{arith, refl}
+use Rattle.mlt_object_kinds.specs.declared.account.AccountOp.{AccountOp}
+use Rattle.mlt_object_kinds.specs.declared.element.ElementOp.{ElementOp}
+use Rattle.mlt_object_kinds.specs.declared.counter.CounterOp.{CounterOp}
+use Rattle.mlt_object_kinds.specs.declared.operation.ObjOp.{ObjOp}
+use Rattle.mlt_object_kinds.specs.declared.operation.ObjOp.TheVariants as op
+use Rattle.mlt_object_kinds.specs.declared.operation.ObjReply.{ObjReply}
+use Rattle.mlt_object_conflicts.specs.declared.accounts.AccountClass.{AccountClass}
+use Rattle.mlt_object_conflicts.specs.declared.accounts.AccountClass.TheVariants.{Opened, Exists, Closed, NotEmpty, Deposited, Over, Withdrawn, Short, Balance, Missing}
+use Rattle.mlt_object_conflicts.specs.declared.elements.ElementClass.{ElementClass}
+use Rattle.mlt_object_conflicts.specs.declared.elements.ElementClass.TheVariants.{Added, Present, Removed, Absent, Yes, No}
+use Rattle.mlt_object_conflicts.specs.declared.counters.CounterClass.{CounterClass}
+use Rattle.mlt_object_conflicts.specs.declared.counters.CounterClass.TheVariants.{Counted, Read}
+use Rattle.mlt_object_tables.specs.declared.cell_value.CellValue.{CellValue}
+use Rattle.mlt_object_tables.specs.declared.cell_value.CellValue.TheVariants as value
+
+-- the classes of accounts, in the order of the table
+abbrev pub account_classes : List AccountClass
+account_classes =
+    Opened ∷ Exists ∷ Closed ∷ NotEmpty ∷ Deposited ∷ Over ∷ Withdrawn ∷ Short ∷ Balance ∷ Missing ∷ []
+
+abbrev pub element_classes : List ElementClass
+element_classes = Added ∷ Present ∷ Removed ∷ Absent ∷ Yes ∷ No ∷ []
+
+abbrev pub counter_classes : List CounterClass
+counter_classes = Counted ∷ Read ∷ []
+
+-- the word of a class
+abbrev pub account_word : AccountClass → List ℕ
+account_word Opened = codes "Opened"
+account_word Exists = codes "Exists"
+account_word Closed = codes "Closed"
+account_word NotEmpty = codes "NotEmpty"
+account_word Deposited = codes "Deposited"
+account_word Over = codes "Over"
+account_word Withdrawn = codes "Withdrawn"
+account_word Short = codes "Short"
+account_word Balance = codes "Balance"
+account_word Missing = codes "Missing"
+
+abbrev pub element_word : ElementClass → List ℕ
+element_word Added = codes "Added"
+element_word Present = codes "Present"
+element_word Removed = codes "Removed"
+element_word Absent = codes "Absent"
+element_word Yes = codes "Yes"
+element_word No = codes "No"
+
+abbrev pub counter_word : CounterClass → List ℕ
+counter_word Counted = codes "Counted"
+counter_word Read = codes "Read"
+
+-- an operation with its reply, on account 1, element 1 of set 1, or counter 1
+abbrev pub on_account : AccountOp → ObjReply → ObjOp × ObjReply
+on_account asked reply = (op.Account 1 asked, reply)
+
+abbrev pub on_element : ElementOp → ObjReply → ObjOp × ObjReply
+on_element asked reply = (op.Element 1 1 asked, reply)
+
+abbrev pub on_counter : CounterOp → ObjReply → ObjOp × ObjReply
+on_counter asked reply = (op.Counter 1 asked, reply)
+
+-- that object, with what it holds
+abbrev pub account_value : Option ℕ → CellValue
+account_value balance = value.Account 1 balance
+
+abbrev pub element_value : Bool → CellValue
+element_value present = value.Element 1 1 present
+
+abbrev pub counter_value : ℕ → CellValue
+counter_value n = value.Counter 1 n
+
+-- each class is listed
+pub each_account_class_is_listed : (class : AccountClass) → Contains account_classes class
+each_account_class_is_listed Opened = (0, omega arith, refl)
+each_account_class_is_listed Exists = (1, omega arith, refl)
+each_account_class_is_listed Closed = (2, omega arith, refl)
+each_account_class_is_listed NotEmpty = (3, omega arith, refl)
+each_account_class_is_listed Deposited = (4, omega arith, refl)
+each_account_class_is_listed Over = (5, omega arith, refl)
+each_account_class_is_listed Withdrawn = (6, omega arith, refl)
+each_account_class_is_listed Short = (7, omega arith, refl)
+each_account_class_is_listed Balance = (8, omega arith, refl)
+each_account_class_is_listed Missing = (9, omega arith, refl)
+
+pub each_element_class_is_listed : (class : ElementClass) → Contains element_classes class
+each_element_class_is_listed Added = (0, omega arith, refl)
+each_element_class_is_listed Present = (1, omega arith, refl)
+each_element_class_is_listed Removed = (2, omega arith, refl)
+each_element_class_is_listed Absent = (3, omega arith, refl)
+each_element_class_is_listed Yes = (4, omega arith, refl)
+each_element_class_is_listed No = (5, omega arith, refl)
+
+pub each_counter_class_is_listed : (class : CounterClass) → Contains counter_classes class
+each_counter_class_is_listed Counted = (0, omega arith, refl)
+each_counter_class_is_listed Read = (1, omega arith, refl)

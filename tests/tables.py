@@ -1,0 +1,188 @@
+"""The conflict tables that `mltx tables` prints: cell by cell those of docs/FORMATS.md, and an example of each conflict,
+which is played by the model in both orders."""
+import re
+from itertools import product
+
+from harness import ROOT, each, expect, holds, same, test
+from model import apply, cell_of, clash
+
+TABLES = {"tables-of-accounts": "account", "tables-of-sets": "set", "tables-of-counters": "counter"}
+# The kind of each table, as FORMATS has it, and the classes of the sizes of sets, under their own names there.
+KINDS = {"account": "account", "set": "element", "counter": "counter"}
+
+
+def rows_of_formats(head):
+    """The cells of each row of the table in FORMATS that has this head."""
+    text = (ROOT / "docs/FORMATS.md").read_text().partition(head + "\n")[2].partition("\n\n")[0]
+    return [[cell.strip() for cell in row.strip("|").split("|")] for row in text.splitlines()[1:]]
+
+
+def classes_of(kind):
+    """The classes of a kind in FORMATS, in their order, each with its operations and replies."""
+    found, at = {}, None
+    for name, classes, operations in rows_of_formats("| Kind | Class | Operation / reply |"):
+        at = name or at
+        if at == kind:
+            found |= dict.fromkeys(classes.split(", "), operations)
+    return list(found)
+
+
+def pairs_of_formats():
+    """The pairs of classes that FORMATS lists as conflicts."""
+    rows = rows_of_formats("| Held | Requested later |")
+    return {pair for held, asked in rows for pair in product(held.split(", "), asked.split(", "))}
+
+
+def parts_of(mltx, name):
+    """The matrices and the lists of examples of a table, as it is printed."""
+    ran = mltx.run("tables", name)
+    expect(ran, out=ran.out)
+    return [part.splitlines() for part in ran.out.decode().split("\n\n")]
+
+
+def cells_of(matrix):
+    """The title of a matrix, and the mark of each of its pairs. A mark stands below the last letter of its column's word."""
+    title, words = matrix[0].split()[0], [(word.group(), word.end()) for word in re.finditer(r"\S+", matrix[0])][1:]
+    marks = {}
+    for row in matrix[1:]:
+        same(len(row.split()), len(words) + 1, row)
+        marks |= {(row.split()[0], word): row[end - 1] for word, end in words}
+    return title, marks
+
+
+@each(TABLES)
+def table_is_that_of_formats(mltx, name):
+    """Each cell is marked where FORMATS lists its pair, and no other is; rows and columns are the classes in their order."""
+    classes, pairs = classes_of(KINDS[name]), pairs_of_formats()
+    title, marks = cells_of(parts_of(mltx, name)[0])
+    same(title, name)
+    same(list(marks), list(product(classes, classes)))
+    same(marks, {pair: "x" if pair in pairs else "." for pair in product(classes, classes)})
+
+
+@test
+def sizes_are_those_of_formats(mltx):
+    """What FORMATS has under Counted, on the size of a set, is marked in the row of the size."""
+    counted = next(row[2] for row in rows_of_formats("| Kind | Class | Operation / reply |") if row[0] == "size of a set")
+    replies = re.findall(r"/ (\w+)", counted)
+    title, marks = cells_of(parts_of(mltx, "set")[2])
+    same(title, "size")
+    same(marks, {("size", word): "x" if word.lower() in replies else "." for word in classes_of("element")})
+
+
+def held_at(value):
+    """What a cell holds, of its text: None where it is absent."""
+    words = value.split()
+    if words[0] == "no":
+        return None
+    return 0 if words[0] == "element" else int(words[2])
+
+
+def done_of(text):
+    """An operation and its reply, of their text."""
+    words = text.split()
+    at = len(words) - (2 if words[-2] == "is" else 1)
+    return (words[0], *map(int, words[1:at])), " ".join(words[at:])
+
+
+def play(before, operations):
+    """What each operation is told on the cell of the text, one after another, and the text of what they leave. The set
+    of the example has no other element."""
+    cell, held = before.removeprefix("no ").split()[0], held_at(before)
+    told = []
+    for op in operations:
+        if op[0] == "size":
+            told.append(f"is {0 if held is None else 1}")
+        else:
+            reply, held = apply(held, op)
+            told.append(reply)
+    shown = {"account": f"account 1 {held}", "element": "element 1 1", "counter": f"counter 1 {held or 0}"}[cell]
+    return told, f"no {' '.join(shown.split()[: 3 if cell == 'element' else 2])}" if held is None and cell != "counter" else shown
+
+
+ORDER = re.compile(r"  (held|asked) ([a-z0-9 ]+), (held|asked) ([a-z0-9 ]+): ([a-z0-9 ]+)")
+
+
+def example_of(lines):
+    """The classes of an example, what is there before, and its two orders."""
+    held, asked, before = re.fullmatch(r"(\w+), then (\w+), from ([a-z0-9 ]+):", lines[0]).groups()
+    orders = []
+    for line, roles in zip(lines[1:], (("held", "asked"), ("asked", "held")), strict=True):
+        first_role, first, second_role, second, after = ORDER.fullmatch(line).groups()
+        same((first_role, second_role), roles, line)
+        orders.append((done_of(first), done_of(second), after))
+    return (held, asked), before, orders
+
+
+@each({f"examples-in-{name}": table for name, table in TABLES.items()})
+def each_mark_has_its_example(mltx, name):
+    """There is one for each mark, row by row. Both orders are as the model plays them, and differ; its operations clash,
+    with the replies of the first order, and are of the classes that the words say."""
+    parts = parts_of(mltx, name)
+    for matrix, examples in zip(parts[::2], parts[1::2], strict=True):
+        title, marks = cells_of(matrix)
+        marked = [pair for pair, mark in marks.items() if mark == "x"]
+        if title == "size":
+            marked = [pair for size, word in marked for pair in ((word, size), (size, word))]
+        shown = [example_of(examples[at : at + 3]) for at in range(0, len(examples), 3)]
+        same([pair for pair, _, _ in shown], marked)
+        for pair, before, (held_first, asked_first) in shown:
+            for first, second, after in (held_first, asked_first):
+                same(([first[1], second[1]], after), play(before, [first[0], second[0]]), f"{pair} from {before}")
+            (held, asked, after), (asked_then, held_then, after_then) = held_first, asked_first
+            same((held[0], asked[0]), (held_then[0], asked_then[0]), f"the operations of {pair}")
+            holds((held, asked, after) != (held_then, asked_then, after_then), f"both orders of {pair} are the same")
+            holds(clash(held, asked), f"{held} and {asked} do not clash in the model")
+            same([word_of(held), word_of(asked)], list(pair))
+
+
+def word_of(done):
+    """The word of the class of an operation with its reply, by the list of classes in FORMATS."""
+    op, reply = done
+    if op[0] == "size":
+        return "size"
+    kind = cell_of(op)[0]
+    at, words = None, None
+    for name, classes, operations in rows_of_formats("| Kind | Class | Operation / reply |"):
+        at = name or at
+        if at == kind and any(is_of(op, reply, part) for part in re.split(r", | or ", operations)):
+            words = classes.split(", ")
+            if len(words) > 1:
+                return words[[is_of(op, reply, part) for part in operations.split(", ")].index(True)]
+            return words[0]
+    raise AssertionError(f"{done} has no class")
+
+
+def is_of(op, reply, part):
+    """Whether an operation with its reply is what FORMATS writes so, as `deposit n / done`, or `close` in a list of those
+    that share a reply."""
+    names, _, told = part.partition(" / ")
+    return names.split()[0] == op[0] and (not told or told.split()[0] == reply.split()[0]) and (
+        bool(told) or reply == "missing"
+    )
+
+
+@test
+def tables_are_all_three(mltx):
+    """With no name all tables are printed in their order, with a blank line between; standard input is not read."""
+    each_table = [mltx.run("tables", name).out for name in ("account", "set", "counter")]
+    expect(mltx.run("tables", given="no text of any kind\n"), out=b"\n".join(each_table))
+
+
+@test
+def examples_of_the_help_and_of_formats_are_true(mltx):
+    """Both show the table of counters, and its examples, behind an indent."""
+    wanted = mltx.run("tables", "counter").out.decode()
+    formats = (ROOT / "docs/FORMATS.md").read_text()
+    for text, indent in ((mltx.run("tables", "--help").out.decode(), "  "), (formats, "    ")):
+        shown = re.search(rf"(?m)^{indent}counter    Counted Read\n(?:(?:{indent}.*)?\n)+", text)
+        assert shown, "no table of counters"
+        same(re.sub(f"(?m)^{indent}", "", shown[0]).rstrip("\n") + "\n", wanted)
+
+
+@test
+def table_of_no_such_name(mltx):
+    for words in (("element",), ("Account",), ("",), ("account", "set"), ("--trace", "a", "set")):
+        ran = mltx.run("tables", *words)
+        same((ran.status, ran.out), (2, b""), " ".join(words))
+        holds(ran.err.startswith(b"error: "), f"{words}: {ran}")
