@@ -1,5 +1,5 @@
 -- What the orders of an example with a size are.
-use Rattle.std.specs.Prelude.{◌≡◌, ℕ, Bool, codes}
+use Rattle.std.specs.Prelude.{◌≡◌, Bool}
 use Rattle.mlt_object_kinds.specs.Elements.{ElementStep}
 use Rattle.mlt_object_kinds.specs.declared.operation.ObjOp.{ObjOp}
 use Rattle.mlt_object_kinds.specs.declared.operation.ObjReply.{ObjReply}

@@ -138,8 +138,7 @@ fn push_spaces(text: &mut String, count: usize) -> Result<(), Refusal>
         (string_bytes text.new ≡ string_bytes text.old ++ spaces count) }
     ensures refusal { IsOkUnless result Refusal.OutOfMemory }
 {
-    for at in 0..count {
-        let _ = at;
+    for _ in 0..count {
         text.push(' ')?;
     }
     Ok(())

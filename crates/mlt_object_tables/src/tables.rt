@@ -229,12 +229,7 @@ fn push_both(
 }
 
 // Appends a line with the two words and what is there before, and a line for each order.
-fn push_example(
-    text: &mut String,
-    held: &str,
-    asked: &str,
-    orders: &Orders,
-) -> Result<(), Refusal>
+fn push_example(text: &mut String, held: &str, asked: &str, orders: &Orders) -> Result<(), Refusal>
     ensures text { OnOk result (string_bytes text.new
         ≡ string_bytes text.old ++ example_text held.now asked.now orders.now) }
     ensures refusal { IsOkUnless result Refusal.OutOfMemory }
