@@ -1,6 +1,6 @@
 //! The examples of a conflict table, in both orders.
 
-ghost use Rattle.std.specs.Prelude.{◌≡◌, MatchOption};
+ghost use Rattle.std.specs.Prelude.{MatchOption};
 ghost use Rattle.mlt_object_conflicts.specs.Tables.{ClassesCommute};
 ghost use Rattle.mlt_object_tables.specs.Examples.{IsExampleInOrders, IsOrder};
 

@@ -1,10 +1,9 @@
 //! The matrix of a conflict table.
 
-ghost use Rattle.std.specs.Prelude.{◌≡◌, ◌++◌, ◌∷◌, [], IsOkUnless, OnOk};
+ghost use Rattle.std.specs.Prelude.{◌≡◌, ◌++◌, IsOkUnless, OnOk};
 ghost use Rattle.std.specs.List.{flat_map};
 ghost use Rattle.std.specs.String.{string_bytes};
 ghost use Rattle.mlt_object_tables.specs.Matrices.{head_line, head_of, label, mark_below, mark_of, matrix, row_line, size_mark, size_matrix, spaces};
-ghost use Rattle.mlt_object_tables.specs.Words.{element_classes, element_word};
 
 use crate::named::NamedTable;
 use mlt_object_conflicts::ElementClass;

@@ -4,7 +4,7 @@ ghost use Rattle.std.specs.Prelude.{◌≡◌, ◌⊎◌, ◌++◌, ℕ, List, N
 ghost use Rattle.std.specs.Io.KnownBytes.{Appends, Keeps};
 ghost use Rattle.std.specs.String.{string_bytes};
 ghost use Rattle.mlt_text.specs.Texts.{AppendsFront};
-ghost use Rattle.mlt_object_tables.specs.Tables.{AreExamples, AreOrdersOf, AreRowExamples, AreTexts, IsPairText, IsSetText, IsSizeText, IsSizesText, IsTableText, IsTextOfTables, example_text, size_text};
+ghost use Rattle.mlt_object_tables.specs.Tables.{AreOrdersOf, AreRowExamples, AreTexts, IsPairText, IsSetText, IsSizeText, IsSizesText, IsTableText, IsTextOfTables, example_text, size_text};
 
 use crate::examples::orders_of;
 use crate::matrix::{push_matrix, push_size_matrix};
