@@ -191,7 +191,10 @@ fn run_check(rt: &HostRuntime, file: &str, keeps: bool) -> Result<(), Failure> {
 
 fn run_tables(rt: &HostRuntime, name: Option<TableName>) -> Result<(), Failure> {
     let mut output = Output::new(io::writer(rt));
-    match (write_tables(rt.alloc(), name, &mut output), output.failure()) {
+    match (
+        write_tables(rt.alloc(), name, &mut output),
+        output.failure(),
+    ) {
         (Err(Refusal::Io), Some(error)) => Err(Failure::of_call(Known::OfOutput(error))),
         (told, _) => Ok(told?),
     }

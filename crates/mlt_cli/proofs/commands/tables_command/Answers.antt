@@ -1,9 +1,9 @@
 use Rattle.std.proofs.Common.{rules, ◌≡◌, ◌∙◌, ap, ap₂, codes, false, Some}
 use Rattle.std.specs.Prelude.{◌||◌}
 use Rattle.std.proofs.lemmas.Result.{IfOk-weaker}
-use Rattle.clap.specs.Words.{new_rule, rule_of, with_rule}
+use Rattle.clap.specs.Words.{app_of, new_app, new_rule, rule_of, with_rule}
 use Rattle.clap.specs.declared.builder.command.Command.TheViews.{out-Command}
-use Rattle.mlt_cli.specs.CommandLine.{table_rule}
+use Rattle.mlt_cli.specs.CommandLine.{table_rule, verbose_rule}
 use Rattle.mlt_cli.proofs.Asked.{with_parser}
 use Rattle.mlt_cli.proofs.commands.tables_command.Goals as goal
 
@@ -13,4 +13,6 @@ returns-clause-app c =
     let given = c.value_parser-table.ensures.given in
     let table_is : rule_of c.value_parser-table.result ≡ table_rule c.args.names =
     with_parser c.help.result c.value_parser-table.result _ _ c.value_parser-table.ensures.others (given.1 ∙ ap Some given.2) plain_is in
-    IfOk-weaker c.arg.result _ _ (λ command adds. adds.shape (search rules) ∙ ap₂ with_rule (search rules) table_is) c.arg.ensures
+    let told_is : app_of c.after_help.result ≡ new_app (codes "tables") = search rules in
+    let flag_is : app_of c.in_ok-arg.field-0 ≡ with_rule (new_app (codes "tables")) verbose_rule = c.in_ok-arg.ensures.shape (search rules) ∙ ap₂ with_rule told_is c.verbose_flag.ensures.rule in
+    IfOk-weaker c.arg-2.result _ _ (λ command adds. adds.shape (search rules) ∙ ap₂ with_rule flag_is table_is) c.arg-2.ensures
