@@ -4,7 +4,7 @@ use crate::input::Input;
 use mlt_cli::{Job, Run};
 use mlt_cli_verbose::{Detail, TextFault, report_verbose};
 use mlt_text::MAX_INPUT;
-use mlt_types::Refusal;
+use mlt_types::{Refusal, ScriptCause};
 use std::io;
 use std::io::ErrorKind;
 
@@ -159,12 +159,16 @@ fn trace_of(run: &Run) -> &str {
 
 // The fault of a text that a job read, and its line.
 fn fault_of(job: &Job, refusal: Refusal) -> Option<(TextFault, u64)> {
-    match (job, refusal) {
-        (Job::Steps(_), Refusal::ScriptFault { line, cause }) => {
-            Some((TextFault::Schedule(cause), line))
-        }
-        (_, Refusal::ScriptFault { line, cause }) => Some((TextFault::Scripts(cause), line)),
-        (_, Refusal::TraceFault { line, cause }) => Some((TextFault::Trace(cause), line)),
+    match refusal {
+        Refusal::ScriptFault { line, cause } => Some((script_fault(job, cause), line)),
+        Refusal::TraceFault { line, cause } => Some((TextFault::Trace(cause), line)),
         _ => None,
+    }
+}
+
+fn script_fault(job: &Job, cause: ScriptCause) -> TextFault {
+    match job {
+        Job::Steps(_) => TextFault::Schedule(cause),
+        _ => TextFault::Scripts(cause),
     }
 }
