@@ -121,7 +121,7 @@ class ScriptFault(Refused):
 
 
 class GaveUp(Refused):
-    """14: the operation had to wait for other transactions and spent its tries, or its wait would have closed a circle.
+    """14: the operation had to wait for other transactions and spent its tries, or was the youngest of a circle of waits.
 
     What helps is to abort, which lets the others go on, and to begin again. `Client.run` does so."""
 

@@ -17,7 +17,8 @@ pub(crate) struct Timestamp {
 impl Timestamp {
     /// No transaction has begun.
     pub(crate) fn new() -> Timestamp
-        ensures { result.is_kept ≡ false }
+        ensures number { result.number ≡ 0 }
+        ensures first { result.is_kept ≡ false }
     {
         Timestamp {
             number: 0,
@@ -55,7 +56,8 @@ impl Timestamp {
 
     /// The transaction has committed.
     pub(crate) fn commit(&mut self)
-        ensures { self.new.is_kept ≡ false }
+        ensures first { self.new.is_kept ≡ false }
+        ensures number { self.new.number ≡ self.old.number }
     {
         self.is_kept = false;
     }

@@ -15,7 +15,8 @@ pub(crate) enum Turn {
     Goes,
     /// It sleeps before its next event, and is counted as one that waits.
     Sleeps,
-    /// It gives up: its wait would close a circle of waits for objects, and while that stands each try is told the same.
+    /// It gives up: its transaction is the youngest of a circle of waits for objects that its wait would close, and while that
+    /// stands each try is told the same.
     Deadlock,
 }
 
