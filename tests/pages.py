@@ -202,7 +202,7 @@ def page_of_a_circle(mltx: Program) -> None:
         "1 is blocked by 2: read 2 is asked, and on the same object 2 holds up 2 3 done",
         "2 is blocked by 1: read 1 is asked, and on the same object 1 holds up 1 2 done",
     ]
-    circle = "A circle: 1 → 2 → 1. None of them can go on before one of them ends"
+    circle = "A circle: 1 → 2 → 1. Each waits for the end of the next one"
     dropped = "3 is blocked by 1: read 1 is asked, and on the same object 1 holds up 1 2 done. The operation is dropped"
     waits = {**dict.fromkeys(range(9, 14), blocked[:1]), **dict.fromkeys((14, 15, 17), [*blocked, circle])}
     same(by_step(made, "waits"), {**waits, 16: [*blocked, dropped, circle]}, "who waits for whom")
@@ -211,6 +211,24 @@ def page_of_a_circle(mltx: Program) -> None:
     bare = mltx.file("bare.out", CIRCLE_TOLD)
     same(draw(schedule, answers), draw(schedule, bare), "the picture, in which they are not")
     same(made.sections[17].objects(), {"counter 1": ("0", "2"), "counter 2": ("0", "3")}, "the objects")
+
+
+@test
+def page_with_reasons(mltx: Program) -> None:
+    """What the program says of each block, wait and circle stands at its step, and at no other."""
+    made = page("--program", mltx.path, mltx.file("circle.txt", CIRCLE))
+    reasons = {it.step: it.of("reason")[0] for it in made.sections if it.of("reason")}
+    starts = {
+        9: "up 2 3 done, of transaction 2, stands in the way of read 2, which would be told is 3",
+        14: "up 1 2 done, of transaction 1, stands in the way of read 1, which would be told is 2",
+        16: "up 1 2 done, of transaction 1, stands in the way of read 1, which would be told is 2",
+    }
+    same({step: said[: len(starts.get(step, ""))] for step, said in reasons.items()}, starts, "what stands in the way")
+    circles = {step: said.partition("a circle: ")[2] for step, said in reasons.items()}
+    same(circles, {9: "", 14: "2 waits for 1, 1 waits for 2", 16: ""}, "the circles")
+    waits = example(mltx, "wait-for-a-page.txt")
+    locked = "page 0 is locked by transaction 2, which is in deposit 1 5"
+    same({it.step: it.of("reason") for it in waits.sections if it.of("reason")}, {13: [locked]}, "the wait")
 
 
 def nothing(name: str) -> str:

@@ -5,7 +5,7 @@ from dataclasses import dataclass
 from typing import NamedTuple
 
 # The most bytes of a line, and of a comment that follows an answer.
-MOST_BYTES, MOST_BYTES_OF_REASON = 200, 1_000
+MOST_BYTES, MOST_BYTES_OF_REASON = 200, 4_000
 MOST_STEPS = 1_000
 BIG, CELL, SET = 2**64, 2**32, 2**16
 # Of each operation the ends of its numbers' ranges: those that name its cell, and that of its amount.

@@ -275,4 +275,4 @@ def _wait(wait: Wait) -> str:
 
 def _circle(numbers: list[int]) -> str:
     path = " \u2192 ".join(map(str, [*numbers, numbers[0]]))
-    return f'<span class="circle">A circle: {path}. None of them can go on before one of them ends</span>'
+    return f'<span class="circle">A circle: {path}. Each waits for the end of the next one</span>'

@@ -16,18 +16,22 @@ class Program:
 
     def __init__(self, path: str | Path, hash_function: str | None = None) -> None:
         self.path, self.options = path, ["--hash", hash_function] if hash_function else []
-        self.said: dict[tuple[str, bytes], bytes] = {}
+        self.said: dict[tuple[tuple[str, ...], bytes], bytes] = {}
 
     def steps(self, schedule: bytes) -> bytes:
         """What `steps` writes of a schedule."""
         return self._run(["steps", *self.options, "-"], schedule)
+
+    def explained_steps(self, schedule: bytes) -> bytes:
+        """The same, with the reasons of what is blocked or waits."""
+        return self._run(["steps", "--explain", *self.options, "-"], schedule)
 
     def check(self, trace: bytes) -> bytes:
         """What `check` writes of a trace."""
         return self._run(["check", "-"], trace)
 
     def _run(self, words: list[str], given: bytes) -> bytes:
-        asked = words[0], given
+        asked = tuple(words), given
         if asked not in self.said:
             try:
                 ran = subprocess.run([self.path, *words], input=given, capture_output=True)

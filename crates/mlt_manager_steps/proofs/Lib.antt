@@ -1,1 +1,3 @@
+pub mod Explaining
+pub mod Growing
 pub mod StepsTexts

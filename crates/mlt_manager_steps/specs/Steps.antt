@@ -17,15 +17,18 @@ use Rattle.mlt_manager.specs.Promises.{IsCommittedBaseOf}
 abbrev pub depth_line : ℕ → List ℕ
 depth_line depth = with_number (codes "depth") depth ++ 10 ∷ []
 
--- A line for what each event was told, then the base of what this manager has committed, and then the depth of its
--- directory.
-pub record IsTextOf {P : Type 0} (tolds : List Told) (manager : ManagerFields P) (text : List ℕ)
+-- The lines of the events, then the base of what this manager has committed, and then the depth of its directory.
+pub record IsTextBehind {P : Type 0} (lines : List ℕ) (manager : ManagerFields P) (text : List ℕ)
     : Type 0 where
   pub base : Base
   pub committed : IsCommittedBaseOf manager base
   pub depth : ℕ
   pub deep : HasDepth manager depth
-  pub appended : text ≡ told_text tolds ++ (base_text base ++ depth_line depth)
+  pub appended : text ≡ lines ++ (base_text base ++ depth_line depth)
+
+-- the same, with a line for what each event was told
+abbrev pub IsTextOf : {P : Type 0} → List Told → ManagerFields P → List ℕ → Type 0
+IsTextOf tolds manager text = IsTextBehind (told_text tolds) manager text
 
 -- The input spells events, which are played from a new manager to this one, and the text is that of what they were
 -- told.

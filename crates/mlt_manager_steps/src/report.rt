@@ -2,8 +2,9 @@
 
 ghost use Rattle.std.specs.Prelude.{◌≡◌, ◌⊎◌, ◌++◌, List, ℕ, IfErr, IsOkUnless, IfOk, IsErrOf, OnOk};
 ghost use Rattle.std.specs.Io.KnownBytes.{Appends, Keeps};
+ghost use Rattle.std.specs.String.{string_bytes};
 ghost use Rattle.mlt_text.specs.Texts.{AppendsFront};
-ghost use Rattle.mlt_manager_steps.specs.Steps.{IsTextOf, depth_line};
+ghost use Rattle.mlt_manager_steps.specs.Steps.{IsTextBehind, IsTextOf, depth_line};
 
 use mlt_event::Told;
 use mlt_event_text::told_text;
@@ -23,15 +24,17 @@ fn push_depth(alloc: Global, text: &mut Vec<u8>, depth: u8) -> Result<(), Refusa
     Ok(())
 }
 
-fn text_of<P: Pseudo>(
+// The lines of the events, and what follows them.
+fn text_behind<P: Pseudo>(
     alloc: Global,
-    tolds: &[Told],
+    lines: String,
     manager: &Manager<P>,
 ) -> Result<Vec<u8>, Refusal>
-    ensures text { IfOk result (λ text. IsTextOf tolds.now manager.now text.items) }
+    ensures text { IfOk result
+        (λ text. IsTextBehind (string_bytes lines) manager.now text.items) }
     ensures refusal { IsOkUnless result Refusal.OutOfMemory }
 {
-    let mut text = told_text(alloc, tolds)?.into_bytes();
+    let mut text = lines.into_bytes();
     let base = manager.base()?;
     // A vector fails to take bytes only where a growth was refused.
     write_base(&base, &mut text).map_err(|_| Refusal::OutOfMemory)?;
@@ -39,8 +42,29 @@ fn text_of<P: Pseudo>(
     Ok(text)
 }
 
-// Writes the text of what events were told. It is built first, whole, and then written by a loop of writes.
-// `OutOfMemory` is a growth that was refused; `Io` is a write that failed.
+// Writes the lines of the events, and what follows them. The text is built first, whole, and then written by a loop of
+// writes. `OutOfMemory` is a growth that was refused; `Io` is a write that failed.
+pub(crate) fn write_lines<W: Write, P: Pseudo>(
+    alloc: Global,
+    lines: String,
+    manager: &Manager<P>,
+    writer: &mut W,
+) -> Result<(), Refusal>
+    ensures ok { OnOk result ((text : List ℕ) × IsTextBehind (string_bytes lines) manager.now text
+        × Appends (W.contents writer.old) (W.contents writer.new) text) }
+    ensures memory { IsErrOf result Refusal.OutOfMemory
+        → Keeps (W.contents writer.old) (W.contents writer.new) }
+    ensures io { IsErrOf result Refusal.Io
+        → (text : List ℕ) × IsTextBehind (string_bytes lines) manager.now text
+        × AppendsFront (W.contents writer.old) (W.contents writer.new) text }
+    ensures refusal { IfErr result
+        (λ refusal. (refusal ≡ Refusal.OutOfMemory) ⊎ (refusal ≡ Refusal.Io)) }
+{
+    let text = text_behind(alloc, lines, manager)?;
+    write_text(writer, text.as_slice())
+}
+
+// Writes the text of what events were told, as [`write_lines`] does.
 pub(crate) fn write_tolds<W: Write, P: Pseudo>(
     alloc: Global,
     tolds: &[Told],
@@ -57,6 +81,6 @@ pub(crate) fn write_tolds<W: Write, P: Pseudo>(
     ensures refusal { IfErr result
         (λ refusal. (refusal ≡ Refusal.OutOfMemory) ⊎ (refusal ≡ Refusal.Io)) }
 {
-    let text = text_of(alloc, tolds, manager)?;
-    write_text(writer, text.as_slice())
+    let lines = told_text(alloc, tolds)?;
+    write_lines(alloc, lines, manager, writer)
 }

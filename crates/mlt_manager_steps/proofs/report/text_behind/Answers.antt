@@ -1,5 +1,5 @@
 use Rattle.std.proofs.Common.{rules, append_assoc}
-use Rattle.mlt_manager_steps.proofs.report.text_of.Goals as goal
+use Rattle.mlt_manager_steps.proofs.report.text_behind.Goals as goal
 
 pub returns-clause-text : goal.returns-clause-text
 returns-clause-text g c = record {

@@ -1,0 +1,5 @@
+pub mod Appending
+pub mod Following
+pub mod Knowing
+pub mod Linking
+pub mod Opposites

@@ -1,0 +1,8 @@
+pub mod Circles
+pub mod Examples
+pub mod Explaining
+pub mod Histories
+pub mod Opposites
+pub mod Pendings
+pub mod Reasons
+pub mod Tables
