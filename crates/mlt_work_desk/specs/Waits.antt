@@ -86,6 +86,15 @@ woken_by (given.Operation x) waits =
 woken_by (given.Pages x) waits = wakers_in (whose.One x) waits.pages
 woken_by given.Nothing waits = []
 
+-- who still waits once x waits no longer
+abbrev pub waits_without : ℕ → Waits → Waits
+waits_without x waits =
+    released awaited.Pages (whose.Of x) (released awaited.Objects (whose.Of x) waits)
+
+-- and who is woken then
+abbrev pub woken_of : ℕ → Waits → List Waker
+woken_of x waits = wakers_in (whose.Of x) waits.objects ++ wakers_in (whose.Of x) waits.pages
+
 -- how many desks wait
 abbrev pub waiting : Waits → ℕ
 waiting waits = length waits.objects + length waits.pages

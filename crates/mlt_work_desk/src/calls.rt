@@ -165,21 +165,30 @@ impl<'a, P: Pseudo, L: MadeWith<P>, R: Wait, G: Gate> LockDesk<'a, P, L, R, G> {
         self.left > 0 && turn != Turn::Deadlock
     }
 
+    /// The operation is cancelled. The next transaction keeps the timestamp of this one.
+    fn give_up(&mut self, tx: TxId, turn: Turn) {
+        if turn == Turn::Deadlock {
+            self.gate.deadlock(self.client);
+        }
+        self.hold(Event::Cancel(tx), false);
+        self.timestamp.give_up();
+    }
+
     /// One step of an operation that was called. Where it is to wait, a try is spent: with others left it goes on once it is
-    /// awake, else the operation is cancelled. It answers the operation's answer, if it has one. A step that is told what comes
+    /// awake, else the operation is cancelled. So it is where the gate is out of patience. It answers the operation's answer, if it has one. A step that is told what comes
     /// only where another desk acts for the same transaction is answered by `NoSuchTx`.
     fn step(&mut self, tx: TxId) -> Option<Result<ObjReply, Refusal>>
         ensures { IfSome result
             (λ reply. MayAnswerOperation P.bits_of tx (answer_by DeskAnswer.Replied reply)) }
     {
-        // With its last try it does not wait.
-        let (told, turn) = self.hold(Event::Step(tx), self.left > 1);
+        // With its last try it does not wait, nor where the gate is out of patience.
+        let may_sleep = self.left > 1 && self.gate.is_patient(self.client);
+        let (told, turn) = self.hold(Event::Step(tx), may_sleep);
         if is_to_wait(&told) {
-            if self.tries_again(turn) {
+            if self.tries_again(turn) && may_sleep {
                 return None;
             }
-            self.hold(Event::Cancel(tx), false);
-            self.timestamp.give_up();
+            self.give_up(tx, turn);
             return Some(Err(Refusal::GaveUp));
         }
         match told {
@@ -232,6 +241,7 @@ impl<'a, P: Pseudo, L: MadeWith<P>, R: Wait, G: Gate> Answering for LockDesk<'a,
         }
         self.is_in(tx);
         self.sleeper.op = op;
+        self.gate.call(self.client, &op);
         self.wait_for_turn(&op);
         let (told, _) = self.hold(Event::Call(tx, op), false);
         match told {

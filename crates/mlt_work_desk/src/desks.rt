@@ -3,7 +3,7 @@
 ghost use Rattle.std.specs.Prelude.{ℕ, ◌≡◌, ◌++◌, ◌+◌, ◌-◌, ◌<◌, ◌≤◌, ◌^◌, ◌⊎◌, [], List, true, false, None, Some, length, min, IfSome};
 ghost use Rattle.mlt_work_waits.specs.Waits.{joined};
 ghost use Rattle.mlt_work_queue.specs.Queues.{last_before};
-ghost use Rattle.mlt_work_desk.specs.Waits.{AreInTurn, CanSleep, CantSleep, ObjectTurns, PageTurns, precedence_after, precedence_if, precedence_with, queue_after, queue_if, queue_with, turn_behind, TurnsIfWaits, wait_for, wait_if, waiting, waits_after, waits_in_turn, waits_of_others, woken_by, woken_by_end};
+ghost use Rattle.mlt_work_desk.specs.Waits.{AreInTurn, CanSleep, CantSleep, ObjectTurns, PageTurns, precedence_after, precedence_if, precedence_with, queue_after, queue_if, queue_with, turn_behind, TurnsIfWaits, wait_for, wait_if, waiting, waits_after, waits_in_turn, waits_of_others, waits_without, woken_by, woken_by_end, woken_of};
 
 use crate::turn::{GivenBack, Sleeper, Turn, wait_for, wait_of};
 use mlt_event::{Answer, Told};
@@ -115,6 +115,26 @@ impl Desks {
             GivenBack::Pages(tx) => self.waits.release(Awaited::Pages, Whose::One(tx), wakers),
             GivenBack::Nothing => (),
         }
+    }
+
+    /// A transaction waits no longer, if it does: its desk tries again, and its waker is added.
+    pub(crate) fn rouse(&mut self, tx: TxId, wakers: &mut Wakers)
+        requires { wakers.old.items ≡ [] }
+        ensures waits { self.new.waits ≡ waits_without tx self.old.waits }
+        ensures wakes { wakers.new.items ≡ woken_of tx self.old.waits }
+        ensures precedence { self.new.precedence ≡ self.old.precedence }
+        ensures queue { self.new.queue ≡ self.old.queue }
+        ensures count { self.new.count ≡ self.old.count }
+    {
+        self.waits.release(Awaited::Objects, Whose::Of(tx), wakers);
+        self.waits.release(Awaited::Pages, Whose::Of(tx), wakers);
+    }
+
+    /// Who waits for whom.
+    pub(crate) fn waits(&self) -> &WaitsFor
+        ensures { result.now ≡ self.now.waits }
+    {
+        &self.waits
     }
 
     /// What a desk does that was told this, which may sleep or not. Where it is to wait, and may sleep, it does so as this sleeper.

@@ -1,17 +1,32 @@
 //! What is told before each transaction, and of each event.
 
 use mlt_event::Told;
+use mlt_object_kinds::ObjOp;
 
 /// Is told what a client does, with the lock free. The client goes on once it returns.
 pub trait Gate {
     /// The client is to begin a transaction, and has none. Most gates have nothing to do then.
     fn begin(&self, _client: u32) {}
 
+    /// The client is to call this operation. Most gates have nothing to do then.
+    #[inline(always)]
+    fn call(&self, _client: u32, _op: &ObjOp) {}
+
     /// The client is to wait for its turn before it calls an operation. Most gates have nothing to do then.
     fn rest(&self, _client: u32) {}
 
     /// The event of this client was told this.
     fn pause(&self, client: u32, told: &Told);
+
+    /// Whether the client's operation may wait. Where it may not and is to, it is given up. Most gates let it wait.
+    #[inline(always)]
+    fn is_patient(&self, _client: u32) -> bool {
+        true
+    }
+
+    /// The client's operation is given up since its transaction is the youngest of a circle of waits. Most gates have nothing to do
+    /// then.
+    fn deadlock(&self, _client: u32) {}
 }
 
 /// Does nothing.

@@ -4,12 +4,15 @@ ghost use Rattle.std.specs.Prelude.{◌≡◌, ◌-◌, ◌^◌, Some, min};
 ghost use Rattle.mlt_work_desk.specs.Makings.{making_of};
 
 use crate::locked_state::LockedState;
+use crate::look::Look;
 use crate::made_with::MadeWith;
 use crate::tuning::{FIRST_LOCK_SPINS, LOCK_SPINS, PAUSES_PER_LOCK_SPIN};
 use crate::turn::Sleeper;
 use mlt_manager::Manager;
-use mlt_types::Pseudo;
+use mlt_trace::KeptItem;
+use mlt_types::{Pseudo, TxId};
 use mlt_work_waits::{Waker, Wakers};
+use std::alloc::AllocError;
 use std::array;
 use std::hint::spin_loop;
 use std::sync::atomic::{AtomicU64, Ordering};
@@ -108,6 +111,36 @@ impl<P: Pseudo, L: MadeWith<P>> Shared<P, L> {
         if self.blocked.load(Ordering::Relaxed) != blocked {
             self.blocked.store(blocked, Ordering::Relaxed);
         }
+    }
+
+    /// A transaction waits no longer, if it does: its desk tries again. It takes the lock once, and is no event.
+    pub fn rouse<R: Wait>(&self, rt: &R, tx: TxId) {
+        let mut wakers = Wakers::new();
+        let mut state = self.lock(rt);
+        state.desks.rouse(tx, &mut wakers);
+        drop(state);
+        self.wake(&wakers);
+    }
+
+    /// What a look at the manager sees, and who waits for whom. It takes the lock once, and is no event.
+    pub fn look<R: Wait>(&self, rt: &R) -> Look {
+        let state = self.lock(rt);
+        state.look()
+    }
+
+    /// Adds the items of the history from this place on, at most so many. It takes the lock once, and is no event.
+    ///
+    /// # Errors
+    /// Where a growth is refused, then fewer are added.
+    pub fn copy_items<R: Wait>(
+        &self,
+        rt: &R,
+        from: usize,
+        most: usize,
+        items: &mut Vec<KeptItem>,
+    ) -> Result<(), AllocError> {
+        let state = self.lock(rt);
+        state.copy_items(from, most, items)
     }
 
     /// Wakes the sleepers, with the lock free.

@@ -48,6 +48,22 @@ impl WaitsFor {
         self.objects.len() as u64 + self.pages.len() as u64
     }
 
+    /// Who waits for locks of objects, or for a turn, at most 64.
+    pub fn objects(&self) -> &[Waiting]
+        ensures waits { result.now ≡ self.now.objects }
+        ensures most { length result.now ≤ 64 }
+    {
+        self.objects.as_slice()
+    }
+
+    /// Who waits for locks of pages, at most 64.
+    pub fn pages(&self) -> &[Waiting]
+        ensures waits { result.now ≡ self.now.pages }
+        ensures most { length result.now ≤ 64 }
+    {
+        self.pages.as_slice()
+    }
+
     /// Whether a transaction waits for nobody.
     pub fn is_awake(&self, tx: TxId) -> bool
         ensures awake { result ≡ true → IsAwake self.now tx }
