@@ -1,0 +1,12 @@
+//! What the sessions of a server are doing, for others to see, and how others end them.
+#![tactic(auto)]
+
+mod count;
+mod seat;
+mod session;
+mod sitting;
+
+pub use count::Count;
+pub use seat::{Patience, Seat, Seats, Totals};
+pub use session::{Awaits, Deed, OpenTransaction, SessionState, WaitState};
+pub use sitting::Sitting;

@@ -1,0 +1,82 @@
+//! Connections, as they come to a listener.
+
+use std::io;
+use std::net::{TcpListener, TcpStream};
+use std::os::fd::AsRawFd;
+
+// Errors of accept(2) that Linux has from the network, or from a client that is gone.
+const EPROTO: i32 = 71;
+
+const ENONET: i32 = 64;
+
+const ENOPROTOOPT: i32 = 92;
+
+const EOPNOTSUPP: i32 = 95;
+
+const ENETDOWN: i32 = 100;
+
+const ENETUNREACH: i32 = 101;
+
+const EHOSTDOWN: i32 = 112;
+
+const EHOSTUNREACH: i32 = 113;
+
+// Those of a process, or a system, that has no descriptors or buffers left.
+const ENFILE: i32 = 23;
+
+const ENOBUFS: i32 = 105;
+
+/// What became of an accept.
+#[derive(Drop)]
+pub enum Accepted {
+    /// A connection.
+    Stream(TcpStream),
+    /// It failed by that connection alone, so it is to be tried again.
+    Again(io::Error),
+    /// It failed for want of descriptors or buffers, so it is to be tried again after a pause.
+    Pause(io::Error),
+    /// It failed by the listener, and so will each that follows.
+    Failed(io::Error),
+}
+
+/// The next connection, once there is one. What accept(2) says of its errors is done: those of the network count as those of one
+/// connection.
+pub fn accept(listener: &TcpListener) -> Accepted {
+    match listener.accept() {
+        Ok((stream, _)) => Accepted::Stream(stream),
+        Err(error) => match error.raw_os_error() {
+            Some(code) if is_tried_again(code) => Accepted::Again(error),
+            Some(code) if does_pause(code) => Accepted::Pause(error),
+            _ => Accepted::Failed(error),
+        },
+    }
+}
+
+/// Whether an accept that failed so is to be tried again at once.
+fn is_tried_again(code: i32) -> bool {
+    matches!(
+        code,
+        libc::EPERM
+            | libc::EINTR
+            | libc::ECONNABORTED
+            | ENONET
+            | EPROTO
+            | ENOPROTOOPT
+            | EOPNOTSUPP
+            | ENETDOWN
+            | ENETUNREACH
+            | EHOSTDOWN
+            | EHOSTUNREACH
+    )
+}
+
+/// Whether an accept that failed so is to be tried again after a pause.
+fn does_pause(code: i32) -> bool {
+    matches!(code, libc::ENOMEM | libc::EMFILE | ENFILE | ENOBUFS)
+}
+
+/// From now on the listener takes no connection: who waits in an accept of it fails, and clients are refused.
+pub fn refuse_all(listener: &TcpListener) {
+    // It fails only where that was done before.
+    let _ = libc::net::shutdown(listener.as_raw_fd(), libc::net::SHUT_RDWR);
+}
