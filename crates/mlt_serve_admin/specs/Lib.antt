@@ -1,0 +1,9 @@
+pub mod Answers
+pub mod Figures
+pub mod Json
+pub mod Lists
+pub mod Metrics
+pub mod Places
+pub mod Replies
+pub mod Routes
+pub mod Status

@@ -1,0 +1,20 @@
+//! What an operator sees of a server, and may do to it, over HTTP.
+#![tactic(auto)]
+
+mod figures;
+mod json;
+mod lists;
+mod metrics;
+mod operated;
+mod page;
+mod places;
+mod replies;
+mod routes;
+mod service;
+mod serving;
+mod status;
+mod view;
+
+pub use operated::Operated;
+pub use serving::serve_admin;
+pub use view::{Awaited, Counts, SessionView, TransactionView, View, WaitView};

@@ -1,0 +1,273 @@
+//! The page for a browser.
+
+/// A page in HTML that needs nothing else: it asks for the numbers, the sessions and the waits, and shows them.
+pub(crate) fn page() -> &'static str {
+    PAGE
+}
+
+// It asks twice a second. It puts what it is told into the page as text alone, never as HTML.
+const PAGE: &str = r#"<!doctype html>
+<html lang="en">
+<head>
+<meta charset="utf-8">
+<meta name="viewport" content="width=device-width, initial-scale=1">
+<title>mltx</title>
+<link rel="icon" href="data:,">
+<style>
+:root{color-scheme:light dark;--ink:#1c2024;--dim:#60666c;--line:#d9dde1;--ground:#f6f7f8;--card:#fff}
+:root{--wait:#b54708;--stop:#b42318;--good:#18794e}
+@media(prefers-color-scheme:dark){
+:root{--ink:#e8eaec;--dim:#9aa1a8;--line:#363b40;--ground:#131517;--card:#1c1f22}
+:root{--wait:#f5a524;--stop:#ff8a80;--good:#4cc38a}
+}
+*{box-sizing:border-box}
+body{margin:0 auto;max-width:64rem;padding:1rem;background:var(--ground);color:var(--ink);font:15px/1.45 system-ui,sans-serif}
+header{display:flex;flex-wrap:wrap;gap:.5rem 1rem;align-items:center}
+h1{font-size:1.15rem;margin:0}
+h2{font-size:1rem;margin:1.4rem 0 .5rem}
+#state{flex:1;color:var(--dim)}
+#state.gone{color:var(--stop);font-weight:600}
+button{font:inherit;padding:.3rem .7rem;color:var(--stop);background:none;border:1px solid;border-radius:.4rem;cursor:pointer}
+button:disabled{opacity:.4;cursor:default}
+dl{display:grid;grid-template-columns:repeat(auto-fill,minmax(9rem,1fr));gap:.5rem;margin:1rem 0 0}
+dl div,li{background:var(--card);border:1px solid var(--line);border-radius:.5rem;padding:.45rem .7rem}
+dt{color:var(--dim);font-size:.82rem}
+dd{margin:0;font-size:1.05rem;font-variant-numeric:tabular-nums;overflow-wrap:anywhere}
+ul{list-style:none;margin:0;padding:0;display:grid;gap:.5rem}
+li p{margin:0;display:flex;flex-wrap:wrap;gap:.1rem .8rem;align-items:baseline}
+li button{margin-left:auto;font-size:.85rem;padding:.1rem .55rem}
+li code{display:block;margin-top:.3rem;color:var(--dim);font:13px/1.5 ui-monospace,monospace;overflow-wrap:anywhere}
+li code:empty,li span:empty{display:none}
+li .calls{color:var(--wait)}
+.age{color:var(--dim);font-variant-numeric:tabular-nums}
+.none{color:var(--dim);margin:0}
+[hidden]{display:none}
+#graph{background:var(--card);border:1px solid var(--line);border-radius:.5rem;overflow-x:auto}
+#graph .none{padding:.45rem .7rem}
+svg{display:block;margin:0 auto}
+svg text{font:13px system-ui,sans-serif;fill:var(--ink);text-anchor:middle}
+svg .small{font-size:11px;fill:var(--dim);paint-order:stroke;stroke:var(--card);stroke-width:4px}
+svg rect{fill:var(--card);stroke:var(--good);stroke-width:1.5}
+svg .waits{stroke:var(--wait)}
+svg path{fill:none;stroke:var(--wait);stroke-width:1.5}
+svg marker path{fill:var(--wait);stroke:none}
+.gone-all{opacity:.45}
+</style>
+</head>
+<body>
+<header>
+<h1>mltx</h1>
+<span id="state" role="status">…</span>
+<button id="stop">Stop the server</button>
+</header>
+<main>
+<dl id="counts"></dl>
+<h2>Who waits for whom</h2>
+<div id="graph"><p class="none"></p></div>
+<h2>Sessions</h2>
+<ul id="sessions"></ul>
+<p id="nobody" class="none" hidden>Nobody is connected.</p>
+</main>
+<script>
+"use strict";
+const at = id => document.getElementById(id);
+const make = (tag, text, name) => {
+  const node = document.createElement(tag);
+  if (text !== undefined) node.textContent = text;
+  if (name) node.className = name;
+  return node;
+};
+const svg = (tag, attributes, text) => {
+  const node = document.createElementNS("http://www.w3.org/2000/svg", tag);
+  for (const name in attributes) node.setAttribute(name, attributes[name]);
+  if (text !== undefined) node.textContent = text;
+  return node;
+};
+const count = n => n.toLocaleString("en");
+const bytes = n => n < 1e4 ? n + " B" : n < 1e7 ? Math.round(n / 1e3) + " kB" : Math.round(n / 1e6) + " MB";
+const time = ms => {
+  if (ms < 1000) return ms + " ms";
+  const s = Math.floor(ms / 1000);
+  if (s < 120) return (ms / 1000).toFixed(s < 10 ? 1 : 0) + " s";
+  if (s < 7200) return Math.floor(s / 60) + " min " + s % 60 + " s";
+  return Math.floor(s / 3600) + " h " + Math.floor(s % 3600 / 60) + " min";
+};
+
+// Nodes stay, and only what changed in them is put anew, lest a click lose its button between two looks.
+const put = (node, text) => { if (node.textContent !== text) node.textContent = text; };
+
+const past = [];
+
+function commitsPerSecond(commits) {
+  const now = performance.now() / 1000;
+  past.push([now, commits]);
+  if (past.length > 10) past.shift();
+  const [then, before] = past[0];
+  return now > then && commits >= before ? (commits - before) / (now - then) : 0;
+}
+
+function showCounts(now) {
+  const rows = {
+    "Sessions": count(now.sessions) + " of " + count(now.session_threads),
+    "Queued": count(now.queued),
+    "Connections": count(now.connections) + " of " + count(now.limit),
+    "Open transactions": count(now.open),
+    "Begun": count(now.begun),
+    "Committed": count(now.commits),
+    "Commits per second": count(Math.round(commitsPerSecond(now.commits))),
+    "Aborted": count(now.aborts),
+    "Operations": count(now.operations),
+    "Given up": count(now.gave_up),
+    "Of these, deadlocks": count(now.deadlocks),
+    "Events": count(now.events),
+    "History": count(now.items) + " items",
+    "Memory of it": bytes(now.bytes),
+    "Pages": count(now.pages) + " of " + count(now.most_pages),
+    "Depth": count(now.depth),
+  };
+  for (const name in rows) {
+    let value = document.getElementById(name);
+    if (!value) {
+      const row = make("div");
+      value = make("dd");
+      value.id = name;
+      row.append(make("dt", name), value);
+      at("counts").append(row);
+    }
+    put(value, rows[name]);
+  }
+  at("stop").disabled = now.stopping === 1;
+  put(at("state"), (now.stopping ? "stopping, after " : "up for ") + time(now.seconds * 1000));
+}
+
+const shown = new Map();
+
+function newRow(client) {
+  const row = {
+    item: make("li"),
+    age: make("span", "", "age"),
+    tx: make("span"),
+    txAge: make("span", "", "age"),
+    did: make("code"),
+    calls: make("code", "", "calls"),
+  };
+  const line = make("p"), end = make("button", "End session");
+  end.onclick = () => act("End the session of client " + client + "?", "/sessions/" + client + "/end");
+  line.append(make("strong", "Client " + client), row.age, row.tx, row.txAge, end);
+  row.item.append(line, row.did, row.calls);
+  return row;
+}
+
+function showSessions(sessions) {
+  sessions.sort((a, b) => a.client - b.client);
+  const clients = new Set(sessions.map(session => session.client));
+  for (const [client, row] of shown) {
+    if (clients.has(client)) continue;
+    row.item.remove();
+    shown.delete(client);
+  }
+  for (const {client, milliseconds, transaction: tx} of sessions) {
+    if (!shown.has(client)) {
+      const row = newRow(client);
+      shown.set(client, row);
+      at("sessions").append(row.item);
+    }
+    const row = shown.get(client);
+    put(row.age, time(milliseconds));
+    put(row.tx, tx ? "transaction " + tx.number : "no open transaction");
+    const operations = tx && count(tx.operations) + (tx.operations === 1 ? " operation" : " operations");
+    put(row.txAge, tx ? time(tx.milliseconds) + ", " + operations : "");
+    put(row.did, tx ? (tx.operations > tx.did.length ? "… " : "") + tx.did.join(" · ") : "");
+    put(row.calls, tx && tx.calls ? tx.calls + " …" : "");
+  }
+  at("nobody").hidden = sessions.length > 0;
+}
+
+// Who waits stands above whom it waits for, but for circles.
+function rowsOf(waits) {
+  const rows = new Map();
+  for (const wait of waits) for (const tx of [wait.waiter, wait.holder]) rows.set(tx, 0);
+  for (let round = 1; round < Math.min(rows.size, 20); round++)
+    for (const {waiter, holder} of waits)
+      if (rows.get(holder) <= rows.get(waiter))
+        rows.set(holder, Math.min(rows.get(waiter) + 1, rows.size - 1));
+  const levels = [];
+  for (const [tx, row] of [...rows].sort((a, b) => a[0] - b[0])) (levels[row] = levels[row] || []).push(tx);
+  return levels.filter(level => level);
+}
+
+function showWaits(waits, sessions) {
+  if (!waits.length) return at("graph").replaceChildren(make("p", "Nobody waits.", "none"));
+  const levels = rowsOf(waits), place = new Map(), halfWidth = 74, halfHeight = 22;
+  const width = Math.max(...levels.map(level => level.length)) * 164, height = levels.length * 96;
+  levels.forEach((level, row) => level.forEach((tx, i) => place.set(tx, [width * (i + .5) / level.length, 48 + row * 96])));
+  const picture = svg("svg", {width, height, role: "img", "aria-label": "Who waits for whom"});
+  const tip = svg("marker", {id: "tip", refX: 7, refY: 4, markerWidth: 8, markerHeight: 8, orient: "auto"});
+  tip.append(svg("path", {d: "M0 0 8 4 0 8z"}));
+  picture.append(tip);
+  const labels = [], waiting = new Map(), clients = new Map();
+  for (const {client, transaction: tx} of sessions) if (tx) clients.set(tx.number, client);
+  for (const wait of waits) {
+    waiting.set(wait.waiter, wait);
+    clients.set(wait.waiter, wait.client);
+    const [x1, y1] = place.get(wait.waiter), [x2, y2] = place.get(wait.holder);
+    const dx = x2 - x1, dy = y2 - y1, far = Math.hypot(dx, dy) || 1;
+    const bend = dy > 0 && dy < 100 ? 0 : 60;
+    const mx = (x1 + x2) / 2 - dy / far * bend, my = (y1 + y2) / 2 + dx / far * bend;
+    const edge = (x, y) => {
+      const k = Math.min(halfWidth / Math.max(Math.abs(mx - x), 1), halfHeight / Math.max(Math.abs(my - y), 1));
+      return [x + (mx - x) * k, y + (my - y) * k];
+    };
+    const [ax, ay] = edge(x1, y1), [bx, by] = edge(x2, y2);
+    picture.append(svg("path", {d: `M${ax} ${ay}Q${mx} ${my} ${bx} ${by}`, "marker-end": "url(#tip)"}));
+    if (wait.for === "object") continue;
+    labels.push(svg("text", {class: "small", x: (ax + bx) / 4 + mx / 2, y: (ay + by) / 4 + my / 2 + 4}, wait.for));
+  }
+  for (const [tx, [x, y]] of place) {
+    const wait = waiting.get(tx), corner = {x: x - halfWidth, y: y - halfHeight, rx: 8};
+    const size = {width: 2 * halfWidth, height: 2 * halfHeight};
+    picture.append(svg("rect", {class: wait ? "waits" : "", ...corner, ...size}));
+    const name = tx + (clients.has(tx) ? " of client " + clients.get(tx) : "");
+    picture.append(svg("text", {x, y: wait ? y - 3 : y + 5}, name));
+    if (!wait) continue;
+    const text = wait.operation || "no operation";
+    const short = text.length > 16 ? text.slice(0, 15) + "…" : text;
+    picture.append(svg("text", {class: "small", x, y: y + 14}, short + ", " + time(wait.milliseconds)));
+  }
+  picture.append(...labels);
+  at("graph").replaceChildren(picture);
+}
+
+async function act(question, path) {
+  if (!confirm(question)) return;
+  try {
+    const answer = await fetch(path, {method: "POST", headers: {"X-Mltx": "1"}});
+    if (!answer.ok) alert(await answer.text());
+  } catch { alert("The server does not answer."); }
+}
+
+async function look() {
+  try {
+    const answers = await Promise.all(["/status", "/sessions", "/waits"].map(async path => {
+      const answer = await fetch(path, {cache: "no-store", signal: AbortSignal.timeout(3000)});
+      return answer.json();
+    }));
+    at("state").className = document.querySelector("main").className = "";
+    showCounts(answers[0]);
+    showSessions(answers[1].sessions);
+    showWaits(answers[2].waits, answers[1].sessions);
+  } catch {
+    put(at("state"), "The server does not answer. What is shown is old.");
+    at("state").className = "gone";
+    document.querySelector("main").className = "gone-all";
+    at("stop").disabled = true;
+  }
+  setTimeout(look, 500);
+}
+
+at("stop").onclick = () => act("Stop the server? All sessions end.", "/stop");
+look();
+</script>
+</body>
+</html>
+"#;

@@ -1,0 +1,61 @@
+//! Replies to requests.
+
+ghost use Rattle.std.specs.Prelude.{◌≡◌, ◌++◌, OnErr, OnOk};
+ghost use Rattle.http_server.specs.Response.{IsBlank};
+ghost use Rattle.mlt_serve_admin.specs.Replies.{content_type_of, headers_of, IsReply};
+
+use bytes::BufMut;
+use http::{HeaderName, HeaderValue, StatusCode};
+use http_server::Response;
+use std::alloc::AllocError;
+
+/// Of what a body is.
+#[derive(Clone, Copy)]
+pub(crate) enum Content {
+    /// JSON.
+    Json,
+    /// Prometheus' text format, version 0.0.4.
+    Metrics,
+    /// The page for a browser.
+    Page,
+    /// A line in English.
+    Line,
+}
+
+impl Content {
+    fn header(self) -> HeaderValue
+        ensures { result.bytes ≡ content_type_of self }
+    {
+        match self {
+            Content::Json => HeaderValue::from_static("application/json"),
+            Content::Metrics => {
+                HeaderValue::from_static("text/plain; version=0.0.4; charset=utf-8")
+            }
+            Content::Page => HeaderValue::from_static("text/html; charset=utf-8"),
+            Content::Line => HeaderValue::from_static("text/plain; charset=utf-8"),
+        }
+    }
+}
+
+/// Makes a response a reply, after which the connection closes.
+pub(crate) fn fill(
+    response: &mut Response,
+    status: StatusCode,
+    content: Content,
+    body: &str,
+) -> Result<(), AllocError>
+    requires { IsBlank response.old }
+    ensures { OnOk result (IsReply status content body.now response.new) }
+{
+    response.status = status;
+    response.add_header(
+        HeaderName::from_static("connection"),
+        HeaderValue::from_static("close"),
+    )?;
+    response.add_header(HeaderName::from_static("content-type"), content.header())?;
+    response.add_header(
+        HeaderName::from_static("cache-control"),
+        HeaderValue::from_static("no-store"),
+    )?;
+    response.body.put_slice(body.as_bytes())
+}

@@ -1,0 +1,205 @@
+//! The answer to one request.
+
+ghost use Rattle.std.specs.Prelude.{◌≡◌, ◌↔◌, ◌⊎◌, codes, IsTrue, OnErr, OnOk};
+ghost use Rattle.http.specs.Request.{head_of};
+ghost use Rattle.http_server.specs.Response.{IsBlank};
+ghost use Rattle.mlt_serve_admin.specs.declared.places.Place.TheVariants.{Metrics, SessionEnd, Sessions, Status, Stop, Waits};
+ghost use Rattle.mlt_serve_admin.specs.declared.replies.Content.TheVariants as content;
+ghost use Rattle.mlt_serve_admin.specs.Replies.{IsReply};
+ghost use Rattle.mlt_serve_admin.specs.Answers.{IsAnswerAt, IsAnswerBy, IsMarked, IsRefusedMethod, IsRouteFor};
+ghost use Rattle.mlt_serve_admin.specs.Places.{method_of};
+
+use crate::lists::{sessions_text, waits_text};
+use crate::metrics::metrics_text;
+use crate::operated::Operated;
+use crate::page::page;
+use crate::places::Place;
+use crate::replies::{Content, fill};
+use crate::routes::{Route, route_of};
+use crate::status::status_text;
+use bytes::Bytes;
+use http::{HeaderName, HeaderValue, Request, StatusCode};
+use http_server::{Response, Service};
+use std::alloc::{AllocError, Global};
+
+/// The service of a server that is operated.
+#[derive(Drop)]
+pub(crate) struct OperatorService<'a, O> {
+    pub(crate) alloc: Global,
+    pub(crate) operated: &'a O,
+}
+
+impl<O: Operated> Service for OperatorService<'_, O> {
+    ghost use Rattle.mlt_serve_admin.specs.Answers.{IsAnswer};
+
+    ghost answers = { λ old request response new. IsAnswer request response };
+
+    fn call(
+        &mut self,
+        request: &Request<Bytes>,
+        response: &mut Response,
+    ) -> Result<(), AllocError> {
+        let route = route_for(request);
+        self.answer_by(route, response)?;
+        Ok(())
+    }
+}
+
+impl<O: Operated> OperatorService<'_, O> {
+    // Answers by this route.
+    fn answer_by(&self, route: Route, response: &mut Response) -> Result<(), AllocError>
+        requires { IsBlank response.old }
+        ensures { OnOk result (IsAnswerBy route response.new) }
+    {
+        match route {
+            Route::Open(place) => self.answer_at(place, response),
+            Route::NotFound => {
+                fill(
+                    response,
+                    StatusCode::NOT_FOUND,
+                    Content::Line,
+                    "Nothing is here.\n",
+                )
+            }
+            Route::MethodNotAllowed(place) => refuse_method(place, response),
+            Route::Forbidden => fill(
+                response,
+                StatusCode::FORBIDDEN,
+                Content::Line,
+                "This wants the header X-Mltx: 1.\n",
+            ),
+        }
+    }
+
+    // Shows what stands there, or does it.
+    fn answer_at(&self, place: Place, response: &mut Response) -> Result<(), AllocError>
+        requires { IsBlank response.old }
+        ensures { OnOk result (IsAnswerAt place response.new) }
+    {
+        match place {
+            Place::Page => fill(response, StatusCode::OK, Content::Page, page()),
+            Place::Status => self.show_status(response),
+            Place::Metrics => self.show_metrics(response),
+            Place::Waits => self.show_waits(response),
+            Place::Sessions => self.show_sessions(response),
+            Place::Stop => self.stop(response),
+            Place::SessionEnd(client) => self.end_session(client, response),
+        }
+    }
+
+    fn show_status(&self, response: &mut Response) -> Result<(), AllocError>
+        requires { IsBlank response.old }
+        ensures { OnOk result (IsAnswerAt Status response.new) }
+    {
+        let view = self.operated.view(self.alloc)?;
+        let text = status_text(self.alloc, &view.counts)?;
+        fill(response, StatusCode::OK, Content::Json, text.as_str())?;
+        Ok(())
+    }
+
+    fn show_metrics(&self, response: &mut Response) -> Result<(), AllocError>
+        requires { IsBlank response.old }
+        ensures { OnOk result (IsAnswerAt Metrics response.new) }
+    {
+        let view = self.operated.view(self.alloc)?;
+        let text = metrics_text(self.alloc, &view.counts)?;
+        fill(response, StatusCode::OK, Content::Metrics, text.as_str())?;
+        Ok(())
+    }
+
+    fn show_waits(&self, response: &mut Response) -> Result<(), AllocError>
+        requires { IsBlank response.old }
+        ensures { OnOk result (IsAnswerAt Waits response.new) }
+    {
+        let view = self.operated.view(self.alloc)?;
+        let text = waits_text(self.alloc, view.waits.as_slice())?;
+        fill(response, StatusCode::OK, Content::Json, text.as_str())?;
+        Ok(())
+    }
+
+    fn show_sessions(&self, response: &mut Response) -> Result<(), AllocError>
+        requires { IsBlank response.old }
+        ensures { OnOk result (IsAnswerAt Sessions response.new) }
+    {
+        let view = self.operated.view(self.alloc)?;
+        let text = sessions_text(self.alloc, view.sessions.as_slice())?;
+        fill(response, StatusCode::OK, Content::Json, text.as_str())?;
+        Ok(())
+    }
+
+    fn stop(&self, response: &mut Response) -> Result<(), AllocError>
+        requires { IsBlank response.old }
+        ensures { OnOk result (IsAnswerAt Stop response.new) }
+    {
+        self.operated.stop();
+        fill(
+            response,
+            StatusCode::OK,
+            Content::Json,
+            "{\"stopping\":true}\n",
+        )
+    }
+
+    // Cuts the session of this client.
+    fn end_session(&self, client: u32, response: &mut Response) -> Result<(), AllocError>
+        requires { IsBlank response.old }
+        ensures { OnOk result (IsAnswerAt (SessionEnd client) response.new) }
+    {
+        if self.operated.end_session(client) {
+            let text = format!(in self.alloc; "{{\"ended\":{client}}}\n")?;
+            fill(response, StatusCode::OK, Content::Json, text.as_str())
+        } else {
+            fill(
+                response,
+                StatusCode::NOT_FOUND,
+                Content::Line,
+                "No such client is served.\n",
+            )
+        }
+    }
+}
+
+// How this request is answered.
+fn route_for(request: &Request<Bytes>) -> Route
+    ensures { IsRouteFor request.now result }
+{
+    route_of(
+        request.method().as_str(),
+        request.uri().path(),
+        is_marked(request),
+    )
+}
+
+// Refuses a request by another method than that of the place.
+fn refuse_method(place: Place, response: &mut Response) -> Result<(), AllocError>
+    requires { IsBlank response.old }
+    ensures { OnOk result (IsRefusedMethod place response.new) }
+{
+    fill(
+        response,
+        StatusCode::METHOD_NOT_ALLOWED,
+        Content::Line,
+        "This wants another method.\n",
+    )?;
+    response.add_header(HeaderName::from_static("allow"), allow(place))
+}
+
+fn allow(place: Place) -> HeaderValue
+    ensures { result.bytes ≡ method_of place }
+{
+    if place.changes() {
+        HeaderValue::from_static("POST")
+    } else {
+        HeaderValue::from_static("GET")
+    }
+}
+
+// Whether the request has the header that a browser adds for no page of somebody else.
+fn is_marked(request: &Request<Bytes>) -> bool
+    ensures { IsTrue result ↔ IsMarked (head_of request.now).headers }
+{
+    match request.headers().get("x-mltx") {
+        Some(value) => value.as_bytes() == b"1".as_slice(),
+        None => false,
+    }
+}

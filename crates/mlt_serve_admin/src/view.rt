@@ -1,0 +1,114 @@
+//! What a server is at one moment.
+
+use mlt_object_kinds::{Done, ObjOp};
+use mlt_types::TxId;
+
+/// What a server is at one moment.
+#[derive(Drop)]
+pub struct View {
+    /// The numbers of the whole server.
+    pub counts: Counts,
+    /// The sessions that are served, in any order.
+    pub sessions: Vec<SessionView>,
+    /// Who waits for whom, in any order.
+    pub waits: Vec<WaitView>,
+}
+
+/// The numbers of a whole server. What is counted is counted since the server began.
+#[derive(Clone, Copy, Debug, PartialEq, Eq)]
+pub struct Counts {
+    /// For how many seconds the server has listened.
+    pub seconds: u64,
+    /// How many connections are served.
+    pub sessions: u64,
+    /// How many threads serve sessions.
+    pub session_threads: u64,
+    /// How many connections are accepted and not yet served.
+    pub queued: u64,
+    /// How many connections were accepted.
+    pub connections: u64,
+    /// How many connections are accepted in all.
+    pub limit: u64,
+    /// How many transactions are open.
+    pub open: u64,
+    /// How many transactions were begun.
+    pub begun: u64,
+    /// How many operations were done.
+    pub operations: u64,
+    /// How many transactions committed.
+    pub commits: u64,
+    /// How many transactions aborted.
+    pub aborts: u64,
+    /// How many operations were given up.
+    pub gave_up: u64,
+    /// How many operations were given up to end a circle of waits.
+    pub deadlocks: u64,
+    /// How many events the manager had.
+    pub events: u64,
+    /// How many items the history has.
+    pub items: u64,
+    /// How many bytes the items of the history and the outcomes take.
+    pub bytes: u64,
+    /// How many pages there are.
+    pub pages: u64,
+    /// How many pages there may be.
+    pub most_pages: u64,
+    /// The depth of the directory.
+    pub depth: u64,
+    /// Whether the server was told to end.
+    pub is_stopping: bool,
+}
+
+/// A session that is served.
+#[derive(Drop)]
+pub struct SessionView {
+    /// The number of its client.
+    pub client: u32,
+    /// For how many thousandths of a second it has been served.
+    pub milliseconds: u64,
+    /// Its transaction, where one is open.
+    pub transaction: Option<TransactionView>,
+}
+
+/// A transaction that is open.
+#[derive(Drop)]
+pub struct TransactionView {
+    /// Its number.
+    pub number: TxId,
+    /// For how many thousandths of a second it has been open.
+    pub milliseconds: u64,
+    /// How many operations it has done.
+    pub operations: u64,
+    /// The last of these, the oldest first; some 16.
+    pub did: Vec<Done>,
+    /// The operation that it has called and that is not done, if there is one.
+    pub calls: Option<ObjOp>,
+}
+
+/// A transaction that waits for another one.
+#[derive(Clone, Copy, Debug, PartialEq, Eq)]
+pub struct WaitView {
+    /// The transaction that waits.
+    pub waiter: TxId,
+    /// The number of the client whose transaction waits.
+    pub client: u32,
+    /// The transaction that it waits for.
+    pub holder: TxId,
+    /// What it waits for.
+    pub awaited: Awaited,
+    /// The operation that it has called, if there is one.
+    pub operation: Option<ObjOp>,
+    /// For how many thousandths of a second it has waited.
+    pub milliseconds: u64,
+}
+
+/// What a transaction waits for.
+#[derive(Clone, Copy, Debug, PartialEq, Eq)]
+pub enum Awaited {
+    /// An operation of the other one conflicts with its own: the end of the other transaction.
+    Object,
+    /// The other one's operation has a page: the end of that operation.
+    Page,
+    /// The other one is to call its operation first.
+    Turn,
+}
