@@ -1,16 +1,23 @@
 //! Connections, as they come.
 
-ghost use Rattle.std.specs.Prelude.{◌≡◌};
+ghost use Rattle.std.specs.Prelude.{◌≡◌, ◌≤◌};
 ghost use Rattle.mlt_serve.specs.Endings.{result_of_accepting};
 
+use crate::door::Door;
+use crate::tuning::ACCEPT_PAUSE_MILLISECONDS;
 use crossbeam_channel::Sender;
+use mlt_serve_notes::{Ended, Note, Notes};
+use mlt_serve_socket::Accepted;
 use mlt_types::Refusal;
 use std::alloc::Global;
-use std::io;
-use std::io::ErrorKind;
-use std::net::{TcpListener, TcpStream};
+use std::io::Write;
+use std::net::{Shutdown, TcpStream};
 use std::sync::Wait;
-use std::sync::atomic::{AtomicBool, Ordering};
+use std::thread;
+use std::time::{Clock, Duration};
+
+/// What a client hears that is refused since all session threads serve others.
+const TOO_MANY: &[u8] = b"error 7 TooManyOpen\n";
 
 /// A connection that was accepted.
 #[derive(Drop)]
@@ -22,65 +29,206 @@ pub(crate) struct Connection {
 
 /// How the accepting ended.
 #[derive(Clone, Copy, Debug, PartialEq, Eq)]
-pub(crate) enum Accepting {
-    /// All connections were accepted and sent on.
-    Done,
-    /// An accept failed for another reason than that its connection was gone.
+pub(crate) enum AcceptEnd {
+    /// As many connections were accepted as may be, and sent on.
+    Limit,
+    /// The server is to stop. All that were accepted were sent on.
+    Stop,
+    /// An accept failed by the listener.
     Failed,
     /// A sending was refused, or a session was refused a growth.
     Short,
 }
 
+/// What was accepted, and how that ended.
+#[derive(Clone, Copy, Debug, PartialEq, Eq)]
+pub(crate) struct Accepting {
+    /// How many connections were accepted and sent on.
+    pub(crate) connections: u32,
+    pub(crate) end: AcceptEnd,
+}
+
 impl Accepting {
+    /// Nothing was accepted, for want of memory or of a thread.
+    pub(crate) fn none() -> Accepting
+        ensures none { result.connections ≡ 0 }
+        ensures short { result.end ≡ AcceptEnd.Short }
+    {
+        Accepting {
+            connections: 0,
+            end: AcceptEnd::Short,
+        }
+    }
+
     /// What is answered of it.
     ///
     /// # Errors
     /// `Io`, where an accept failed. `OutOfMemory`, where a sending or a session's growth was refused.
     pub(crate) fn result(self) -> Result<(), Refusal>
-        ensures { result ≡ result_of_accepting self }
+        ensures { result ≡ result_of_accepting self.end }
     {
-        match self {
-            Accepting::Done => Ok(()),
-            Accepting::Failed => Err(Refusal::Io),
-            Accepting::Short => Err(Refusal::OutOfMemory),
+        match self.end {
+            AcceptEnd::Limit | AcceptEnd::Stop => Ok(()),
+            AcceptEnd::Failed => Err(Refusal::Io),
+            AcceptEnd::Short => Err(Refusal::OutOfMemory),
         }
     }
 }
 
-/// The next connection. One that broke off before it was accepted is skipped: its accept is tried again.
-///
-/// # Errors
-/// Where an accept fails for any other reason.
-fn next_stream<R: Wait>(rt: &R, listener: &TcpListener) -> io::Result<TcpStream> {
-    for _ in rt.forever() {
-        match listener.accept() {
-            Ok((stream, _)) => return Ok(stream),
-            Err(error) if error.kind() == ErrorKind::ConnectionAborted => {}
-            Err(error) => return Err(error),
-        }
-    }
-    unreachable!()
+/// One that accepts connections, and whether accepts are failing.
+#[derive(Drop)]
+struct Acceptor<'a, R: Wait + Clock> {
+    rt: &'a R,
+    door: &'a Door<'a>,
+    notes: &'a Notes,
+    /// With how many inside others are refused, if they are.
+    most_inside: Option<u64>,
+    /// Whether the last accept failed.
+    is_failing: bool,
+    /// Whether it was for want of descriptors or buffers.
+    is_pausing: bool,
 }
 
-/// Accepts as many connections as the limit says, numbers them from 1, and sends each on as it comes. It accepts no more
-/// once an accept has failed, a sending was refused, or a session was refused a growth, which sets the flag. What it has
-/// accepted it has sent on, unless that was refused.
-pub(crate) fn accept_all<R: Wait>(
-    rt: &R,
-    listener: &TcpListener,
-    connections: Sender<Connection, Global>,
-    is_short: &AtomicBool,
-    limit: u32,
-) -> Accepting {
-    for before in 0..limit {
-        let Ok(stream) = next_stream(rt, listener) else {
-            return Accepting::Failed;
+impl<'a, R: Wait + Clock> Acceptor<'a, R> {
+    /// The next connection that is to be served. One that finds too many inside is refused.
+    ///
+    /// # Errors
+    /// Why there is none.
+    fn next(&mut self) -> Result<TcpStream, Ended> {
+        for _ in self.rt.forever() {
+            let accepted = self.door.accept();
+            if let Some(ended) = self.ended() {
+                return Err(ended);
+            }
+            match accepted {
+                Accepted::Stream(stream) => {
+                    if self.lets_in() {
+                        return Ok(stream);
+                    }
+                    turn_away(stream);
+                }
+                Accepted::Again(error) => self.try_again(false, Note::AcceptFailed(error)),
+                Accepted::Pause(error) => self.try_again(true, Note::AcceptPauses(error)),
+                Accepted::Failed(error) => return Err(Ended::Accept(error)),
+            }
+        }
+        unreachable!()
+    }
+
+    /// Why nobody is to be let in any more, if so.
+    fn ended(&self) -> Option<Ended> {
+        if self.door.stops() {
+            Some(Ended::Stop)
+        } else if self.door.is_short() {
+            Some(Ended::Memory)
+        } else {
+            None
+        }
+    }
+
+    /// An accept has succeeded. It answers whether who has come is let in.
+    fn lets_in(&mut self) -> bool {
+        if self.is_pausing {
+            self.notes.tell(self.rt, Note::AcceptGoesOn);
+        }
+        self.is_failing = false;
+        self.is_pausing = false;
+        match self.most_inside {
+            Some(most) => self.door.inside() < most,
+            None => true,
+        }
+    }
+
+    /// An accept has failed, for want of descriptors or buffers or not, and is to be tried again: after a pause if so, or if another
+    /// has failed before. The first of either kind in a row is told.
+    fn try_again(&mut self, is_want: bool, note: Note) {
+        let is_first = if is_want {
+            !self.is_pausing
+        } else {
+            !self.is_failing
         };
-        let client = before + 1;
-        let sent = connections.send(rt, Connection { client, stream });
-        if sent.is_err() || is_short.load(Ordering::SeqCst) {
-            return Accepting::Short;
+        if is_first {
+            self.notes.tell(self.rt, note);
+        }
+        if is_want || self.is_failing {
+            thread::sleep(self.rt, Duration::from_millis(ACCEPT_PAUSE_MILLISECONDS));
+        }
+        self.is_failing = true;
+        self.is_pausing = self.is_pausing || is_want;
+    }
+
+    /// Accepts as many as the limit says, and sends each on as it comes.
+    fn accept_all(&mut self, connections: &Sender<Connection, Global>, limit: u32) -> (u32, Ended)
+        ensures { result.0 ≤ limit }
+    {
+        for before in 0..limit {
+            let stream = match self.next() {
+                Ok(stream) => stream,
+                Err(ended) => return (before, ended),
+            };
+            let client = before + 1;
+            self.door.count_accepted();
+            let sent = connections.send(self.rt, Connection { client, stream });
+            if sent.is_err() {
+                return (before, Ended::Memory);
+            }
+            self.warn(client, limit);
+        }
+        (limit, Ended::Limit(limit))
+    }
+
+    /// Tells once nine in ten of the connections are taken.
+    fn warn(&self, client: u32, limit: u32) {
+        if limit >= 10 && client == limit - limit / 10 {
+            let note = Note::FewConnectionsLeft(u64::from(client), u64::from(limit));
+            self.notes.tell(self.rt, note);
         }
     }
-    Accepting::Done
+}
+
+/// Tells a client that it is not served, as far as that can be told at once.
+fn turn_away(stream: TcpStream) {
+    let _ = stream.set_nonblocking(true);
+    let mut writer = &stream;
+    let _ = writer.write(TOO_MANY);
+    let _ = stream.shutdown(Shutdown::Write);
+}
+
+/// Accepts as many connections as the limit says, numbers them from 1, and sends each on as it comes. It accepts no more once an
+/// accept has failed by the listener, a sending was refused, a session was refused a growth, or the server is to stop. Then clients
+/// are refused from now on, and why is told. What it has accepted it has sent on, unless that was refused.
+pub(crate) fn accept_all<R: Wait + Clock>(
+    rt: &R,
+    door: &Door<'_>,
+    notes: &Notes,
+    connections: Sender<Connection, Global>,
+    most_inside: Option<u64>,
+    limit: u32,
+) -> Accepting
+    ensures { result.connections ≤ limit }
+{
+    let mut acceptor = Acceptor {
+        rt,
+        door,
+        notes,
+        most_inside,
+        is_failing: false,
+        is_pausing: false,
+    };
+    let (accepted, ended) = acceptor.accept_all(&connections, limit);
+    door.close();
+    notes.tell(rt, Note::AcceptEnded(ended));
+    Accepting {
+        connections: accepted,
+        end: end_of(&ended),
+    }
+}
+
+fn end_of(ended: &Ended) -> AcceptEnd {
+    match ended {
+        Ended::Limit(_) => AcceptEnd::Limit,
+        Ended::Stop => AcceptEnd::Stop,
+        Ended::Accept(_) => AcceptEnd::Failed,
+        Ended::Memory => AcceptEnd::Short,
+    }
 }

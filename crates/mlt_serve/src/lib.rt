@@ -2,21 +2,23 @@
 #![tactic(auto)]
 
 mod accepting;
-mod admission;
-mod admission_queue;
+mod door;
+mod ending;
 mod gathering;
-mod lingering_close;
+mod operating;
+mod operator;
 mod options;
 mod reporting;
-mod restart_queue;
 mod service;
 mod serving;
 mod session_thread;
 mod session_threads;
-mod socket;
-mod spin_policy;
+mod supervising;
 mod talking;
+mod threads_beside;
+mod trace_keeping;
 mod tuning;
 
+pub use operating::{Admin, EndSignal, NoSignal, Operating, TraceFile};
 pub use options::ServeOptions;
-pub use serving::serve_on;
+pub use serving::{Served, serve_on};

@@ -16,4 +16,10 @@ pub struct ServeOptions {
     pub tries: u64,
     /// For how long a connection may give nothing to read, or take nothing that is written, if that has an end.
     pub idle: Option<Duration>,
+    /// For how long an operation may wait, if that has an end. Then it is given up.
+    pub wait: Option<Duration>,
+    /// For how long a transaction may be open, if that has an end. Then its session is cut.
+    pub open: Option<Duration>,
+    /// Whether a client is refused while all session threads serve others. Else it waits.
+    pub refuses: bool,
 }

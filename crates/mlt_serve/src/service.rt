@@ -1,11 +1,14 @@
 //! What the sessions of a server have in common.
 
-use crate::admission_queue::AdmissionQueue;
+use crate::door::Door;
 use crate::options::ServeOptions;
-use crate::restart_queue::RestartQueue;
-use crate::spin_policy::SpinPolicy;
+use mlt_serve_admission::{AdmissionQueue, RestartQueue};
+use mlt_serve_notes::Notes;
+use mlt_serve_seats::Seats;
+use mlt_serve_socket::SpinPolicy;
 use mlt_types::Pseudo;
 use mlt_work_desk::{MadeWith, Shared};
+use std::sync::atomic::AtomicU64;
 
 /// What all sessions work with.
 #[derive(Drop)]
@@ -15,4 +18,11 @@ pub(crate) struct Service<'a, P: Pseudo, L: MadeWith<P>> {
     pub(crate) restart_queue: &'a RestartQueue,
     pub(crate) spin_policy: &'a SpinPolicy,
     pub(crate) options: &'a ServeOptions,
+    pub(crate) door: &'a Door<'a>,
+    pub(crate) seats: &'a Seats,
+    pub(crate) notes: &'a Notes,
+    /// How many session threads run.
+    pub(crate) running: &'a AtomicU64,
+    /// Whether transactions are noted at the seats, and not only waits.
+    pub(crate) is_watched: bool,
 }

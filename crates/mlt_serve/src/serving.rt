@@ -6,73 +6,115 @@ ghost use Rattle.mlt_work_desk.specs.Makings.{making_by};
 ghost use Rattle.mlt_trace_audit.specs.Agreement.{Agrees};
 ghost use Rattle.mlt_serve.specs.Clients.{AreByClientAndNumber, AreOfClients};
 
-use crate::admission_queue::AdmissionQueue;
+use crate::door::Door;
 use crate::gathering::{gather, new_threads};
+use crate::operating::{EndSignal, Operating, TraceFile};
 use crate::options::ServeOptions;
 use crate::reporting::outcomes_of;
-use crate::restart_queue::RestartQueue;
 use crate::service::Service;
-use crate::session_threads::serve_connections;
-use crate::spin_policy::SpinPolicy;
+use crate::threads_beside::serve_with_notes;
 use mlt_manager::Manager;
 use mlt_script_serial::Outcomes;
+use mlt_serve_admission::{AdmissionQueue, RestartQueue};
+use mlt_serve_notes::Notes;
+use mlt_serve_seats::Seats;
+use mlt_serve_socket::SpinPolicy;
 use mlt_types::{Pseudo, Refusal};
 use mlt_work_desk::{LockedState, MadeWith, Shared};
 use std::alloc::Global;
+use std::io;
+use std::io::Write;
 use std::marker::Brand;
 use std::net::TcpListener;
 use std::sync::Wait;
+use std::sync::atomic::AtomicU64;
 use std::sync::ledger::Blank;
 use std::thread::Threads;
 use std::time::Clock;
 
+/// What became of the connections.
+#[derive(Drop)]
+pub struct Served<P: Pseudo> {
+    /// What clients were told, by client and then by number.
+    pub outcomes: Outcomes,
+    /// The manager, with the history of all that was done.
+    pub manager: Manager<P>,
+    /// How many connections were accepted, and served.
+    pub connections: u32,
+    /// Why the trace was not written whole, if so.
+    pub trace_failure: Option<io::Error>,
+}
+
 /// As `serve_on`. It answers too how many events the desks of the sessions have counted.
-fn serve_with<
-    L: MadeWith<P> + Send + Sync,
-    P: Pseudo + Drop + Send,
-    R: Threads + Wait + Clock + Sync,
->(
+fn serve_with<P, L, R, N, T, S>(
     rt: &R,
     alloc: Global,
     blank: Blank,
     listener: &TcpListener,
     pseudo: P,
     options: &ServeOptions,
-) -> Result<(Outcomes, Manager<P>, u64), Refusal>
+    operating: Operating<'_, N, T, S>,
+) -> Result<(Served<P>, u64), Refusal>
+where
+    P: Pseudo + Drop + Send,
+    L: MadeWith<P> + Send + Sync,
+    R: Threads + Wait + Clock + Sync,
+    N: Write + Send + Drop,
+    T: TraceFile + Send + Drop,
+    S: EndSignal + Send + Drop,
     requires name { blank.name ≡ L.name }
     requires parts { blank.parts ≡ L.parts }
     requires made { Some (making_by options.now.limits pseudo) ≡ L.made_with }
     requires all { blank.parts ≡ 129 }
     requires some { 0 < options.now.sessions }
     requires most { options.now.sessions ≤ 64 }
-    ensures made { IfOk result (λ got. IsMadeWith got.1 options.now.limits pseudo) }
-    ensures outcomes { IfOk result (λ got. Agrees got.0 got.1.commons.history.items) }
-    ensures clients { IfOk result (λ got. AreOfClients options.now.connections got.0) }
-    ensures order { IfOk result (λ got. AreByClientAndNumber got.0) }
-    ensures events { IfOk result (λ got. got.1.events ≡ got.2) }
+    ensures made { IfOk result (λ got. IsMadeWith got.0.manager options.now.limits pseudo) }
+    ensures outcomes { IfOk result
+        (λ got. Agrees got.0.outcomes got.0.manager.commons.history.items) }
+    ensures clients { IfOk result (λ got. AreOfClients got.0.connections got.0.outcomes) }
+    ensures few { IfOk result (λ got. got.0.connections ≤ options.now.connections) }
+    ensures order { IfOk result (λ got. AreByClientAndNumber got.0.outcomes) }
+    ensures events { IfOk result (λ got. got.0.manager.events ≡ got.1) }
     ensures refusal { IfErr result (λ refusal.
         (refusal ≡ Refusal.Io) ⊎ (refusal ≡ Refusal.OutOfMemory) ⊎ (refusal ≡ Refusal.Audit)) }
 {
     let (book, mut all) = blank.open::<L>();
     let mut threads = new_threads(alloc, &mut all, options.sessions)?;
+    let (notes, from) = Notes::new(alloc)?;
     let manager = Manager::new(alloc, options.limits, pseudo)?;
     let shared = Shared::new(LockedState::new(manager, book));
-    let admission_queue = AdmissionQueue::new();
-    let restart_queue = RestartQueue::new();
-    let spin_policy = SpinPolicy::new(rt);
     let service = Service {
         shared: &shared,
-        admission_queue: &admission_queue,
-        restart_queue: &restart_queue,
-        spin_policy: &spin_policy,
+        admission_queue: &AdmissionQueue::new(),
+        restart_queue: &RestartQueue::new(),
+        spin_policy: &SpinPolicy::new(rt),
         options,
+        door: &Door::new(listener),
+        seats: &Seats::new(),
+        notes: &notes,
+        running: &AtomicU64::new(0),
+        is_watched: operating.admin.is_some() || options.open.is_some(),
     };
-    let accepting = serve_connections(rt, alloc, listener, &service, &mut threads);
+    let ran = serve_with_notes(rt, alloc, &service, from, operating, threads.as_mut_slice());
     let gathered = gather(alloc, &mut all, threads);
     let events = gathered.events;
     let manager = shared.close(&mut all);
-    match outcomes_of(alloc, accepting, gathered, options.connections, &manager) {
-        Ok(outcomes) => Ok((outcomes, manager, events)),
+    match outcomes_of(
+        alloc,
+        ran.accepting,
+        gathered,
+        options.connections,
+        &manager,
+    ) {
+        Ok(outcomes) => {
+            let served = Served {
+                outcomes,
+                manager,
+                connections: ran.accepting.connections,
+                trace_failure: ran.trace_failure,
+            };
+            Ok((served, events))
+        }
         Err(refusal) => {
             manager.close();
             Err(refusal)
@@ -80,47 +122,61 @@ fn serve_with<
     }
 }
 
-/// Serves connections on a new manager, with these options: accepts as many as they say, and hands them to the session threads by
-/// a bounded channel. Connections have the numbers 1, 2, 3 in the order in which they are accepted; each is served by one
-/// session, whose transactions have that number as their client. An operation that is told to wait, or that it is blocked, is
-/// given up once its tries are spent. The outcomes stand by client and then by number.
+/// Serves connections on a new manager, with these options: accepts as many as they say, or fewer where the server is to end before,
+/// and hands them to the session threads by a bounded channel. Connections have the numbers 1, 2, 3 in the order in which they are
+/// accepted; each is served by one session, whose transactions have that number as their client. An operation that is told to wait, or
+/// that it is blocked, is given up once its tries are spent, or it has waited for too long. The outcomes stand by client and then by
+/// number.
 ///
 /// A connection that gives nothing to read, or takes nothing that is written, for the idle time, if there is one, ends as by a
 /// fault of it. An operation that waits is not idle. Where a session ends by a fault of its connection or by a line that is too
 /// long, the others go on. After a session at most a second is spent on reading away what its client still sends.
 ///
+/// Once no more connections are accepted the listener is shut down, so that clients are refused. Where the server is to end, sessions
+/// hear nothing more: they answer what has come, and those that are not done after some seconds are cut. What goes on beside this is
+/// told by notes. The trace, if there is a file for it, is written as the server goes, and whole at any end.
+///
 /// # Errors
-/// `Io`, where an accept failed; one whose connection broke off before is tried again. `OutOfMemory`, where a growth or a thread
+/// `Io`, where an accept failed by the listener; others are tried again. `OutOfMemory`, where a growth or a thread
 /// was refused, in a session too. Either ends the accepting, and the connections that were taken are served. `Audit`, where
 /// neither came, and the outcomes do not agree with the manager's history or not all connections were served. All threads are
 /// joined.
-pub fn serve_on<P: Pseudo + Drop + Send, R: Threads + Wait + Clock + Sync>(
+pub fn serve_on<P: Pseudo + Drop + Send, R, N, T, S>(
     rt: &R,
     alloc: Global,
     listener: &TcpListener,
     pseudo: P,
     options: &ServeOptions,
-) -> Result<(Outcomes, Manager<P>), Refusal>
+    operating: Operating<'_, N, T, S>,
+) -> Result<Served<P>, Refusal>
+where
+    R: Threads + Wait + Clock + Sync,
+    N: Write + Send + Drop,
+    T: TraceFile + Send + Drop,
+    S: EndSignal + Send + Drop,
     requires some { 0 < options.now.sessions }
     requires most { options.now.sessions ≤ 64 }
     // the manager has these limits and this function from keys to pseudokeys
-    ensures made { IfOk result (λ got. IsMadeWith got.1 options.now.limits pseudo) }
+    ensures made { IfOk result (λ got. IsMadeWith got.manager options.now.limits pseudo) }
     // what clients were told is what the manager has done
-    ensures outcomes { IfOk result (λ got. Agrees got.0 got.1.commons.history.items) }
-    // each outcome is that of one of the connections
-    ensures clients { IfOk result (λ got. AreOfClients options.now.connections got.0) }
+    ensures outcomes { IfOk result
+        (λ got. Agrees got.outcomes got.manager.commons.history.items) }
+    // each outcome is that of one of the connections, which are no more than the options say
+    ensures clients { IfOk result (λ got. AreOfClients got.connections got.outcomes) }
+    ensures few { IfOk result (λ got. got.connections ≤ options.now.connections) }
     // they stand by client and then by number
-    ensures order { IfOk result (λ got. AreByClientAndNumber got.0) }
+    ensures order { IfOk result (λ got. AreByClientAndNumber got.outcomes) }
     ensures refusal { IfErr result (λ refusal.
         (refusal ≡ Refusal.Io) ⊎ (refusal ≡ Refusal.OutOfMemory) ⊎ (refusal ≡ Refusal.Audit)) }
 {
-    let (outcomes, manager, _) = serve_with::<Brand, P, R>(
+    let (served, _) = serve_with::<P, Brand, R, N, T, S>(
         rt,
         alloc,
         Blank::new(129),
         listener,
         pseudo,
         options,
+        operating,
     )?;
-    Ok((outcomes, manager))
+    Ok(served)
 }

@@ -1,23 +1,24 @@
 //! One session thread.
 
-ghost use Rattle.std.specs.Prelude.{◌≡◌, ◌+◌, ◌-◌, ◌^◌, [], false, min};
+ghost use Rattle.std.specs.Prelude.{◌≡◌, ◌≤◌, ◌+◌, ◌-◌, ◌^◌, [], false, min};
 ghost use Rattle.mlt_serve.specs.Clients.{GrowsFor};
 
 use crate::accepting::Connection;
-use crate::admission::Admission;
-use crate::lingering_close::lingering_close;
-use crate::restart_queue::Restarts;
 use crate::service::Service;
-use crate::socket::Socket;
 use crate::talking::talk;
 use crossbeam_channel::Receiver;
 use mlt_script_serial::Outcome;
+use mlt_serve_admission::{Admission, Restarts};
+use mlt_serve_notes::{Cut, Note};
+use mlt_serve_seats::{Seat, Sitting};
+use mlt_serve_socket::{Socket, lingering_close};
 use mlt_types::Pseudo;
 use mlt_work_desk::{LockDesk, MadeWith, Tries};
-use std::alloc::Global;
-use std::sync::Wait;
-use std::sync::atomic::{AtomicBool, Ordering};
+use std::alloc::{AllocError, Global};
+use std::net::TcpStream;
+use std::sync::atomic::Ordering;
 use std::sync::ledger::{Ledger, Share};
+use std::sync::{Arc, Wait};
 use std::time::Clock;
 
 /// A session thread, and what it has served so far. Its share of the ledger has two parts: one for itself, and one for the desk that it is
@@ -55,68 +56,113 @@ impl<L: Ledger> SessionThread<L> {
         }
     }
 
-    /// Serves a connection by a session at a desk of its own, so that no desk is counted while there is nothing to serve, and
-    /// then closes it with the client. It answers whether the session was refused a growth.
+    /// Serves a connection by a session at a desk of its own, so that no desk is counted while there is nothing to serve. It answers
+    /// why the session was cut, if it was.
     fn serve<P: Pseudo, R: Wait + Clock>(
         &mut self,
         rt: &R,
         alloc: Global,
         service: &Service<'_, P, L>,
-        connection: Connection,
-    ) -> bool
+        seat: &Seat,
+        client: u32,
+        stream: &TcpStream,
+    ) -> Option<Cut>
     where
         L: MadeWith<P>,
-        ensures outcomes { GrowsFor connection.client
-            self.old.outcomes.items self.new.outcomes.items }
+        ensures outcomes { GrowsFor client self.old.outcomes.items self.new.outcomes.items }
         ensures connections { self.new.connections ≡ min (self.old.connections + 1) (2 ^ 64 - 1) }
-        ensures short { self.new.is_short ≡ false
-            → (self.old.is_short ≡ false) × (result ≡ false) }
+        ensures short { self.new.is_short ≡ self.old.is_short }
     {
         let SessionThread {
             share,
             events,
             outcomes,
             connections,
-            is_short,
+            is_short: _,
         } = self;
-        let Connection { client, stream } = connection;
         let mine = share.split_off(1, 0);
         let restarts = Restarts::new(service.restart_queue);
-        let admission = Admission::new(rt, service.admission_queue, restarts);
+        let sitting = Sitting::new(rt, seat, service.is_watched);
+        let admission = Admission::new(rt, service.admission_queue, restarts, sitting);
         let tries = Tries::PerOperation(service.options.tries);
         let mut desk = LockDesk::new(rt, service.shared, &admission, mine, tries);
         desk.serve(client);
-        let socket = Socket::new(rt, &stream, service.spin_policy, service.options.idle);
-        let refused = talk(alloc, &socket, &admission, &mut desk, client, outcomes);
+        let socket = Socket::new(rt, stream, service.spin_policy, service.options.idle);
+        let cut = talk(alloc, &socket, &admission, &mut desk, client, outcomes);
         socket.close();
         let (mine, more) = desk.close();
-        lingering_close(rt, &stream);
         share.merge(mine);
         *events = events.saturating_add(more);
         *connections = connections.saturating_add(1);
-        *is_short = *is_short || refused;
+        cut
+    }
+
+    /// Serves a connection at its seat, and then closes it with the client. It answers whether memory was refused.
+    fn seat<P: Pseudo, R: Wait + Clock>(
+        &mut self,
+        rt: &R,
+        alloc: Global,
+        service: &Service<'_, P, L>,
+        seat: &Seat,
+        connection: Connection,
+    ) -> bool
+    where
+        L: MadeWith<P>,
+        ensures outcomes { GrowsFor connection.client
+            self.old.outcomes.items self.new.outcomes.items }
+        ensures connections { self.new.connections ≤ self.old.connections + 1 }
+        ensures short { self.new.is_short ≡ false
+            → (self.old.is_short ≡ false) × (result ≡ false) }
+    {
+        let Connection { client, stream } = connection;
+        let Ok((stream, handle)) = shared(alloc, stream) else {
+            self.is_short = true;
+            return true;
+        };
+        seat.enter(rt, client, handle);
+        let cut = self.serve(rt, alloc, service, seat, client, &stream);
+        let refused = cut == Some(Cut::Memory);
+        if let Some(cut) = seat.leave(rt).or(cut) {
+            service.notes.tell(rt, Note::SessionCut(client, cut));
+        }
+        lingering_close(rt, &stream);
+        self.is_short = self.is_short || refused;
         refused
     }
 
-    /// Serves one connection after the other, until no more come. Where a session is refused a growth it sets the flag.
+    /// Serves one connection after the other at a seat, until no more come. Where memory is refused no more are let in.
     pub(crate) fn serve_all<P: Pseudo, R: Wait + Clock>(
         &mut self,
         rt: &R,
         alloc: Global,
         service: &Service<'_, P, L>,
+        number: usize,
         connections: &Receiver<Connection, Global>,
-        is_short: &AtomicBool,
     )
     where
         L: MadeWith<P>,
     {
+        service.running.fetch_add(1, Ordering::SeqCst);
+        let seat = service.seats.seat(number);
         for _ in rt.forever() {
             let Ok(connection) = connections.recv(rt) else {
                 return;
             };
-            if self.serve(rt, alloc, service, connection) {
-                is_short.store(true, Ordering::SeqCst);
+            service.door.count_taken();
+            if self.seat(rt, alloc, service, seat, connection) {
+                service.door.run_short();
             }
+            service.door.count_ended();
         }
     }
+}
+
+/// Two handles of a connection, which is closed once both are gone.
+fn shared(
+    alloc: Global,
+    stream: TcpStream,
+) -> Result<(Arc<TcpStream>, Arc<TcpStream>), AllocError> {
+    let stream = Arc::new(alloc, stream)?;
+    let handle = stream.clone()?;
+    Ok((stream, handle))
 }

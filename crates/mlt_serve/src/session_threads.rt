@@ -1,6 +1,6 @@
 //! All session threads, and the one that accepts.
 
-ghost use Rattle.std.specs.Prelude.{◌≡◌, ◌<◌, vec_len};
+ghost use Rattle.std.specs.Prelude.{◌≡◌, ◌<◌, ◌≤◌, length};
 
 use crate::accepting::{Accepting, accept_all};
 use crate::service::Service;
@@ -8,9 +8,7 @@ use crate::session_thread::SessionThread;
 use mlt_types::Pseudo;
 use mlt_work_desk::MadeWith;
 use std::alloc::Global;
-use std::net::TcpListener;
 use std::sync::Wait;
-use std::sync::atomic::AtomicBool;
 use std::thread;
 use std::thread::Threads;
 use std::time::Clock;
@@ -21,41 +19,37 @@ pub(crate) fn serve_connections<
     P: Pseudo + Send,
     L: MadeWith<P> + Send + Sync,
     R: Threads + Wait + Clock + Sync,
->(
-    rt: &R,
-    alloc: Global,
-    listener: &TcpListener,
-    service: &Service<'_, P, L>,
-    threads: &mut Vec<SessionThread<L>>,
-) -> Accepting
-    requires { 0 < vec_len threads.old }
-    ensures { vec_len threads.new ≡ vec_len threads.old }
+>(rt: &R, alloc: Global, service: &Service<'_, P, L>, threads: &mut [SessionThread<L>]) -> Accepting
+    requires { 0 < length threads.old }
 {
     let Ok((to, from)) = crossbeam_channel::bounded(alloc, threads.len()) else {
-        return Accepting::Short;
+        return Accepting::none();
     };
-    let flag = AtomicBool::new(false);
     let connections = &from;
-    let is_short = &flag;
+    let (door, notes) = (service.door, service.notes);
     let limit = service.options.connections;
+    let most_inside = if service.options.refuses {
+        Some(threads.len() as u64)
+    } else {
+        None
+    };
     let count = threads.len();
-    let all = threads.as_mut_slice();
     thread::scope(
         thread::scope_env(),
         rt,
         |scope| -> Accepting
             requires { 0 < count }
         {
-            let Ok(accepting) = scope.spawn(move || accept_all(rt, listener, to, is_short, limit))
-            else {
-                return Accepting::Short;
+            let accept = move || accept_all(rt, door, notes, to, most_inside, limit);
+            let Ok(accepting) = scope.spawn(accept) else {
+                return Accepting::none();
             };
             thread::for_each_mut(
                 rt,
-                all,
+                threads,
                 count,
-                &|_, own: &mut SessionThread<L>| {
-                    own.serve_all(rt, alloc, service, connections, is_short)
+                &|number, own: &mut SessionThread<L>| {
+                    own.serve_all(rt, alloc, service, number, connections)
                 },
             );
             accepting.join(rt)

@@ -1,20 +1,22 @@
 //! What is said over one connection.
 
+ghost use Rattle.std.specs.Prelude.{◌≡◌, Err, IsOk, None, Some};
 ghost use Rattle.mlt_serve.specs.Clients.{GrowsFor};
 
-use crate::admission::{Admission, Outside};
-use crate::socket::Socket;
 use mlt_script_desk::Desk;
 use mlt_script_serial::Outcome;
-use mlt_serve_session::session;
+use mlt_serve_admission::{Admission, Outside};
+use mlt_serve_notes::Cut;
+use mlt_serve_session::{Summary, session};
+use mlt_serve_socket::{Failure, Socket};
 use mlt_types::Refusal;
 use std::alloc::Global;
 use std::sync::Wait;
 use std::time::Clock;
 
-/// Talks over a socket by a session at the desk, which adds outcomes of this client alone. It answers whether the session was
-/// refused a growth; any other end of it is an end of this connection alone. While it waits for the client it is not at work, nor
-/// at the end.
+/// Talks over a socket by a session at the desk, which adds outcomes of this client alone. It answers why the session was cut, if it
+/// was: `Memory` where it was refused a growth. Any other end of it is an end of this connection alone. While it waits for the client
+/// it is not at work, nor at the end.
 pub(crate) fn talk<R: Wait + Clock, D: Desk>(
     alloc: Global,
     socket: &Socket<'_, R>,
@@ -22,12 +24,28 @@ pub(crate) fn talk<R: Wait + Clock, D: Desk>(
     desk: &mut D,
     client: u32,
     outcomes: &mut Vec<Outcome>,
-) -> bool
+) -> Option<Cut>
     ensures { GrowsFor client outcomes.old.items outcomes.new.items }
 {
     let mut reader = Outside::new(socket, admission);
     let mut writer = Outside::new(socket, admission);
     let ended = session(alloc, &mut reader, &mut writer, desk, client, outcomes);
     admission.leave();
-    matches!(ended, Err(Refusal::OutOfMemory))
+    cut_of(ended, socket.failure())
+}
+
+/// Why a session was cut that ended so, where its socket failed so, if it was cut.
+fn cut_of(ended: Result<Summary, Refusal>, failure: Option<Failure>) -> Option<Cut>
+    ensures memory { ended ≡ Err Refusal.OutOfMemory → result ≡ Some Cut.Memory }
+    ensures line { ended ≡ Err Refusal.LineTooLong → result ≡ Some Cut.Line }
+    ensures none { IsOk ended → result ≡ None }
+{
+    match (ended, failure) {
+        (Ok(_), _) => None,
+        (Err(Refusal::OutOfMemory), _) => Some(Cut::Memory),
+        (Err(Refusal::LineTooLong), _) => Some(Cut::Line),
+        (Err(_), Some(Failure::Idle)) => Some(Cut::Idle),
+        (Err(_), Some(Failure::Broken)) => Some(Cut::Connection),
+        (Err(_), None) => Some(Cut::Bytes),
+    }
 }

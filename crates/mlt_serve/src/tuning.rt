@@ -1,46 +1,17 @@
 //! What may be tuned. Beside each stands the group of `bench/run` that shows what it does.
 
-/// How many sessions are admitted at a time. While one has the lock over the manager, the other reads its lines or makes its
-/// answers. Measured by `hot`: with one 8 sessions did a quarter less, and with all a seventh.
-pub(crate) const MOST_ADMITTED: u64 = 2;
+/// How many milliseconds an accept pauses that failed for want of descriptors or buffers, or failed twice in a row. Nothing measures
+/// it.
+pub(crate) const ACCEPT_PAUSE_MILLISECONDS: u64 = 100;
 
-/// How many of those that come next are awake: to wake a thread takes as long as one that is admitted is at work. By `hot`.
-pub(crate) const MOST_AWAKE: u64 = 1;
+/// How many milliseconds pass between two looks after sessions, and between two pieces of a trace. By `looked`.
+pub(crate) const LOOK_MILLISECONDS: u64 = 250;
 
-/// How many sessions bypass the queue at a time. Measured by `connections`: with no queue the slowest of 64 took half as long again.
-pub(crate) const MOST_BYPASSING: u64 = 4;
+/// How many items of a history are copied in one hold of the lock, in a microsecond or two. By `looked`.
+pub(crate) const ITEMS_PER_HOLD: usize = 256;
 
-/// With how many bytes a session bypasses the queue at most: a line or two, which take about a microsecond. To queue for them would
-/// take longer. By `connections`, line by line.
-pub(crate) const MOST_BYPASSING_BYTES: usize = 24;
+/// How many items a write of a trace has at most: some 2,000 bytes.
+pub(crate) const ITEMS_PER_WRITE: usize = 64;
 
-/// After how many events, which take some 30 microseconds, a session goes to the end of the queue: so one with many lines does not
-/// keep the others waiting. By `serve`.
-pub(crate) const EVENTS_PER_TURN: u32 = 64;
-
-/// How many microseconds the first of those that are to begin a restarted transaction sleeps before it looks whether another is
-/// open. `bystander` has two sessions that restart; decision 158 tells why.
-pub(crate) const RESTART_NAP_MICROSECONDS: u64 = 100;
-
-/// The most such naps that it takes where one transaction gave up: then it begins all the same. By decision 158.
-pub(crate) const RESTART_NAPS: u32 = 16;
-
-/// How often their number doubles at most: with each further transaction that gave up in a row. By decision 158.
-pub(crate) const MOST_DOUBLED_RESTART_NAPS: u32 = 3;
-
-/// How many times one that is awake looks whether it is admitted before it sleeps, with a pause of the processor after each look:
-/// some microseconds, up to twenty. By `hot`.
-pub(crate) const ADMISSION_SPINS: u32 = 400;
-
-/// How many times a read looks for bytes before it sleeps, each time by a call of the system: in some ten microseconds. Measured by
-/// `serve`: one connection did 1.3 to 1.4 times as much as with none.
-pub(crate) const READ_SPINS: u32 = 50;
-
-/// How many reads do not spin after the first that spun in vain. By `serve`.
-pub(crate) const FEWEST_READS_WITHOUT_SPIN: u32 = 1;
-
-/// How many do not at most: their number doubles with each read that spins in vain. By `serve`.
-pub(crate) const MOST_READS_WITHOUT_SPIN: u32 = 64;
-
-/// For how many seconds in all what a client still sends is read away: no longer than any idle time. Nothing measures it.
-pub(crate) const LINGER_SECONDS: u64 = 1;
+/// How many seconds sessions have to end by themselves once the server is to stop. Then they are cut.
+pub(crate) const STOP_SECONDS: u64 = 3;

@@ -1,0 +1,187 @@
+//! What an operator sees and does.
+
+use crate::service::Service;
+use mlt_serve_admin::{Awaited, Counts, Operated, SessionView, TransactionView, View, WaitView};
+use mlt_serve_notes::Cut;
+use mlt_serve_seats::{OpenTransaction, SessionState};
+use mlt_types::{Pseudo, TxId};
+use mlt_work_desk::{Look, MadeWith};
+use mlt_work_waits::Waiting;
+use std::alloc::{AllocError, Global};
+use std::sync::Wait;
+use std::sync::atomic::Ordering;
+use std::time::{Clock, Instant};
+
+/// How many bytes an item of the history takes, an outcome, and an operation of one.
+const ITEM_BYTES: u64 = 32;
+
+const OUTCOME_BYTES: u64 = 80;
+
+const OPERATION_BYTES: u64 = 24;
+
+/// What an operator sees, and can do.
+#[derive(Drop)]
+pub(crate) struct Operator<'a, 'b, 'c, P: Pseudo, L: MadeWith<P>, R: Wait + Clock> {
+    rt: &'a R,
+    service: &'b Service<'c, P, L>,
+    /// Since when the server listens, if a clock could say so.
+    since: Option<Instant>,
+}
+
+impl<'a, 'b, 'c, P: Pseudo, L: MadeWith<P>, R: Wait + Clock> Operator<'a, 'b, 'c, P, L, R> {
+    /// One of a server that listens from now on.
+    pub(crate) fn new(rt: &'a R, service: &'b Service<'c, P, L>) -> Operator<'a, 'b, 'c, P, L, R> {
+        Operator {
+            rt,
+            service,
+            since: Instant::now(rt).ok(),
+        }
+    }
+
+    fn counts(&self, look: &Look, sessions: usize, now: Option<Instant>) -> Counts {
+        let Service {
+            options,
+            door,
+            seats,
+            running,
+            ..
+        } = self.service;
+        let totals = seats.totals();
+        Counts {
+            seconds: milliseconds(self.since, now) / 1_000,
+            sessions: sessions as u64,
+            session_threads: running.load(Ordering::SeqCst),
+            queued: door.queued(),
+            connections: door.accepted(),
+            limit: u64::from(options.connections),
+            open: totals.open(),
+            begun: totals.begun,
+            operations: totals.operations,
+            commits: totals.commits,
+            aborts: totals.aborts,
+            gave_up: totals.gave_up,
+            deadlocks: totals.deadlocks,
+            events: look.events,
+            items: look.items as u64,
+            bytes: bytes_kept(look.items as u64, totals.ended(), totals.operations),
+            pages: look.pages as u64,
+            most_pages: u64::from(options.limits.max_pages),
+            depth: u64::from(look.depth),
+            is_stopping: door.stops(),
+        }
+    }
+}
+
+impl<P: Pseudo, L: MadeWith<P>, R: Wait + Clock> Operated for Operator<'_, '_, '_, P, L, R> {
+    fn view(&self, alloc: Global) -> Result<View, AllocError> {
+        let now = Instant::now(self.rt).ok();
+        let look = self.service.shared.look(self.rt);
+        let states = self.service.seats.states(self.rt, alloc)?;
+        let mut sessions = Vec::new(alloc);
+        for state in &states {
+            sessions.push(session_view(alloc, state, now)?)?;
+        }
+        let mut waits = Vec::new(alloc);
+        for wait in &look.for_objects {
+            let awaited = match wait.timestamp {
+                Some(_) => Awaited::Object,
+                None => Awaited::Turn,
+            };
+            waits.push(wait_view(wait, awaited, &states, now))?;
+        }
+        for wait in &look.for_pages {
+            waits.push(wait_view(wait, Awaited::Page, &states, now))?;
+        }
+        Ok(View {
+            counts: self.counts(&look, states.len(), now),
+            sessions,
+            waits,
+        })
+    }
+
+    fn stop(&self) {
+        self.service.door.stop();
+    }
+
+    fn end_session(&self, client: u32) -> bool {
+        for seat in self.service.seats.all() {
+            if seat.cut_client(self.rt, client, Cut::Operator) {
+                return true;
+            }
+        }
+        false
+    }
+}
+
+fn session_view(
+    alloc: Global,
+    state: &SessionState,
+    now: Option<Instant>,
+) -> Result<SessionView, AllocError> {
+    Ok(SessionView {
+        client: state.client,
+        milliseconds: milliseconds(state.since, now),
+        transaction: match &state.transaction {
+            Some(transaction) => Some(transaction_view(alloc, transaction, state, now)?),
+            None => None,
+        },
+    })
+}
+
+fn transaction_view(
+    alloc: Global,
+    transaction: &OpenTransaction,
+    state: &SessionState,
+    now: Option<Instant>,
+) -> Result<TransactionView, AllocError> {
+    Ok(TransactionView {
+        number: transaction.number,
+        milliseconds: milliseconds(transaction.since, now),
+        operations: transaction.operations,
+        did: transaction.last(alloc)?,
+        calls: state.op,
+    })
+}
+
+fn wait_view(
+    wait: &Waiting,
+    awaited: Awaited,
+    states: &[SessionState],
+    now: Option<Instant>,
+) -> WaitView {
+    let state = states.iter().find(|state| is_of(state, wait.waiter));
+    WaitView {
+        waiter: wait.waiter,
+        client: state.map_or(0, |state| state.client),
+        holder: wait.holder,
+        awaited,
+        operation: state.and_then(|state| state.op),
+        milliseconds: state.map_or(0, |state| milliseconds(state.waits_since(), now)),
+    }
+}
+
+/// Whether it is the session of this transaction. One that has just begun to wait has not noted its wait yet.
+fn is_of(state: &SessionState, tx: TxId) -> bool {
+    match &state.transaction {
+        Some(transaction) if transaction.number == tx => true,
+        _ => state.waits_as(tx),
+    }
+}
+
+/// How many milliseconds have passed, as far as the clock can say so.
+fn milliseconds(since: Option<Instant>, now: Option<Instant>) -> u64 {
+    match (since, now) {
+        (Some(since), Some(now)) => {
+            u64::try_from(now.saturating_duration_since(since).as_millis()).unwrap_or(u64::MAX)
+        }
+        _ => 0,
+    }
+}
+
+/// How many bytes so many items take, with the outcomes of so many transactions, of so many operations.
+fn bytes_kept(items: u64, outcomes: u64, operations: u64) -> u64 {
+    let kept = items.saturating_mul(ITEM_BYTES);
+    let told = outcomes.saturating_mul(OUTCOME_BYTES);
+    let done = operations.saturating_mul(OPERATION_BYTES);
+    kept.saturating_add(told).saturating_add(done)
+}

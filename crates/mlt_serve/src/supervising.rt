@@ -1,0 +1,136 @@
+//! What a thread looks after while sessions are served: that none holds others up for ever, and that a server which is to stop does.
+
+use crate::ending::Ending;
+use crate::operating::EndSignal;
+use crate::service::Service;
+use crate::tuning::{LOOK_MILLISECONDS, STOP_SECONDS};
+use mlt_serve_notes::{Cut, Note};
+use mlt_serve_seats::Patience;
+use mlt_types::Pseudo;
+use mlt_work_desk::MadeWith;
+use std::sync::Wait;
+use std::sync::atomic::Ordering;
+use std::time::{Clock, Duration, Instant};
+
+/// What one that looks after sessions knows.
+#[derive(Drop)]
+struct Supervisor<'a, 'b, 'c, P: Pseudo, L: MadeWith<P>, R: Wait + Clock> {
+    rt: &'a R,
+    service: &'b Service<'c, P, L>,
+    patience: Patience,
+    /// Since when the server is to stop, if it is, and the clock can say so.
+    stops_since: Option<Instant>,
+    has_counted_threads: bool,
+    has_told_numbers: bool,
+    has_told_pages: bool,
+}
+
+/// Looks after the sessions again and again, until there is nothing left to do.
+pub(crate) fn supervise<P: Pseudo, L: MadeWith<P>, R: Wait + Clock, S: EndSignal + Drop>(
+    rt: &R,
+    service: &Service<'_, P, L>,
+    ending: &Ending,
+    mut signal: S,
+) {
+    let mut supervisor = Supervisor {
+        rt,
+        service,
+        patience: Patience {
+            wait: service.options.wait,
+            open: service.options.open,
+        },
+        stops_since: None,
+        has_counted_threads: false,
+        has_told_numbers: false,
+        has_told_pages: false,
+    };
+    for _ in rt.forever() {
+        if signal.is_given() {
+            service.door.stop();
+        }
+        if ending.sleep(rt, Duration::from_millis(LOOK_MILLISECONDS)) {
+            return;
+        }
+        supervisor.look();
+    }
+}
+
+impl<P: Pseudo, L: MadeWith<P>, R: Wait + Clock> Supervisor<'_, '_, '_, P, L, R> {
+    /// One look after all sessions.
+    fn look(&mut self) {
+        if self.service.door.stops() {
+            self.press();
+        }
+        self.look_after_sessions();
+        self.count_threads();
+        self.warn();
+    }
+
+    /// Each session that is cut, or waits for too long, goes on to its end.
+    fn look_after_sessions(&self) {
+        for seat in self.service.seats.all() {
+            if let Some(tx) = seat.look_after(self.rt, &self.patience) {
+                self.service.shared.rouse(self.rt, tx);
+            }
+        }
+    }
+
+    /// The server is to stop: sessions hear nothing more from their clients. Those that go on for too long are cut.
+    fn press(&mut self) {
+        let now = Instant::now(self.rt).ok();
+        self.stops_since = self.stops_since.or(now);
+        let is_late = match (self.stops_since, now) {
+            (Some(since), Some(now)) => {
+                now.saturating_duration_since(since) >= Duration::from_secs(STOP_SECONDS)
+            }
+            _ => true,
+        };
+        for seat in self.service.seats.all() {
+            if is_late {
+                seat.cut_any(self.rt, Cut::Stop);
+            } else {
+                seat.hear_no_more(self.rt);
+            }
+        }
+    }
+
+    /// Tells once where fewer threads run than were asked for.
+    fn count_threads(&mut self) {
+        if self.has_counted_threads {
+            return;
+        }
+        self.has_counted_threads = true;
+        let running = self.service.running.load(Ordering::SeqCst);
+        let asked = self.service.options.sessions as u64;
+        if running < asked {
+            self.tell(Note::FewThreads(running, asked));
+        }
+    }
+
+    /// Tells once where nine in ten of the numbers are given out, or of the pages are used.
+    fn warn(&mut self) {
+        let (begun, most) = (
+            self.service.seats.begun(),
+            self.service.options.limits.max_ids,
+        );
+        if !self.has_told_numbers && is_nearly(begun, most) {
+            self.has_told_numbers = true;
+            self.tell(Note::FewNumbersLeft(begun, most));
+        }
+        let pages = self.service.shared.look(self.rt).pages as u64;
+        let most = u64::from(self.service.options.limits.max_pages);
+        if !self.has_told_pages && is_nearly(pages, most) {
+            self.has_told_pages = true;
+            self.tell(Note::FewPagesLeft(pages, most));
+        }
+    }
+
+    fn tell(&self, note: Note) {
+        self.service.notes.tell(self.rt, note);
+    }
+}
+
+/// Whether so many are nine in ten of the most, or more.
+fn is_nearly(count: u64, most: u64) -> bool {
+    count >= most - most / 10
+}

@@ -1,0 +1,238 @@
+//! The threads beside those of sessions: for notes, for the trace, for the operator, and one that looks after all sessions.
+
+ghost use Rattle.std.specs.Prelude.{◌≡◌, ◌<◌, length};
+
+use crate::accepting::Accepting;
+use crate::ending::Ending;
+use crate::operating::{Admin, EndSignal, Operating, TraceFile};
+use crate::operator::Operator;
+use crate::service::Service;
+use crate::session_thread::SessionThread;
+use crate::session_threads::serve_connections;
+use crate::supervising::supervise;
+use crate::trace_keeping::TraceKeeper;
+use crossbeam_channel::Receiver;
+use mlt_serve_admin::{Operated, serve_admin};
+use mlt_serve_notes::{Sent, write_notes};
+use mlt_serve_socket::refuse_all;
+use mlt_types::Pseudo;
+use mlt_work_desk::MadeWith;
+use std::alloc::Global;
+use std::io::Write;
+use std::sync::Wait;
+use std::sync::atomic::{AtomicBool, Ordering};
+use std::thread::Threads;
+use std::time::Clock;
+use std::{io, thread};
+
+/// What became of the connections, and of the trace.
+#[derive(Drop)]
+pub(crate) struct Ran {
+    pub(crate) accepting: Accepting,
+    /// Why the trace was not written whole, if so.
+    pub(crate) trace_failure: Option<io::Error>,
+}
+
+impl Ran {
+    /// Nothing was accepted, for want of memory or of a thread.
+    fn none() -> Ran {
+        Ran {
+            accepting: Accepting::none(),
+            trace_failure: None,
+        }
+    }
+}
+
+/// Serves connections with a thread beside them that writes notes, and the others. Where one of these is refused, nothing is accepted.
+pub(crate) fn serve_with_notes<P, L, R, N, T, S>(
+    rt: &R,
+    alloc: Global,
+    service: &Service<'_, P, L>,
+    from: Receiver<Sent, Global>,
+    operating: Operating<'_, N, T, S>,
+    threads: &mut [SessionThread<L>],
+) -> Ran
+where
+    P: Pseudo + Send,
+    L: MadeWith<P> + Send + Sync,
+    R: Threads + Wait + Clock + Sync,
+    N: Write + Send + Drop,
+    T: TraceFile + Send + Drop,
+    S: EndSignal + Send + Drop,
+    requires { 0 < length threads.old }
+{
+    let Operating {
+        notes: mut writer,
+        trace,
+        signal,
+        admin,
+    } = operating;
+    let notes = service.notes;
+    thread::scope(
+        thread::scope_env(),
+        rt,
+        |scope| -> Ran
+            requires { 0 < length threads.now }
+        {
+            let write = move || write_notes(rt, alloc, notes, &from, &mut writer);
+            let Ok(writing) = scope.spawn(write) else {
+                return Ran::none();
+            };
+            let ran = serve_with_watch(rt, alloc, service, trace, signal, admin, threads);
+            notes.end(rt);
+            writing.join(rt);
+            ran
+        },
+    )
+}
+
+/// Serves connections with a thread beside them that looks after them, and the others.
+fn serve_with_watch<P, L, R, T, S>(
+    rt: &R,
+    alloc: Global,
+    service: &Service<'_, P, L>,
+    trace: Option<T>,
+    signal: S,
+    admin: Option<Admin<'_>>,
+    threads: &mut [SessionThread<L>],
+) -> Ran
+where
+    P: Pseudo + Send,
+    L: MadeWith<P> + Send + Sync,
+    R: Threads + Wait + Clock + Sync,
+    T: TraceFile + Send + Drop,
+    S: EndSignal + Send + Drop,
+    requires { 0 < length threads.old }
+{
+    let watch_ending = Ending::new();
+    let ending = &watch_ending;
+    thread::scope(
+        thread::scope_env(),
+        rt,
+        |scope| -> Ran
+            requires { 0 < length threads.now }
+        {
+            let look = move || supervise(rt, service, ending, signal);
+            let Ok(watching) = scope.spawn(look) else {
+                return Ran::none();
+            };
+            let ran = serve_with_trace(rt, alloc, service, trace, admin, threads);
+            ending.end(rt);
+            watching.join(rt);
+            ran
+        },
+    )
+}
+
+/// Serves connections with a thread beside them that writes the trace, if there is one, and the others.
+fn serve_with_trace<P, L, R, T>(
+    rt: &R,
+    alloc: Global,
+    service: &Service<'_, P, L>,
+    trace: Option<T>,
+    admin: Option<Admin<'_>>,
+    threads: &mut [SessionThread<L>],
+) -> Ran
+where
+    P: Pseudo + Send,
+    L: MadeWith<P> + Send + Sync,
+    R: Threads + Wait + Clock + Sync,
+    T: TraceFile + Send + Drop,
+    requires { 0 < length threads.old }
+{
+    let Some(file) = trace else {
+        return Ran {
+            accepting: serve_with_admin(rt, alloc, service, admin, threads),
+            trace_failure: None,
+        };
+    };
+    let Ok(keeper) = TraceKeeper::new(alloc, file) else {
+        return Ran::none();
+    };
+    let trace_ending = Ending::new();
+    let ending = &trace_ending;
+    let (shared, notes) = (service.shared, service.notes);
+    thread::scope(
+        thread::scope_env(),
+        rt,
+        |scope| -> Ran
+            requires { 0 < length threads.now }
+        {
+            let keep = move || keeper.keep_on(rt, shared, notes, ending);
+            let Ok(keeping) = scope.spawn(keep) else {
+                return Ran::none();
+            };
+            let accepting = serve_with_admin(rt, alloc, service, admin, threads);
+            ending.end(rt);
+            Ran {
+                accepting,
+                trace_failure: keeping.join(rt),
+            }
+        },
+    )
+}
+
+/// Serves connections with two threads beside them that answer the operator, if there is one.
+fn serve_with_admin<P, L, R>(
+    rt: &R,
+    alloc: Global,
+    service: &Service<'_, P, L>,
+    admin: Option<Admin<'_>>,
+    threads: &mut [SessionThread<L>],
+) -> Accepting
+where
+    P: Pseudo + Send,
+    L: MadeWith<P> + Send + Sync,
+    R: Threads + Wait + Clock + Sync,
+    requires { 0 < length threads.old }
+{
+    let Some(admin) = admin else {
+        return serve_connections(rt, alloc, service, threads);
+    };
+    let operator = Operator::new(rt, service);
+    let is_over = AtomicBool::new(false);
+    serve_beside_operator(rt, alloc, service, admin, &operator, &is_over, threads)
+}
+
+/// Serves connections with two threads beside them that answer this operator, until it is over.
+fn serve_beside_operator<P, L, R, O>(
+    rt: &R,
+    alloc: Global,
+    service: &Service<'_, P, L>,
+    admin: Admin<'_>,
+    operator: &O,
+    is_over: &AtomicBool,
+    threads: &mut [SessionThread<L>],
+) -> Accepting
+where
+    P: Pseudo + Send,
+    L: MadeWith<P> + Send + Sync,
+    R: Threads + Wait + Clock + Sync,
+    O: Operated + Sync,
+    requires { 0 < length threads.old }
+{
+    let Admin { listener, keys } = admin;
+    thread::scope(
+        thread::scope_env(),
+        rt,
+        |scope| -> Accepting
+            requires { 0 < length threads.now }
+        {
+            let answer = move || serve_admin(rt, alloc, keys, listener, operator, is_over);
+            let Ok(first) = scope.spawn(answer) else {
+                return Accepting::none();
+            };
+            // With one alone an operator waits for another.
+            let more = move || serve_admin(rt, alloc, keys, listener, operator, is_over);
+            let second = scope.spawn(more);
+            let accepting = serve_connections(rt, alloc, service, threads);
+            is_over.store(true, Ordering::SeqCst);
+            refuse_all(listener);
+            first.join(rt);
+            if let Ok(second) = second {
+                second.join(rt);
+            }
+            accepting
+        },
+    )
+}
