@@ -1,8 +1,10 @@
 -- The words that `clap` reads, and the job that it finds.
 use Rattle.std.proofs.Common.{◌≡◌, ◌≢◌, ℕ, Bool, true, List, [], ◌∷◌, Option, None, Some, refl, sym, ap, ap₂, ◌∙◌, subst, codes, map, length, option_map, inl, inr}
-use Rattle.std.specs.Prelude.{nat_eq, false, option_map}
-use Rattle.clap.specs.Words.{App, HasKind, IsAmong, kind_of, Row, Rule, Text, fault_of, first_of, matches_of, is_simple, is_simple_and_free, rule_of, subcommand_of}
+use Rattle.std.specs.Prelude.{◌||◌, nat_eq, false, option_map}
+use Rattle.clap.specs.Words.{AddsArg, App, HasKind, IsAmong, kind_of, Row, Rule, Text, app_of, fault_of, first_of, matches_of, is_simple, is_simple_and_free, rule_of, subcommand_of, with_rule}
 use Rattle.clap.specs.declared.builder.arg.Arg.{Arg}
+use Rattle.clap.specs.declared.builder.command.Command.{Command}
+use Rattle.clap.specs.declared.builder.command.Command.TheViews.{out-Command}
 use Rattle.clap.specs.declared.builder.value_parser.ValueParser.{ValueParser}
 use Rattle.clap.proofs.OnLiterals.{clap_on_literals}
 use Rattle.clap.specs.declared.error.Error.{Error}
@@ -160,6 +162,22 @@ module _ {B : Type 0} (name : B → Text) (rows : B → List Row) where
       ap₂ asked_by named has
 
 -- ---- the description
+
+-- three arguments, one after another, are three rules more, where none is global; and none is then
+module _ (first second third : Arg) (old one two : Command) (one_added : AddsArg old first one) (two_added : AddsArg one second two)
+    (first_local : first.global ≡ false) (second_local : second.global ≡ false) (third_local : third.global ≡ false) where
+  pub adds_three : (new : Command) (one_rule two_rule three_rule : Rule) → rule_of first ≡ one_rule → rule_of second ≡ two_rule → rule_of third ≡ three_rule
+      → AddsArg two third new → app_of new ≡ with_rule (with_rule (with_rule (app_of old) one_rule) two_rule) three_rule
+  adds_three new one_rule two_rule three_rule one_is two_is three_is added =
+      let one_app = one_added.shape first_local ∙ ap (with_rule (app_of old)) one_is in
+      let two_app = two_added.shape second_local ∙ ap₂ with_rule one_app two_is in
+      added.shape third_local ∙ ap₂ with_rule two_app three_is
+
+  pub three_are_local : (new : Command) → (out-Command old).has_globals ≡ false → AddsArg two third new → (out-Command new).has_globals ≡ false
+  three_are_local new old_local added =
+      let one_local : (out-Command one).has_globals ≡ false = one_added.globals ∙ ap₂ ◌||◌ old_local first_local in
+      let two_local : (out-Command two).has_globals ≡ false = two_added.globals ∙ ap₂ ◌||◌ one_local second_local in
+      added.globals ∙ ap₂ ◌||◌ two_local third_local
 
 -- an argument with a parser for its values
 pub with_parser : (old new : Arg) (rule : Rule) (parser : ValueParser) → new ≡ record old { value_parser = new.value_parser } → new.value_parser ≡ Some parser → rule_of old ≡ rule

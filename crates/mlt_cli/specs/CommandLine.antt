@@ -17,9 +17,14 @@ use Rattle.mlt_object_tables.specs.declared.tables.TableName.{TableName}
 use Rattle.mlt_object_tables.specs.declared.tables.TableName.TheVariants as table
 use Rattle.mlt_cli.specs.declared.words.Hash.{Hash}
 use Rattle.mlt_cli.specs.declared.words.Hash.TheVariants.{Mult, Low}
+use Rattle.mlt_cli.specs.declared.words.Full.{Full}
+use Rattle.mlt_cli.specs.declared.words.Full.TheVariants.{Wait, Refuse}
+use Rattle.mlt_cli.specs.declared.words.Operating.{Operating}
 use Rattle.mlt_cli.specs.declared.words.Run.{Run}
+use Rattle.mlt_cli.specs.declared.words.Schedule.{Schedule}
 use Rattle.mlt_cli.specs.declared.words.Work.{Work}
 use Rattle.mlt_cli.specs.declared.words.Serve.{Serve}
+use Rattle.mlt_cli.specs.declared.words.Times.{Times}
 use Rattle.mlt_cli.specs.declared.words.Job.{Job}
 use Rattle.mlt_cli.specs.declared.words.Job.TheVariants as job
 
@@ -29,32 +34,42 @@ use Rattle.mlt_cli.specs.declared.words.Job.TheVariants as job
 abbrev pub NameList : Type 0
 NameList = Bor (List (Bor Text))
 
--- the names of the hash functions, and of the conflict tables
+-- the names of the hash functions, of the conflict tables, and of what a client finds while all sessions are taken
 pub record NameLists : Type 0 where
   pub hashes : NameList
   pub tables : NameList
+  pub fulls : NameList
 
-abbrev pub names_of : NameList → NameList → NameLists
-names_of hashes tables = record { hashes = hashes; tables = tables }
+abbrev pub names_of : NameList → NameList → NameList → NameLists
+names_of hashes tables fulls = record { hashes = hashes; tables = tables; fulls = fulls }
 
 -- they are the program's, wherever they lie
 abbrev pub AreNames : NameLists → Type 0
 AreNames names = (map (λ name. name.now) names.hashes.now ≡ codes "mult" ∷ codes "low" ∷ [])
     × (map (λ name. name.now) names.tables.now ≡ codes "account" ∷ codes "set" ∷ codes "counter" ∷ [])
+    × (map (λ name. name.now) names.fulls.now ≡ codes "wait" ∷ codes "refuse" ∷ [])
 
 -- what is read or listened on: a file, or an address
 abbrev pub input_rule : Rule
 input_rule = record (new_rule (codes "input")) { value_names = 1; required = true }
 
+-- an option of this name that takes a text
+abbrev pub text_rule : Text → Rule
+text_rule name = record (new_rule name) { long = Some name; value_names = 1 }
+
+-- an option of this name that takes one of some names
+abbrev pub choice_rule : Text → NameList → Rule
+choice_rule name names = record (text_rule name) { parser = Some (Names names) }
+
+-- an option of this name that takes nothing
+abbrev pub flag_rule : Text → Rule
+flag_rule name = record (new_rule name) { long = Some name; action = Some SetTrue }
+
 abbrev pub hash_rule : NameList → Rule
-hash_rule names = record (new_rule (codes "hash")) {
-  long = Some (codes "hash");
-  value_names = 1;
-  parser = Some (Names names);
-}
+hash_rule names = choice_rule (codes "hash") names
 
 abbrev pub trace_rule : Rule
-trace_rule = record (new_rule (codes "trace")) { long = Some (codes "trace"); value_names = 1 }
+trace_rule = text_rule (codes "trace")
 
 -- what asks for the second line of a fault, `-v` (118) or `--verbose`
 abbrev pub verbose_rule : Rule
@@ -80,6 +95,14 @@ input_app name = with_rule (with_rule (new_app name) input_rule) verbose_rule
 abbrev pub run_app : NameList → Text → App
 run_app names name = with_rule (with_rule (input_app name) (hash_rule names)) trace_rule
 
+-- what asks for the reasons of what events are told
+abbrev pub explain_rule : Rule
+explain_rule = flag_rule (codes "explain")
+
+-- `steps`, which may tell reasons
+abbrev pub steps_app : NameList → App
+steps_app names = with_rule (run_app names (codes "steps")) explain_rule
+
 abbrev pub tries_rule : Rule
 tries_rule = number_rule (codes "tries") 1 1000000
 
@@ -88,15 +111,35 @@ abbrev pub work_app : NameList → App
 work_app names =
     with_rule (with_rule (run_app names (codes "run")) (number_rule (codes "workers") 1 8)) tries_rule
 
--- `serve`, which has sessions, a limit and an idle time
-abbrev pub serve_app : NameList → App
-serve_app names =
+-- with the options that count: sessions, connections, and tries
+abbrev pub with_counts : App → App
+with_counts app =
     with_rule
-    (with_rule
-    (with_rule
-    (with_rule (run_app names (codes "serve")) (number_rule (codes "sessions") 1 64))
-    (number_rule (codes "limit") 1 1000000)) tries_rule)
-    (number_rule (codes "idle") 0 86400)
+    (with_rule (with_rule app (number_rule (codes "sessions") 1 64)) (number_rule (codes "limit") 1 1000000))
+    tries_rule
+
+-- an option of this name that takes seconds, at most a day
+abbrev pub seconds_rule : Text → Rule
+seconds_rule name = number_rule name 0 86400
+
+-- with the options that say for how many seconds
+abbrev pub with_times : App → App
+with_times app =
+    with_rule
+    (with_rule (with_rule app (seconds_rule (codes "idle"))) (seconds_rule (codes "wait")))
+    (seconds_rule (codes "open"))
+
+-- with the options of who runs the server: what a client finds while all sessions are taken, where an operator connects,
+-- and whether the server ends with its standard input
+abbrev pub with_operating : NameList → App → App
+with_operating fulls app =
+    with_rule
+    (with_rule (with_rule app (choice_rule (codes "full") fulls)) (text_rule (codes "admin")))
+    (flag_rule (codes "until-eof"))
+
+-- `serve`, which has counts and times, and is operated
+abbrev pub serve_app : NameList → NameList → App
+serve_app names fulls = with_operating fulls (with_times (with_counts (run_app names (codes "serve"))))
 
 abbrev pub table_rule : NameList → Rule
 table_rule names = record (new_rule (codes "table")) {
@@ -127,10 +170,10 @@ mltx_app names =
     (with_subcommand
     (with_subcommand
     (with_subcommand bare_app (run_app names.hashes (codes "solo")).top)
-    (run_app names.hashes (codes "steps")).top)
+    (steps_app names.hashes).top)
     (work_app names.hashes).top)
     (input_app (codes "check")).top)
-    (serve_app names.hashes).top)
+    (serve_app names.hashes names.fulls).top)
     (tables_app names.tables).top
 
 -- ---- the job
@@ -141,25 +184,40 @@ pub record RunForm : Type 0 where
   pub hash : Hash
   pub trace : Option Text
 
+-- whether the reasons are told
+pub record ScheduleForm : Type 0 where
+  pub run : RunForm
+  pub explains : Bool
+
 -- the workers, and how often a script may be told to wait
 pub record WorkForm : Type 0 where
   pub run : RunForm
   pub workers : ℕ
   pub tries : ℕ
 
--- how many sessions there are at once, how many connections in all, how often an operation may be told to wait, and after
--- how many seconds a connection is cut that gives and takes nothing; 0 is never
-pub record ServeForm : Type 0 where
-  pub run : RunForm
+-- how many sessions there are at once, how many connections in all, and how often an operation may be told to wait
+pub record CountsForm : Type 0 where
   pub sessions : ℕ
   pub limit : ℕ
   pub tries : ℕ
-  pub idle : ℕ
+
+-- where an operator connects, if anywhere, and whether the server ends with its standard input
+pub record OperatingForm : Type 0 where
+  pub admin : Option Text
+  pub until_eof : Bool
+
+-- what is served, its counts and times, what a client finds while all sessions are taken, and how the server is operated
+pub record ServeForm : Type 0 where
+  pub run : RunForm
+  pub counts : CountsForm
+  pub times : Times
+  pub full : Full
+  pub operating : OperatingForm
 
 -- what is asked for
 pub data Asked : Type 0 where
   to_solo : RunForm → Asked
-  to_steps : RunForm → Asked
+  to_steps : ScheduleForm → Asked
   to_work : WorkForm → Asked
   to_check : Text → Asked
   to_serve : ServeForm → Asked
@@ -172,27 +230,41 @@ form_of_run run = record {
   trace = option_map string_bytes run.trace;
 }
 
+abbrev pub form_of_schedule : Schedule → ScheduleForm
+form_of_schedule schedule =
+    record { run = form_of_run schedule.run; explains = schedule.explains }
+
 abbrev pub form_of_work : Work → WorkForm
 form_of_work work =
     record { run = form_of_run work.run; workers = work.workers; tries = work.tries }
 
+abbrev pub form_of_operating : Operating → OperatingForm
+form_of_operating operating = record {
+  admin = option_map string_bytes operating.admin;
+  until_eof = operating.until_eof;
+}
+
 abbrev pub form_of_serve : Serve → ServeForm
 form_of_serve serve = record {
   run = form_of_run serve.run;
-  sessions = serve.sessions;
-  limit = serve.limit;
-  tries = serve.tries;
-  idle = serve.idle;
+  counts = record { sessions = serve.sessions; limit = serve.limit; tries = serve.tries };
+  times = serve.times;
+  full = serve.full;
+  operating = form_of_operating serve.operating;
 }
 
 -- what a job asks for
 abbrev pub asked_of : Job → Asked
 asked_of (job.Solo run) = to_solo (form_of_run run)
-asked_of (job.Steps run) = to_steps (form_of_run run)
+asked_of (job.Steps schedule) = to_steps (form_of_schedule schedule)
 asked_of (job.Work work) = to_work (form_of_work work)
 asked_of (job.Check file) = to_check (string_bytes file)
 asked_of (job.Serve serve) = to_serve (form_of_serve serve)
 asked_of (job.Tables name) = to_tables name
+
+-- each is at most a day, in seconds
+abbrev pub AreWithinDay : Times → Type 0
+AreWithinDay times = (times.idle ≤ 86400) × (times.wait ≤ 86400) × (times.transaction ≤ 86400)
 
 -- the numbers of a job are within their bounds
 abbrev pub IsWithinBounds : Job → Type 0
@@ -200,12 +272,22 @@ IsWithinBounds (job.Work work) = (0 < work.workers) × (work.workers ≤ 8)
     × (0 < work.tries) × (work.tries ≤ 1000000)
 IsWithinBounds (job.Serve serve) = (0 < serve.sessions) × (serve.sessions ≤ 64)
     × (0 < serve.limit) × (serve.limit ≤ 1000000) × (0 < serve.tries) × (serve.tries ≤ 1000000)
-    × (serve.idle ≤ 86400)
+    × AreWithinDay serve.times
 IsWithinBounds other = Unit {0}
 
 -- an input with no options
 abbrev pub plain_run : Text → RunForm
 plain_run input = record { input = input; hash = Mult; trace = None }
+
+-- connections that are served with no options
+abbrev pub plain_serve : Text → ServeForm
+plain_serve input = record {
+  run = plain_run input;
+  counts = record { sessions = 8; limit = 1; tries = 10000 };
+  times = record { idle = 0; wait = 0; transaction = 0 };
+  full = Wait;
+  operating = record { admin = None; until_eof = false };
+}
 
 -- the subcommands of the program that have an input
 pub data Subcommand : Type 0 where
@@ -226,11 +308,10 @@ subcommand_name serve = codes "serve"
 -- what a subcommand asks for with an input alone
 abbrev pub with_input : Subcommand → Text → Asked
 with_input solo input = to_solo (plain_run input)
-with_input steps input = to_steps (plain_run input)
+with_input steps input = to_steps (record { run = plain_run input; explains = false })
 with_input run input = to_work (record { run = plain_run input; workers = 4; tries = 10000 })
 with_input check input = to_check input
-with_input serve input =
-    to_serve (record { run = plain_run input; sessions = 8; limit = 1; tries = 10000; idle = 0 })
+with_input serve input = to_serve (plain_serve input)
 
 -- ---- what the words ask for
 
@@ -265,6 +346,15 @@ abbrev pub run_in : List Row → Option RunForm
 run_in rows = run_of (first_of (codes "input") rows) (hash_named (first_of (codes "hash") rows))
     (first_of (codes "trace") rows)
 
+-- what was found has the flag of this name
+abbrev pub has_flag : Text → List Row → Bool
+has_flag name rows = option_map_or (λ text. bytes_eq text (codes "true")) (first_of name rows) false
+
+-- what the matches of `steps` ask for
+abbrev pub schedule_in : List Row → Option ScheduleForm
+schedule_in rows =
+    option_map (λ run. record { run = run; explains = has_flag (codes "explain") rows }) (run_in rows)
+
 abbrev pub tries_in : List Row → Option ℕ
 tries_in rows = number_named 1 1000000 10000 (first_of (codes "tries") rows)
 
@@ -279,20 +369,57 @@ work_of (Some r) (Some workers) (Some tries) =
 abbrev pub work_in : List Row → Option WorkForm
 work_in rows = work_of (run_in rows) (number_named 1 8 4 (first_of (codes "workers") rows)) (tries_in rows)
 
-abbrev pub serve_of : Option RunForm → Option ℕ → Option ℕ → Option ℕ → Option ℕ → Option ServeForm
-serve_of None sessions limit tries idle = None
-serve_of (Some r) None limit tries idle = None
-serve_of (Some r) (Some sessions) None tries idle = None
-serve_of (Some r) (Some sessions) (Some limit) None idle = None
-serve_of (Some r) (Some sessions) (Some limit) (Some tries) None = None
-serve_of (Some r) (Some sessions) (Some limit) (Some tries) (Some idle) =
-    Some (record { run = r; sessions = sessions; limit = limit; tries = tries; idle = idle })
+abbrev pub counts_of : Option ℕ → Option ℕ → Option ℕ → Option CountsForm
+counts_of None limit tries = None
+counts_of (Some sessions) None tries = None
+counts_of (Some sessions) (Some limit) None = None
+counts_of (Some sessions) (Some limit) (Some tries) =
+    Some (record { sessions = sessions; limit = limit; tries = tries })
+
+abbrev pub counts_in : List Row → Option CountsForm
+counts_in rows = counts_of (number_named 1 64 8 (first_of (codes "sessions") rows))
+    (number_named 1 1000000 1 (first_of (codes "limit") rows)) (tries_in rows)
+
+-- the seconds that the option of this name gives, and 0 where it is not given
+abbrev pub seconds_in : Text → List Row → Option ℕ
+seconds_in name rows = number_named 0 86400 0 (first_of name rows)
+
+abbrev pub times_of : Option ℕ → Option ℕ → Option ℕ → Option Times
+times_of None wait transaction = None
+times_of (Some idle) None transaction = None
+times_of (Some idle) (Some wait) None = None
+times_of (Some idle) (Some wait) (Some transaction) =
+    Some (record { idle = idle; wait = wait; transaction = transaction })
+
+abbrev pub times_in : List Row → Option Times
+times_in rows = times_of (seconds_in (codes "idle") rows) (seconds_in (codes "wait") rows) (seconds_in (codes "open") rows)
+
+-- what a client finds by its name, and that it waits where none is given
+abbrev pub full_named : Option Text → Option Full
+full_named None = Some Wait
+full_named (Some name) = if bytes_eq name (codes "wait") then Some Wait
+    else (if bytes_eq name (codes "refuse") then Some Refuse else None)
+
+abbrev pub full_in : List Row → Option Full
+full_in rows = full_named (first_of (codes "full") rows)
+
+abbrev pub operating_in : List Row → OperatingForm
+operating_in rows = record {
+  admin = first_of (codes "admin") rows;
+  until_eof = has_flag (codes "until-eof") rows;
+}
+
+abbrev pub serve_of : Option RunForm → Option CountsForm → Option Times → Option Full → OperatingForm → Option ServeForm
+serve_of None counts times full operating = None
+serve_of (Some r) None times full operating = None
+serve_of (Some r) (Some counts) None full operating = None
+serve_of (Some r) (Some counts) (Some times) None operating = None
+serve_of (Some r) (Some counts) (Some times) (Some full) operating =
+    Some (record { run = r; counts = counts; times = times; full = full; operating = operating })
 
 -- what the matches of `serve` ask for
 abbrev pub serve_in : List Row → Option ServeForm
-serve_in rows = serve_of (run_in rows) (number_named 1 64 8 (first_of (codes "sessions") rows))
-    (number_named 1 1000000 1 (first_of (codes "limit") rows)) (tries_in rows)
-    (number_named 0 86400 0 (first_of (codes "idle") rows))
+serve_in rows = serve_of (run_in rows) (counts_in rows) (times_in rows) (full_in rows) (operating_in rows)
 
 -- the conflict table of a name
 abbrev pub table_named : Text → Option TableName
@@ -311,7 +438,7 @@ tables_in rows = table_of (first_of (codes "table") rows)
 -- what the subcommand of this name asks for, by its matches
 abbrev pub asked_by : Text → List Row → Option Asked
 asked_by name rows = if bytes_eq name (codes "solo") then option_map to_solo (run_in rows)
-    else (if bytes_eq name (codes "steps") then option_map to_steps (run_in rows)
+    else (if bytes_eq name (codes "steps") then option_map to_steps (schedule_in rows)
     else (if bytes_eq name (codes "run") then option_map to_work (work_in rows)
     else (if bytes_eq name (codes "check") then option_map to_check (first_of (codes "input") rows)
     else (if bytes_eq name (codes "serve") then option_map to_serve (serve_in rows)
@@ -330,14 +457,10 @@ AskFor (word ∷ words) asked = (names : NameLists) × AreNames names
     × (fault_of (mltx_app names) (word ∷ words) ≡ [])
     × (asked_in (subcommand_of (mltx_app names) (word ∷ words)) ≡ Some asked)
 
--- what was found has the flag
-abbrev pub is_verbose : List Row → Bool
-is_verbose rows = option_map_or (λ text. bytes_eq text (codes "true")) (first_of (codes "verbose") rows) false
-
 -- the flag stands before the subcommand or behind it
 abbrev pub is_verbose_in : List Row → Option (Text × List Row) → Bool
-is_verbose_in rows None = is_verbose rows
-is_verbose_in rows (Some met) = is_verbose rows || is_verbose met.1
+is_verbose_in rows None = has_flag (codes "verbose") rows
+is_verbose_in rows (Some met) = has_flag (codes "verbose") rows || has_flag (codes "verbose") met.1
 
 -- the second line of a fault is asked for exactly where `clap` finds the flag; no words at all have none
 abbrev pub SaysVerbose : List Text → Bool → Type 0

@@ -3,7 +3,7 @@
 ghost use Rattle.std.specs.Prelude.{◌≡◌, IfOk, false};
 ghost use Rattle.clap.specs.Words.{app_of, rule_of};
 ghost use Rattle.clap.specs.declared.builder.command.Command.TheViews.{out-Command};
-ghost use Rattle.mlt_cli.specs.CommandLine.{bare_app, input_app, mltx_app, names_of, number_rule, run_app, serve_app, tables_app, verbose_rule, work_app};
+ghost use Rattle.mlt_cli.specs.CommandLine.{bare_app, choice_rule, flag_rule, input_app, mltx_app, names_of, number_rule, run_app, serve_app, steps_app, tables_app, text_rule, verbose_rule, with_counts, with_operating, with_times, work_app};
 
 use clap::builder::ValueParser;
 use clap::{Arg, ArgAction, Command};
@@ -57,7 +57,7 @@ const STEPS_EXAMPLE: &str = "Example: mltx steps schedule.txt
                            depth 0
 
 Transaction 3 is blocked while 2 may still abort: the reply would be `short` with its
-withdrawal, and is `done` without it.";
+withdrawal, and is `done` without it. With `--explain` lines behind it say so.";
 
 const RUN_ABOUT: &str =
     "Runs the scripts of FILE side by side, those of a client one after another, and prints what each was told, and then the base.";
@@ -97,7 +97,8 @@ that line has the port that it got.
 An open transaction is taken back as its connection ends. Once all connections have ended
 the program writes `served` with their number, and the trace where one is asked for.
 
-A server that stays up: mltx serve 127.0.0.1:7000 --limit 1000000 --sessions 64 --idle 600";
+A server that stays up, until its standard input ends:
+  mltx serve 127.0.0.1:7000 --limit 1000000 --sessions 64 --idle 600 --until-eof --admin 127.0.0.1:7001";
 
 const CHECK_ABOUT: &str =
     "Checks the trace of FILE: whether its transactions, run alone in the order of their commits, are told the same.";
@@ -151,6 +152,8 @@ const TABLE_HELP: &str = "The table that is printed; without it all of them";
 const TRIES_HELP: &str =
     "How often a script, or an operation of a session, may be told to wait, from 1 to 1000000; without it 10000";
 
+const EXPLAIN_HELP: &str = "Where an event is blocked or waits, lines that begin with `#` say why";
+
 const WORKERS_HELP: &str = "How many workers run scripts at once, from 1 to 8; without it 4";
 
 const SESSIONS_HELP: &str = "How many sessions are held at once, from 1 to 64; without it 8";
@@ -159,6 +162,20 @@ const LIMIT_HELP: &str = "How many connections are served in all, from 1 to 1000
 
 const IDLE_HELP: &str =
     "How many seconds a connection may be idle, from 0, which is for ever, to 86400; without it 0";
+
+const WAIT_HELP: &str =
+    "How many seconds an operation may wait, from 0, which is for ever, to 86400; without it 0";
+
+const OPEN_HELP: &str =
+    "How many seconds a transaction may be open, from 0, which is for ever, to 86400; without it 0";
+
+const FULL_HELP: &str =
+    "What a client finds while all sessions are taken: it waits for one, or is refused; without it `wait`";
+
+const ADMIN_HELP: &str =
+    "The IP address and port at which an operator connects by HTTP; without it there is none";
+
+const UNTIL_EOF_HELP: &str = "The server ends in order at the end of standard input";
 
 const VERBOSE_HELP: &str =
     "At a fault, a second line says which file or address, why, and what was expected";
@@ -170,24 +187,26 @@ struct InputHelp {
     help: &'static str,
 }
 
-// The program's description, where these are the names of the hash functions and of the tables.
+// The program's description, where these are the names of the hash functions, of the tables, and of what a client finds
+// while all sessions are taken.
 pub(crate) fn mltx_command<'a>(
     alloc: Global,
     names: &'a [&'a str],
     tables: &'a [&'a str],
+    fulls: &'a [&'a str],
 ) -> Result<Command<'a>, AllocError>
     ensures { IfOk result
-        (λ command. app_of command ≡ mltx_app (names_of names.entry tables.entry)) }
+        (λ command. app_of command ≡ mltx_app (names_of names.entry tables.entry fulls.entry)) }
 {
     let solo = run_command(alloc, "solo", FILE, names, SOLO_ABOUT, SOLO_EXAMPLE)?;
     let command = bare_command(alloc)?.subcommand(solo)?;
-    let steps = run_command(alloc, "steps", FILE, names, STEPS_ABOUT, STEPS_EXAMPLE)?;
+    let steps = steps_command(alloc, names)?;
     let command = command.subcommand(steps)?;
     let run = work_command(alloc, names)?;
     let command = command.subcommand(run)?;
     let check = input_command(alloc, "check", FILE, CHECK_ABOUT, CHECK_EXAMPLE)?;
     let command = command.subcommand(check)?;
-    let serve = serve_command(alloc, names)?;
+    let serve = serve_command(alloc, names, fulls)?;
     let command = command.subcommand(serve)?;
     let tables = tables_command(alloc, tables)?;
     command.subcommand(tables)
@@ -252,18 +271,19 @@ fn run_command<'a>(
     ensures app { IfOk result (λ command. app_of command ≡ run_app names.entry name.entry.now) }
     ensures globals { IfOk result (λ command. (out-Command command).has_globals ≡ false) }
 {
-    let hash = Arg::new(alloc, "hash")
-        .long("hash")
-        .value_name("HASH")
-        .help(HASH_HELP)
-        .value_parser(names);
-    let trace = Arg::new(alloc, "trace")
-        .long("trace")
-        .value_name("FILE")
-        .help(TRACE_HELP);
+    let hash = choice_option(alloc, "hash", "HASH", HASH_HELP, names);
+    let trace = text_option(alloc, "trace", "FILE", TRACE_HELP);
     input_command(alloc, name, input, about, example)?
         .arg(hash)?
         .arg(trace)
+}
+
+fn steps_command<'a>(alloc: Global, names: &'a [&'a str]) -> Result<Command<'a>, AllocError>
+    ensures app { IfOk result (λ command. app_of command ≡ steps_app names.entry) }
+    ensures globals { IfOk result (λ command. (out-Command command).has_globals ≡ false) }
+{
+    let explain = flag_option(alloc, "explain", EXPLAIN_HELP);
+    run_command(alloc, "steps", FILE, names, STEPS_ABOUT, STEPS_EXAMPLE)?.arg(explain)
 }
 
 // `tables`, where these are the names of the tables.
@@ -280,6 +300,42 @@ fn tables_command<'a>(alloc: Global, names: &'a [&'a str]) -> Result<Command<'a>
         .after_help(TABLES_EXAMPLE)
         .arg(verbose_flag(alloc))?
         .arg(table)
+}
+
+// An option that takes a text. Help shows it by this name.
+fn text_option<'a>(alloc: Global, name: &'a str, value_name: &'a str, help: &'a str) -> Arg<'a>
+    ensures rule { rule_of result ≡ text_rule name.entry.now }
+    ensures local { result.global ≡ false }
+{
+    Arg::new(alloc, name)
+        .long(name)
+        .value_name(value_name)
+        .help(help)
+}
+
+// An option that takes one of these names. Help shows it by this name.
+fn choice_option<'a>(
+    alloc: Global,
+    name: &'a str,
+    value_name: &'a str,
+    help: &'a str,
+    names: &'a [&'a str],
+) -> Arg<'a>
+    ensures rule { rule_of result ≡ choice_rule name.entry.now names.entry }
+    ensures local { result.global ≡ false }
+{
+    text_option(alloc, name, value_name, help).value_parser(names)
+}
+
+// An option that takes nothing, and has a long name alone.
+fn flag_option<'a>(alloc: Global, name: &'a str, help: &'a str) -> Arg<'a>
+    ensures rule { rule_of result ≡ flag_rule name.entry.now }
+    ensures local { result.global ≡ false }
+{
+    Arg::new(alloc, name)
+        .long(name)
+        .action(ArgAction::SetTrue)
+        .help(help)
 }
 
 // An option that takes a number within these bounds. Help shows it by this name.
@@ -312,17 +368,58 @@ fn work_command<'a>(alloc: Global, names: &'a [&'a str]) -> Result<Command<'a>, 
         .arg(tries)
 }
 
-fn serve_command<'a>(alloc: Global, names: &'a [&'a str]) -> Result<Command<'a>, AllocError>
-    ensures app { IfOk result (λ command. app_of command ≡ serve_app names.entry) }
+fn serve_command<'a>(
+    alloc: Global,
+    names: &'a [&'a str],
+    fulls: &'a [&'a str],
+) -> Result<Command<'a>, AllocError>
+    ensures app { IfOk result (λ command. app_of command ≡ serve_app names.entry fulls.entry) }
     ensures globals { IfOk result (λ command. (out-Command command).has_globals ≡ false) }
 {
     let command = run_command(alloc, "serve", ADDRESS, names, SERVE_ABOUT, SERVE_EXAMPLE)?;
+    let command = with_counts(alloc, command)?;
+    let command = with_times(alloc, command)?;
+    with_operating(alloc, command, fulls)
+}
+
+// The subcommand with the options that count: sessions, connections, and tries.
+fn with_counts<'a>(alloc: Global, command: Command<'a>) -> Result<Command<'a>, AllocError>
+    requires { (out-Command command).has_globals ≡ false }
+    ensures app { IfOk result (λ added. app_of added ≡ with_counts (app_of command.entry)) }
+    ensures globals { IfOk result (λ added. (out-Command added).has_globals ≡ false) }
+{
     let sessions = number_option(alloc, "sessions", "N", SESSIONS_HELP, 1, 64);
-    let command = command.arg(sessions)?;
     let limit = number_option(alloc, "limit", "N", LIMIT_HELP, 1, 1_000_000);
-    let command = command.arg(limit)?;
     let tries = number_option(alloc, "tries", "N", TRIES_HELP, 1, 1_000_000);
-    let command = command.arg(tries)?;
+    command.arg(sessions)?.arg(limit)?.arg(tries)
+}
+
+// The subcommand with the options that say for how many seconds.
+fn with_times<'a>(alloc: Global, command: Command<'a>) -> Result<Command<'a>, AllocError>
+    requires { (out-Command command).has_globals ≡ false }
+    ensures app { IfOk result (λ added. app_of added ≡ with_times (app_of command.entry)) }
+    ensures globals { IfOk result (λ added. (out-Command added).has_globals ≡ false) }
+{
     let idle = number_option(alloc, "idle", "SECONDS", IDLE_HELP, 0, 86_400);
-    command.arg(idle)
+    let wait = number_option(alloc, "wait", "SECONDS", WAIT_HELP, 0, 86_400);
+    let open = number_option(alloc, "open", "SECONDS", OPEN_HELP, 0, 86_400);
+    command.arg(idle)?.arg(wait)?.arg(open)
+}
+
+// The subcommand with the options of who runs the server, where these are the names of what a client finds while all
+// sessions are taken.
+fn with_operating<'a>(
+    alloc: Global,
+    command: Command<'a>,
+    fulls: &'a [&'a str],
+) -> Result<Command<'a>, AllocError>
+    requires { (out-Command command).has_globals ≡ false }
+    ensures app { IfOk result
+        (λ added. app_of added ≡ with_operating fulls.entry (app_of command.entry)) }
+    ensures globals { IfOk result (λ added. (out-Command added).has_globals ≡ false) }
+{
+    let full = choice_option(alloc, "full", "FULL", FULL_HELP, fulls);
+    let admin = text_option(alloc, "admin", "ADDR", ADMIN_HELP);
+    let until_eof = flag_option(alloc, "until-eof", UNTIL_EOF_HELP);
+    command.arg(full)?.arg(admin)?.arg(until_eof)
 }

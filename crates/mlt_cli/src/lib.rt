@@ -9,4 +9,6 @@ mod words;
 
 pub use fault::{FaultLine, report_fault, status};
 pub use report::{command_line_status, report_command_line};
-pub use words::{CommandLine, Hash, Job, Run, Serve, Work, read_words};
+pub use words::{
+    CommandLine, Full, Hash, Job, Operating, Run, Schedule, Serve, Times, Work, read_words,
+};

@@ -4,7 +4,7 @@ ghost use Rattle.std.specs.Prelude.{◌≡◌, ◌≤◌, ℕ, List, [], ◌∷�
 ghost use Rattle.std.specs.Str.Parse.{without_leading_plus};
 ghost use Rattle.std.specs.String.{string_bytes};
 ghost use Rattle.clap.specs.Words.{first_of, found_of, kind_of, rows_of, subcommand_rows_of};
-ghost use Rattle.mlt_cli.specs.CommandLine.{AskFor, FailsAt, IsFileWord, IsWithinBounds, SaysVerbose, Subcommand, asked_by, asked_in, asked_of, form_of_run, form_of_serve, form_of_work, hash_named, is_verbose, is_verbose_in, number_named, number_of_digits, run_in, serve_in, subcommand_name, table_named, tables_in, tries_in, with_input, work_in};
+ghost use Rattle.mlt_cli.specs.CommandLine.{AreWithinDay, AskFor, FailsAt, IsFileWord, IsWithinBounds, SaysVerbose, Subcommand, asked_by, asked_in, asked_of, form_of_operating, form_of_run, form_of_schedule, form_of_serve, form_of_work, full_in, full_named, has_flag, hash_named, is_verbose_in, number_named, number_of_digits, operating_in, run_in, schedule_in, seconds_in, serve_in, subcommand_name, table_named, tables_in, times_in, tries_in, with_input, work_in};
 ghost use Rattle.mlt_cli.specs.CommandLine.Subcommand.{solo};
 
 use crate::commands::mltx_command;
@@ -33,6 +33,15 @@ pub struct Run {
     pub trace: Option<String>,
 }
 
+/// A schedule that is to be run.
+#[derive(Debug, Drop)]
+pub struct Schedule {
+    /// What is to be run.
+    pub run: Run,
+    /// Whether the reasons are told, where events are blocked or wait.
+    pub explains: bool,
+}
+
 /// Scripts that are to be run side by side.
 #[derive(Debug, Drop)]
 pub struct Work {
@@ -55,9 +64,41 @@ pub struct Serve {
     pub limit: u32,
     /// How often an operation may be told to wait, from 1 to 1,000,000; 10,000 where none is said.
     pub tries: u64,
-    /// After how many seconds a connection is cut that gives and takes nothing, from 0 to 86,400. 0 is never, also where
-    /// none is said.
+    /// After how many seconds a silence, a wait and an open transaction are ended.
+    pub times: Times,
+    /// What a client finds while all sessions are taken, `Wait` where none is named.
+    pub full: Full,
+    /// How the server is run and ended.
+    pub operating: Operating,
+}
+
+/// After how many seconds a server gives up, each from 0 to 86,400. 0 is never, also where none is said.
+#[derive(Clone, Copy, Debug, PartialEq, Eq)]
+pub struct Times {
+    /// After how many seconds a connection is cut that gives and takes nothing.
     pub idle: u64,
+    /// After how many seconds an operation that waits is told that it gave up.
+    pub wait: u64,
+    /// After how many seconds a transaction that is still open has its session cut.
+    pub transaction: u64,
+}
+
+/// What a client finds while all sessions are taken, by its name.
+#[derive(Clone, Copy, Debug, PartialEq, Eq)]
+pub enum Full {
+    /// It waits until a session ends.
+    Wait,
+    /// It is told that too many are open, and hears the end.
+    Refuse,
+}
+
+/// How an operator reaches a server and ends it.
+#[derive(Debug, Drop)]
+pub struct Operating {
+    /// The address at which an operator connects by HTTP, as it stands on the command line, if there is one.
+    pub admin: Option<String>,
+    /// Whether the server ends in order at the end of standard input.
+    pub until_eof: bool,
 }
 
 /// What the program is asked to do.
@@ -66,7 +107,7 @@ pub enum Job {
     /// To run the scripts of an input one after another.
     Solo(Run),
     /// To run the schedule of an input.
-    Steps(Run),
+    Steps(Schedule),
     /// To run the scripts of an input side by side.
     Work(Work),
     /// To check the trace of an input.
@@ -94,6 +135,9 @@ static HASH_NAMES: [&str; 2] = ["mult", "low"];
 
 // The names of the conflict tables.
 static TABLE_NAMES: [&str; 3] = ["account", "set", "counter"];
+
+// The names of what a client finds while all sessions are taken.
+static FULL_NAMES: [&str; 2] = ["wait", "refuse"];
 
 /// The job that the words after the program's name ask for, and whether they have `-v` or `--verbose`. With no words it is
 /// `solo -`.
@@ -140,7 +184,9 @@ fn read_job(alloc: Global, words: &[String]) -> Result<CommandLine, Error>
             verbose: false,
         });
     }
-    let mut command = mltx_command(alloc, HASH_NAMES.as_slice(), TABLE_NAMES.as_slice())?;
+    let names = HASH_NAMES.as_slice();
+    let tables = TABLE_NAMES.as_slice();
+    let mut command = mltx_command(alloc, names, tables, FULL_NAMES.as_slice())?;
     let matches = command.try_get_matches_from_mut(words)?;
     let verbose = is_verbose_in(&matches);
     match job_in(alloc, &matches)? {
@@ -166,15 +212,16 @@ fn is_verbose_in(matches: &ArgMatches<'_>) -> bool
         ≡ is_verbose_in (rows_of (found_of matches.now)) (subcommand_rows_of matches.now) }
 {
     match matches.subcommand() {
-        Some((_, found)) => is_verbose(matches) || is_verbose(found),
-        None => is_verbose(matches),
+        Some((_, found)) => flag_found(matches, "verbose") || flag_found(found, "verbose"),
+        None => flag_found(matches, "verbose"),
     }
 }
 
-fn is_verbose(found: &ArgMatches<'_>) -> bool
-    ensures { result ≡ is_verbose (rows_of (found_of found.now)) }
+// Whether a flag was met.
+fn flag_found(found: &ArgMatches<'_>, id: &str) -> bool
+    ensures { result ≡ has_flag id.now (rows_of (found_of found.now)) }
 {
-    match found.get_str("verbose") {
+    match found.get_str(id) {
         Some(text) => text == "true",
         None => false,
     }
@@ -199,7 +246,7 @@ fn job_of(alloc: Global, name: &str, found: &ArgMatches<'_>) -> Result<Option<Jo
     if name == "solo" {
         Ok(run_found(alloc, found)?.map(Job::Solo))
     } else if name == "steps" {
-        Ok(run_found(alloc, found)?.map(Job::Steps))
+        Ok(schedule_found(alloc, found)?.map(Job::Steps))
     } else if name == "run" {
         Ok(work_found(alloc, found)?.map(Job::Work))
     } else if name == "check" {
@@ -225,6 +272,17 @@ fn run_found(alloc: Global, found: &ArgMatches<'_>) -> Result<Option<Run>, Alloc
     };
     let trace = text_found(alloc, found, "trace")?;
     Ok(Some(Run { input, hash, trace }))
+}
+
+fn schedule_found(alloc: Global, found: &ArgMatches<'_>) -> Result<Option<Schedule>, AllocError>
+    ensures { IfOk result (λ schedule.
+        option_map form_of_schedule schedule ≡ schedule_in (rows_of (found_of found.now))) }
+{
+    let Some(run) = run_found(alloc, found)? else {
+        return Ok(None);
+    };
+    let explains = flag_found(found, "explain");
+    Ok(Some(Schedule { run, explains }))
 }
 
 fn work_found(alloc: Global, found: &ArgMatches<'_>) -> Result<Option<Work>, AllocError>
@@ -267,16 +325,51 @@ fn serve_found(alloc: Global, found: &ArgMatches<'_>) -> Result<Option<Serve>, A
     let Some(tries) = tries_found(found) else {
         return Ok(None);
     };
-    let Some(idle) = number_found(found, "idle", 0, 86_400, 0) else {
+    let Some(times) = times_found(found) else {
         return Ok(None);
     };
+    let Some(full) = full_found(found) else {
+        return Ok(None);
+    };
+    let operating = operating_found(alloc, found)?;
     Ok(Some(Serve {
         run,
         sessions: sessions as usize,
         limit: limit as u32,
         tries,
-        idle,
+        times,
+        full,
+        operating,
     }))
+}
+
+fn times_found(found: &ArgMatches<'_>) -> Option<Times>
+    ensures times { result ≡ times_in (rows_of (found_of found.now)) }
+    ensures within { IfSome result AreWithinDay }
+{
+    let idle = seconds_found(found, "idle")?;
+    let wait = seconds_found(found, "wait")?;
+    let transaction = seconds_found(found, "open")?;
+    Some(Times {
+        idle,
+        wait,
+        transaction,
+    })
+}
+
+fn full_found(found: &ArgMatches<'_>) -> Option<Full>
+    ensures { result ≡ full_in (rows_of (found_of found.now)) }
+{
+    full_of(found.get_str("full"))
+}
+
+fn operating_found(alloc: Global, found: &ArgMatches<'_>) -> Result<Operating, AllocError>
+    ensures { IfOk result
+        (λ operating. form_of_operating operating ≡ operating_in (rows_of (found_of found.now))) }
+{
+    let admin = text_found(alloc, found, "admin")?;
+    let until_eof = flag_found(found, "until-eof");
+    Ok(Operating { admin, until_eof })
 }
 
 // The table that is named, if one is; None where there is none of the name.
@@ -320,6 +413,14 @@ fn tries_found(found: &ArgMatches<'_>) -> Option<u64>
     number_found(found, "tries", 1, 1_000_000, 10_000)
 }
 
+// The seconds that an option gives, at most a day, and 0 where it is not given.
+fn seconds_found(found: &ArgMatches<'_>, id: &str) -> Option<u64>
+    ensures number { result ≡ seconds_in id.now (rows_of (found_of found.now)) }
+    ensures within { IfSome result (λ seconds. seconds ≤ 86400) }
+{
+    number_found(found, id, 0, 86_400, 0)
+}
+
 // The number that an option gives within these bounds, and the usual one where it is not given.
 fn number_found(found: &ArgMatches<'_>, id: &str, least: u64, most: u64, usual: u64) -> Option<u64>
     requires least { least ≤ usual }
@@ -353,6 +454,18 @@ fn hash_of(name: Option<&str>) -> Option<Hash>
         None => Some(Hash::Mult),
         Some(name) if name == "mult" => Some(Hash::Mult),
         Some(name) if name == "low" => Some(Hash::Low),
+        Some(_) => None,
+    }
+}
+
+// What a client finds by this name, and `Wait` where none is given.
+fn full_of(name: Option<&str>) -> Option<Full>
+    ensures { result ≡ full_named (option_map (λ name. name.now) name.entry) }
+{
+    match name {
+        None => Some(Full::Wait),
+        Some(name) if name == "wait" => Some(Full::Wait),
+        Some(name) if name == "refuse" => Some(Full::Refuse),
         Some(_) => None,
     }
 }

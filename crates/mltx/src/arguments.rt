@@ -6,7 +6,15 @@ use std::env;
 use std::io::ErrorKind;
 
 // The options that take a number.
-const NUMBER_OPTIONS: [&str; 5] = ["--workers", "--tries", "--sessions", "--limit", "--idle"];
+const NUMBER_OPTIONS: [&str; 7] = [
+    "--workers",
+    "--tries",
+    "--sessions",
+    "--limit",
+    "--idle",
+    "--wait",
+    "--open",
+];
 
 /// The words after the program's name. A negative number behind an option that takes a number is joined to it by a `=`: it
 /// is wrong either way, and so it is not taken for an option.

@@ -28,6 +28,8 @@ pub(crate) enum Known {
     OfOutput(io::Error),
     /// What the system says of the file for the trace.
     OfTrace(io::Error),
+    /// What the system says of the operator's address.
+    OfAdmin(io::Error),
     /// The input's text, in which the refusal names a line.
     Text(Vec<u8>),
 }
@@ -94,6 +96,7 @@ pub(crate) fn explain(rt: &HostRuntime, job: &Job, failure: &Failure) -> Result<
         }
         Known::OfOutput(error) => say_error(rt, "standard output", *error),
         Known::OfTrace(error) => say_error(rt, trace_name(job), *error),
+        Known::OfAdmin(error) => say_of_address(rt, admin_name(job), *error),
         Known::Text(text) => match fault_of(job, failure.refusal) {
             Some((fault, line)) => {
                 let detail = Detail::Faulty(fault, line, text.as_slice());
@@ -113,23 +116,40 @@ fn say_error(rt: &HostRuntime, subject: &str, error: io::Error) -> Result<(), Re
     say(rt, subject, words.as_str())
 }
 
-// What the system says of FILE or ADDR, and how an ADDR is written where it is none.
+// What the system says of FILE or ADDR.
 fn say_of_input(rt: &HostRuntime, job: &Job, error: io::Error) -> Result<(), Refusal> {
     match job {
-        Job::Serve(serve) if error.kind() == ErrorKind::InvalidInput => {
-            let words = format!(in rt.alloc();
-                "{error}; expected: an IP address or the name of a host, a colon, and a port of 0 to 65535, as 127.0.0.1:7000"
-            )?;
-            say(rt, serve.run.input.as_str(), words.as_str())
-        }
+        Job::Serve(serve) => say_of_address(rt, serve.run.input.as_str(), error),
         _ => say_error(rt, input_name(job), error),
+    }
+}
+
+// What the system says of an address, and how one is written where it is none.
+fn say_of_address(rt: &HostRuntime, address: &str, error: io::Error) -> Result<(), Refusal> {
+    if error.kind() != ErrorKind::InvalidInput {
+        return say_error(rt, address, error);
+    }
+    let words = format!(in rt.alloc();
+        "{error}; expected: an IP address or the name of a host, a colon, and a port of 0 to 65535, as 127.0.0.1:7000"
+    )?;
+    say(rt, address, words.as_str())
+}
+
+fn admin_name(job: &Job) -> &str {
+    match job {
+        Job::Serve(serve) => match &serve.operating.admin {
+            Some(address) => address.as_str(),
+            None => "",
+        },
+        _ => "",
     }
 }
 
 // FILE or ADDR, as it stands on the command line; what is written to where there is none.
 fn input_name(job: &Job) -> &str {
     match job {
-        Job::Solo(run) | Job::Steps(run) => file_name(run.input.as_str()),
+        Job::Solo(run) => file_name(run.input.as_str()),
+        Job::Steps(schedule) => file_name(schedule.run.input.as_str()),
         Job::Work(work) => file_name(work.run.input.as_str()),
         Job::Check { file } => file_name(file.as_str()),
         Job::Serve(serve) => serve.run.input.as_str(),
@@ -143,7 +163,8 @@ fn file_name(file: &str) -> &str {
 
 fn trace_name(job: &Job) -> &str {
     match job {
-        Job::Solo(run) | Job::Steps(run) => trace_of(run),
+        Job::Solo(run) => trace_of(run),
+        Job::Steps(schedule) => trace_of(&schedule.run),
         Job::Work(work) => trace_of(&work.run),
         Job::Serve(serve) => trace_of(&serve.run),
         Job::Check { .. } | Job::Tables(_) => "",

@@ -4,40 +4,47 @@
 mod arguments;
 mod failure;
 mod input;
+mod input_end;
+mod opened;
 mod output;
+mod streams;
 
-ghost use Rattle.std.specs.Prelude.{◌≤◌, ◌<◌};
+ghost use Rattle.std.specs.Prelude.{◌≡◌, ◌≤◌, ◌<◌};
 ghost use Rattle.mlt_cli.specs.CommandLine.{IsWithinBounds};
 
 use arguments::words;
 use failure::{Failure, Known, explain};
 use input::Input;
+use input_end::InputEnd;
 use mlt_cli::{
-    CommandLine, Hash, Job, Run, Serve, Work, read_words, report_command_line, report_fault, status,
+    CommandLine, Full, Hash, Job, Run, Schedule, Serve, Work, read_words, report_command_line,
+    report_fault, status,
 };
 use mlt_manager_laws::{
     aborts_of_a_run_take_few_steps, managers_of_a_run_keep_their_promises,
     operations_of_a_run_take_few_steps,
 };
 use mlt_manager_solo::solo;
-use mlt_manager_steps::steps;
+use mlt_manager_steps::{explained_steps, steps};
 use mlt_object_tables::{TableName, write_tables};
-use mlt_serve::{ServeOptions, serve_on};
+use mlt_serve::{Admin, Operating, ServeOptions, serve_on};
 use mlt_text::write_text;
 use mlt_trace::{KeptItem, write_trace};
 use mlt_trace_check::check_trace;
 use mlt_types::{Limits, Low, Mult, Pseudo, Refusal};
 use mlt_work::{BeginQueue, RunOptions, run_scripts};
+use opened::Opened;
 use output::Output;
 use std::fs::File;
 use std::io;
-use std::net::TcpListener;
 use std::process::ExitCode;
 use std::sync::Wait;
 use std::thread::Threads;
 use std::time::{Clock, Duration};
+use streams::Streams;
 
 fn main(rt: HostRuntime) -> ExitCode {
+    let _streams = Streams::open(&rt);
     ExitCode::from(run(&rt, &rt))
 }
 
@@ -99,9 +106,9 @@ fn do_job<T: Threads + Wait + Clock + Sync>(
             Hash::Mult => run_solo(rt, run, keeps, Mult),
             Hash::Low => run_solo(rt, run, keeps, Low),
         },
-        Job::Steps(run) => match run.hash {
-            Hash::Mult => run_steps(rt, run, keeps, Mult),
-            Hash::Low => run_steps(rt, run, keeps, Low),
+        Job::Steps(schedule) => match schedule.run.hash {
+            Hash::Mult => run_steps(rt, schedule, keeps, Mult),
+            Hash::Low => run_steps(rt, schedule, keeps, Low),
         },
         Job::Work(work) => match work.run.hash {
             Hash::Mult => run_work(rt, threads, work, keeps, Mult),
@@ -159,25 +166,24 @@ fn run_solo<P: Pseudo + Drop>(
 
 fn run_steps<P: Pseudo + Drop>(
     rt: &HostRuntime,
-    run: &Run,
+    schedule: &Schedule,
     keeps: bool,
     pseudo: P,
 ) -> Result<(), Failure> {
-    let mut input = open(rt, run.input.as_str(), keeps)?;
+    let mut input = open(rt, schedule.run.input.as_str(), keeps)?;
     let mut output = Output::new(io::writer(rt));
-    let told = steps(
-        rt.alloc(),
-        &mut input,
-        &mut output,
-        Limits::program(),
-        pseudo,
-    );
+    let limits = Limits::program();
+    let told = if schedule.explains {
+        explained_steps(rt.alloc(), &mut input, &mut output, limits, pseudo)
+    } else {
+        steps(rt.alloc(), &mut input, &mut output, limits, pseudo)
+    };
     let manager = run_outcome(told, input, output.failure())?;
     // What held between any two events, and how many steps its operations took, and its aborts.
     managers_of_a_run_keep_their_promises::<P>();
     operations_of_a_run_take_few_steps::<P>();
     aborts_of_a_run_take_few_steps::<P>();
-    let written = write_history(rt, manager.history(), run);
+    let written = write_history(rt, manager.history(), &schedule.run);
     manager.close();
     written
 }
@@ -241,57 +247,70 @@ fn run_server<P: Pseudo + Drop + Send, T: Threads + Wait + Clock + Sync>(
     requires some { 0 < serve.now.sessions }
     requires most { serve.now.sessions ≤ 64 }
 {
-    let listener = match TcpListener::bind(rt, serve.run.input.as_str()) {
-        Ok(listener) => listener,
-        Err(error) => return Err(Failure::of_call(Known::OfInput(error))),
+    let opened = Opened::open(rt, serve)?;
+    opened.report(rt)?;
+    let Opened {
+        listener,
+        admin,
+        trace,
+        keys,
+    } = opened;
+    let operating = Operating {
+        notes: rt.stderr(),
+        trace,
+        signal: InputEnd::new(rt, serve.operating.until_eof),
+        admin: match &admin {
+            Some(listener) => Some(Admin { listener, keys }),
+            None => None,
+        },
     };
-    report_address(rt, &listener)?;
-    let options = ServeOptions {
+    let options = serve_options(serve);
+    let served = serve_on(threads, rt.alloc(), &listener, pseudo, &options, operating)?;
+    served.manager.close();
+    write_served(rt, served.connections)?;
+    match served.trace_failure {
+        Some(error) => Err(Failure::of_call(Known::OfTrace(error))),
+        None => Ok(()),
+    }
+}
+
+fn serve_options(serve: &Serve) -> ServeOptions
+    ensures { result.sessions ≡ serve.now.sessions }
+{
+    ServeOptions {
         limits: Limits::program(),
         sessions: serve.sessions,
         connections: serve.limit,
         tries: serve.tries,
-        idle: match serve.idle {
-            0 => None,
-            seconds => Some(Duration::from_secs(seconds)),
-        },
-    };
-    let (_outcomes, manager) = serve_on(threads, rt.alloc(), &listener, pseudo, &options)?;
-    let written = write_served(rt, serve, manager.history());
-    manager.close();
-    written
+        idle: seconds(serve.times.idle),
+        wait: seconds(serve.times.wait),
+        open: seconds(serve.times.transaction),
+        refuses: serve.full == Full::Refuse,
+    }
 }
 
-// Tells on standard error where the server listens, with the port that it got where port 0 was asked for. A server whose
-// line can't be written goes on.
-fn report_address(rt: &HostRuntime, listener: &TcpListener) -> Result<(), Failure> {
-    let address = match listener.local_addr() {
-        Ok(address) => address,
-        Err(error) => return Err(Failure::of_call(Known::OfInput(error))),
-    };
-    let text = match format!(in rt.alloc(); "mltx: listening on {address}\n") {
-        Ok(text) => text,
-        Err(refused) => return Err(Failure::from(Refusal::from(refused))),
-    };
-    let _ = write_text(&mut rt.stderr(), text.as_bytes());
-    Ok(())
+// So many seconds; 0 is for ever.
+fn seconds(count: u64) -> Option<Duration> {
+    match count {
+        0 => None,
+        _ => Some(Duration::from_secs(count)),
+    }
 }
 
-// Writes how many connections were served, and then the trace.
-fn write_served(rt: &HostRuntime, serve: &Serve, items: &[KeptItem]) -> Result<(), Failure> {
-    let limit = serve.limit;
-    let text = match format!(in rt.alloc(); "served {limit}\n") {
+// Writes how many connections were served.
+fn write_served(rt: &HostRuntime, connections: u32) -> Result<(), Failure> {
+    let text = match format!(in rt.alloc(); "served {connections}\n") {
         Ok(text) => text,
         Err(refused) => return Err(Failure::from(Refusal::from(refused))),
     };
     let mut output = Output::new(io::writer(rt));
-    if let Err(refusal) = write_text(&mut output, text.as_bytes()) {
-        return Err(match output.failure() {
+    match write_text(&mut output, text.as_bytes()) {
+        Ok(()) => Ok(()),
+        Err(refusal) => Err(match output.failure() {
             Some(error) => Failure::of_call(Known::OfOutput(error)),
             None => Failure::from(refusal),
-        });
+        }),
     }
-    write_history(rt, items, &serve.run)
 }
 
 // Writes the trace of what the transactions did, where a file for it is named.

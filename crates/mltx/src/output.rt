@@ -1,5 +1,6 @@
 //! What the program writes to.
 
+use std::fs::File;
 use std::io;
 use std::io::Write;
 
@@ -21,6 +22,13 @@ impl<W: Write> Output<W> {
     /// Why a write or a flush failed, if one did.
     pub(crate) fn failure(&self) -> Option<io::Error> {
         self.failed
+    }
+}
+
+impl Output<File> {
+    /// Cuts the file to so many bytes.
+    pub(crate) fn set_length(&self, length: u64) -> io::Result<()> {
+        self.writer.set_len(length)
     }
 }
 

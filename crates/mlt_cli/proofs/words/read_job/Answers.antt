@@ -10,8 +10,8 @@ pub returns-in_err-matches-clause-err : goal.returns-in_err-matches-clause-err
 returns-in_err-matches-clause-err c =
     let words = map string_bytes c.args.words.now in
     let some : words ≢ [] = not_empty string_bytes c.args.words.now (search rules) in
-    let names = names_of c.as_slice.result c.as_slice-2.result in
-    let are : AreNames names = (search rules, search rules) in
+    let names = names_of c.as_slice-names.result c.as_slice-tables.result c.as_slice.result in
+    let are : AreNames names = (search rules, search rules, search rules) in
     let app : app_of c.in_ok-command.command ≡ mltx_app names = c.in_ok-command.ensures in
     let kinds = c.in_err-matches.ensures.kinds (ap is_simple_and_free app ∙ mltx_is_free names) in
     let p = err_from_is_err_and c.from_residual-in_err-matches.result c.from_residual-in_err-matches.ensures.1 in
@@ -26,8 +26,8 @@ pub returns-in-Some-clause-ok : goal.returns-in-Some-clause-ok
 returns-in-Some-clause-ok c =
     let words = map string_bytes c.args.words.now in
     let some : words ≢ [] = not_empty string_bytes c.args.words.now (search rules) in
-    let names = names_of c.as_slice.result c.as_slice-2.result in
-    let are : AreNames names = (search rules, search rules) in
+    let names = names_of c.as_slice-names.result c.as_slice-tables.result c.as_slice.result in
+    let are : AreNames names = (search rules, search rules, search rules) in
     let app : app_of c.in_ok-command.command ≡ mltx_app names = c.in_ok-command.ensures in
     let met : subcommand_rows_of c.in_ok-matches.matches ≡ subcommand_of (app_of c.in_ok-command.command) words = (c.in_ok-matches.ensures.ok.2 (ap is_simple app ∙ mltx_is_simple names)).1 in
     let found : Some (asked_of c.in-Some.job) ≡ asked_in (subcommand_rows_of c.in_ok-matches.matches) = ap (option_map asked_of) (sym c.in-Some.is) ∙ c.in_ok-job.ensures.asked in
@@ -38,8 +38,8 @@ pub returns-in-Some-clause-verbose : goal.returns-in-Some-clause-verbose
 returns-in-Some-clause-verbose c =
     let words = map string_bytes c.args.words.now in
     let some : words ≢ [] = not_empty string_bytes c.args.words.now (search rules) in
-    let names = names_of c.as_slice.result c.as_slice-2.result in
-    let are : AreNames names = (search rules, search rules) in
+    let names = names_of c.as_slice-names.result c.as_slice-tables.result c.as_slice.result in
+    let are : AreNames names = (search rules, search rules, search rules) in
     let app : app_of c.in_ok-command.command ≡ mltx_app names = c.in_ok-command.ensures in
     let met = c.in_ok-matches.ensures.ok.2 (ap is_simple app ∙ mltx_is_simple names) in
     says_verbose names are (app_of c.in_ok-command.command) app words c.is_verbose_in-verbose.result some
@@ -54,8 +54,8 @@ pub returns-clause-err : goal.returns-clause-err
 returns-clause-err c =
     let words = map string_bytes c.args.words.now in
     let some : words ≢ [] = not_empty string_bytes c.args.words.now (search rules) in
-    let names = names_of c.as_slice.result c.as_slice-2.result in
-    let are : AreNames names = (search rules, search rules) in
+    let names = names_of c.as_slice-names.result c.as_slice-tables.result c.as_slice.result in
+    let are : AreNames names = (search rules, search rules, search rules) in
     let app : app_of c.in_ok-command.command ≡ mltx_app names = c.in_ok-command.ensures in
     let met : subcommand_rows_of c.in_ok-matches.matches ≡ subcommand_of (app_of c.in_ok-command.command) words = (c.in_ok-matches.ensures.ok.2 (ap is_simple app ∙ mltx_is_simple names)).1 in
     let none : None ≡ asked_in (subcommand_rows_of c.in_ok-matches.matches) = ap (option_map asked_of) (sym c.in-None.is) ∙ c.in_ok-job.ensures.asked in
