@@ -9,7 +9,8 @@ import threading
 import time
 from contextlib import ExitStack, contextmanager, suppress
 
-from harness import PATIENCE, all_threads_are, each, expect, free_address, holds, lines, listening, same, state_of, test
+from harness import BROKEN, IDLE, PATIENCE, all_threads_are, cut_for, each, expect, free_address, holds, lines, listening
+from harness import of_system, same, state_of, test
 
 FAULT = b"mltx: 13 Io\n"
 
@@ -215,14 +216,15 @@ SAID = lines("begin|open 1|deposit 1 5|commit|begin|up 7 1|quit")
 TOLD = lines("begun 1|opened|done|committed 1|begun 2|done|bye")
 
 
-def served(mltx, fail, limit=1, address=None):
-    """What the first client hears that sends all of SAID, what the server comes to, and its trace."""
+def served(mltx, fail, limit=1, address=None, said=None):
+    """What the first client hears that sends all of SAID, what the server comes to, without what it first `said`, and its
+    trace."""
     trace = mltx.folder / "trace"
     trace.unlink(missing_ok=True)
     with mltx.serve("--trace", trace, limit=limit, address=address, env=mltx.shim(FAIL=fail)) as server:
         with server.connect() as peer:
             heard = peer.say_all(SAID)
-        return heard.decode(), server.end(), trace.read_text() if trace.exists() else None
+        return heard.decode(), server.end(said), trace.read_text() if trace.exists() else None
 
 
 def has_ended_all(trace, what):
@@ -238,7 +240,7 @@ def each_receipt_of_a_session_fails(mltx):
         what = f"a session whose byte {number} fails to come"
         heard, ended, trace = served(mltx, f"recv {number} {errno.EIO} 1")
         same(heard, "".join(TOLD.splitlines(keepends=True)[: SAID[: number - 1].count("\n")]), what)
-        expect(ended, out="served 1\n", what=what)
+        expect(ended, out="served 1\n", notes=[cut_for(1, BROKEN)], what=what)
         has_ended_all(trace, what)
         same("commit 1 1" in trace, "committed 1" in heard, f"{what}: whether it has committed in {trace!r}")
 
@@ -253,7 +255,7 @@ def sendings_fail(mltx, fault):
         what = f"a session whose answers' byte {number} fails to go by {errno.errorcode.get(fault, 'taking nothing')}"
         heard, ended, trace = served(mltx, f"send {number} {fault} 1")
         same(heard, TOLD[: number - 1], what)
-        expect(ended, out="served 1\n", what=what)
+        expect(ended, out="served 1\n", notes=[cut_for(1, BROKEN)], what=what)
         has_ended_all(trace, what)
 
 
@@ -279,17 +281,28 @@ def calls_of_sockets_are_interrupted(mltx, case):
 
 @test(seconds=3)
 def each_write_of_serve_fails(mltx):
-    """Whichever write at the end of a server fails, that is 13, and what went out is a prefix of the line, then of the
-    trace. The sessions are not touched."""
-    address = free_address()
-    before = len(listening(address))
-    for number in range(1, len(SERVED + SERVED_TRACE) + 1):
+    """Whichever write of the line at the end of a server fails, that is 13, and what went out is a prefix of it. The sessions are
+    not touched."""
+    for number in range(1, len(SERVED) + 1):
         what = f"a server whose write {number} at its end fails"
-        heard, ended, left = served(mltx, f"write {before + number} {errno.EIO} 1", address=address)
+        heard, ended, _ = served(mltx, f"write-out {number} {errno.EIO} 1")
         same(heard, TOLD, what)
         expect(ended, status=1, out=SERVED[: number - 1], err=FAULT, what=what)
-        wanted = None if number <= len(SERVED) else SERVED_TRACE[: number - 1 - len(SERVED)]
-        same(left, wanted, f"{what}: the trace")
+
+
+@each({f"each-write-of-the-trace-of-serve-{name}": fault for name, fault in WRITE_FAULTS.items()}, seconds=3)
+def writes_of_the_trace_of_serve_fail(mltx, fault):
+    """Whichever fails, that is noted, and is 13 at the end. Whole lines of what went out are left. The sessions are not
+    touched."""
+    for number in range(1, len(SERVED_TRACE) + 1):
+        what = f"a server whose write {number} of the trace fails by {errno.errorcode.get(fault, 'taking nothing')}"
+        heard, ended, left = served(mltx, f"write-file {number} {fault} 1 1000000")
+        same(heard, TOLD, what)
+        holds(len(ended.notes) == 1 and ended.notes[0].startswith("the trace is written no further: "), f"{what}: {ended.notes}")
+        expect(ended, status=1, out=SERVED, err=FAULT, notes=ended.notes, what=what)
+        holds(SERVED_TRACE[: number - 1].startswith(left) and left[-1:] in ("", "\n"), f"{what}: the trace is {left!r}")
+        if fault:
+            same(ended.notes[0].partition(": ")[2], of_system(fault), what)
 
 
 @each({f"each-write-of-where-a-server-listens-{name}": fault for name, fault in WRITE_FAULTS.items()}, seconds=1)
@@ -299,26 +312,23 @@ def writes_of_where_a_server_listens_fail(mltx, fault):
     line = listening(address)
     for number in range(1, len(line) + 1):
         what = f"a server whose write {number} fails by {errno.errorcode.get(fault, 'taking nothing')}"
-        heard, ended, trace = served(mltx, f"write {number} {fault} 1", address=address)
+        heard, ended, trace = served(mltx, f"write-error {number} {fault} 1", address=address, said=line[: number - 1])
         same((heard, trace), (TOLD, SERVED_TRACE), what)
-        expect(ended, out=SERVED, err=line[: number - 1], what=what)
+        expect(ended, out=SERVED, what=what)
 
 
-ACCEPT_FAULTS = {"fails": errno.EINVAL, "finds-no-file-number": errno.EMFILE}
-
-
-@each({f"accept-{number}-{name}": (number, fault) for number in (1, 2) for name, fault in ACCEPT_FAULTS.items()})
-def accepts_fail(mltx, case):
-    """An accept that fails ends the server by 13, once the connections that were taken are served."""
-    number, fault = case
-    fail = f"accept {number} {fault} 0"
+@each({f"accept-{number}-fails": number for number in (1, 2)})
+def accepts_fail(mltx, number):
+    """An accept that fails for good ends the server by 13, once the connections that were taken are served."""
+    fail = f"accept {number} {errno.EINVAL} 0"
+    notes = [f"no more connections are taken: an accept failed: {of_system(errno.EINVAL)}"]
     if number == 1:
         with mltx.serve(env=mltx.shim(FAIL=fail)) as server:
-            expect(server.end(), status=1, err=FAULT, what="a server that accepts nobody")
+            expect(server.end(), status=1, err=FAULT, notes=notes, what="a server that accepts nobody")
         return
     heard, ended, trace = served(mltx, fail, limit=2)
-    same((heard, trace), (TOLD, None), "a server that accepts one")
-    expect(ended, status=1, err=FAULT, what="a server that accepts one")
+    same((heard, trace), (TOLD, SERVED_TRACE), "a server that accepts one")
+    expect(ended, status=1, err=FAULT, notes=notes, what="a server that accepts one")
 
 
 GONE = {f"connection-{number}-is-gone-{times}-times": (number, times) for number in (1, 2) for times in (1, 3)}
@@ -331,7 +341,8 @@ def connections_gone_before_they_are_accepted(mltx, case):
     with mltx.serve(limit=2, env=mltx.shim(FAIL=f"accept {number} {errno.ECONNABORTED} 0 {times}")) as server:
         same(server.talk("begin\nquit\n"), b"begun 1\nbye\n", "the first client")
         same(server.talk("begin\nquit\n"), b"begun 2\nbye\n", "the second client")
-        expect(server.end(), out="served 2\n")
+        note = f"an accept failed, and is tried again: {of_system(errno.ECONNABORTED)}"
+        expect(server.end(), out="served 2\n", notes=[note])
     same(mltx.counted()[1], 2 + times, "how often the server accepted")
 
 
@@ -457,4 +468,4 @@ def silent_client_of_a_server_that_is_stopped_again_and_again(mltx):
         took = time.monotonic() - begun
         same(peer.rest(), b"", "what it hears")
         holds(1 <= took < 10, f"the client was cut after {took} seconds")
-        expect(server.end(), out="served 1\n")
+        expect(server.end(), out="served 1\n", notes=[cut_for(1, IDLE)])

@@ -16,7 +16,7 @@ import time
 from concurrent.futures import ThreadPoolExecutor
 from unittest import mock
 
-from harness import PATIENCE, ROOT, each, expect, holds, lines, same, test
+from harness import BY_OPERATOR, PATIENCE, ROOT, cut_for, each, expect, free_address, holds, lines, same, test
 
 FOLDER = ROOT / "clients/python"
 sys.path.insert(0, str(FOLDER))
@@ -29,18 +29,23 @@ from mltx import (  # noqa: E402
     GaveUp,
     LogFull,
     NoRoom,
+    NoSuchClient,
     NoSuchTx,
+    OpenTransaction,
     Operation,
+    Operator,
     Refused,
     Reply,
     Retries,
     Running,
     ScriptFault,
+    ServedSession,
     ServerAway,
     SessionsTaken,
     TimedOut,
     TransactionOver,
     UnexpectedAnswer,
+    Wait,
 )
 
 # How long to listen for a line that must not come, in seconds.
@@ -641,6 +646,106 @@ def session_sends_all_that_it_may(mltx):
         same((session.ask("commit"), session.bytes_left), (["committed 1"], 0), "the last byte that it may send")
         raised(ConnectionLost, session.ask, "begin")
         expect(server.end(), out="served 1\n")
+
+
+@test
+def client_that_is_refused_while_all_sessions_are_taken(mltx):
+    """With `--full refuse` it is told at once, closes the connection, and is tried again by `run`."""
+    with mltx.serve("--sessions", 1, "--full", "refuse", limit=2) as server, connected(server) as holder:
+        held = holder.begin()
+        began = time.monotonic()
+        with Client(*server.address, session_timeout=PATIENCE) as client:
+            raised(SessionsTaken, client.begin)
+            raised(SessionsTaken, client.run, lambda tx: tx.up(7, 1))
+            holds(time.monotonic() - began < PATIENCE / 4, "it waits for a session")
+            held.commit()
+            holder.close()
+            same(client.run(lambda tx: tx.up(7, 1), retries=PATIENT), Reply.DONE, "once the session is free")
+        expect(server.end(), out="served 2\n")
+
+
+# What an operator sees and does.
+
+
+def seen_by(operator):
+    """What an operator sees of waits and sessions, without times, each of which is one."""
+    waits, sessions = operator.waits(), operator.sessions()
+    times = [it.seconds for it in (*waits, *sessions, *(row.transaction for row in sessions if row.transaction))]
+    holds(all(type(it) is float and 0 <= it < PATIENCE for it in times), f"times {times}")
+    waits = [(it.waiter, it.client, it.holder, it.reason, it.operation) for it in waits]
+    rows = [(row.client, (it := row.transaction) and (it.number, it.operations, it.did, it.calls)) for row in sessions]
+    return waits, sorted(rows)
+
+
+@test(seconds=1)
+def operator_sees_and_ends(mltx):
+    """What a server tells is told; a session is ended, of which its client hears; and the server ends."""
+    with mltx.serve(limit=9, admin=free_address()) as server, connected(server) as holder, connected(server) as waiter:
+        operator = Operator(*server.admin)
+        same(seen_by(operator), ([], [(1, None), (2, None)]), "without transactions")
+        held = holder.begin()
+        held.up(7, 5)
+        tx = waiter.begin()
+        tx.add(4, 9)
+        with ThreadPoolExecutor(1) as threads:
+            reading = threads.submit(tx.read, 7)
+            until = time.monotonic() + PATIENCE
+            while not operator.waits():
+                holds(time.monotonic() < until, "nobody waits")
+            rows = [(1, (1, 1, ("up 7 5 done",), None)), (2, (2, 1, ("add 4 9 added",), "read 7"))]
+            same(seen_by(operator), ([(2, 2, 1, "object", "read 7")], rows), "what is seen")
+            rows = operator.sessions()
+            kinds = {type(it) for it in (*operator.waits(), *rows, *(row.transaction for row in rows))}
+            same(kinds, {Wait, ServedSession, OpenTransaction}, "the kinds of what is seen")
+            told = operator.status()
+            same({name: told[name] for name in ("sessions", "open", "begun", "operations", "commits", "limit")},
+                 {"sessions": 2, "open": 2, "begun": 2, "operations": 2, "commits": 0, "limit": 9}, "the numbers")
+            for number in (0, 3, 10**9):
+                raised(NoSuchClient, operator.end_session, number)
+            same(operator.end_session(1), None, "the end of a session")
+            same(reading.result(PATIENCE), 0, "what the other one reads")
+        raised(ConnectionLost, held.up, 7, 1)
+        tx.commit()
+        same(operator.stop(), None, "the stop")
+        ended = server.end()
+        same((ended.status, ended.out, ended.err), (0, b"served 2\n", b""), "the server")
+        holds(cut_for(1, BY_OPERATOR) in ended.notes, f"{ended.notes}")
+        raised(ServerAway, operator.status)
+        raised(ServerAway, operator.stop)
+
+
+def answers_once(told):
+    """An operator of a server that answers one request so: as bytes, or not at all where there are none."""
+    listener = socket.create_server(("127.0.0.1", 0))
+
+    def answer():
+        with listener, listener.accept()[0] as asked:
+            asked.recv(65_536)
+            if told is None:
+                time.sleep(1)
+            elif told:
+                asked.sendall(told)
+
+    threading.Thread(target=answer, daemon=True).start()
+    return Operator(*listener.getsockname(), timeout=0.3)
+
+
+OK = b"HTTP/1.1 200 OK\r\nconnection: close\r\n\r\n"
+NO_OPERATORS = {
+    "no-answer": (None, TimedOut), "an-early-end": (b"", ConnectionLost),
+    "lines": (b"error 10 ScriptFault\n" * 3, UnexpectedAnswer), "no-json": (OK + b"<html>", UnexpectedAnswer),
+    "other-json": (OK + b"[1]", UnexpectedAnswer), "other-parts": (OK + b'{"waits":[{"a":1}]}', UnexpectedAnswer),
+    "another-status": (b"HTTP/1.1 404 Not Found\r\nconnection: close\r\n\r\n{}", UnexpectedAnswer),
+}
+
+
+@each({f"operator-that-meets-{name}": case for name, case in NO_OPERATORS.items()})
+def operator_of_another_server(_mltx, case):
+    told, kind = case
+    for ask in (Operator.status, Operator.waits, Operator.sessions):
+        if told != OK + b'{"waits":[{"a":1}]}' or ask is not Operator.sessions:
+            raised(kind, ask, answers_once(told))
+    raised(ValueError, Operator, "127.0.0.1", 0)
 
 
 def shown_in(page, before):

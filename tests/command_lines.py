@@ -31,6 +31,8 @@ OF_FILES = [
     (("steps", "events"), EVENTS_TOLD),
     (("steps", "--hash=mult", "events"), EVENTS_TOLD),
     (("steps", "--trace=b.txt", "events", "--hash=low"), EVENTS_TOLD),
+    (("steps", "--explain", "events"), EVENTS_TOLD),
+    (("steps", "--hash", "low", "events", "--trace=b.txt", "--explain"), EVENTS_TOLD),
     (("check", "a.trace"), CHECKED),
     (("check", "solo"), CHECKED),
     (("check", "--", "--trace"), CHECKED),
@@ -47,6 +49,7 @@ OF_STANDARD_INPUT = [
     (("solo", "-", "--trace", "b.txt"), FIRST_RUN, TOLD),
     (("steps", "-"), EVENTS, EVENTS_TOLD),
     (("steps", "--trace=b.txt", "--hash=low", "-"), EVENTS, EVENTS_TOLD),
+    (("steps", "-", "--explain"), EVENTS, EVENTS_TOLD),
     (("run", "-"), FIRST_RUN, RUN_TOLD),
     (("run", "-", "--tries=1000000", "--workers=8", "--hash", "low"), FIRST_RUN, RUN_TOLD),
     (("check", "-"), TRACE, CHECKED),
@@ -77,7 +80,7 @@ OPTIONS = ("-v, --verbose", "--hash", "mult", "low", "--trace <FILE>")
 HELP = {
     "help": ("Usage: mltx", "solo", "steps", "run", "check", "serve", "tables", "--help", "--version", "-v, --verbose", "solo -"),
     "help-solo": ("mltx solo [OPTIONS] <FILE>", "standard input", *OPTIONS),
-    "help-steps": ("mltx steps [OPTIONS] <FILE>", "standard input", *OPTIONS),
+    "help-steps": ("mltx steps [OPTIONS] <FILE>", "standard input", *OPTIONS, "--explain"),
     "help-run": (
         *("mltx run [OPTIONS] <FILE>", "standard input", *OPTIONS),
         *("--workers <N>", "1 to 8; without it 4", "--tries <N>", "1 to 1000000; without it 10000"),
@@ -88,7 +91,11 @@ HELP = {
         *("mltx serve [OPTIONS] <ADDR>", "127.0.0.1:7000", *OPTIONS, "--sessions <N>", "1 to 64; without it 8"),
         *("--limit <N>", "1 to 1000000; without it 1", "--tries <N>", "1 to 1000000; without it 10000"),
         *("--idle <SECONDS>", "from 0, which is for ever, to 86400; without it 0"),
-        *("mltx serve 127.0.0.1:7000 --limit 1000000 --sessions 64 --idle 600", "mltx: listening on 127.0.0.1:7000"),
+        *("--wait <SECONDS>", "an operation may wait, from 0, which is for ever, to 86400; without it 0"),
+        *("--open <SECONDS>", "a transaction may be open, from 0, which is for ever, to 86400; without it 0"),
+        *("--full <FULL>", "without it `wait`", "refuse", "--admin <ADDR>", "without it there is none", "--until-eof"),
+        *("mltx serve 127.0.0.1:7000 --limit 1000000 --sessions 64 --idle 600 --until-eof --admin 127.0.0.1:7001",),
+        "mltx: listening on 127.0.0.1:7000",
     ),
 }
 
@@ -179,11 +186,37 @@ WRONG = {
     "check-has-no-trace": (("check", "--trace", "b.txt", "a.txt"), "'--trace'"),
     "solo-has-no-workers": (("solo", "--workers", "2", "a.txt"), "'--workers'"),
     "steps-has-no-tries": (("steps", "--tries", "2", "a.txt"), "'--tries'"),
+    "explain-twice": (("steps", "--explain", "a.txt", "--explain"), "'--explain'"),
+    "explain-has-no-value": (("steps", "--explain=yes", "a.txt"), "'--explain'"),
+    "solo-does-not-explain": (("solo", "--explain", "a.txt"), "'--explain'"),
+    "run-does-not-explain": (("run", "--explain", "a.txt"), "'--explain'"),
+    "check-does-not-explain": (("check", "--explain", "a.txt"), "'--explain'"),
+    "serve-does-not-explain": (("serve", "--explain", "127.0.0.1:0"), "'--explain'"),
     "run-has-no-sessions": (("run", "--sessions", "2", "a.txt"), "'--sessions'"),
     "run-has-no-limit": (("run", "--limit", "2", "a.txt"), "'--limit'"),
     "run-has-no-idle-time": (("run", "--idle", "2", "a.txt"), "'--idle'"),
     "idle-without-seconds": (("serve", "127.0.0.1:0", "--idle"), "'--idle <SECONDS>'"),
     "idle-twice": (("serve", "--idle", "1", "--idle", "1", "127.0.0.1:0"), "'--idle <SECONDS>'"),
+    "run-has-no-waiting-time": (("run", "--wait", "2", "a.txt"), "'--wait'"),
+    "run-has-no-open-time": (("run", "--open", "2", "a.txt"), "'--open'"),
+    "run-has-no-full": (("run", "--full", "wait", "a.txt"), "'--full'"),
+    "solo-has-no-admin": (("solo", "--admin", "127.0.0.1:0", "a.txt"), "'--admin'"),
+    "steps-has-no-end-by-standard-input": (("steps", "--until-eof", "a.txt"), "'--until-eof'"),
+    "end-by-standard-input-before-the-subcommand": (("--until-eof", "serve", "127.0.0.1:0"), "'--until-eof'"),
+    "wait-without-seconds": (("serve", "127.0.0.1:0", "--wait"), "'--wait <SECONDS>'"),
+    "open-without-seconds": (("serve", "127.0.0.1:0", "--open"), "'--open <SECONDS>'"),
+    "full-without-a-value": (("serve", "127.0.0.1:0", "--full"), "'--full <FULL>'"),
+    "admin-without-an-address": (("serve", "127.0.0.1:0", "--admin"), "'--admin <ADDR>'"),
+    "wait-twice": (("serve", "--wait", "1", "--wait", "2", "127.0.0.1:0"), "'--wait <SECONDS>'"),
+    "open-twice": (("serve", "--open=0", "127.0.0.1:0", "--open=0"), "'--open <SECONDS>'"),
+    "full-twice": (("serve", "--full", "wait", "--full", "refuse", "127.0.0.1:0"), "'--full <FULL>'"),
+    "admin-twice": (("serve", "--admin", "127.0.0.1:0", "--admin=127.0.0.1:0", "127.0.0.1:0"), "'--admin <ADDR>'"),
+    "until-eof-twice": (("serve", "--until-eof", "127.0.0.1:0", "--until-eof"), "'--until-eof'"),
+    "until-eof-with-a-value": (("serve", "--until-eof=true", "127.0.0.1:0"), "'--until-eof'"),
+    "until-eof-has-no-short-name": (("serve", "-u", "127.0.0.1:0"), "'-u'"),
+    "full-of-another-name": (("serve", "--full", "drop", "127.0.0.1:0"), "'drop'"),
+    "full-of-an-empty-name": (("serve", "--full=", "127.0.0.1:0"), "'--full <FULL>'"),
+    "full-in-capitals": (("serve", "--full=Refuse", "127.0.0.1:0"), "wait, refuse"),
     "serve-has-no-workers": (("serve", "--workers", "2", "127.0.0.1:0"), "'--workers'"),
     "no-help-of-what-is-not-there": (("help", "play"), "'play'"),
 }
@@ -195,6 +228,8 @@ NUMBERS = {
     "sessions": ("serve", 1, 64, "127.0.0.1:0"),
     "limit": ("serve", 1, 1_000_000, "127.0.0.1:0"),
     "idle": ("serve", 0, 86_400, "127.0.0.1:0"),
+    "wait": ("serve", 0, 86_400, "127.0.0.1:0"),
+    "open": ("serve", 0, 86_400, "127.0.0.1:0"),
 }
 
 
@@ -239,15 +274,44 @@ def greatest_numbers_of_workers_and_tries(mltx):
 
 @test
 def numbers_of_a_server(mltx):
-    """The least and the greatest number of sessions, of tries and of idle seconds, and a limit of a million."""
-    most = ("--sessions", 64, "--tries", 1_000_000, "--idle", 86_400)
-    for options in (most, ("--sessions=1", "--tries", "007", "--hash", "low", "--idle=0"), ("--idle", "00001")):
+    """The least and the greatest number of sessions, of tries and of each time, and a limit of a million."""
+    most = ("--sessions", 64, "--tries", 1_000_000, "--idle", 86_400, "--wait", 86_400, "--open", 86_400)
+    least = ("--sessions=1", "--tries", "007", "--hash", "low", "--idle=0", "--wait=0", "--open=0")
+    for options in (most, least, ("--idle", "00001"), ("--wait", "60", "--open", "0060")):
         with mltx.serve(*options, limit=2) as server:
             for number in (1, 2):
                 same(server.talk("begin\nquit\n"), f"begun {number}\nbye\n".encode(), f"serve {options}")
             expect(server.end(), out="served 2\n", what=f"serve {options}")
     with mltx.serve(limit=1_000_000) as server:
         same(server.talk("begin\nquit\n"), b"begun 1\nbye\n", "serve --limit 1000000")
+
+
+# Options that change nothing for a session that finds its place.
+OF_A_SERVER = {
+    "full-is-wait": ("--full", "wait"),
+    "full-is-refuse": ("--full=refuse",),
+    "admin-at-a-free-port": ("--admin", "127.0.0.1:0"),
+}
+
+
+@each(OF_A_SERVER)
+def options_of_a_server(mltx, options):
+    """They are right behind ADDR and before it: there ADDR is found wrong, and they are not."""
+    with mltx.serve(*options) as server:
+        same(server.talk("begin\nquit\n"), b"begun 1\nbye\n", f"serve {options}")
+        ended = server.end()
+        same((ended.status, ended.out), (0, b"served 1\n"), f"serve {options}")
+    ran = mltx.run("serve", *options, "no address")
+    same((ran.status, ran.out), (1, b""), f"serve {options} 'no address'")
+    holds(ran.err.endswith(b"mltx: 13 Io\n"), f"serve {options} 'no address': {ran}")
+
+
+@test
+def server_ends_with_its_standard_input(mltx):
+    """With `--until-eof`, before ADDR or behind it, and nothing on standard input, no connection is waited for."""
+    for words in (("127.0.0.1:0", "--until-eof"), ("--until-eof", "127.0.0.1:0", "--full=refuse", "--wait", 1)):
+        ran = mltx.run("serve", "--limit", 1_000_000, *words)
+        same((ran.status, ran.out), (0, b"served 0\n"), f"serve {words}")
 
 
 @test

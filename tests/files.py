@@ -1,11 +1,12 @@
 """Files, streams and statuses: what cannot be opened, read or written, and in which order faults are found."""
+import errno
 import os
 import socket
 import subprocess
 import threading
 from contextlib import contextmanager
 
-from harness import PATIENCE, each, expect, holds, lines, same, test
+from harness import PATIENCE, each, expect, holds, lines, of_system, same, test
 
 IO = "mltx: 13 Io\n"
 SCRIPTS = lines("begin|open 1|deposit 1 50|commit")
@@ -85,10 +86,15 @@ def trace_that_cannot_be_written(mltx, case):
 
 @test
 def trace_of_a_server_that_cannot_be_written(mltx):
+    """A file that can't be made is told before it listens; one that can't be written to is noted, and told at the end."""
     for trace in bad_traces(mltx):
         with mltx.serve("--trace", trace) as server:
+            if trace != "/dev/full":
+                expect(server.end(said=""), status=1, err=IO, what=f"serve --trace {trace!r}")
+                continue
             same(server.talk(SESSION), SESSION_TOLD, f"serve --trace {trace!r}")
-            expect(server.end(), status=1, out="served 1\n", err=IO, what=f"serve --trace {trace!r}")
+            note = f"the trace is written no further: {of_system(errno.ENOSPC)}"
+            expect(server.end(), status=1, out="served 1\n", err=IO, notes=[note], what=f"serve --trace {trace!r}")
 
 
 @test

@@ -5,10 +5,12 @@ on the command line is the function's, with `-` for `_`. A table of cases is `@e
 own."""
 from __future__ import annotations
 
+import calendar
 import dataclasses
 import difflib
 import errno
 import os
+import re
 import shutil
 import signal
 import socket
@@ -18,13 +20,19 @@ import time
 from collections.abc import Callable, Iterable, Iterator, Mapping
 from contextlib import contextmanager
 from pathlib import Path
-from typing import IO, TypeVar, overload
+from typing import IO, TypeVar, cast, overload
 
 ROOT = Path(__file__).resolve().parent.parent
 # The greatest number of bytes of an input.
 MOST_BYTES = 16_777_216
 # How long one run may take, in seconds, on a slow machine.
 PATIENCE = 120
+
+# A line by which a server notes what happens, and how it writes the time of that.
+NOTE = re.compile(r"mltx: note ([^:]*:[^:]*:[^:]*): (.*)\n")
+# What stands in the place of notes that nobody read in time.
+LOST = re.compile(r"mltx: note ([1-9]\d* notes were lost)\n")
+DATE = "%a, %d %b %Y %H:%M:%S GMT"
 
 # What a client is told of a connection that the server has broken off.
 BROKEN_OFF = (errno.ECONNRESET, errno.EPIPE, errno.ENOTCONN)
@@ -100,14 +108,17 @@ def _enlist(name: str, function: Callable[..., object], seconds: float, call: Ca
 
 @dataclasses.dataclass(frozen=True)
 class Ran:
-    """What a run came to: its status, and all bytes of its two outputs."""
+    """What a run came to: its status, and all bytes of its two outputs. The notes of a server stand apart, without their
+    dates, and those on its limit are left out."""
 
     status: int
     out: bytes
     err: bytes
+    notes: tuple[str, ...] = ()
 
     def __str__(self) -> str:
-        return f"status {self.status}, standard output {_short(self.out)}, standard error {_short(self.err)}"
+        noted = f", notes {_short(self.notes)}" if self.notes else ""
+        return f"status {self.status}, standard output {_short(self.out)}, standard error {_short(self.err)}{noted}"
 
 
 def _short(value: object, most: int = 600) -> str:
@@ -124,11 +135,34 @@ def lines(row: str) -> str:
     return "".join(line + "\n" for line in row.split("|")) if row else ""
 
 
-def expect(ran: Ran, *, status: int = 0, out: Text = b"", err: Text = b"", what: str = "") -> None:
-    """Fails where a run came to anything else: its status and both outputs are compared whole."""
-    wanted = Ran(status, as_bytes(out), as_bytes(err))
+def expect(
+    ran: Ran, *, status: int = 0, out: Text = b"", err: Text = b"", notes: Iterable[str] = (), what: str = ""
+) -> None:
+    """Fails where a run came to anything else: its status, both outputs and all notes are compared whole."""
+    wanted = Ran(status, as_bytes(out), as_bytes(err), tuple(notes))
     if ran != wanted:
         raise Failed(f"{what + ': ' if what else ''}{ran}\nwanted {wanted}\n{_difference(wanted.out, ran.out)}")
+
+
+def cut_for(client: int, why: str) -> str:
+    """The note on a client whose session the server has ended."""
+    return f"client {client} is cut: {why}"
+
+
+# Why a session is ended by the server.
+IDLE, LONG_LINE, MANY_BYTES = "it was idle for too long", "a line was too long", "it sent too many bytes"
+NO_MEMORY, BROKEN, OPEN_LONG = "it was refused memory", "its connection broke", "its transaction was open for too long"
+BY_OPERATOR, STOPS = "an operator ended it", "the server stops"
+
+
+def in_any_order(ran: Ran) -> Ran:
+    """The run with its notes sorted: those on several clients may come in any order."""
+    return dataclasses.replace(ran, notes=tuple(sorted(ran.notes)))
+
+
+def of_system(number: int) -> str:
+    """The system's own words for an error, as a Rust program writes them."""
+    return f"{os.strerror(number)} (os error {number})"
 
 
 def same(found: object, wanted: object, what: str = "") -> None:
@@ -243,14 +277,19 @@ class Program:
         *options: object,
         limit: int | None = 1,
         address: Address | None = None,
+        admin: Address | None = None,
         env: Mapping[str, str] | None = None,
         redirect: str = "",
+        stdin: int = subprocess.DEVNULL,
         timeout: float = PATIENCE,
     ) -> Iterator[Server]:
         """A server on a port of its own, or at this address, as long as the block lasts. It ends by itself once `limit`
-        connections have ended; where the block ends earlier, it is killed. With `limit` None the option is left out."""
+        connections have ended; where the block ends earlier, it is killed. With `limit` None the option is left out, and
+        with `admin` that address is its operator's."""
         words = [*options, *(["--limit", limit] if limit is not None else [])]
-        server = Server(self, address or free_address(), words, env, redirect, timeout)
+        words += ["--admin", "%s:%d" % admin] if admin else []
+        server = Server(self, address or free_address(), words, env, redirect, stdin, timeout)
+        server.limit, server.admin = limit or 1, admin
         try:
             yield server
         finally:
@@ -267,13 +306,19 @@ class Server:
         options: Iterable[object],
         env: Mapping[str, str] | None,
         redirect: str,
+        stdin: int,
         timeout: float,
     ) -> None:
-        self.address, self.timeout = address, timeout
+        self.address, self.redirect, self.timeout = address, redirect, timeout
+        # How many connections it takes in all, and where its operator connects.
+        self.limit, self.admin = 1, cast("Address | None", None)
+        self.began = time.time()
+        # What `next_note` has read.
+        self.noted: list[str] = []
         self.process = subprocess.Popen(
             command([mltx.path, "serve", "%s:%d" % address, *options], redirect),
             bufsize=0,
-            stdin=subprocess.DEVNULL,
+            stdin=stdin,
             stdout=subprocess.PIPE,
             stderr=subprocess.PIPE,
             cwd=mltx.folder,
@@ -298,17 +343,41 @@ class Server:
             return peer.say_all(sent)
 
     def first_line(self) -> str:
-        """The first line that it writes on standard error, which `end` then leaves out."""
+        """The next line that it writes on standard error, which `end` then leaves out."""
         assert self.process.stderr
         return self.process.stderr.readline().decode()
 
-    def end(self) -> Ran:
-        """What the server came to, once it ended by itself. The line that says where it listens is left out."""
+    def end(self, said: str | None = None, is_all_noted: bool = True) -> Ran:
+        """What the server came to, once it ended by itself. What it first wrote on standard error is left out, which is where
+        it listens unless that is `said`. Its input ends, if it has one. It has to note its limit, unless not all is noted."""
         try:
             out, err = self.process.communicate(timeout=self.timeout)
         except subprocess.TimeoutExpired:
             raise Failed(f"the server had not ended after {self.timeout} seconds") from None
-        return Ran(self.process.returncode, out, err.removeprefix(listening(self.address).encode()))
+        where = listening(self.address) + (f"mltx: admin on {self.admin[0]}:{self.admin[1]}\n" if self.admin else "")
+        rest, notes = notes_apart(err.removeprefix((where if said is None else said).encode()), self.began)
+        notes = self.noted + notes
+        has_served_all = is_all_noted and out == b"served %d\n" % self.limit
+        return Ran(self.process.returncode, out, rest, self._but_limit(notes, has_served_all))
+
+    def _but_limit(self, notes: list[str], has_served_all: bool) -> tuple[str, ...]:
+        """The notes without those on the limit, which come once each and in this order, where the limit is reached."""
+        most = self.limit - self.limit // 10
+        nearly = [f"{most} of {self.limit} connections are taken"] if self.limit >= 10 else []
+        wanted = [*nearly, f"no more connections are taken: the limit of {self.limit} is reached"]
+        found = [note for note in notes if note in wanted]
+        if has_served_all and "2>" not in self.redirect:
+            same(found, wanted, f"the notes on the limit among {notes}")
+        holds(len(set(found)) == len(found), f"a note on the limit came twice: {notes}")
+        return tuple(note for note in notes if note not in wanted)
+
+    def next_note(self) -> str:
+        """The next line on standard error, which has to be a note, without its date."""
+        line = self.first_line()
+        rest, notes = notes_apart(line.encode(), self.began)
+        holds(not rest, f"{line!r} is no note")
+        self.noted += notes
+        return notes[0]
 
     def stop(self) -> None:
         """Stops it, and returns once each of its threads has stopped: a signal reaches them one after another."""
@@ -380,6 +449,34 @@ def command(words: Iterable[object], redirect: str = "") -> list[str]:
     """The words of a command, or of a shell that redirects its streams and then becomes it."""
     shell = ["/bin/sh", "-c", f'exec "$0" "$@" {redirect}'] if redirect else []
     return [*shell, *map(str, words)]
+
+
+def notes_apart(err: bytes, began: float) -> tuple[bytes, list[str]]:
+    """What stands on standard error without the notes, and these in order, without their dates, each of which is a time since
+    the server began."""
+    rest, notes = "", []
+    for line in err.decode(errors="replace").splitlines(keepends=True):
+        if lost := LOST.fullmatch(line):
+            notes.append(lost[1])
+            continue
+        note = NOTE.fullmatch(line)
+        if note is None or note[2] == "":
+            rest += line
+            continue
+        with _no_date(line):
+            at = time.strptime(note[1], DATE)
+        holds(time.strftime(DATE, at) == note[1], f"the date of {line!r} is not written as HTTP writes it")
+        holds(began - 2 <= calendar.timegm(at) <= time.time() + 1, f"the date of {line!r} is not that of its time")
+        notes.append(note[2])
+    return rest.encode(), notes
+
+
+@contextmanager
+def _no_date(line: str) -> Iterator[None]:
+    try:
+        yield
+    except ValueError:
+        raise Failed(f"there is no date in {line!r}") from None
 
 
 def listening(address: Address) -> str:

@@ -23,9 +23,9 @@ QUIET = 0.1
 SHELL = [sys.executable, "-B", str(FOLDER / "mltx_shell.py")]
 
 
-def typed(address, given, *, cwd=None):
+def typed(address, given, *options, cwd=None):
     """What the prompt comes to where its lines are given by a pipe."""
-    words = [*SHELL, "%s:%d" % address]
+    words = [*SHELL, "%s:%d" % address, *options]
     ran = subprocess.run(words, input=given.encode("utf-8", "surrogateescape"), capture_output=True, cwd=cwd, timeout=PATIENCE)
     return Ran(ran.returncode, ran.stdout, ran.stderr)
 
@@ -90,6 +90,14 @@ FAILS = {
         "add takes set, element, and was given 1 number; it is `add SET ELEMENT`; nothing was sent",
     ),
     "prompt-of-a-byte-that-is-no-character": ("\udcff up", r"\xff: there is no such line; `help` lists all"),
+    "prompt-of-numbers-without-an-operator": (
+        ":status", "the operator's address is not known: give it as `--admin HOST:PORT` behind the server's",
+    ),
+    "prompt-of-waits-without-an-operator": (
+        ":waits", "the operator's address is not known: give it as `--admin HOST:PORT` behind the server's",
+    ),
+    "prompt-of-words-behind-waits": (":waits 1", "nothing stands behind `:waits`; nothing was sent"),
+    "prompt-of-another-colon": (":wait", ":wait: there is no such line; `help` lists all"),
     "prompt-of-no-number": ("up 7 x", "it is `up COUNTER AMOUNT`, with numbers; nothing was sent"),
     "prompt-of-a-file-that-is-not-there": (
         "source none.txt",
@@ -117,7 +125,7 @@ def help_of_the_prompt(mltx):
         connected(server).close()
         ran = typed(server.address, "help\nhelp deposit\n? read\nhelp source\nhelp nothing\n")
     out = ran.out.decode()
-    for usage in ("open ACCOUNT", "add SET ELEMENT", "size SET", "up COUNTER AMOUNT", "begin", "source FILE", "quit"):
+    for usage in ("open ACCOUNT", "add SET ELEMENT", "size SET", "up COUNTER AMOUNT", "begin", "source FILE", ":status", ":waits", "quit"):
         holds(re.search(rf"(?m)^{usage} ", out), f"{usage} is listed in {out}")
     deposit = (
         "deposit ACCOUNT AMOUNT|    asks for so much more in the account"
@@ -169,7 +177,8 @@ def servers_that_go_away_from_a_prompt(mltx):
         (
             ("before", "up 7 1"),
             "begun 1",
-            "the server ended the connection: it was stopped, or the connection was idle for too long; transaction 1 is taken back"
+            "the server ended the connection: it was stopped, or the connection was idle or its transaction open for too long, or an"
+            " operator ended it; transaction 1 is taken back"
             "|standard input, line 2: up 7 1",
         ),
         (
@@ -208,6 +217,35 @@ def prompt_beyond_the_sessions(mltx):
         expect(server.end(), out="served 4\n")
 
 
+@test(seconds=1)
+def prompt_that_asks_the_operator(mltx):
+    """It says who waits for whom, and the numbers, line by line; and where no operator is, that."""
+    with mltx.serve(limit=4, admin=free_address()) as server, connected(server) as holder:
+        admin = ("--admin", "%s:%d" % server.admin)
+        with holder.begin() as held, server.connect() as waiter:
+            held.up(7, 5)
+            ran = typed(server.address, ":waits\n", *admin)
+            expect(ran, out="nobody waits\n", what=":waits")
+            same(waiter.ask("begin"), "begun 2")
+            waiter.send("read 7\n")
+            waits = rb"transaction 2 of client 2 waits for transaction 1, since \d+\.\d seconds: read 7\n"
+            until, ran = time.monotonic() + PATIENCE, None
+            while ran is None or ran.out == b"nobody waits\n":
+                holds(time.monotonic() < until, "nobody waits")
+                ran = typed(server.address, ":waits\n", *admin)
+            same((ran.status, ran.err), (0, b""), ":waits")
+            holds(re.fullmatch(waits, ran.out), f":waits says {ran.out}")
+            ran = typed(server.address, ":status\n", *admin)
+            same((ran.status, ran.err), (0, b""), ":status")
+            told = dict(line.split() for line in ran.out.decode().splitlines())
+            same({name: told.get(name) for name in ("sessions", "open", "commits", "limit")},
+                 {"sessions": "2", "open": "2", "commits": "0", "limit": "4"}, f"{ran.out}")
+        ran = typed(server.address, ":status\n", "--admin", "%s:%d" % free_address())
+        same((ran.status, ran.out), (1, b""), "an operator that is not there")
+        said = rb"no server answers an operator at 127[.\d]+:\d+ \(.*refused\)\nstandard input, line 1: :status\n"
+        holds(re.fullmatch(said, ran.err), f"what is said: {ran}")
+
+
 @test
 def prompt_that_nobody_reads(mltx):
     """Its output is a pipe whose other end is closed, as behind `| head`: it ends without a word, and commits nothing more."""
@@ -229,7 +267,8 @@ def prompt_that_nobody_reads(mltx):
 @test
 def words_of_the_prompt(_mltx):
     """A wrong command line has status 2."""
-    for words in ([], ["nowhere"], ["127.0.0.1:0"], ["127.0.0.1:7000", "more"], ["--what", "127.0.0.1:7000"]):
+    for words in ([], ["nowhere"], ["127.0.0.1:0"], ["127.0.0.1:7000", "more"], ["--what", "127.0.0.1:7000"], ["127.0.0.1:7000", "--admin"],
+                  ["127.0.0.1:7000", "--admin", "nowhere"], ["127.0.0.1:7000", "--admin", "127.0.0.1:0"]):
         ran = subprocess.run([*SHELL, *words], stdin=subprocess.DEVNULL, capture_output=True, timeout=PATIENCE)
         same((ran.returncode, ran.stdout), (2, b""), f"{words}")
         holds(ran.stderr.startswith(b"usage: "), f"{words}: {ran.stderr}")
@@ -320,7 +359,9 @@ def prompt_at_a_terminal(mltx):
             it.until("mltx [2]> ")
             it.ask("abort", "aborted\nmltx (aborted)> ")
             it.ask("help dep\t", "deposit ACCOUNT AMOUNT\n")
-            it.type("\x10\x10\x10\n")
+            it.ask(":wa\t", "the operator's address is not known")
+            it.until("mltx (aborted)> ")
+            it.type("\x10\x10\x10\x10\n")
             it.until("begun 3\nmltx [3]> ")
             it.type("\x04")
             it.until("transaction 3 is taken back")

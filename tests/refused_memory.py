@@ -5,11 +5,13 @@ stand. What that gives comes from a run with ample memory over the text without 
 import dataclasses
 import re
 
-from harness import Failed, Ran, each, holds, lines, same, test
+from harness import NO_MEMORY, Failed, Ran, cut_for, each, holds, lines, same, test
 
 WANT = b"mltx: 1 OutOfMemory\n"
 REFUSED = "refused 1 OutOfMemory"
 ERROR = "error 1 OutOfMemory"
+# What a server may note of it.
+NOTES = {cut_for(1, NO_MEMORY), "no more connections are taken: memory was refused", "1 notes were lost", "2 notes were lost"}
 # A number above that of each request.
 LAST = 1 << 40
 
@@ -82,6 +84,7 @@ class Came:
     out: str
     err: str
     trace: str | None = None
+    notes: tuple[str, ...] = ()
 
 
 class Runs:
@@ -375,8 +378,10 @@ def talk(runs, said, **refused):
         except Failed:
             # The server did not come up.
             heard = b""
-        ended = server.end()
-    return Came(ended.status, ended.out.decode(), ended.err.decode(), runs.traced_text()), heard.decode().splitlines()
+        ended = server.end(is_all_noted=not refused)
+    holds(set(ended.notes) <= (NOTES if refused else set()), f"notes of a server that is refused {refused}: {ended.notes}")
+    notes = tuple(note for note in ended.notes if not note.endswith(" lost"))
+    return Came(ended.status, ended.out.decode(), ended.err.decode(), runs.traced_text(), notes), heard.decode().splitlines()
 
 
 FOR_GOOD = {
@@ -467,7 +472,8 @@ SERVES = {
 
 @each(SERVES, seconds=6)
 def serve(mltx, case):
-    """One line is answered by the refusal and all others as if it did not stand; or the session and the server end."""
+    """One line is answered by the refusal and all others as if it did not stand; or the session is cut, which is noted; or it and
+    the server end."""
     hashing, said, tells = case[0], case[1].split("|"), case[2].split("|")
     runs = Runs(mltx, "serve", "--hash", hashing)
     kept = {None: talk(runs, said)}
@@ -477,6 +483,10 @@ def serve(mltx, case):
         if (ended.status, ended.err) == (1, WANT.decode()):
             ways.add("given up")
             holds(heard == tells[: len(heard)], f"{what}: {heard}, which is no front of {tells}")
+            continue
+        if cut_for(1, NO_MEMORY) in ended.notes:
+            holds(heard == tells[: len(heard)], f"{what}: {heard}, which is no front of {tells}")
+            same((ended.status, ended.out, ended.err), (0, "served 1\n", ""), f"{what}: a session is cut")
             continue
         place = heard.index(ERROR) if ERROR in heard else None
         ways.add("told" if place is not None else "not seen")
@@ -498,6 +508,7 @@ def serve_for_good(mltx, _case):
     runs = Runs(mltx, "serve")
     for what, (ended, heard) in runs.one_refused(lambda number: talk(runs, said, first=number, last=LAST), step=3):
         same((ended.status, ended.err), (1, WANT.decode()), f"{what}, and all after it: {ended}")
-        same((ended.out, ended.trace), ("", None), f"{what}, and all after it: what the server leaves")
+        same(ended.out, "", f"{what}, and all after it: what the server writes")
+        runs.serial(ended.trace or "")
         before = heard[: heard.index(ERROR)] if ERROR in heard else heard
         holds(before == tells[: len(before)], f"{what}, and all after it: {heard}, which is no front of {tells}")

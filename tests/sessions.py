@@ -9,8 +9,8 @@ import sys
 import threading
 import time
 
-from harness import MOST_BYTES, PATIENCE, ROOT, as_bytes, each, expect, holds, lines, listening, may_break_off
-from harness import same, test
+from harness import BROKEN, IDLE, LONG_LINE, MANY_BYTES, MOST_BYTES, PATIENCE, ROOT, as_bytes, cut_for, each, expect, holds
+from harness import in_any_order, lines, listening, may_break_off, same, test
 
 # How long to listen for an answer that must not come, in seconds.
 SILENCE = 0.2
@@ -194,7 +194,7 @@ def session_line_too_long(mltx):
                 peer.send("begin\nup 7 1\n" + long)
                 same(peer.rest(), lines("begun 1|done|error 12 LineTooLong").encode(), f"a line {long[:9]!r}..")
             same(server.talk(lines("begin|read 7|commit")), lines("begun 2|is 0|committed 1").encode(), "read 7")
-            expect(server.end(), out="served 3\n")
+            expect(server.end(), out="served 3\n", notes=[cut_for(1, LONG_LINE), cut_for(2, LONG_LINE)])
         same(trace.read_text(), lines("begin 1|op 1 up 7 1 done|back 1|abort 1|begin 2|op 2 read 7 is 0|commit 2 1"))
 
 
@@ -206,7 +206,7 @@ def session_line_too_long_with_a_cr(mltx):
         with server.connect() as peer:
             peer.send("begin" + " " * 195 + "\r\n")
             same(peer.line(), "error 12 LineTooLong", "200 bytes, CR and LF")
-        expect(server.end(), out="served 2\n")
+        expect(server.end(), out="served 2\n", notes=[cut_for(2, LONG_LINE)])
 
 
 @test
@@ -219,7 +219,7 @@ def cut_transaction_is_taken_back(mltx):
             same([peer.ask("begin"), peer.ask("up 7 1")], ["begun 3", "done"])
             break_off(peer)
         same(server.talk(lines("begin|read 7|commit")), lines("begun 4|is 0|committed 1").encode(), "the next client")
-        expect(server.end(), out="served 4\n")
+        expect(server.end(), out="served 4\n", notes=[cut_for(3, BROKEN)])
 
 
 @test
@@ -403,22 +403,22 @@ def sixty_four_sessions_at_once(mltx):
 
 # More than a session reads at once: 16,384 bytes.
 MORE = {
-    "lines-behind-quit": ("quit\n" + "begin\n" * 5_000, b"bye\n"),
-    "bytes-behind-a-line-too-long": ("x" * 50_000, b"error 12 LineTooLong\n"),
-    "a-megabyte-behind-quit": ("quit\n" + "y" * 1_000_000, b"bye\n"),
+    "lines-behind-quit": ("quit\n" + "begin\n" * 5_000, b"bye\n", None),
+    "bytes-behind-a-line-too-long": ("x" * 50_000, b"error 12 LineTooLong\n", LONG_LINE),
+    "a-megabyte-behind-quit": ("quit\n" + "y" * 1_000_000, b"bye\n", None),
 }
 
 
 @each(MORE)
 def last_answers_are_heard(mltx, case):
     """A client that sends more than its session reads hears the last answers and then the end, each of twenty times."""
-    sent, told = case
+    sent, told, why = case
     with mltx.serve(limit=20) as server:
         for time_of in range(20):
             with server.connect() as peer:
                 peer.send(sent)
                 same(peer.rest(), told, f"time {time_of}: the answers to {sent[:9]!r}..")
-        expect(server.end(), out="served 20\n")
+        expect(server.end(), out="served 20\n", notes=[cut_for(number, why) for number in range(1, 21) if why])
 
 
 @test(seconds=1)
@@ -429,7 +429,7 @@ def end_is_heard_behind_too_many_bytes(mltx):
         same(peer.ask("begin"), "begun 1", "begin")
         peer.send(blank * (MOST_BYTES // 200 + 5_000))
         same(peer.rest(), b"", "what follows too many bytes")
-        expect(server.end(), out="served 1\n")
+        expect(server.end(), out="served 1\n", notes=[cut_for(1, MANY_BYTES)])
 
 
 @test(seconds=3)
@@ -485,7 +485,7 @@ def silent_client_is_cut(mltx):
             holds(0.9 < waited < PATIENCE / 4, f"the silent client was cut after {waited} seconds")
             same([silent.rest(), mute.rest()], [b"", b""], "what the silent clients hear")
             same([other.ask("commit"), other.ask("quit")], ["committed 1", "bye"], "the other client")
-        expect(server.end(), out="served 3\n")
+        expect(in_any_order(server.end()), out="served 3\n", notes=[cut_for(1, IDLE), cut_for(2, IDLE)])
     same(
         trace.read_text(),
         lines("begin 1|op 1 up 7 1 done|begin 2|back 1|abort 1|op 2 read 7 is 0|commit 2 1"),
@@ -504,7 +504,7 @@ def client_that_takes_nothing_is_cut(mltx):
             same([other.ask("commit"), other.ask("quit")], ["committed 1", "bye"], "the other client")
         sending.join()
         deaf.socket.close()
-        expect(server.end(), out="served 2\n")
+        expect(server.end(), out="served 2\n", notes=[cut_for(1, IDLE)])
 
 
 def send_and_hear_nothing(peer, text):

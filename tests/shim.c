@@ -1,11 +1,14 @@
 /* Loaded before the C library, it refuses memory and threads, and fails calls of the program.
 
    REFUSE is `FIRST LAST LEAST`: of the requests for at least LEAST bytes, which are counted from 1, those with the
-   numbers FIRST to LAST are refused. With REFUSE_THREADS each thread is refused.
+   numbers FIRST to LAST are refused. With REFUSE_THREADS=N threads are refused from the N-th one on.
 
    FAIL is `CALL NUMBER FAULT MOST TIMES`: of the calls `read`, `write`, `recv`, `send` or `accept`, so many from the one
    with this number on, counted from 1, fail with the number FAULT of a fault, or do nothing and answer 0 where FAULT
-   is 0. The others take or give at most MOST bytes. Without TIMES it is one.
+   is 0. The others take or give at most MOST bytes. Without TIMES it is one. The calls `write` of one kind of file alone
+   are `write-out`, `write-error`, and `write-file` for all but those two.
+
+   ACCEPTS is a list of numbers of faults: accept n fails with the n-th of them, and is made where that is 0.
 
    At the end of the program, how many requests and how many calls were counted is written into the file COUNTED. */
 #define _GNU_SOURCE
@@ -38,11 +41,14 @@ static long first, last, least, failing, times = 1;
 static size_t most;
 static int fault;
 static char call[16];
+static const char *accepts;
+static atomic_long started;
 
 __attribute__((constructor)) static void read_what_to_do(void) {
     const char *refuse = getenv("REFUSE"), *fail = getenv("FAIL");
     if (refuse) sscanf(refuse, "%ld %ld %ld", &first, &last, &least);
     if (fail) sscanf(fail, "%15s %ld %d %zu %ld", call, &failing, &fault, &most, &times);
+    accepts = getenv("ACCEPTS");
     atomic_store(&asked, 0);
 }
 
@@ -67,7 +73,9 @@ void *realloc(void *old, size_t size) {
 }
 
 int pthread_create(pthread_t *thread, const pthread_attr_t *how, void *(*start)(void *), void *given) {
-    return getenv("REFUSE_THREADS") ? EAGAIN : NEXT(start_thread, "pthread_create")(thread, how, start, given);
+    const char *from = getenv("REFUSE_THREADS");
+    long number = atomic_fetch_add(&started, 1) + 1;
+    return from && number >= atol(from) ? EAGAIN : NEXT(start_thread, "pthread_create")(thread, how, start, given);
 }
 
 /* Whether this call is to fail. Its size is made smaller where that is asked for. */
@@ -84,8 +92,14 @@ ssize_t read(int file, void *bytes, size_t size) {
     return fails("read", &size) ? -!!fault : NEXT(read_some, "read")(file, bytes, size);
 }
 
+/* Whether a write fails, by the name of all writes or by that of its kind of file. */
+static int write_fails(int file, size_t *size) {
+    const char *kind = file == 1 ? "write-out" : file == 2 ? "write-error" : "write-file";
+    return fails("write", size) || fails(kind, size);
+}
+
 ssize_t write(int file, const void *bytes, size_t size) {
-    return fails("write", &size) ? -!!fault : NEXT(write_some, "write")(file, bytes, size);
+    return write_fails(file, &size) ? -!!fault : NEXT(write_some, "write")(file, bytes, size);
 }
 
 /* Whether nothing is there, in a mode in which nobody waits for it: such a look is no receipt, and is not counted. */
@@ -104,8 +118,18 @@ ssize_t send(int peer, const void *bytes, size_t size, int how) {
     return fails("send", &size) ? -!!fault : NEXT(send_some, "send")(peer, bytes, size, how);
 }
 
+/* Whether this accept is to fail by the list of faults. It is called by one thread. */
+static int accept_is_listed(void) {
+    if (!accepts || !*accepts) return 0;
+    char *rest;
+    errno = (int)strtol(accepts, &rest, 10);
+    accepts = rest;
+    return errno != 0;
+}
+
 int accept4(int listener, struct sockaddr *address, socklen_t *size, int how) {
-    return fails("accept", 0) ? -1 : NEXT(accept_one, "accept4")(listener, address, size, how);
+    if (accept_is_listed() || fails("accept", 0)) return -1;
+    return NEXT(accept_one, "accept4")(listener, address, size, how);
 }
 
 void _exit(int status) {

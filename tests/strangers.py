@@ -6,7 +6,7 @@ import struct
 from concurrent.futures import ThreadPoolExecutor
 
 import harness
-from harness import MOST_BYTES, each, expect, holds, lines, may_break_off, same, test
+from harness import BROKEN, LONG_LINE, MOST_BYTES, cut_for, each, expect, holds, lines, may_break_off, same, test
 
 STRANGERS = 64
 ANSWER = re.compile(
@@ -46,7 +46,7 @@ KINDS = [noise, long_line, half_line, words, nothing]
 
 def disturb(server, seed):
     """One stranger: it sends something in pieces, and then reads, closes at once, or breaks off. It hears nothing but
-    lines of the server's."""
+    lines of the server's. It answers whether it was told that a line is too long."""
     source = random.Random(seed)
     sent = source.choice(KINDS)(source)
     with server.connect() as peer:
@@ -58,6 +58,7 @@ def disturb(server, seed):
         heard = peer.say_all("") if source.randrange(4) else b""
     for line in heard.splitlines():
         holds(ANSWER.fullmatch(line), f"stranger {seed} was told {line!r}")
+    return b"error 12 LineTooLong\n" in heard
 
 
 def take_care(server, counter):
@@ -80,10 +81,15 @@ def strangers(mltx, number):
         with server.connect(), ThreadPoolExecutor(connections) as pool:
             others = [pool.submit(disturb, server, f"{harness.SEED} {number} {at}") for at in range(STRANGERS)]
             others += [pool.submit(take_care, server, 4_000_000_000 + at) for at in range(3)]
-            for it in others:
-                it.result()
+            told = sum(it.result() is True for it in others)
             take_care(server, 4_000_000_003)
-        expect(server.end(), out=f"served {connections}\n", what="the server")
+        ended = server.end()
+        expect(ended, out=f"served {connections}\n", notes=ended.notes, what="the server")
+    # The first and the last client are honest, and no client is cut twice.
+    cuts = {cut_for(client, why): (client, why) for client in range(2, connections) for why in (LONG_LINE, BROKEN)}
+    clients = [cuts[note][0] for note in ended.notes if note in cuts]
+    same((len(clients), len(set(clients))), (len(ended.notes), len(clients)), f"notes on strangers among {ended.notes}")
+    holds(sum(cuts[note][1] == LONG_LINE for note in ended.notes) >= told, f"{told} were told of a line, and of notes came {ended.notes}")
     checked = mltx.check(trace)
     same((checked.status, checked.err), (0, b""), f"the check of the trace, {checked}")
     for at in range(4):
@@ -104,14 +110,14 @@ def end_input(peer):
     peer.end()
 
 
-BROKEN = {
+WAYS = {
     f"objects-are-free-after-{name}{where}": (way, tail)
     for name, way in [("close", close), ("reset", reset), ("end-of-input", end_input)]
     for where, tail in [("", ""), ("-inside-a-line", "up 7 "), ("-inside-the-commit", "commit")]
 }
 
 
-@each(BROKEN)
+@each(WAYS)
 def broken(mltx, case):
     """What a client's open transaction did is taken back where it breaks off, and who waits for it goes on."""
     way, tail = case
@@ -127,7 +133,7 @@ def broken(mltx, case):
             same(stays.line(), "is 0", "read 7, while and after another client had counted up")
             for line, told in [("open 3", "opened"), ("add 4 9", "added"), ("commit", "committed 1"), ("quit", "bye")]:
                 same(stays.ask(line), told, line)
-        expect(server.end(), out="served 2\n")
+        expect(server.end(), out="served 2\n", notes=[cut_for(1, BROKEN)] if way is reset else [])
     expect(mltx.check(trace), out=lines("serial 2|account 3 0|element 4 9"), what="the check of the trace")
 
 

@@ -1,11 +1,10 @@
 """The second line of a fault, with `-v`: the file or address, the system's own words, and what was expected of a faulty text."""
 import errno
-import os
 import socket
 from collections.abc import Mapping, Sequence
 from pathlib import Path
 
-from harness import MOST_BYTES, Program, each, expect, lines, same, test
+from harness import MOST_BYTES, Program, each, expect, lines, of_system, same, test
 
 IO = "mltx: 13 Io\n"
 SCRIPTS = lines("begin|open 1|commit")
@@ -14,11 +13,6 @@ TRACE = lines("begin 1|op 1 open 1 opened|commit 1 1")
 TEXTS = {"solo": SCRIPTS, "run": SCRIPTS, "steps": EVENTS, "check": TRACE}
 # Where ADDR is none, what stands behind the words of the system.
 ADDRESS = "; expected: an IP address or the name of a host, a colon, and a port of 0 to 65535, as 127.0.0.1:7000"
-
-
-def of_system(number: int) -> str:
-    """The system's own words for an error, as a Rust program writes them."""
-    return f"{os.strerror(number)} (os error {number})"
 
 
 def is_said(mltx: Program, words: Sequence[object], fault: str, second: str, out: str = "", given: str = "") -> None:

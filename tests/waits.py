@@ -6,7 +6,7 @@ import threading
 import time
 from concurrent.futures import ThreadPoolExecutor
 
-from harness import each, expect, holds, lines, same, test
+from harness import BROKEN, cut_for, each, expect, holds, in_any_order, lines, same, test
 from sessions import says_nothing, send_and_hear_nothing
 
 # Within so many seconds an answer comes that need wait for nobody, on a slow machine too.
@@ -94,7 +94,8 @@ def sessions_that_wait_keep_nobody_from_work(mltx):
             peer.socket.close()
         holder.end()
         worker.end()
-        expect(server.end(), out="served 14\n")
+        notes = [cut_for(number, BROKEN) for number in range(11, 15)]
+        expect(in_any_order(server.end()), out="served 14\n", notes=notes)
 
 
 @each({f"circle-of-{count}-sessions-ends-at-once": count for count in (2, 3, 8)})

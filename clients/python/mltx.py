@@ -13,13 +13,16 @@
         moved = client.run(move)
 
 A `Client` holds one connection, and makes a new one where that has ended. It runs one transaction at a time, and is for
-one thread: threads that work side by side have a client each. What goes wrong is an `MltxError`; a number out of its
-range is a `ValueError`, before anything is sent. Python 3.9 and its standard library are enough.
+one thread: threads that work side by side have a client each. An `Operator` sees what a server does, ends a session, and
+stops the server. What goes wrong is an `MltxError`; a number out of its range is a `ValueError`, before anything is sent.
+Python 3.9 and its standard library are enough.
 """
 
 from __future__ import annotations
 
 import enum
+import http.client
+import json
 import random
 import socket
 import time
@@ -31,6 +34,7 @@ from typing import Any, Generic, Optional, TypeVar
 __all__ = [
     *("connect", "parse_address", "Client", "Retries", "Session", "Transaction"),
     *("Operation", "Form", "FORMS", "Argument", "Reply"),
+    *("Operator", "Wait", "ServedSession", "OpenTransaction", "NoSuchClient"),
     *("MltxError", "ConnectionLost", "ServerAway", "TimedOut", "SessionsTaken", "CommitUnknown", "TransactionOver"),
     "UnexpectedAnswer",
     *("Refused", "OutOfMemory", "NoRoom", "NoSuchTx", "Running", "TooManyOpen", "LogFull", "IdsSpent", "ScriptFault"),
@@ -45,6 +49,10 @@ TRANSACTION_BYTES = 65_536
 MOST_UNANSWERED = 256
 # A server's answers are shorter, with their line feed.
 MOST_ANSWER_BYTES = 200
+# The first answer of a connection beyond those that a server holds, where it refuses them.
+FULL = b"error 7 TooManyOpen\n"
+# A server's answer to an operator is shorter.
+MOST_TOLD_BYTES = 16_777_216
 
 Result = TypeVar("Result")
 
@@ -148,8 +156,9 @@ class TimedOut(ConnectionLost):
 
 
 class SessionsTaken(TimedOut):
-    """The first line of a connection got no answer in time, and the client has closed the connection. A server that
-    holds as many sessions as it may (`--sessions`) lets a client connect, and hears it once a session has ended."""
+    """The first line of a connection got no answer in time, or the server refused the connection, and the client has closed
+    it. A server that holds as many sessions as it may (`--sessions`) lets a client connect, and hears it once a session has
+    ended; with `--full refuse` it refuses it."""
 
 
 class CommitUnknown(MltxError):
@@ -172,6 +181,10 @@ class TransactionOver(MltxError):
 
 class UnexpectedAnswer(MltxError):
     """What answers is no such server. The client has closed the connection."""
+
+
+class NoSuchClient(MltxError):
+    """The server serves no client of this number: it has left, or none came."""
 
 
 # Operations and their replies
@@ -442,8 +455,13 @@ class Session:
             answer = self._answers.readline(MOST_ANSWER_BYTES)
             if not answer.endswith(b"\n"):
                 # Nothing more is known here: a server ends a connection without a word.
-                raise ConnectionLost("the server ended the connection: it was stopped, or the connection was idle for too long")
+                raise ConnectionLost(
+                    "the server ended the connection: it was stopped, or the connection was idle or its transaction open for too"
+                    " long, or an operator ended it"
+                )
             if not self.is_held:
+                if answer == FULL:
+                    raise SessionsTaken("all sessions of the server are taken: it connected, and refused the client")
                 self.is_held, self._timeout = True, self._answer_timeout
                 self._socket.settimeout(self._timeout)
             return answer[:-1].decode("ascii", "replace")
@@ -808,6 +826,139 @@ def connect(
     )
     client.session()
     return client
+
+
+# What an operator sees and does
+
+
+@dataclass(frozen=True)
+class Wait:
+    """A transaction that waits for another one: `waiter`, whose session serves this client, for `holder`.
+
+    `reason` is `object` where the holder's operations are in the way, `page` where it is at a page, and `turn` where it came
+    before and waits itself."""
+
+    waiter: int
+    client: int
+    holder: int
+    reason: str
+    operation: str
+    seconds: float
+
+
+@dataclass(frozen=True)
+class OpenTransaction:
+    """A transaction that is open, for so many seconds: how many operations it has done, the last of these with their replies,
+    and the one that it asks for now, if there is one."""
+
+    number: int
+    seconds: float
+    operations: int
+    did: tuple[str, ...]
+    calls: Optional[str]
+
+
+@dataclass(frozen=True)
+class ServedSession:
+    """A client that is served, for so many seconds, and its transaction, if one is open."""
+
+    client: int
+    seconds: float
+    transaction: Optional[OpenTransaction]
+
+
+class Operator:
+    """What an operator sees of a server and does to it, at the address that the server's `--admin` has.
+
+    Each call is a connection of its own. It raises `ServerAway` where none can be made, `TimedOut` where the answer does not
+    come within `timeout` seconds, `ConnectionLost` where it ends early, and `UnexpectedAnswer` where what answers is no such
+    server."""
+
+    def __init__(self, host: str, port: int, *, timeout: Optional[float] = 5.0) -> None:
+        if not 1 <= port <= 65_535:
+            raise ValueError(f"port has to be 1 to 65535, and is {port}")
+        self.host = host
+        self.port = port
+        self.timeout = timeout
+
+    def status(self) -> dict[str, int]:
+        """The server's numbers by their names, as `commits`, which the table of formats lists."""
+        told = self._told("GET", "/status")
+        if not isinstance(told, dict) or not all(type(number) is int for number in told.values()):
+            raise UnexpectedAnswer(f"the answer to /status is {told!r}")
+        return told
+
+    def waits(self) -> list[Wait]:
+        """Who waits for whom."""
+        with self._understood("/waits"):
+            return [
+                Wait(it["waiter"], it["client"], it["holder"], it["for"], it["operation"], it["milliseconds"] / 1_000)
+                for it in self._told("GET", "/waits")["waits"]
+            ]
+
+    def sessions(self) -> list[ServedSession]:
+        """The clients that are served, with what their open transactions did."""
+        with self._understood("/sessions"):
+            return [
+                ServedSession(it["client"], it["milliseconds"] / 1_000, _open_transaction(it["transaction"]))
+                for it in self._told("GET", "/sessions")["sessions"]
+            ]
+
+    def end_session(self, client: int) -> None:
+        """Ends the session of a client, whose transaction is taken back. Raises `NoSuchClient`."""
+        self._told("POST", f"/sessions/{client}/end", NoSuchClient(f"the server serves no client {client}"))
+
+    def stop(self) -> None:
+        """Has the server end in order: it takes no more connections, answers what has come, and takes back what is open."""
+        self._told("POST", "/stop")
+
+    def _told(self, method: str, path: str, not_found: Optional[MltxError] = None) -> Any:
+        """The answer to a request, which is JSON. Raises this error where nothing is at the path."""
+        status, body = self._answer(method, path)
+        if status == 404 and not_found:
+            raise not_found
+        try:
+            if status == 200:
+                return json.loads(body)
+        except ValueError:
+            pass
+        raise UnexpectedAnswer(f"the answer to {method} {path} has the status {status} and begins with {body[:60]!r}")
+
+    def _answer(self, method: str, path: str) -> tuple[int, bytes]:
+        connection = http.client.HTTPConnection(self.host, self.port, timeout=self.timeout)
+        try:
+            connection.connect()
+        except OSError as fault:
+            raise ServerAway(f"no server answers an operator at {self.host}:{self.port} ({fault})") from fault
+        try:
+            connection.request(method, path, headers={"X-Mltx": "1"})
+            answer = connection.getresponse()
+            return answer.status, answer.read(MOST_TOLD_BYTES)
+        except socket.timeout as fault:
+            raise TimedOut(f"no answer to {method} {path} came within {self.timeout} seconds") from fault
+        except http.client.RemoteDisconnected as fault:
+            raise ConnectionLost(f"the connection ended without an answer to {method} {path}") from fault
+        except http.client.HTTPException as fault:
+            raise UnexpectedAnswer(f"the answer to {method} {path} is none of HTTP ({fault!r})") from fault
+        except OSError as fault:
+            raise ConnectionLost(f"the connection ended before the answer to {method} {path} ({fault})") from fault
+        finally:
+            connection.close()
+
+    @contextmanager
+    def _understood(self, path: str) -> Iterator[None]:
+        """What is told has other parts than it should: then it is none of such a server."""
+        try:
+            yield
+        except (KeyError, TypeError) as fault:
+            raise UnexpectedAnswer(f"the answer to {path} has other parts ({fault!r})") from fault
+
+
+def _open_transaction(told: Any) -> Optional[OpenTransaction]:
+    """The open transaction that a server tells of, if it does."""
+    if told is None:
+        return None
+    return OpenTransaction(told["number"], told["milliseconds"] / 1_000, told["operations"], tuple(told["did"]), told["calls"])
 
 
 def parse_address(text: str) -> tuple[str, int]:

@@ -1,9 +1,10 @@
 #!/usr/bin/env python3
 """A prompt for a server that `mltx serve` runs.
 
-    python3 mltx_shell.py HOST:PORT
+    python3 mltx_shell.py HOST:PORT [--admin HOST:PORT]
 
 Each line is one of a session, as `begin`, `deposit 1 50` or `commit`, or a command of the prompt; `help` lists both.
+Those that begin with a colon ask the server's operator, whose address is that of `--admin`, as the server has it.
 Blank lines and lines that begin with `#` are skipped. The prompt says whether a transaction is open, with its number,
 and else how the last one ended. Without a terminal it reads lines from standard input up to the first that fails, and
 then the status is 1; a transaction that is open at the end is taken back.
@@ -29,8 +30,10 @@ from mltx import (
     ConnectionLost,
     Form,
     MltxError,
+    Operator,
     Reply,
     Transaction,
+    Wait,
     parse_address,
 )
 
@@ -53,9 +56,10 @@ class LineFailed(Exception):
 class Shell(cmd.Cmd):
     """The prompt: what each line does, and what it shows."""
 
-    def __init__(self, client: Client) -> None:
+    def __init__(self, client: Client, operator: Optional[Operator] = None) -> None:
         super().__init__()
         self.client = client
+        self.operator = operator
         self.tx: Optional[Transaction] = None
         # How the last transaction ended, as the prompt shows it.
         self.last = ""
@@ -116,6 +120,10 @@ class Shell(cmd.Cmd):
         word, *values = line.split()
         if word.startswith("#"):
             return
+        if word in OPERATOR_COMMANDS:
+            nothing_behind(word, " ".join(values))
+            OPERATOR_COMMANDS[word](self)
+            return
         if word not in FORMS:
             raise LineFailed(f"{word}: there is no such line; `help` lists all")
         self.ask(FORMS[word], values)
@@ -173,6 +181,22 @@ class Shell(cmd.Cmd):
             self.say(f"connected; transaction {self.tx.number} is open")
         else:
             self.say("connected; no transaction is open" + (f", the last one: {self.last}" if self.last else ""))
+
+    def show_status(self) -> None:
+        """:status
+        says the server's numbers, as an operator sees them"""
+        self.say("\n".join(f"{name:16}{number}" for name, number in self.asked_operator().status().items()))
+
+    def show_waits(self) -> None:
+        """:waits
+        says which transactions wait for others, and on which operation"""
+        self.say("\n".join(map(wait_in_words, self.asked_operator().waits())) or "nobody waits")
+
+    def asked_operator(self) -> Operator:
+        """The operator, where the prompt was told its address."""
+        if self.operator is None:
+            raise LineFailed("the operator's address is not known: give it as `--admin HOST:PORT` behind the server's")
+        return self.operator
 
     def do_source(self, rest: str) -> bool:
         """source FILE
@@ -273,6 +297,11 @@ class Shell(cmd.Cmd):
     def completenames(self, text: str, *_ignored: Any) -> list[str]:
         return [f"{word} " for word in (*FORMS, *COMMANDS) if word.startswith(text)]
 
+    def completedefault(self, *args: Any) -> list[str]:
+        # The colon is no part of the text.
+        text, line = args[:2]
+        return [f"{word[1:]} " for word in OPERATOR_COMMANDS if line.startswith(":") and word.startswith(f":{text}")]
+
     def complete_help(self, *args: Any) -> list[str]:
         return self.completenames(*args)
 
@@ -283,7 +312,9 @@ class Shell(cmd.Cmd):
         return [(path + "/" if os.path.isdir(path) else path)[cut:] for path in sorted(found)]
 
 
-COMMANDS = ("begin", "commit", "abort", "status", "source", "help", "quit")
+# What asks the operator of the server.
+OPERATOR_COMMANDS = {":status": Shell.show_status, ":waits": Shell.show_waits}
+COMMANDS = ("begin", "commit", "abort", "status", *OPERATOR_COMMANDS, "source", "help", "quit")
 
 
 def nothing_behind(word: str, rest: str) -> None:
@@ -306,8 +337,18 @@ def form_help(form: Form[Any]) -> list[str]:
 
 def command_help(word: str) -> tuple[str, str]:
     """How a command is written, and what it does."""
-    first, _, rest = (getattr(Shell, f"do_{word}").__doc__ or "").partition("\n")
+    method = OPERATOR_COMMANDS.get(word) or getattr(Shell, f"do_{word}")
+    first, _, rest = (method.__doc__ or "").partition("\n")
     return first, " ".join(rest.split())
+
+
+def wait_in_words(wait: Wait) -> str:
+    """Who waits for whom, how long and why."""
+    reason = {"object": "", "page": ", at a page", "turn": ", which came before it"}.get(wait.reason, f", {wait.reason}")
+    return (
+        f"transaction {wait.waiter} of client {wait.client} waits for transaction {wait.holder}{reason}, since"
+        f" {wait.seconds:.1f} seconds: {wait.operation}"
+    )
 
 
 def in_words(answer: str) -> str:
@@ -372,13 +413,16 @@ def leave_output() -> None:
 def main() -> int:
     parser = argparse.ArgumentParser(description="A prompt for a server that `mltx serve` runs.")
     parser.add_argument("address", metavar="HOST:PORT", help="where the server listens, as 127.0.0.1:7000")
+    parser.add_argument("--admin", metavar="HOST:PORT", help="where its operator connects, as the server's own `--admin` says")
+    given = parser.parse_args()
     try:
-        host, port = parse_address(parser.parse_args().address)
+        host, port = parse_address(given.address)
+        operator = Operator(*parse_address(given.admin)) if given.admin is not None else None
     except ValueError as fault:
         parser.error(str(fault))
     try:
         with Client(host, port) as client:
-            return run_shell(Shell(client))
+            return run_shell(Shell(client, operator))
     except BrokenPipeError:
         leave_output()
         return 1

@@ -1,0 +1,197 @@
+"""The trace of a server, which is written while it serves: it is there from the start on, has whole lines at each moment, also
+where the server is killed, and goes on without what can't be written."""
+import errno
+import random
+import signal
+import subprocess
+import threading
+import time
+from concurrent.futures import ThreadPoolExecutor
+from contextlib import contextmanager
+
+from harness import PATIENCE, Failed, each, expect, holds, lines, listening, may_break_off, of_system, same, test
+from serving import IO, comes_to_be, says
+
+
+@test
+def trace_is_there_before_clients_are(mltx):
+    """Its file is made, and empty, as soon as the server says that it listens."""
+    for _ in range(5):
+        trace = mltx.folder / "trace"
+        trace.unlink(missing_ok=True)
+        with mltx.serve("--trace", trace) as server:
+            same(server.first_line(), listening(server.address))
+            same(trace.read_bytes(), b"", "the trace of a server without clients")
+            server.talk("quit\n")
+            expect(server.end(), out="served 1\n")
+
+
+def counts_up(server, ended, seed, told):
+    """Transactions of some operations over few objects, until the server is gone. It adds each commit's number, and when it was
+    told of it."""
+    source = random.Random(seed)
+    with may_break_off(), server.connect() as peer:
+        while not ended.is_set():
+            asked = [f"{source.choice(('up', 'down'))} {source.randrange(4)} 1" for _ in range(source.randrange(1, 5))]
+            peer.send("".join(line + "\n" for line in ("begin", *asked, source.choice(("commit", "commit", "abort")))))
+            try:
+                answers = [peer.line() for _ in range(len(asked) + 2)]
+            except Failed:
+                return
+            if answers[-1].startswith("committed "):
+                told.append((time.monotonic(), int(answers[-1].split()[1])))
+
+
+@contextmanager
+def under_load(server, clients=8):
+    """Clients that work as long as the block lasts. It yields what they were told of commits."""
+    ended, told = threading.Event(), []
+    with ThreadPoolExecutor(clients) as threads:
+        working = [threads.submit(counts_up, server, ended, seed, told) for seed in range(clients)]
+        try:
+            yield told
+        finally:
+            ended.set()
+        for one in working:
+            one.result()
+
+
+def commits_of(text):
+    """The numbers of the commits in a trace, in order."""
+    return [int(line.split()[2]) for line in text.splitlines() if line.startswith("commit ")]
+
+
+@each({f"trace-of-a-server-that-is-killed-{number}": number for number in range(10)}, seconds=3)
+def trace_of_a_server_that_is_killed(mltx, number):
+    """At any moment under load: what stands in it is right, and has all that a client was told a second before."""
+    trace, after = mltx.folder / "trace", random.Random(number).uniform(1.9, 2.9)
+    with mltx.serve("--trace", trace, "--sessions", 8, limit=9) as server, under_load(server) as told:
+        time.sleep(after)
+        server.process.send_signal(signal.SIGKILL)
+        killed = time.monotonic()
+        server.process.wait()
+    text = trace.read_text()
+    holds(text.endswith("\n"), f"the trace of {len(text)} bytes ends in {text[-40:]!r}")
+    checked = mltx.check(trace)
+    same((checked.status, checked.err), (0, b""), "the check of the trace")
+    found = commits_of(text)
+    same(found, list(range(1, len(found) + 1)), "the commits of the trace")
+    early = [commit for at, commit in told if at < killed - 1.5]
+    holds(early and max(early) <= len(found), f"{max(early, default=0)} were told in time, and {len(found)} are in the trace")
+
+
+@test(seconds=2)
+def trace_has_whole_lines_at_each_moment(mltx):
+    """Read again and again under load: each time it is a front of what it is at the end, of whole lines, and it grows."""
+    trace, seen = mltx.folder / "trace", []
+    with mltx.serve("--trace", trace, "--sessions", 4, limit=4) as server:
+        with under_load(server, clients=4):
+            deadline = time.monotonic() + 2.5
+            while time.monotonic() < deadline:
+                seen.append(trace.read_bytes() if trace.exists() else b"")
+                time.sleep(0.01)
+        expect(server.end(), out="served 4\n")
+    whole = trace.read_bytes()
+    are_fronts = all(whole.startswith(text) and text[-1:] in (b"", b"\n") for text in seen)
+    holds(are_fronts, "a trace that was read is no front of whole lines")
+    holds(len({len(text) for text in seen}) >= 3, f"the trace had {sorted({len(text) for text in seen})} bytes")
+
+
+@test(seconds=2)
+def trace_into_a_full_device(mltx):
+    """It is noted while clients are served, who go on, and is a fault at the end."""
+    with mltx.serve("--trace", "/dev/full", limit=3) as server:
+        same(server.first_line(), listening(server.address))
+        same(server.talk(lines("begin|up 7 1|commit")), lines("begun 1|done|committed 1").encode(), "the first client")
+        note = f"the trace is written no further: {of_system(errno.ENOSPC)}"
+        same(server.next_note(), note)
+        for number in (2, 3):
+            told = lines(f"begun {number}|is 1|committed {number}").encode()
+            same(server.talk(lines("begin|read 7|commit")), told, "a later client")
+        expect(server.end(said=""), status=1, out="served 3\n", err=IO, notes=[note])
+
+
+@each({f"trace-that-fails-{number}-bytes-after-a-while": number for number in (0, 1, 9, 10, 500)}, seconds=2)
+def trace_that_fails(mltx, number):
+    """What was written before stays, and of what fails at this byte at most whole lines. What clients are told is not changed."""
+    trace = mltx.folder / "trace"
+    items = [f"begin {tx}\nop {tx} up 7 1 done\ncommit {tx} {tx}\n" for tx in range(1, 61)]
+    first, second = "".join(items[:30]), "".join(items[30:])
+    env = mltx.shim(FAIL=f"write-file {len(first) + number + 1} {errno.ENOSPC} 1 1000000")
+    with mltx.serve("--trace", trace, env=env) as server, server.connect() as peer:
+        for begin in (1, 31):
+            peer.send(lines("begin|up 7 1|commit") * 30)
+            for tx in range(begin, begin + 30):
+                same([peer.line() for _ in range(3)], [f"begun {tx}", "done", f"committed {tx}"], "the answers")
+            if begin == 1:
+                comes_to_be(lambda: trace.read_text() == first, "the trace of thirty transactions is written")
+        says(peer, "quit", "bye")
+        note = f"the trace is written no further: {of_system(errno.ENOSPC)}"
+        expect(server.end(), status=1, out="served 1\n", err=IO, notes=[note])
+    left = trace.read_text()
+    is_front = left.startswith(first) and (first + second[:number]).startswith(left)
+    holds(is_front, f"{len(left)} bytes are left, and {len(first)} were written")
+    same(left[-1:], "\n", "the end of the trace")
+
+
+@contextmanager
+def small_disk(mltx, size):
+    """A folder on a disk of so many bytes, or None where none can be had."""
+    place = mltx.folder / "disk"
+    place.mkdir()
+    words = ["mount", "-t", "tmpfs", "-o", f"size={size}", "none", str(place)]
+    try:
+        is_mounted = subprocess.run(words, capture_output=True).returncode == 0
+    except FileNotFoundError:
+        is_mounted = False
+    try:
+        yield place if is_mounted else None
+    finally:
+        if is_mounted:
+            subprocess.run(["umount", str(place)], check=True)
+
+
+@test(seconds=3)
+def trace_on_a_disk_that_is_full(mltx):
+    """Where a small disk can be had: the file has whole lines, which are right, and all clients are served."""
+    with small_disk(mltx, 65_536) as disk:
+        if disk is None:
+            print("    no disk can be mounted here: a trace on one that is full is not looked at", flush=True)
+            return
+        trace = disk / "trace"
+        with mltx.serve("--trace", trace, limit=2) as server:
+            count = 5_000
+            told = server.talk(lines("begin|up 7 1|commit") * count)
+            same(told.count(b"committed"), count, "the commits of a client")
+            time.sleep(1.2)
+            told = lines(f"begun {count + 1}|is {count}|committed {count + 1}").encode()
+            same(server.talk(lines("begin|read 7|commit")), told, "a later client")
+            note = f"the trace is written no further: {of_system(errno.ENOSPC)}"
+            expect(server.end(), status=1, out="served 2\n", err=IO, notes=[note])
+        text = trace.read_text()
+        holds(40_000 < len(text) <= 65_536 and text.endswith("\n"), f"{len(text)} bytes, which end in {text[-40:]!r}")
+        checked = mltx.check(trace)
+        same((checked.status, checked.err), (0, b""), "the check of the trace")
+
+
+CLOSED = ["<&-", ">&-", "2>&-", "<&- >&-", "<&- 2>&-", ">&- 2>&-", "<&- >&- 2>&-"]
+
+
+@each({f"closed-streams-{'-'.join(str('<>2'.index(one[0])) for one in streams.split())}": streams for streams in CLOSED})
+def closed_streams(mltx, streams):
+    """Whichever standard streams are closed at the start, with a trace and without: clients hear their answers and nothing else,
+    and the trace has its items and nothing else."""
+    trace, count, short = mltx.folder / "trace", 9, b"error 12 LineTooLong\n"
+    for options in (("--trace", trace), ()):
+        with mltx.serve(*options, limit=count + 2, redirect=streams) as server:
+            with server.connect() as first:
+                same(first.ask("foo"), "error 10 ScriptFault", f"the first client of a server {streams}")
+                for tx in range(1, count + 1):
+                    told = f"begun {tx}\ndone\ncommitted {tx}\n"
+                    same(server.talk(lines("begin|up 7 1|commit")).decode(), told, f"a client of a server {streams}")
+                same(server.talk("x" * 201), short, f"a client of a server {streams} whose line is too long")
+                same(first.say_all("quit\n"), b"bye\n", f"the last answer of the first client of a server {streams}")
+            server.process.communicate(timeout=PATIENCE)
+            same(server.process.returncode, int(">&-" in streams.replace("2>&-", "")), f"the status of a server {streams}")
+    items = "".join(f"begin {tx}\nop {tx} up 7 1 done\ncommit {tx} {tx}\n" for tx in range(1, count + 1))
+    same(trace.read_text(), items, f"the trace of a server {streams}")

@@ -1,0 +1,564 @@
+"""What an operator sees of a server and does to it, by HTTP: counts, waits, sessions, the page; the end of a session, or of all."""
+import http.client
+import itertools
+import json
+import re
+import select
+import socket
+import subprocess
+import threading
+import time
+from concurrent.futures import ThreadPoolExecutor
+from contextlib import ExitStack, contextmanager
+
+from harness import BY_OPERATOR, PATIENCE, STOPS, cut_for, each, expect, free_address, holds, may_break_off, same, test
+from live_traces import under_load
+from pages import browsers
+from sessions import says_nothing, send_and_hear_nothing
+from serving import SLACK, STOPPING, refuses, says
+
+JSON, TEXT = "application/json", "text/plain; charset=utf-8"
+MARK = {"X-Mltx": "1"}
+NUMBERS = [
+    *("seconds", "sessions", "session_threads", "queued", "connections", "limit", "open", "begun", "operations"),
+    *("commits", "aborts", "gave_up", "deadlocks", "events", "items", "bytes", "pages", "most_pages", "depth", "stopping"),
+]
+
+
+@contextmanager
+def operated(mltx, *options, limit=1_000, **more):
+    """A server with an operator, which is killed at the end of the block where it has not ended."""
+    with mltx.serve(*options, limit=limit, admin=free_address(), **more) as server:
+        server.first_line()
+        same(server.first_line(), "mltx: admin on %s:%d\n" % server.admin)
+        yield server
+
+
+def answer(server, path, method="GET", headers=None):
+    """The status of an answer, its kind and its bytes. It ends the connection, and is the newest that there is."""
+    connection = http.client.HTTPConnection(*server.admin, timeout=PATIENCE)
+    try:
+        connection.request(method, path, headers=headers or {})
+        got = connection.getresponse()
+        body = got.read()
+    finally:
+        connection.close()
+    same(got.getheader("connection"), "close", f"{method} {path}")
+    same((got.version, got.getheader("content-length")), (11, str(len(body))), f"{method} {path}")
+    return got.status, got.getheader("content-type"), body
+
+
+def asked(server, path):
+    """What a path tells, which is JSON in one line."""
+    status, kind, body = answer(server, path)
+    same((status, kind, body.count(b"\n"), body[-1:]), (200, JSON, 1, b"\n"), path)
+    return json.loads(body)
+
+
+def counts(server, *names):
+    """These of the server's numbers."""
+    told = asked(server, "/status")
+    return {name: told[name] for name in names}
+
+
+def posted(server, path, headers=MARK):
+    """What a command is told."""
+    status, kind, body = answer(server, path, "POST", headers)
+    return (status, json.loads(body)) if kind == JSON else (status, None)
+
+
+def comes(server, path, is_so, what):
+    """Asks until an answer is so."""
+    deadline = time.monotonic() + PATIENCE
+    while not is_so(told := asked(server, path)):
+        holds(time.monotonic() < deadline, f"it never came that {what}: {told}")
+        time.sleep(0.02)
+
+
+def at_rest(rows):
+    """The rows without their times, each of which is a whole number of no more milliseconds than a test takes."""
+    left = []
+    for row in rows:
+        at = row["milliseconds"]
+        holds(isinstance(at, int) and 0 <= at < 1_000 * PATIENCE, f"milliseconds of {row}")
+        left.append({name: value for name, value in row.items() if name != "milliseconds"})
+    return left
+
+
+# What is told.
+
+
+@test
+def status_of_a_server_without_clients(mltx):
+    """All numbers in their order, and what they are at the start."""
+    with operated(mltx, "--sessions", 5, limit=77) as server:
+        comes(server, "/status", lambda told: told["session_threads"] == 5, "all session threads run")
+        told = asked(server, "/status")
+        same(list(told), NUMBERS, "the names")
+        holds(all(type(value) is int for value in told.values()), f"{told}")
+        others = ("seconds", "session_threads", "limit", "bytes", "pages", "most_pages")
+        nothing = {name: 0 for name in NUMBERS if name not in others}
+        same({name: told[name] for name in nothing}, nothing, "what is 0 at the start")
+        same(told["limit"], 77, "the limit that was asked for")
+        holds(0 <= told["pages"] < told["most_pages"] and told["seconds"] <= SLACK, f"{told}")
+
+
+WORK = ("begin", "open 1", "deposit 1 5", "commit", "begin", "up 7 1", "abort", "begin", "read 7")
+COUNTED = {"begun": 3, "operations": 4, "commits": 1, "aborts": 1, "gave_up": 0, "deadlocks": 0, "open": 1}
+# Of the first transaction 4, of the second 4 with one that takes back, of the third 2: as a trace has lines.
+ITEMS = 10
+
+
+@test(seconds=2)
+def counts_are_what_clients_did(mltx):
+    """Of transactions, operations and items of the history; of connections and sessions; and of time."""
+    with operated(mltx, "--sessions", 2, limit=9) as server:
+        same(server.talk("quit\n"), b"bye\n", "a client that does nothing")
+        comes(server, "/status", lambda told: told["sessions"] == 0, "the client has left")
+        same(counts(server, "connections", "begun"), {"connections": 1, "begun": 0}, "after a client that does nothing")
+        with server.connect() as peer, server.connect() as other:
+            told = [peer.ask(line) for line in WORK]
+            same(told[-1], "is 0", f"what a client was told: {told}")
+            same(other.ask("foo"), "error 10 ScriptFault", "another client")
+            same(counts(server, *COUNTED), COUNTED, "what clients did")
+            now = {"items": ITEMS, "sessions": 2, "connections": 3, "queued": 0}
+            same(counts(server, *now), now, "what there is")
+            before = counts(server, "events", "bytes")
+            with server.connect() as third:
+                third.send("begin\n")
+                comes(server, "/status", lambda told: (told["sessions"], told["queued"]) == (2, 1), "a client is queued")
+                time.sleep(1.1)
+                holds(1 <= counts(server, "seconds")["seconds"] <= 1 + 2 * SLACK, "the seconds after more than one")
+                says(other, "quit", "bye")
+                same(third.line(), "begun 4", "the client that was queued")
+                says(third, "up 8 1", "done", "commit", "committed 2", "quit", "bye")
+            after = counts(server, "events", "bytes", "items")
+            holds(after["events"] > before["events"] and after["bytes"] > before["bytes"] > 0, f"{before}, and then {after}")
+            same(after["items"], ITEMS + 3, "the items")
+
+
+@test
+def operations_that_are_given_up_are_counted(mltx):
+    """One of a circle, which is counted as a deadlock too, and one that has spent its tries, which is none."""
+    with operated(mltx) as server, server.connect() as first, server.connect() as second:
+        says(first, "begin", "begun 1", "up 1 1", "done")
+        says(second, "begin", "begun 2", "up 2 1", "done")
+        first.send("read 2\n")
+        says_nothing(first, "the counter is held")
+        same(second.ask("read 1"), "error 14 GaveUp", "the youngest of a circle")
+        told = {"gave_up": 1, "deadlocks": 1, "operations": 2, "aborts": 0}
+        same(counts(server, *told), told, "once one has given up")
+        says(second, "abort", "aborted")
+        same(first.line(), "is 0", "the other of the circle")
+        told |= {"operations": 3, "aborts": 1}
+        same(counts(server, *told), told, "once it has aborted")
+    with operated(mltx, "--tries", 1) as server, server.connect() as first, server.connect() as second:
+        says(first, "begin", "begun 1", "up 1 1", "done")
+        says(second, "begin", "begun 2", "read 1", "error 14 GaveUp", "read 1", "error 14 GaveUp")
+        same(counts(server, "gave_up", "deadlocks", "operations"), {"gave_up": 2, "deadlocks": 0, "operations": 1})
+
+
+@test
+def pages_and_depth_are_those_of_the_directory(mltx):
+    """Eight accounts with a low pseudokey of 0 fill a bucket, and one that differs in its first bit has the directory double."""
+    with operated(mltx, "--hash", "low") as server, server.connect() as peer:
+        says(peer, "begin", "begun 1", *(word for number in range(8) for word in (f"open {number}", "opened")))
+        before = counts(server, "depth", "pages")
+        same(before["depth"], 0, "the depth with eight accounts")
+        says(peer, "open 32768", "opened", "commit", "committed 1")
+        after = counts(server, "depth", "pages")
+        same((after["depth"], after["pages"] > before["pages"]), (1, True), f"{before}, and then {after}")
+
+
+def nine_for_each(pair):
+    """Nine counters with low pseudokeys that are one but for the last bit: a bucket has room for eight, so two come to be."""
+    return [2 * pair + 65_536 * number for number in range(5)] + [2 * pair + 1 + 65_536 * number for number in range(4)]
+
+
+@test(seconds=6)
+def note_on_pages_that_get_few(mltx):
+    """From nine in ten of the pages on it is noted once; not before, and clients go on. All buckets there can be are 65,536."""
+    with operated(mltx, "--hash", "low", limit=2) as server, server.connect() as peer:
+        most, before, pairs, begun = counts(server, "most_pages")["most_pages"], 0, iter(range(32_768)), 0
+        holds(most < 65_536 * 10 // 9, f"{most} pages are more than clients can use nine in ten of")
+        while 10 * (now := counts(server, "pages")["pages"]) < 9 * most:
+            same(select.select([server.process.stderr], [], [], 0)[0], [], f"a note with {before} of {most} pages")
+            before, begun = now, begun + 1
+            counters = [counter for pair in itertools.islice(pairs, 110) for counter in nine_for_each(pair)]
+            peer.send("".join(line + "\n" for line in ("begin", *(f"up {counter} 1" for counter in counters), "commit")))
+            told = {peer.line() for _ in range(len(counters) + 2)}
+            same(told, {f"begun {begun}", "done", f"committed {begun}"}, f"a client with {before} of {most} pages")
+        holds(select.select([server.process.stderr], [], [], SLACK)[0], f"nothing is noted with {now} of {most} pages")
+        note = server.next_note()
+        found = re.fullmatch(rf"(\d+) of {most} pages are used", note)
+        holds(found and 9 * most <= 10 * int(found[1]) <= 10 * now, f"{note}, with {before} and then {now} of {most} pages")
+        says(peer, "begin", f"begun {begun + 1}", "read 0", "is 1", "up 0 1", "done", "quit", "bye")
+        server.talk("quit\n")
+        expect(server.end(said=""), out="served 2\n", notes=[note])
+
+
+NAMED = {
+    "mltx_uptime_seconds": "seconds", "mltx_history_bytes": "bytes", "mltx_history_items": "items",
+    "mltx_connections_total": "connections", "mltx_transactions_begun_total": "begun",
+}
+
+
+@test
+def metrics_line_by_line(mltx):
+    """Each number has its words, its kind and its value, and a name of its own; they are those of the status."""
+    with operated(mltx) as server, server.connect() as peer:
+        for line in WORK:
+            peer.ask(line)
+        comes(server, "/status", lambda told: told["session_threads"] == 8, "all session threads run")
+        told = asked(server, "/status")
+        status, kind, body = answer(server, "/metrics")
+        if asked(server, "/status")["seconds"] != told["seconds"]:
+            told = asked(server, "/status")
+            status, kind, body = answer(server, "/metrics")
+    same((status, kind, body[-1:]), (200, "text/plain; version=0.0.4; charset=utf-8", b"\n"), "the answer")
+    rows, found, kinds = body.decode().splitlines(), {}, {}
+    same(len(rows), 3 * len(NUMBERS), "how many lines there are")
+    for help_line, type_line, value_line in zip(rows[::3], rows[1::3], rows[2::3], strict=True):
+        name, value = re.fullmatch(r"(mltx_[a-z_]+) ([0-9]+)", value_line).groups()
+        holds(re.fullmatch(f"# HELP {name} \\S.*", help_line), help_line)
+        kinds[name] = re.fullmatch(f"# TYPE {name} (gauge|counter)", type_line)[1]
+        same(kinds[name] == "counter", name.endswith("_total"), f"the kind of {name}")
+        holds(name not in found, f"{name} comes twice")
+        found[name] = int(value)
+    same(list(kinds.values()).count("counter"), 8, f"how many counters there are among {kinds}")
+    same({name: found.get(name) for name in NAMED}, {name: told[of] for name, of in NAMED.items()}, "those with a known name")
+    same(sorted(found.values()), sorted(told.values()), "the values")
+
+
+def wait(waiter, client, holder, why, operation):
+    return {"waiter": waiter, "client": client, "holder": holder, "for": why, "operation": operation}
+
+
+@test(seconds=1)
+def waits_tell_who_waits_for_whom(mltx):
+    """One for an object, and one for its turn behind it; how long, and none once they have ended. Clients have numbers of their
+    own, which are not those of transactions."""
+    with operated(mltx) as server, ExitStack() as open_ones:
+        same(asked(server, "/waits"), {"waits": []}, "without clients")
+        silent, third, waiter, holder = [open_ones.enter_context(served(server)) for _ in range(4)]
+        says(holder, "begin", "begun 1", "up 1 5", "done")
+        same(asked(server, "/waits"), {"waits": []}, "while nobody waits")
+        says(waiter, "begin", "begun 2")
+        waiter.send("read 01\n")
+        comes(server, "/waits", lambda told: told["waits"], "one waits")
+        first = asked(server, "/waits")["waits"]
+        same(at_rest(first), [wait(2, 3, 1, "object", "read 1")], "one that waits")
+        says(third, "begin", "begun 3")
+        third.send("up 1 7\n")
+        comes(server, "/waits", lambda told: len(told["waits"]) == 2, "two wait")
+        time.sleep(0.5)
+        both = sorted(asked(server, "/waits")["waits"], key=lambda row: row["waiter"])
+        same(at_rest(both), [wait(2, 3, 1, "object", "read 1"), wait(3, 2, 2, "turn", "up 1 7")], "two that wait")
+        longer = both[0]["milliseconds"] - first[0]["milliseconds"]
+        holds(500 <= longer < 1_000 * 2 * SLACK, f"it waits {longer} milliseconds longer")
+        says(holder, "commit", "committed 1")
+        same(waiter.line(), "is 5", "the one that waited")
+        comes(server, "/waits", lambda told: len(told["waits"]) == 1, "one has gone on")
+        same(at_rest(asked(server, "/waits")["waits"]), [wait(3, 2, 2, "object", "up 1 7")], "the one whose turn it is")
+        says(waiter, "commit", "committed 2")
+        same(third.line(), "done", "the last one")
+        same(asked(server, "/waits"), {"waits": []}, "once nobody waits")
+        says(silent, "quit", "bye")
+
+
+@contextmanager
+def served(server):
+    """A client that is served: so clients have their numbers in order."""
+    with server.connect() as peer:
+        same(peer.ask("foo"), "error 10 ScriptFault", "a client")
+        yield peer
+
+
+@test(seconds=2)
+def waits_in_a_load(mltx):
+    """Beside eight clients that work on other counters the one that waits is told each time, and clients go on."""
+    with operated(mltx, "--sessions", 10) as server, served(server) as holder, served(server) as waiter:
+        says(holder, "begin", "begun 1", "up 77 5", "done")
+        says(waiter, "begin", "begun 2")
+        waiter.send("read 77\n")
+        with under_load(server) as told:
+            comes(server, "/waits", lambda told: told["waits"], "one waits")
+            for _ in range(30):
+                rows = [row for row in asked(server, "/waits")["waits"] if row["client"] == 2]
+                same(at_rest(rows), [wait(2, 2, 1, "object", "read 77")], "the one that waits")
+                others = [row for row in asked(server, "/waits")["waits"] if row["client"] != 2]
+                holds(all(re.fullmatch("(up|down) [0-3] 1", str(row["operation"])) for row in others), f"{others}")
+                same({row["client"] for row in asked(server, "/sessions")["sessions"]} >= {1, 2}, True, "the sessions")
+                time.sleep(0.02)
+        holds(len(told) > 30, f"{len(told)} commits beside an operator that asks")
+        says(holder, "abort", "aborted")
+        same(waiter.line(), "is 0", "the one that waited")
+
+
+def transaction(number, operations, did, calls=None):
+    return {"number": number, "operations": operations, "did": did, "calls": calls}
+
+
+def session_rows(server):
+    """By client what its session is told to be, without times."""
+    told = asked(server, "/sessions")
+    same(list(told), ["sessions"], "the answer")
+    rows = {}
+    for row in told["sessions"]:
+        holds(row["client"] not in rows, f"client {row['client']} comes twice")
+        within = row["transaction"]
+        holds(within is None or within["milliseconds"] <= row["milliseconds"], f"{row}")
+        same(list(at_rest([row])[0]), ["client", "transaction"], "the names")
+        rows[row["client"]] = within and at_rest([within])[0]
+    return rows
+
+
+@test(seconds=1)
+def sessions_tell_what_transactions_did(mltx):
+    """Each operation with its reply, of many the last sixteen; what is asked for now; none after the end of one."""
+    with operated(mltx) as server:
+        same(session_rows(server), {}, "without clients")
+        with served(server) as idle, served(server) as worker, served(server) as waiter:
+            says(worker, "begin", "begun 1", "open 1", "opened", "deposit 1 5", "done", "balance 1", "is 5", "add 4 9", "added")
+            says(waiter, "begin", "begun 2", "has 4 8", "no", "withdraw 2 3", "missing")
+            waiter.send("size 4\n")
+            comes(server, "/waits", lambda told: told["waits"], "one waits")
+            did = ["open 1 opened", "deposit 1 5 done", "balance 1 is 5", "add 4 9 added"]
+            waits = transaction(2, 2, ["has 4 8 no", "withdraw 2 3 missing"], "size 4")
+            same(session_rows(server), {1: None, 2: transaction(1, 4, did), 3: waits}, "three sessions")
+            for number in range(30):
+                says(worker, f"up {number} 1", "done")
+            last = [f"up {number} 1 done" for number in range(14, 30)]
+            same(session_rows(server)[2], transaction(1, 34, last), "one that did much")
+            says(worker, "abort", "aborted")
+            same(waiter.line(), "is 0", "the one that waited")
+            ended = transaction(2, 3, ["has 4 8 no", "withdraw 2 3 missing", "size 4 is 0"])
+            same(session_rows(server), {1: None, 2: None, 3: ended}, "once one has aborted")
+            says(waiter, "commit", "committed 1")
+            says(idle, "begin", "begun 3")
+            same(session_rows(server), {1: transaction(3, 0, []), 2: None, 3: None}, "once one has committed")
+            says(worker, "quit", "bye")
+            comes(server, "/sessions", lambda told: len(told["sessions"]) == 2, "one has left")
+            same(session_rows(server), {1: transaction(3, 0, []), 3: None}, "once one has left")
+
+
+# What is answered to anything else.
+
+
+PATHS = {
+    **dict.fromkeys(("/status", "/metrics", "/waits", "/sessions", "/"), "GET"), "/stop": "POST", "/sessions/1/end": "POST",
+}
+
+
+NO_PATHS = [
+    *("/nosuch", "/status/", "/statu", "/Status", "//", "/sessions/", "/sessions/1", "/sessions/1/end/", "/sessions/x/end"),
+    *("/sessions/-1/end", "/sessions//end", "/sessions/1/stop", "/stop/", "/index.html"),
+]
+
+
+@test
+def other_requests_are_refused(mltx):
+    """Another path, another method, and a command without the header; nothing is done, and the client goes on."""
+    with operated(mltx) as server, served(server) as peer:
+        for path in NO_PATHS:
+            for method in ("GET", "POST"):
+                same(answer(server, path, method, MARK)[0], 404, f"{method} {path}")
+        for path, method in PATHS.items():
+            for other in ("GET", "POST", "PUT", "DELETE"):
+                if other != method:
+                    same(answer(server, path, other, MARK)[0], 405, f"{other} {path}")
+        for headers in ({}, {"X-Mltx": "0"}, {"X-Mltx": ""}, {"X-Mltx": "11"}, {"X-Other": "1"}, {"Cookie": "X-Mltx: 1"}):
+            for path in ("/stop", "/sessions/1/end", "/sessions/99/end"):
+                same(answer(server, path, "POST", headers)[0], 403, f"POST {path} with {headers}")
+        says(peer, "begin", "begun 1", "up 1 1", "done")
+        same(counts(server, "stopping", "sessions"), {"stopping": 0, "sessions": 1}, "the server")
+
+
+@test
+def request_may_come_in_pieces(mltx):
+    """Byte by byte, with the name of the header in any letters, and of an older version."""
+    with operated(mltx) as server, served(server) as peer:
+        request = b"POST /sessions/1/end HTTP/1.1\r\nHost: here\r\nx-mLTX:1\r\nContent-Length: 0\r\n\r\n"
+        with socket.create_connection(server.admin, PATIENCE) as operator:
+            operator.setsockopt(socket.IPPROTO_TCP, socket.TCP_NODELAY, 1)
+            for byte in request:
+                operator.sendall(bytes([byte]))
+            told = b"".join(iter(lambda: operator.recv(65_536), b""))
+        holds(told.startswith(b"HTTP/1.1 200 ") and told.endswith(b'\r\n\r\n{"ended":1}\n'), f"{told}")
+        same(peer.rest(), b"", "the client that was ended")
+        with socket.create_connection(server.admin, PATIENCE) as operator:
+            operator.sendall(b"GET /waits HTTP/1.0\r\n\r\n")
+            told = b"".join(iter(lambda: operator.recv(65_536), b""))
+        holds(re.match(rb"HTTP/1\.[01] 200 ", told) and told.endswith(b'\r\n\r\n{"waits":[]}\n'), f"{told}")
+
+
+STRANGE = {
+    "nothing": b"", "half-a-line": b"GET /stat", "half-a-request": b"GET /status HTTP/1.1\r\nHost: x\r\n",
+    "noise": bytes(range(256)) * 40,
+    "a-long-line": b"GET /" + b"x" * 300_000, "many-headers": b"GET /status HTTP/1.1\r\n" + b"X-A: b\r\n" * 50_000,
+    "a-body-that-never-comes": b"POST /stop HTTP/1.1\r\nContent-Length: 1000000000\r\n\r\n",
+    "a-session": b"begin\nup 1 1\ncommit\n",
+}
+
+
+@each({f"operator-that-sends-{name}": sent for name, sent in STRANGE.items()}, seconds=2)
+def strange_operators_hold_nobody_up(mltx, sent):
+    """Twenty that send this and then nothing: others are answered, clients too, and the connections are closed in time."""
+    with operated(mltx) as server, served(server) as peer, ExitStack() as open_ones:
+        strange = [open_ones.enter_context(socket.create_connection(server.admin, PATIENCE)) for _ in range(20)]
+        began = time.monotonic()
+        for one in strange:
+            with may_break_off():
+                one.sendall(sent)
+        says(peer, "begin", "begun 1", "up 1 1", "done", "commit", "committed 1")
+        took = time.monotonic() - began
+        holds(took < SLACK, f"a client was answered after {took} seconds beside twenty operators")
+        same(counts(server, "commits", "sessions"), {"commits": 1, "sessions": 1}, "another operator")
+        for one in strange:
+            with may_break_off():
+                while one.recv(65_536):
+                    pass
+        took = time.monotonic() - began
+        holds(took < 30, f"the connections of twenty operators were closed after {took} seconds")
+        says(peer, "begin", "begun 2", "read 1", "is 1")
+
+
+@test(seconds=1)
+def silent_operator_is_left_after_a_second(mltx):
+    """Meanwhile another one is answered."""
+    with operated(mltx) as server, socket.create_connection(server.admin, PATIENCE) as silent:
+        began = time.monotonic()
+        same(counts(server, "sessions"), {"sessions": 0}, "another operator")
+        answered = time.monotonic() - began
+        same(silent.recv(1), b"", "what a silent operator hears")
+        closed = time.monotonic() - began
+        holds(0.5 < closed < 1 + SLACK, f"a silent connection was closed after {closed} seconds")
+        holds(answered < 1 + SLACK, f"another operator was answered after {answered} seconds")
+
+
+# What is done.
+
+
+@test(seconds=1)
+def operator_ends_a_session(mltx):
+    """One that is silent in a transaction, which is taken back, so that who waits for it goes on; and one that waits."""
+    with operated(mltx, limit=4) as server, served(server) as holder, served(server) as waiter, served(server) as third:
+        says(holder, "begin", "begun 1", "up 1 1", "done")
+        says(waiter, "begin", "begun 2", "up 2 1", "done")
+        waiter.send("read 1\n")
+        says(third, "begin", "begun 3")
+        third.send("read 2\n")
+        says_nothing(waiter, "the counter is held")
+        says_nothing(third, "the other counter is held")
+        for number in (0, 4, 99, 2**64, 10**30):
+            same(posted(server, f"/sessions/{number}/end"), (404, None), f"client {number}, which is not served")
+        same(posted(server, "/sessions/2/end"), (200, {"ended": 2}), "the client that waits")
+        same(third.line(), "is 0", "who waited for it")
+        holds(waiter.rest() in (b"", b"error 14 GaveUp\n"), "what a client hears that is ended while it waits")
+        says(holder, "up 1 1", "done")
+        third.send("read 1\n")
+        says_nothing(third, "the counter is held still")
+        same(posted(server, "/sessions/1/end"), (200, {"ended": 1}), "the client that is silent")
+        same(third.line(), "is 0", "who waited for it")
+        same(holder.rest(), b"", "what a silent client hears")
+        comes(server, "/status", lambda told: told["sessions"] == 1, "two have ended")
+        same(posted(server, "/sessions/1/end"), (404, None), "a client that has ended")
+        says(third, "commit", "committed 1", "quit", "bye")
+        server.talk("quit\n")
+        expect(server.end(said=""), out="served 4\n", notes=[cut_for(2, BY_OPERATOR), cut_for(1, BY_OPERATOR)])
+
+
+@test(seconds=1)
+def operator_stops_the_server(mltx):
+    """Accepting ends, what is open is taken back, and the trace is whole. It is told how many were served."""
+    trace = mltx.folder / "trace"
+    with operated(mltx, "--trace", trace) as server, served(server) as silent, served(server) as other:
+        says(silent, "begin", "begun 1", "up 1 1", "done")
+        says(other, "begin", "begun 2", "up 2 1", "done", "commit", "committed 1")
+        same(posted(server, "/stop"), (200, {"stopping": True}), "the command")
+        same(server.next_note(), STOPPING)
+        holds(refuses(server.address), "the port takes connections once the server is to stop")
+        ended = server.end(said="")
+        same((ended.status, ended.out, ended.err), (0, b"served 2\n", b""), "the server")
+        holds(set(ended.notes) <= {STOPPING, cut_for(1, STOPS), cut_for(2, STOPS)}, f"{ended.notes}")
+        same([silent.rest(), other.rest()], [b"", b""], "what clients hear")
+    items = [[line for line in trace.read_text().splitlines() if line.split()[1] == number] for number in "12"]
+    same(items[0], ["begin 1", "op 1 up 1 1 done", "back 1", "abort 1"], "what the trace has of the first")
+    same(items[1], ["begin 2", "op 2 up 2 1 done", "commit 2 1"], "what the trace has of the second")
+
+
+@test(seconds=9)
+def operator_sees_that_the_server_stops(mltx):
+    """As long as a client that never reads keeps it from its end."""
+    with operated(mltx) as server, server.connect() as deaf:
+        same(counts(server, "stopping"), {"stopping": 0}, "before")
+        sending = threading.Thread(target=send_and_hear_nothing, args=(deaf, "foo\n" * 2_000_000))
+        sending.start()
+        time.sleep(0.5)
+        began = time.monotonic()
+        same(posted(server, "/stop"), (200, {"stopping": True}), "the command")
+        same(counts(server, "stopping", "sessions"), {"stopping": 1, "sessions": 1}, "while it stops")
+        same(posted(server, "/stop"), (200, {"stopping": True}), "the command again")
+        ended = server.end(said="")
+        took = time.monotonic() - began
+        sending.join()
+    same((ended.status, ended.out, ended.err, ended.notes), (0, b"served 1\n", b"", (STOPPING, cut_for(1, STOPS))), "the server")
+    holds(took < 3 + 5 + SLACK, f"the server ended after {took} seconds")
+
+
+@test
+def server_with_an_operator_ends_at_its_limit(mltx):
+    """An operator counts for no connection, and keeps it from no end, though one is connected."""
+    with operated(mltx, limit=2) as server, socket.create_connection(server.admin, PATIENCE):
+        for number in (1, 2):
+            same(counts(server, "connections", "limit"), {"connections": number - 1, "limit": 2}, "before a client")
+            same(server.talk("begin\nquit\n"), f"begun {number}\nbye\n".encode(), "a client")
+        expect(server.end(said=""), out="served 2\n")
+        holds(refuses(server.admin), "the operator's port takes connections after the end")
+
+
+@test(seconds=1)
+def operators_at_once(mltx):
+    """Sixteen that ask again and again are all answered."""
+    with operated(mltx) as server, served(server):
+        with ThreadPoolExecutor(16) as threads:
+            told = list(threads.map(lambda _: [counts(server, "sessions")["sessions"] for _ in range(10)], range(16)))
+    same(told, [[1] * 10] * 16, "what they are told")
+
+
+# The page.
+
+
+@test
+def page_asks_nobody_else(mltx):
+    """It is one text, which names no other address."""
+    with operated(mltx) as server:
+        status, kind, body = answer(server, "/")
+    # The name of a kind of node is no address.
+    page = body.decode().replace('"http://www.w3.org/2000/svg"', "")
+    same((status, kind), (200, "text/html; charset=utf-8"), "the page")
+    named = re.findall(r"""(?:src|href|action)\s*=\s*["']?([^"'\s>]*)|url\(([^)]*)\)|(@import|https?:|//[a-z]+\.)""", page)
+    holds(all("".join(found).startswith(("data:", "#")) for found in named), f"the page names {named}")
+    same([path for path in ("/status", "/sessions", "/waits") if path not in page], [], "what the page does not ask for")
+
+
+@test(seconds=8)
+def page_in_a_browser(mltx):
+    """Where a browser is installed, it shows who waits for whom, on what, and what the transactions did."""
+    browser = next(browsers(), None)
+    if browser is None:
+        print("    no chromium is installed: what a browser makes of the operator's page is not looked at", flush=True)
+        return
+    with operated(mltx) as server, served(server), served(server) as holder, served(server) as waiter:
+        says(holder, "begin", "begun 1", "deposit 4242 5", "missing", "up 7171 3", "done")
+        says(waiter, "begin", "begun 2", "add 33 4444", "added")
+        waiter.send("read 7171\n")
+        comes(server, "/waits", lambda told: told["waits"], "one waits")
+        words = ["--headless", "--no-sandbox", "--disable-gpu", f"--user-data-dir={mltx.folder}/profile"]
+        words += ["--virtual-time-budget=3000", "--dump-dom", "http://%s:%d/" % server.admin]
+        ran = subprocess.run([browser, *words], capture_output=True, timeout=PATIENCE)
+        says(holder, "commit", "committed 1")
+        same(waiter.line(), "is 3", "the one that waited")
+    shown = " ".join(re.sub(r"(?s)<(script|style).*?</\1>|<[^>]*>", " ", ran.stdout.decode(errors="replace")).split())
+    for words in ("read 7171", "deposit 4242 5 missing", "up 7171 3 done", "add 33 4444 added"):
+        holds(words in shown, f"the page does not show {words!r}: {shown[-1500:]}")

@@ -1,0 +1,659 @@
+"""A server that stays up: what it notes, when it takes no more connections, how it ends, and what becomes of its trace."""
+import errno
+import os
+import re
+import resource
+import select
+import socket
+import subprocess
+import threading
+import time
+from contextlib import contextmanager
+
+from harness import BROKEN, IDLE, LONG_LINE, MANY_BYTES, OPEN_LONG, PATIENCE, STOPS, Failed, cut_for, each, expect
+from harness import free_address, holds, lines, listening, may_break_off, notes_apart, of_system, same, test
+from sessions import SILENCE, break_off, says_nothing, send_and_hear_nothing
+from waits import processor_seconds
+
+IO = "mltx: 13 Io\n"
+# How much longer than it has to something may take on a slow machine, in seconds.
+SLACK = 5
+# How long a transaction may be open, in seconds, where it is cut then.
+OPEN = 3
+TOO_MANY, GAVE_UP = b"error 7 TooManyOpen\n", b"error 14 GaveUp\n"
+
+
+def says(peer, *asked):
+    """Each line is answered so: they come in pairs."""
+    for line, answer in zip(asked[::2], asked[1::2], strict=True):
+        same(peer.ask(line), answer, line)
+
+
+def refuses(address):
+    """Whether nobody listens at an address."""
+    try:
+        socket.create_connection(address, PATIENCE).close()
+    except ConnectionRefusedError:
+        return True
+    return False
+
+
+# Accepting.
+
+
+TRIED_AGAIN = (
+    *(errno.EPERM, errno.ENONET, errno.EPROTO, errno.ENOPROTOOPT, errno.EOPNOTSUPP, errno.ENETDOWN, errno.ENETUNREACH),
+    *(errno.ECONNABORTED, errno.EHOSTDOWN, errno.EHOSTUNREACH),
+)
+
+
+@each({f"accept-is-tried-again-after-{errno.errorcode[fault]}": fault for fault in TRIED_AGAIN})
+def accept_is_tried_again(mltx, fault):
+    """Of some in a row the first is noted, and clients are served."""
+    note = f"an accept failed, and is tried again: {of_system(fault)}"
+    with mltx.serve(limit=2, env=mltx.shim(ACCEPTS=f"{fault} {fault} {fault} 0 {fault} {fault} 0")) as server:
+        same(server.talk("begin\nquit\n"), b"begun 1\nbye\n", "the first client")
+        same(server.talk("begin\nquit\n"), b"begun 2\nbye\n", "the second client")
+        expect(server.end(), out="served 2\n", notes=[note] * 2)
+
+
+WAIT_FOR_ROOM = (errno.ENOMEM, errno.ENFILE, errno.EMFILE, errno.ENOBUFS)
+
+
+@each({f"connections-wait-after-{errno.errorcode[fault]}": fault for fault in WAIT_FOR_ROOM})
+def connections_wait(mltx, fault):
+    """It is noted once, ten tries a second are made, and then all go on."""
+    with mltx.serve(limit=2, env=mltx.shim(ACCEPTS=f"0 {' '.join([str(fault)] * 5)} 0")) as server:
+        same(server.talk("begin\nquit\n"), b"begun 1\nbye\n", "the first client")
+        began = time.monotonic()
+        same(server.talk("begin\nquit\n"), b"begun 2\nbye\n", "the second client")
+        took = time.monotonic() - began
+        notes = [f"connections wait, since an accept failed: {of_system(fault)}", "connections are taken again"]
+        expect(server.end(), out="served 2\n", notes=notes)
+    holds(0.3 < took < SLACK, f"five tries and one that succeeded took {took} seconds")
+
+
+@test
+def accepts_that_fail_in_two_ways(mltx):
+    """Each way is noted."""
+    with mltx.serve(env=mltx.shim(ACCEPTS=f"{errno.EPROTO} {errno.EPROTO} {errno.EMFILE} {errno.EMFILE} 0")) as server:
+        same(server.talk("begin\nquit\n"), b"begun 1\nbye\n", "the client")
+        notes = [f"an accept failed, and is tried again: {of_system(errno.EPROTO)}"]
+        notes += [f"connections wait, since an accept failed: {of_system(errno.EMFILE)}", "connections are taken again"]
+        expect(server.end(), out="served 1\n", notes=notes)
+
+
+@test(seconds=2)
+def no_file_number_is_free(mltx):
+    """The client beyond them waits, and is served once another has left. Who is served goes on, and hardly a processor is
+    used. One more may be taken than are free as the limit is set: an accept that goes on has its descriptor."""
+    with mltx.serve(limit=5) as server, server.connect() as first:
+        says(first, "begin", "begun 1")
+        descriptors = len(os.listdir(f"/proc/{server.process.pid}/fd"))
+        resource.prlimit(server.process.pid, resource.RLIMIT_NOFILE, (descriptors, descriptors))
+        others = [server.connect() for _ in range(2)]
+        for other in others:
+            other.send("begin\n")
+        waiting = [other for other in others if other not in answering(others)]
+        holds(waiting, "both clients beyond the descriptors are served")
+        before = processor_seconds(server)
+        for _ in range(10):
+            time.sleep(0.1)
+            says(first, "up 1 1", "done")
+        used = processor_seconds(server) - before
+        says(first, "commit", "committed 1", "quit", "bye")
+        for other in others:
+            same(other.line().split()[0], "begun", "a client that waited")
+            says(other, "read 1", "is 10", "quit", "bye")
+        for number in (4, 5):
+            same(server.talk("begin\nquit\n"), f"begun {number}\nbye\n".encode(), "a later client")
+        waits = f"connections wait, since an accept failed: {of_system(errno.EMFILE)}"
+        ended, told = server.end(), (waits, "connections are taken again")
+        same((ended.status, ended.out, ended.err), (0, b"served 5\n", b""), "the server")
+        same(ended.notes, told * (len(ended.notes) // 2), "the notes")
+        holds(ended.notes, "nothing was noted")
+    holds(used < 0.5, f"a server without descriptors used {used} seconds of a processor in a second")
+
+
+@each({f"accepting-ends-after-{errno.errorcode[fault]}": fault for fault in (errno.EINVAL, errno.ENOTSOCK, errno.EBADF)})
+def accepting_ends(mltx, fault):
+    """Who is served goes on to its end, nobody else connects, and then it is a fault."""
+    with mltx.serve(limit=3, env=mltx.shim(ACCEPTS=f"0 {fault}")) as server, server.connect() as peer:
+        says(peer, "begin", "begun 1")
+        same(server.first_line(), listening(server.address))
+        note = f"no more connections are taken: an accept failed: {of_system(fault)}"
+        same(server.next_note(), note)
+        holds(refuses(server.address), "the port takes connections after accepting has ended")
+        says(peer, "up 7 1", "done", "commit", "committed 1", "quit", "bye")
+        expect(server.end(said=""), status=1, err=IO, notes=[note])
+
+
+@test
+def port_refuses_at_the_limit(mltx):
+    """Once as many connections were accepted as may be, and the clients that are served go on."""
+    with mltx.serve(limit=2) as server, server.connect() as first:
+        says(first, "begin", "begun 1", "up 1 1", "done")
+        same(server.first_line(), listening(server.address))
+        with server.connect() as second:
+            says(second, "begin", "begun 2")
+            same(server.next_note(), "no more connections are taken: the limit of 2 is reached")
+            for _ in range(3):
+                holds(refuses(server.address), "the port takes connections once the limit is reached")
+            says(second, "up 1 2", "done", "commit", "committed 1", "quit", "bye")
+            holds(refuses(server.address), "the port takes connections once a client has left")
+        says(first, "commit", "committed 2", "begin", "begun 3", "read 1", "is 3", "quit", "bye")
+        expect(server.end(said=""), out="served 2\n")
+
+
+@each({f"note-on-a-limit-of-{limit}": limit for limit in (9, 10, 20)})
+def nearly_at_the_limit(mltx, limit):
+    """From nine in ten on, of ten or more, it is noted once, as soon as they are taken."""
+    noted = limit - limit // 10 if limit >= 10 else limit
+    with mltx.serve(limit=limit) as server:
+        for _ in range(noted - 1):
+            server.talk("quit\n")
+        same(server.first_line(), listening(server.address))
+        time.sleep(0.2)
+        holds(not select.select([server.process.stderr], [], [], 0)[0], "something was noted before")
+        server.talk("quit\n")
+        wanted = [f"{noted} of {limit} connections are taken"] if limit >= 10 else []
+        wanted += ["no more connections are taken: the limit of {limit} is reached"] if limit == noted else []
+        same([server.next_note() for _ in wanted], [it.format(limit=limit) for it in wanted])
+        for _ in range(limit - noted):
+            server.talk("quit\n")
+        expect(server.end(said=""), out=f"served {limit}\n")
+
+
+# Who is cut, and by what.
+
+
+def is_cut(mltx, note, options, talk, limit=2):
+    """The first client is cut with this note while it talks, and what its transaction did is taken back: the second one sees
+    nothing of it, within a bound."""
+    with mltx.serve(*options, limit=limit) as server, server.connect() as peer:
+        says(peer, "begin", "begun 1", "up 7 1", "done")
+        with server.connect() as other:
+            other.socket.settimeout(2 * SLACK)
+            # Its own transaction is not to be open for too long, where the first one is.
+            time.sleep(OPEN / 2 if note == OPEN_LONG else 0)
+            says(other, "begin", "begun 2")
+            other.send("read 7\n")
+            talk(peer)
+            same(other.line(), "is 0", f"another client, once a client is cut since {note}")
+            says(other, "commit", "committed 1", "quit", "bye")
+        expect(server.end(), out=f"served {limit}\n", notes=[cut_for(1, note)])
+
+
+def sends_too_many_bytes(peer):
+    with may_break_off():
+        for _ in range(17):
+            peer.send((" " * 199 + "\n") * 5_000)
+
+
+CUTS = {
+    "idle": (IDLE, ("--idle", 1), lambda peer: None),
+    "long-line": (LONG_LINE, (), lambda peer: peer.send("x" * 201)),
+    "reset": (BROKEN, (), break_off),
+    "many-bytes": (MANY_BYTES, (), sends_too_many_bytes),
+    "open-and-silent": (OPEN_LONG, ("--open", OPEN), lambda peer: None),
+}
+
+
+@each({f"note-on-a-client-that-is-cut-{name}": case for name, case in CUTS.items()}, seconds=1)
+def note_on_a_cut(mltx, case):
+    note, options, talk = case
+    is_cut(mltx, note, options, talk)
+
+
+def asks_until_it_is_cut(peer):
+    """Reads a counter again and again."""
+    with may_break_off():
+        while True:
+            peer.send("read 8\n")
+            if peer.socket.recv(65_536) == b"":
+                return
+
+
+@test(seconds=3)
+def busy_client_of_a_transaction_that_is_open_long_is_cut(mltx):
+    """Nothing that it asks for gives it more time."""
+    began = time.monotonic()
+    is_cut(mltx, OPEN_LONG, ("--open", OPEN), asks_until_it_is_cut)
+    took = time.monotonic() - began
+    holds(took > OPEN, f"a transaction was open too long after {took} seconds")
+
+
+@test(seconds=6)
+def time_of_an_open_transaction_begins_anew(mltx):
+    """A client may be there as long as it likes, without a transaction, and with one after another."""
+    with mltx.serve("--open", OPEN) as server, server.connect() as peer:
+        time.sleep(OPEN + 0.5)
+        for number in range(1, 4):
+            says(peer, "begin", f"begun {number}")
+            time.sleep(OPEN / 2 - 0.3)
+            says(peer, "up 7 1", "done", "commit", f"committed {number}")
+        says(peer, "quit", "bye")
+        expect(server.end(), out="served 1\n")
+
+
+@test(seconds=3)
+def client_that_waits_in_a_transaction_that_is_open_long_is_cut(mltx):
+    """Where its operation waits for the other one, which began later. Nothing of it is left."""
+    with mltx.serve("--open", OPEN, "--sessions", 3, limit=3) as server:
+        with server.connect() as holder, server.connect() as waiter, server.connect() as other:
+            says(waiter, "begin", "begun 1", "up 2 1", "done")
+            time.sleep(OPEN / 2)
+            says(holder, "begin", "begun 2", "up 1 1", "done")
+            waiter.send("read 1\n")
+            says(other, "begin", "begun 3")
+            began = time.monotonic()
+            says(other, "read 2", "is 0")
+            took = time.monotonic() - began
+            holds(took > 0.2, f"the waiting client was cut after {took} seconds")
+            says(holder, "commit", "committed 1", "quit", "bye")
+            holds(waiter.rest() in (b"", GAVE_UP), "what the client that is cut hears")
+            says(other, "commit", "committed 2", "quit", "bye")
+        expect(server.end(), out="served 3\n", notes=[cut_for(2, OPEN_LONG)])
+
+
+@test(seconds=2)
+def client_that_is_reset_while_it_waits_is_found(mltx):
+    """Within a second or so what it did is taken back, and its session serves another, though nobody ends what it waits for."""
+    with mltx.serve("--sessions", 2, limit=3) as server, server.connect() as holder:
+        says(holder, "begin", "begun 1", "up 1 1", "done")
+        with server.connect() as waiter:
+            says(waiter, "begin", "begun 2", "up 2 1", "done")
+            waiter.send("read 1\n")
+            says_nothing(waiter, "the counter is held")
+            break_off(waiter)
+        began = time.monotonic()
+        with server.connect() as other:
+            other.socket.settimeout(PATIENCE)
+            says(other, "begin", "begun 3", "read 2", "is 0", "quit", "bye")
+        took = time.monotonic() - began
+        says(holder, "up 1 1", "done", "commit", "committed 1", "quit", "bye")
+        expect(server.end(), out="served 3\n", notes=[cut_for(2, BROKEN)])
+    holds(took < 1 + SLACK, f"a client that was reset while it waited was found after {took} seconds")
+
+
+@test(seconds=1)
+def client_that_ends_its_input_while_it_waits_is_answered(mltx):
+    """It is not gone: it hears the answer, however long that takes."""
+    with mltx.serve(limit=2) as server, server.connect() as holder, server.connect() as waiter:
+        says(holder, "begin", "begun 1", "up 1 1", "done")
+        waiter.send("begin\nread 1\ncommit\n")
+        waiter.end()
+        time.sleep(2)
+        says(holder, "commit", "committed 1", "quit", "bye")
+        same(waiter.rest(), lines("begun 2|is 1|committed 2").encode(), "the client that ended its input")
+        expect(server.end(), out="served 2\n")
+
+
+# Waits that end.
+
+
+@test(seconds=2)
+def operation_waits_no_longer_than_it_may(mltx):
+    """With `--wait 1` it is told GaveUp after a second, each anew; its transaction goes on, and can commit."""
+    with mltx.serve("--wait", 1, limit=2) as server, server.connect() as holder, server.connect() as waiter:
+        says(holder, "begin", "begun 1", "up 1 1", "done")
+        says(waiter, "begin", "begun 2", "up 2 1", "done")
+        for _ in range(2):
+            began = time.monotonic()
+            says(waiter, "read 1", "error 14 GaveUp")
+            took = time.monotonic() - began
+            holds(0.99 < took < 1.25 + SLACK, f"an operation that may wait for a second was answered after {took} seconds")
+        says(waiter, "up 2 1", "done", "commit", "committed 1")
+        says(holder, "commit", "committed 2", "quit", "bye")
+        says(waiter, "begin", "begun 3", "read 1", "is 1", "read 2", "is 2", "quit", "bye")
+        expect(server.end(), out="served 2\n")
+
+
+@test(seconds=2)
+def one_that_is_behind_another_waits_no_longer_than_it_may(mltx):
+    """With `--wait 1` also one whose turn it is not. Who holds what they wait for goes on."""
+    with mltx.serve("--wait", 1, limit=3) as server:
+        with server.connect() as holder, server.connect() as waiter, server.connect() as third:
+            says(holder, "begin", "begun 1", "up 1 1", "done")
+            says(waiter, "begin", "begun 2")
+            says(third, "begin", "begun 3")
+            began = time.monotonic()
+            waiter.send("read 1\n")
+            says_nothing(waiter, "the counter is held")
+            third.send("up 1 2\n")
+            same([waiter.line(), third.line()], ["error 14 GaveUp", "done"], "the two that waited")
+            took = time.monotonic() - began
+            says(holder, "up 1 3", "done", "commit", "committed 1", "quit", "bye")
+            says(third, "commit", "committed 2", "quit", "bye")
+            says(waiter, "read 1", "is 6", "quit", "bye")
+        expect(server.end(), out="served 3\n")
+    holds(0.99 < took < 1.25 + SLACK, f"both were answered after {took} seconds")
+
+
+@each({"operation-waits-for-ever": (), "operation-waits-for-ever-with-0": ("--wait", 0, "--open", 0)}, seconds=2)
+def operation_waits_for_ever(mltx, options):
+    with mltx.serve(*options, limit=2) as server, server.connect() as holder, server.connect() as waiter:
+        says(holder, "begin", "begun 1", "up 1 1", "done")
+        says(waiter, "begin", "begun 2")
+        waiter.send("read 1\n")
+        time.sleep(2)
+        says_nothing(waiter, "the counter is held")
+        says(holder, "commit", "committed 1", "quit", "bye")
+        same(waiter.line(), "is 1", "once the holder has committed")
+        says(waiter, "quit", "bye")
+        expect(server.end(), out="served 2\n")
+
+
+# All sessions are taken.
+
+
+@test(seconds=1)
+def client_is_refused_while_all_sessions_are_taken(mltx):
+    """With `--full refuse` it hears why, and the end, at once, whatever it sent. It counts for nothing, and has no number."""
+    with mltx.serve("--full", "refuse", "--sessions", 2, limit=4) as server:
+        first, second = server.connect(), server.connect()
+        says(first, "begin", "begun 1", "up 1 1", "done")
+        says(second, "begin", "begun 2", "up 2 1", "done")
+        for sent in ("", "begin\n", "begin\nup 7 1\ncommit\nquit\n", "x" * 1_000) * 10:
+            with server.connect() as refused:
+                refused.socket.settimeout(2 * SLACK)
+                refused.send(sent)
+                same(refused.rest(), TOO_MANY, f"a client beyond the sessions, which sent {sent[:20]!r}")
+        says(first, "commit", "committed 1", "quit", "bye")
+        first.socket.close()
+        third = next(one for one in served_after(server) if one)
+        says(third, "read 1", "is 1")
+        break_off(third)
+        fourth = next(one for one in served_after(server) if one)
+        says(fourth, "read 1", "is 1", "quit", "bye")
+        says(second, "commit", "committed 2", "quit", "bye")
+        fourth.socket.close()
+        second.socket.close()
+        expect(server.end(), out="served 4\n", notes=[cut_for(3, BROKEN)])
+
+
+def served_after(server):
+    """Clients until one is served: it is not at once that a session is free."""
+    deadline = time.monotonic() + PATIENCE
+    while time.monotonic() < deadline:
+        peer = server.connect()
+        peer.send("begin\n")
+        answer = peer.line()
+        holds(answer.startswith("begun ") or answer + "\n" == TOO_MANY.decode(), f"a client was told {answer}")
+        yield peer if answer.startswith("begun ") else None
+        time.sleep(0.01)
+
+
+@test(seconds=1)
+def sessions_that_get_no_thread(mltx):
+    """Whichever thread is refused: a server runs with fewer sessions and says with how many, so many clients are served at
+    once, and the next one as soon as one of them has left; or it gives up."""
+    ran = []
+    for number in range(1, 12):
+        with mltx.serve("--sessions", 6, limit=9, env=mltx.shim(REFUSE_THREADS=str(number))) as server:
+            same(server.first_line(), listening(server.address))
+            if not serves_a_client(server):
+                expect(server.end(said=""), status=1, err="mltx: 1 OutOfMemory\n")
+                continue
+            peers = [server.connect() for _ in range(6)]
+            for peer in peers:
+                peer.send("begin\n")
+            comes_to_be(lambda: answered(peers) == 6 or is_noted(server), f"all sessions answer, or a note, without thread {number}")
+            if is_noted(server):
+                found = re.fullmatch("([1-5]) of 6 session threads run", server.next_note())
+                holds(found, f"{server.noted}, without thread {number}")
+                ran.append(int(found[1]))
+                comes_to_be(lambda: answered(peers) == ran[-1], f"so many sessions answer as {server.noted[-1]}")
+                time.sleep(SILENCE)
+                same(answered(peers), ran[-1], f"how many sessions answer, where {server.noted[-1]}")
+            for peer in peers:
+                peer.say_all("quit\n")
+            for _ in range(2):
+                holds(server.talk("begin\nquit\n").endswith(b"\nbye\n"), "a later client")
+            expect(server.end(said=""), out="served 9\n", notes=server.noted, what=f"without thread {number}")
+    same(sorted(set(ran)), [1, 2, 3, 4, 5], "how many sessions ran")
+
+
+def serves_a_client(server):
+    """Whether the server serves a client; else it has given up."""
+    try:
+        return server.talk("quit\n") == b"bye\n"
+    except Failed:
+        return False
+
+
+def answered(peers):
+    """How many of the peers have an answer."""
+    return len(select.select([peer.socket for peer in peers], [], [], 0)[0])
+
+
+def is_noted(server):
+    """Whether something is there to be read on standard error."""
+    return bool(select.select([server.process.stderr], [], [], 0)[0])
+
+
+def comes_to_be(is_so, what):
+    """Waits until something is so."""
+    deadline = time.monotonic() + PATIENCE
+    while not is_so():
+        holds(time.monotonic() < deadline, f"it never came that {what}")
+        time.sleep(0.02)
+
+
+def answering(peers):
+    """Those of the peers that have an answer, once no more come."""
+    readable, before = [], None
+    while readable != before:
+        before = readable
+        time.sleep(0.3)
+        readable = select.select([peer.socket for peer in peers], [], [], 0)[0]
+    return readable
+
+
+# Notes hold nobody up.
+
+
+@test(seconds=4)
+def notes_that_nobody_reads_hold_nobody_up(mltx):
+    """Two thousand clients are cut one after another, which is more than a pipe holds. Who reads at last hears of all: each is
+    noted, or counted as lost."""
+    count, long = 2_000, "x" * 201
+    with mltx.serve("--sessions", 4, "--until-eof", limit=1_000_000, stdin=subprocess.PIPE) as server:
+        began = time.monotonic()
+        for _ in range(count):
+            with server.connect() as peer:
+                peer.send(long)
+                same(peer.rest(), b"error 12 LineTooLong\n", "a client")
+        took = time.monotonic() - began
+        same(server.talk("begin\nquit\n"), b"begun 1\nbye\n", "a client behind them")
+        server.process.stdin.close()
+        server.process.stdin = None
+        time.sleep(1)
+        out, err = server.process.communicate(timeout=PATIENCE)
+    same((server.process.returncode, out), (0, b"served %d\n" % (count + 1)), "the end")
+    rest, notes = notes_apart(err.removeprefix(listening(server.address).encode()), server.began)
+    lost = [int(note.split()[0]) for note in notes if note.endswith(" lost")]
+    cut = [int(note.split()[1]) for note in notes if note.startswith("client ")]
+    same(cut, sorted(set(cut)), "the clients that are noted, in order")
+    known = {STOPPING, *(f"{number} notes were lost" for number in lost), *(cut_for(number, LONG_LINE) for number in cut)}
+    same((rest, set(notes) - known), (b"", set()), "what is none of these notes")
+    holds(len(cut) >= 100 and sum(lost) > 0, f"{len(cut)} clients were noted, and {lost} notes were lost")
+    same(len(notes) - len(lost) + sum(lost), count + 1, "how many were noted or lost, with the one that it stops")
+    holds(took < 60, f"two thousand clients that are cut took {took} seconds")
+
+
+# The end of standard input.
+
+
+@contextmanager
+def until_eof(mltx, *options, limit=1_000_000, **more):
+    """A server that ends at the end of its standard input, which is open."""
+    with mltx.serve("--until-eof", *options, limit=limit, stdin=subprocess.PIPE, **more) as server:
+        yield server
+
+
+def end_input(server):
+    server.process.stdin.close()
+    server.process.stdin = None
+
+
+STOPPING = "no more connections are taken: the server is to stop"
+
+
+@test
+def server_ends_with_its_input(mltx):
+    """With no client, with some that have left, and where the input is over at the start. What stands in it counts for
+    nothing."""
+    with mltx.serve("--until-eof") as server:
+        ended = server.end()
+        same((ended.status, ended.out, ended.err), (0, b"served 0\n", b""), "a server without input")
+    with until_eof(mltx) as server:
+        server.process.stdin.write(b"quit\nstop\n\n\x04\x00")
+        for number in range(1, 4):
+            same(server.talk("begin\nquit\n"), f"begun {number}\nbye\n".encode(), "a client")
+        time.sleep(0.3)
+        same(server.talk("begin\nquit\n"), b"begun 4\nbye\n", "a client after a while")
+        end_input(server)
+        expect(server.end(), out="served 4\n", notes=[STOPPING])
+
+
+@test
+def server_without_the_option_goes_on_without_input(mltx):
+    with mltx.serve(stdin=subprocess.PIPE) as server, server.connect() as peer:
+        says(peer, "begin", "begun 1")
+        end_input(server)
+        time.sleep(0.5)
+        says(peer, "commit", "committed 1", "quit", "bye")
+        expect(server.end(), out="served 1\n")
+
+
+@test(seconds=4)
+def input_ends_beside_clients(mltx):
+    """One is silent in a transaction, one waits for it, one is busy, and one has no transaction. All lines that a client hears
+    the answers of have been done, nothing else is left, and the trace has all ends."""
+    trace = mltx.folder / "trace"
+    with until_eof(mltx, "--trace", trace) as server:
+        silent, waiter, idle, busy = (server.connect() for _ in range(4))
+        says(silent, "begin", "begun 1", "up 1 5", "done")
+        says(waiter, "begin", "begun 2", "up 2 5", "done")
+        says(idle, "begin", "begun 3", "up 3 7", "done", "commit", "committed 1")
+        waiter.send("read 1\n")
+        says_nothing(waiter, "the counter is held")
+        told = []
+        working = threading.Thread(target=works_until_its_end, args=(busy, told))
+        working.start()
+        time.sleep(0.2)
+        same(server.first_line(), listening(server.address))
+        began = time.monotonic()
+        end_input(server)
+        same(server.next_note(), STOPPING)
+        holds(refuses(server.address), "the port takes connections once the input has ended")
+        ended = server.end(said="")
+        took = time.monotonic() - began
+        working.join()
+        same([peer.rest() for peer in (silent, idle)], [b"", b""], "what silent clients hear")
+        holds(waiter.rest() in (b"", b"is 0\n"), "what the waiting client hears")
+    same((ended.status, ended.out, ended.err), (0, b"served 4\n", b""), "the server")
+    holds(set(ended.notes) <= {STOPPING, *(cut_for(number, STOPS) for number in range(1, 5))}, f"{ended.notes}")
+    holds(took < 3 + 5 + SLACK, f"the server ended after {took} seconds")
+    checked = mltx.check(trace)
+    same((checked.status, checked.err), (0, b""), "the check of the trace")
+    commits = [line for line in told if line.startswith("committed ")]
+    wanted = [b"counter 3 7", *([b"counter 9 %d" % (len(commits))] if commits else [])]
+    found = [line for line in checked.out.splitlines() if line.startswith(b"counter")]
+    holds(found in (wanted, [b"counter 3 7", b"counter 9 %d" % (len(commits) + 1)]), f"{found}, and {wanted} were told")
+    text = trace.read_text()
+    same(text.count("begin "), text.count("abort ") + text.count("commit "), "the transactions that have ended in the trace")
+
+
+def works_until_its_end(peer, told):
+    """Counts up in one transaction after another, until the server ends the connection."""
+    with may_break_off():
+        while True:
+            peer.send("begin\nup 9 1\ncommit\n")
+            for _ in range(3):
+                try:
+                    told.append(peer.line())
+                except Failed:
+                    return
+
+
+@test(seconds=9)
+def input_ends_beside_a_client_that_never_reads(mltx):
+    """The server waits for nobody's reading: after some eight seconds all is over."""
+    with until_eof(mltx) as server, server.connect() as deaf:
+        says(deaf, "begin", "begun 1", "up 1 1", "done")
+        sending = threading.Thread(target=send_and_hear_nothing, args=(deaf, "foo\n" * 2_000_000))
+        sending.start()
+        time.sleep(0.5)
+        began = time.monotonic()
+        end_input(server)
+        ended = server.end()
+        took = time.monotonic() - began
+        sending.join()
+    same((ended.status, ended.out, ended.err), (0, b"served 1\n", b""), "the server")
+    same(ended.notes, (STOPPING, cut_for(1, STOPS)), "the notes")
+    holds(took < 3 + 5 + SLACK, f"the server ended after {took} seconds")
+
+
+@test(seconds=4)
+def client_that_is_busy_is_cut_as_the_server_stops(mltx):
+    """Of many lines that came at once those are answered that can be in three seconds, in whole lines."""
+    with until_eof(mltx) as server, server.connect() as peer:
+        says(peer, "read 1", "error 3 NoSuchTx")
+        sending = threading.Thread(target=send_for_some_time, args=(peer,))
+        sending.start()
+        heard = bytearray()
+        hearing = threading.Thread(target=hears_all, args=(peer, heard))
+        hearing.start()
+        time.sleep(0.3)
+        began = time.monotonic()
+        end_input(server)
+        ended = server.end()
+        took = time.monotonic() - began
+        sending.join()
+        hearing.join()
+    same((ended.status, ended.out, ended.err), (0, b"served 1\n", b""), "the server")
+    holds(set(ended.notes) <= {STOPPING, cut_for(1, STOPS)}, f"{ended.notes}")
+    same((set(bytes(heard).splitlines()), heard[-1:]), ({b"error 3 NoSuchTx"}, b"\n"), "what it hears")
+    holds(took < 3 + SLACK, f"the server ended after {took} seconds")
+
+
+def hears_all(peer, heard):
+    """Reads what is answered, until the server ends the connection or breaks it off."""
+    with may_break_off():
+        for piece in iter(lambda: peer.socket.recv(65_536), b""):
+            heard.extend(piece)
+
+
+def send_for_some_time(peer):
+    """Sends lines nearly without a pause for ten seconds, or until the server breaks the connection off."""
+    deadline = time.monotonic() + 10
+    with may_break_off():
+        while time.monotonic() < deadline:
+            peer.send("read 1\n" * 100)
+            time.sleep(0.001)
+
+
+# What can't be had at the start.
+
+
+@test
+def faults_of_a_server_in_their_order(mltx):
+    """Of ADDR, the operator's address and FILE the first that can't be had is told, and nothing else is written or made."""
+    trace, away = mltx.folder / "trace", "missing/trace"
+    with socket.socket() as used:
+        used.bind(("127.0.0.1", 0))
+        used.listen()
+        in_use, free, other = "%s:%d" % used.getsockname(), "%s:%d" % free_address(), "%s:%d" % free_address()
+        in_use_words, away_words = of_system(errno.EADDRINUSE), of_system(errno.ENOENT)
+        for words, second in (
+            ((in_use, "--admin", in_use, "--trace", away), f"{in_use}: {in_use_words}"),
+            ((free, "--admin", in_use, "--trace", away), f"{in_use}: {in_use_words}"),
+            ((free, "--admin", other, "--trace", away), f"{away}: {away_words}"),
+            ((in_use, "--trace", trace), f"{in_use}: {in_use_words}"),
+            ((free, "--admin", in_use, "--trace", trace), f"{in_use}: {in_use_words}"),
+        ):
+            expect(mltx.run("serve", *words), status=1, err=IO, what=f"serve {words}")
+            expect(mltx.run("serve", "-v", *words), status=1, err=f"{IO}mltx: {second}\n", what=f"serve -v {words}")
+            holds(not trace.exists(), f"serve {words} made a trace")
