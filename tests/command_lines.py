@@ -91,10 +91,10 @@ HELP = {
         *("mltx serve [OPTIONS] <ADDR>", "127.0.0.1:7000", *OPTIONS, "--sessions <N>", "1 to 64; without it 8"),
         *("--limit <N>", "1 to 1000000; without it 1", "--tries <N>", "1 to 1000000; without it 10000"),
         *("--idle <SECONDS>", "from 0, which is for ever, to 86400; without it 0"),
-        *("--wait <SECONDS>", "an operation may wait, from 0, which is for ever, to 86400; without it 0"),
-        *("--open <SECONDS>", "a transaction may be open, from 0, which is for ever, to 86400; without it 0"),
+        *("--wait <SECONDS>", "an operation may wait before it is told GaveUp, from 0, which is for ever, to 86400; without it 0"),
+        *("--open <SECONDS>", "a transaction may be open before its session is cut, from 0, which is for ever, to 86400; without it 0"),
         *("--full <FULL>", "without it `wait`", "refuse", "--admin <ADDR>", "without it there is none", "--until-eof"),
-        *("mltx serve 127.0.0.1:7000 --limit 1000000 --sessions 64 --idle 600 --until-eof --admin 127.0.0.1:7001",),
+        *("mltx serve 127.0.0.1:7000 --limit 1000000 --sessions 64 --idle 600 --admin 127.0.0.1:7001",),
         "mltx: listening on 127.0.0.1:7000",
     ),
 }

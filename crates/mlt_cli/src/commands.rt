@@ -94,11 +94,11 @@ const SERVE_EXAMPLE: &str = "Example: mltx serve 127.0.0.1:7000 --limit 2
 As soon as it listens it writes `mltx: listening on 127.0.0.1:7000` on standard error; for port 0
 that line has the port that it got.
 
-An open transaction is taken back as its connection ends. Once all connections have ended
-the program writes `served` with their number, and the trace where one is asked for.
+An open transaction is taken back as its connection ends. The trace, where one is asked for, is
+written as the server goes. At the end the program writes `served` and how many there were.
 
-A server that stays up, until its standard input ends:
-  mltx serve 127.0.0.1:7000 --limit 1000000 --sessions 64 --idle 600 --until-eof --admin 127.0.0.1:7001";
+A server that stays up, shows http://127.0.0.1:7001, and ends by its button or a POST to /stop:
+  mltx serve 127.0.0.1:7000 --limit 1000000 --sessions 64 --idle 600 --admin 127.0.0.1:7001";
 
 const CHECK_ABOUT: &str =
     "Checks the trace of FILE: whether its transactions, run alone in the order of their commits, are told the same.";
@@ -164,10 +164,10 @@ const IDLE_HELP: &str =
     "How many seconds a connection may be idle, from 0, which is for ever, to 86400; without it 0";
 
 const WAIT_HELP: &str =
-    "How many seconds an operation may wait, from 0, which is for ever, to 86400; without it 0";
+    "How many seconds an operation may wait before it is told GaveUp, from 0, which is for ever, to 86400; without it 0";
 
 const OPEN_HELP: &str =
-    "How many seconds a transaction may be open, from 0, which is for ever, to 86400; without it 0";
+    "How many seconds a transaction may be open before its session is cut, from 0, which is for ever, to 86400; without it 0";
 
 const FULL_HELP: &str =
     "What a client finds while all sessions are taken: it waits for one, or is refused; without it `wait`";
@@ -175,7 +175,8 @@ const FULL_HELP: &str =
 const ADMIN_HELP: &str =
     "The IP address and port at which an operator connects by HTTP; without it there is none";
 
-const UNTIL_EOF_HELP: &str = "The server ends in order at the end of standard input";
+const UNTIL_EOF_HELP: &str =
+    "The server ends in order at the end of standard input, which has to be held open";
 
 const VERBOSE_HELP: &str =
     "At a fault, a second line says which file or address, why, and what was expected";

@@ -12,8 +12,8 @@ pub(crate) struct Streams {
 }
 
 impl Streams {
-    /// Each stream that is closed has nothing from now on, and takes nothing. Else the next file or socket would have its number, and
-    /// get what is written to the stream.
+    /// From now on a stream that is closed is one that fails, as before. Else the next file or socket would have its number, and get
+    /// what is written to the stream.
     pub(crate) fn open(rt: &HostRuntime) -> Streams {
         let first = stream(rt);
         let second = first.as_ref().and_then(|_| stream(rt));
@@ -26,12 +26,16 @@ impl Streams {
     }
 }
 
-// An empty file in the place of the first standard stream that is closed, if one is.
+// What stands in the place of the first standard stream that is closed, if one is: an input that can't be read, or an output that
+// can't be written.
 fn stream(rt: &HostRuntime) -> Option<File> {
     let file = File::open(rt, "/dev/null").ok()?;
-    if file.as_raw_fd() <= libc::STDERR_FILENO {
-        Some(file)
-    } else {
-        None
+    match file.as_raw_fd() {
+        libc::STDIN_FILENO => {
+            drop(file);
+            File::create(rt, "/dev/null").ok()
+        }
+        libc::STDOUT_FILENO | libc::STDERR_FILENO => Some(file),
+        _ => None,
     }
 }
