@@ -184,7 +184,7 @@ def unproved_program_is_optimised_and_not_watched(mltx: Program) -> None:
     """The compiler is asked to optimise, and else for the same; nothing of what watches accesses is linked."""
     tree = Tree(mltx)
     tree.run("solo")
-    words = ["-c", "a  b.bc", "-o", "input.o", "-O2"]
+    words = ["-c", "a  b.bc", "-o", "input.o", "-O1"]
     same(sorted((tree.notes / "clang").read_text().splitlines()), sorted(words), "the words of the compiler")
     holds("watched" not in tree.unproved.read_text(), "the program is not watched")
 
