@@ -109,4 +109,6 @@ def transfers_over_four_accounts_seldom_give_up(mltx):
     same(len(ends), len(clients) * scripts, "how many scripts ended")
     holds(ends.count("aborted") <= ends.count("committed"), f"{ends.count('aborted')} gave up, {ends.count('committed')} committed")
     money = [int(line.split()[2]) for line in ran.out.decode().splitlines() if line.startswith("account ")]
-    same(sum(money), 4_000_000, "what the accounts have")
+    # The script that opens the accounts is one of those that may give up, and then there is none.
+    opening = next(told[-1].split()[0] for client, told in outcomes(ran.out) if client == "0")
+    same(sum(money), 4_000_000 if opening == "committed" else 0, "what the accounts have")
