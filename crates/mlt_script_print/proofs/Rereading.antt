@@ -37,7 +37,8 @@ use Rattle.mlt_text_words.specs.Lines.{without_cr, is_comment}
 use Rattle.mlt_text_words.specs.Letters.{letter_text}
 use Rattle.mlt_script_tree.specs.LineTexts.{amount_op_text, asking_text, wanted_text, reply_wanted, source_text, line_text, ending_text}
 use Rattle.mlt_script_print.specs.Printing.{begin_text}
-use Rattle.mlt_script_print.specs.Ranges.{FitsOp, FitsAmount, FitsAsking, FitsReply, FitsWanted, FitsSource, FitsLine}
+use Rattle.mlt_object_ranges.specs.Ranges.{FitsOp, FitsReply}
+use Rattle.mlt_script_print.specs.Ranges.{FitsAmount, FitsAsking, FitsWanted, FitsSource, FitsLine}
 use Rattle.mlt_script.specs.Readings.{reading}
 use Rattle.mlt_text_words.specs.Words.{spelling}
 use Rattle.mlt_text_words.specs.Fronts.{TextIs, is_printable}

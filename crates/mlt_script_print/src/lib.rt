@@ -5,4 +5,3 @@ mod printer;
 mod ranges;
 
 pub use printer::print;
-pub use ranges::{op_fits, reply_fits};

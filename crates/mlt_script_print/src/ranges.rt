@@ -1,63 +1,9 @@
 //! What the types say of the numbers in a line.
 
-ghost use Rattle.std.specs.Prelude.{◌<◌, ◌^◌};
-ghost use Rattle.mlt_script_print.specs.Ranges.{FitsAccount, FitsCounter, FitsOp, FitsAmount, FitsAsking, FitsReply, FitsWanted, FitsSource, FitsStatement, FitsLine};
+ghost use Rattle.mlt_script_print.specs.Ranges.{FitsAmount, FitsAsking, FitsLine, FitsSource, FitsStatement, FitsWanted};
 
-use mlt_object_kinds::{AccountOp, CounterOp, ObjOp, ObjReply};
+use mlt_object_ranges::{fits_16, fits_32, op_fits, reply_fits};
 use mlt_script_tree::{AmountOp, Asking, Line, Source, Statement, Wanted};
-
-fn fits_16(_number: u16)
-    ensures { _number < 2 ^ 16 }
-{}
-
-fn fits_32(_number: u32)
-    ensures { _number < 2 ^ 32 }
-{}
-
-fn fits_64(_number: u64)
-    ensures { _number < 2 ^ 64 }
-{}
-
-fn account_fits(op: AccountOp)
-    ensures { FitsAccount op }
-{
-    match op {
-        AccountOp::Deposit(amount) => fits_64(amount),
-        AccountOp::Withdraw(amount) => fits_64(amount),
-        _ => {}
-    }
-}
-
-fn counter_fits(op: CounterOp)
-    ensures { FitsCounter op }
-{
-    match op {
-        CounterOp::Up(amount) => fits_64(amount),
-        CounterOp::Down(amount) => fits_64(amount),
-        CounterOp::Read => {}
-    }
-}
-
-/// Each number of the operation is one of its type. It does nothing.
-pub fn op_fits(op: ObjOp)
-    ensures { FitsOp op }
-{
-    match op {
-        ObjOp::Account(account, op) => {
-            fits_32(account);
-            account_fits(op);
-        }
-        ObjOp::Element(set, element, _) => {
-            fits_16(set);
-            fits_32(element);
-        }
-        ObjOp::Counter(counter, op) => {
-            fits_32(counter);
-            counter_fits(op);
-        }
-        ObjOp::Size(set) => fits_16(set),
-    }
-}
 
 fn amount_fits(op: AmountOp)
     ensures { FitsAmount op }
@@ -76,16 +22,6 @@ fn asking_fits(asking: Asking)
     match asking {
         Asking::Fixed(op) => op_fits(op),
         Asking::By(op, _) => amount_fits(op),
-    }
-}
-
-/// The value of the reply, if it has one, is one of its type. It does nothing.
-pub fn reply_fits(reply: ObjReply)
-    ensures { FitsReply reply }
-{
-    match reply {
-        ObjReply::Is(value) => fits_64(value),
-        _ => {}
     }
 }
 
