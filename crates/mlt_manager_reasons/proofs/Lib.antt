@@ -2,4 +2,3 @@ pub mod Appending
 pub mod Following
 pub mod Knowing
 pub mod Linking
-pub mod Opposites

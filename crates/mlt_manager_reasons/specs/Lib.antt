@@ -2,7 +2,6 @@ pub mod Circles
 pub mod Examples
 pub mod Explaining
 pub mod Histories
-pub mod Opposites
 pub mod Pendings
 pub mod Reasons
 pub mod Tables

@@ -11,9 +11,9 @@ ghost use Rattle.mlt_manager_reasons.specs.Tables.{Knows};
 
 use crate::deeds::{Deeds, put_deeds, take_deeds};
 use crate::replies::reply_in;
-use crate::taking_back::take_back;
 use mlt_object_base::Base;
 use mlt_object_kinds::{Done, ObjOp, ObjReply};
+use mlt_object_undo::take_back;
 use mlt_trace::{KeptItem, TraceItem};
 use mlt_types::{Refusal, TxId};
 use std::alloc::Global;
@@ -66,7 +66,7 @@ impl Ledger {
             // No history takes back what does not stand.
             return Ok(());
         };
-        take_back(&mut self.base, &last)?;
+        take_back(&mut self.base, &[last])?;
         put_deeds(&mut self.deeds, tx, one)?;
         Ok(())
     }

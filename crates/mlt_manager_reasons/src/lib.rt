@@ -10,6 +10,5 @@ mod ledger;
 mod pending;
 mod reasons;
 mod replies;
-mod taking_back;
 
 pub use known::Known;

@@ -1,1 +1,2 @@
+pub mod TakingBack
 pub mod Undo

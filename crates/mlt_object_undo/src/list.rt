@@ -67,6 +67,13 @@ impl UndoList {
         self.done.len()
     }
 
+    /// The entries that stand, in the order in which they were added.
+    pub fn entries(&self) -> &[Done]
+        ensures { result.now ≡ self.now.entries }
+    {
+        self.done.as_slice()
+    }
+
     /// The entry that was added last, of those that stand.
     pub fn last(&self) -> Option<Done>
         ensures { IsLast result self.now.entries }

@@ -1,4 +1,3 @@
 pub mod Playing
 pub mod OneRun
 pub mod Appends
-pub mod TakingBack

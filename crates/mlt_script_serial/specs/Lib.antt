@@ -1,4 +1,3 @@
 pub mod Serial
-pub mod TakingBack
 pub mod Texts
 pub mod Answering

@@ -5,7 +5,6 @@ mod base_desk;
 mod outcome;
 mod report;
 mod run;
-mod take_back;
 
 pub use outcome::{End, Outcome, Outcomes, Transcript};
 pub use report::{Form, Report, write_outcomes, write_report};

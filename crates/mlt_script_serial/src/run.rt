@@ -11,9 +11,9 @@ ghost use Rattle.mlt_script_serial.specs.declared.outcome.Outcome.{Outcome as Ou
 use crate::base_desk::BaseDesk;
 use crate::outcome::{End, Outcome, Outcomes, Transcript};
 use crate::report::Report;
-use crate::take_back::take_back;
 use mlt_object_base::Base;
 use mlt_object_kinds::Done;
+use mlt_object_undo::take_back;
 use mlt_script_cursor::{most_asked, play};
 use mlt_script_tree::{Ending, Script};
 use mlt_types::{Refusal, TxId};

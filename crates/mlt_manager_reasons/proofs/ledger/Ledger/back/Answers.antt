@@ -6,7 +6,7 @@ use Rattle.mlt_manager_reasons.proofs.ledger.Ledger.back.Goals as goal
 pub returns-clause-takes : goal.returns-clause-takes
 returns-clause-takes c = λ items state leads known.
     knows_back c.args.self.now (record { alloc = c.args.self.now.alloc; base = c.take_back.new.base; deeds = c.put_deeds.new.deeds }) items c.args.tx c.in-Some.last state c.take_deeds-one.result
-    (record { held = c.take_deeds-one.result.held; standing = c.pop.new.self }) leads known c.in_ok-take_back.ensures.back c.take_deeds-one.ensures.was refl c.in-Some.ensures.items c.in_ok-put_deeds.ensures.there
+    (record { held = c.take_deeds-one.result.held; standing = c.pop.new.self }) leads known (λ before step. c.in_ok-take_back.ensures.ok before (c.args.self.now.base, step, refl)) c.take_deeds-one.ensures.was refl c.in-Some.ensures.items c.in_ok-put_deeds.ensures.there
     (λ other apart. c.in_ok-put_deeds.ensures.others other apart ∙ c.take_deeds-one.ensures.others other apart)
 
 pub returns-in_default-clause-takes : goal.returns-in_default-clause-takes

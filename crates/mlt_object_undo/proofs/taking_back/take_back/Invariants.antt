@@ -1,6 +1,6 @@
 use Rattle.std.proofs.Common.{take, ◌≤◌, length}
 use Rattle.mlt_object_kinds.specs.Bases.{Base, TranscriptLeads}
-use Rattle.mlt_script_serial.proofs.take_back.take_back.Given as goal
+use Rattle.mlt_object_undo.proofs.taking_back.take_back.Given as goal
 
 -- what is left is the front of the list, and it leads to the base
 abbrev pub invariant-loop-left : goal.invariant-loop-left

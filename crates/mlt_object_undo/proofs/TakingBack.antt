@@ -21,7 +21,7 @@ use Rattle.mlt_object_kinds.specs.Cells.CellState.{AccountState, ElementState, C
 use Rattle.mlt_object_kinds.specs.Operations.{cell_of}
 use Rattle.mlt_object_kinds.proofs.BaseLaws.{base_one_answer, same_base, one_cell_or_two}
 use Rattle.mlt_object_kinds.specs.Bases.{Base, Step, TranscriptLeads, TellsSize, Transcript, state_at, SameBut}
-use Rattle.mlt_script_serial.specs.TakingBack.{opposite_of}
+use Rattle.mlt_object_undo.specs.TakingBack.{opposite_of}
 
 -- the opposite operation leads back with some reply; where there is none, nothing changed
 abbrev LeadsBack : Cell → Option ObjOp → CellState → CellState → Type 0

@@ -1,8 +1,8 @@
-//! Operations that take others back.
+//! Operations on a base that take others back.
 
 ghost use Rattle.std.specs.Prelude.{◌≡◌, OnOk, IsOkUnless};
 ghost use Rattle.mlt_object_kinds.specs.Bases.{Base as ObjectBase, TranscriptLeads};
-ghost use Rattle.mlt_script_serial.specs.TakingBack.{opposite_of};
+ghost use Rattle.mlt_object_undo.specs.TakingBack.{opposite_of};
 
 use mlt_object_base::Base;
 use mlt_object_kinds::{AccountOp, CounterOp, Done, ElementOp, ObjOp, ObjReply};
@@ -41,7 +41,8 @@ fn opposite(done: &Done) -> Option<ObjOp>
     }
 }
 
-/// Takes back what was done, the last operation first.
+/// Takes back on a base what was done, the last operation first: where this list of operations, with their replies, has led to
+/// the base, it is then the one before them.
 ///
 /// # Errors
 /// `OutOfMemory`, where a growth was refused.

@@ -1,7 +1,7 @@
 use Rattle.std.proofs.Common.{◌≡◌, ◌+◌, ◌-◌, ◌<◌, take, length, sym, subst, ◌∙◌, arith}
 use Rattle.mlt_object_kinds.specs.Bases.{Base, TranscriptLeads, Step}
-use Rattle.mlt_script_serial.proofs.TakingBack.{before_last, leads_back, was_same}
-use Rattle.mlt_script_serial.proofs.take_back.take_back.Goals as goal
+use Rattle.mlt_object_undo.proofs.TakingBack.{before_last, leads_back, was_same}
+use Rattle.mlt_object_undo.proofs.taking_back.take_back.Goals as goal
 
 pub loop-left-preserved-in_ok-apply : goal.loop-left-preserved-in_ok-apply
 loop-left-preserved-in_ok-apply c =
