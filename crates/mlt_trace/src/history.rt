@@ -1,43 +1,63 @@
 //! A history, with room.
 
-ghost use Rattle.std.specs.Prelude.{◌≡◌, ◌≤◌, ◌+◌, [], ◌∷◌, ◌++◌, OnOk, OnErr, IsOkUnless};
+ghost use Rattle.std.specs.Prelude.{◌≡◌, ◌≢◌, ◌≤◌, ◌+◌, [], ◌∷◌, ◌++◌, OnOk, OnErr, IfNone, IfSome, IsOkUnless};
+ghost use Rattle.mlt_trace.specs.Ranges.{AllFit};
 
+use crate::handed_out::{HandedOut, KeptItems};
 use crate::item::TraceItem;
 use crate::kept::KeptItem;
+use crate::ranges::item_fits;
 use mlt_types::Refusal;
 use std::alloc::Global;
 use std::marker::Model;
+use std::mem;
 
-/// The items of a history, in order. A contract sees their list, and beside it the room: for how many more
-/// items memory is reserved.
-#[derive(Debug, Drop)]
+/// The items of a history, in order. Code has those that were not handed out. A contract sees the list of all, the first of them
+/// that were handed out, and the room: for how many more items memory is reserved.
+#[derive(Drop)]
 pub struct History {
-    items: Vec<KeptItem>,
+    kept: KeptItems,
     room: usize,
+    /// Whether an item was handed out.
+    lacks: bool,
+    handed_out: HandedOut,
 }
 
 impl Model for History {
-    ghost use Rattle.std.specs.Prelude.{◌+◌, ◌≤◌};
+    ghost use Rattle.std.specs.Prelude.{◌≡◌, ◌≢◌, ◌+◌, ◌≤◌, ◌++◌, [], true, false};
     ghost use Rattle.std.specs.Vec.{vec_capacity, vec_len};
     ghost use Rattle.mlt_trace.specs.HistoryItems.{ItemsWithRoom};
+    ghost use Rattle.mlt_trace.specs.Ranges.{AllFit};
 
     ghost Value = { ItemsWithRoom };
 
-    ghost view = { λ history. record { items = history.items.items; room = history.room } };
+    ghost view = { λ history. record {
+      items = history.handed_out.items ++ history.kept.items.items;
+      handed = history.handed_out.items;
+      room = history.room;
+    } };
 
     ghost invariant = { λ history.
-        vec_len history.items + history.room ≤ vec_capacity history.items };
+        (vec_len history.kept.items + history.room ≤ vec_capacity history.kept.items)
+        × (history.lacks ≡ false → history.handed_out.items ≡ [])
+        × (history.lacks ≡ true → history.handed_out.items ≢ [])
+        × AllFit (history.handed_out.items ++ history.kept.items.items) };
 }
 
 impl History {
     /// No item, and no room. It takes no memory.
     pub fn new(alloc: Global) -> History
         ensures items { result.items ≡ [] }
+        ensures handed { result.handed ≡ [] }
         ensures room { result.room ≡ 0 }
     {
         History {
-            items: Vec::new(alloc),
+            kept: KeptItems {
+                items: Vec::new(alloc),
+            },
             room: 0,
+            lacks: false,
+            handed_out: HandedOut::new(),
         }
     }
 
@@ -47,6 +67,7 @@ impl History {
     /// `OutOfMemory`, where a growth was refused; the history and its room are then as before.
     pub fn reserve(&mut self, count: usize) -> Result<(), Refusal>
         ensures items { self.new.items ≡ self.old.items }
+        ensures handed { self.new.handed ≡ self.old.handed }
         ensures room { OnOk result (self.new.room ≡ self.old.room + count) }
         ensures err { OnErr result (self.new ≡ self.old) }
         ensures refusal { IsOkUnless result Refusal.OutOfMemory }
@@ -54,7 +75,7 @@ impl History {
         let Some(room) = self.room.checked_add(count) else {
             return Err(Refusal::OutOfMemory);
         };
-        self.items.reserve(room)?;
+        self.kept.items.reserve(room)?;
         self.room = room;
         Ok(())
     }
@@ -63,25 +84,69 @@ impl History {
     pub fn push(&mut self, item: TraceItem)
         requires { 1 ≤ self.old.room }
         ensures items { self.new.items ≡ self.old.items ++ item ∷ [] }
+        ensures handed { self.new.handed ≡ self.old.handed }
         ensures room { self.new.room + 1 ≡ self.old.room }
     {
+        item_fits(&item);
         self.room -= 1;
-        self.items.push_reserved(KeptItem::of(item));
+        self.kept.items.push_reserved(KeptItem::of(item));
     }
 
     /// Gives up room for `count` items that won't come.
     pub fn release(&mut self, count: usize)
         requires { count ≤ self.old.room }
         ensures items { self.new.items ≡ self.old.items }
+        ensures handed { self.new.handed ≡ self.old.handed }
         ensures room { self.new.room + count ≡ self.old.room }
     {
         self.room -= count;
     }
 
-    /// The items, in order.
-    pub fn items(&self) -> &[KeptItem]
-        ensures { result.now ≡ self.now.items }
+    /// All items, in order, where none was handed out.
+    pub fn items(&self) -> Option<&[KeptItem]>
+        ensures some { IfSome result (λ items. items.now ≡ self.now.items) }
+        ensures whole { IfSome result (λ items. self.now.handed ≡ []) }
+        ensures none { IfNone result (self.now.handed ≢ []) }
     {
-        self.items.as_slice()
+        if self.lacks {
+            return None;
+        }
+        Some(self.kept.items.as_slice())
+    }
+
+    /// The items that were not handed out, in order.
+    pub fn kept(&self) -> &[KeptItem]
+        ensures { self.now.items ≡ self.now.handed ++ result.now }
+    {
+        self.kept.items.as_slice()
+    }
+
+    /// Hands out the items that are kept, in order: they are what the list has then, and what it had is gone. The history goes on
+    /// in the memory that the list had. It copies no item, and takes memory only where that of the list is less than the room.
+    ///
+    /// # Errors
+    /// `OutOfMemory`, where a growth was refused; nothing is handed out then.
+    pub fn hand_out(&mut self, list: &mut Vec<KeptItem>) -> Result<(), Refusal>
+        ensures items { self.new.items ≡ self.old.items }
+        ensures room { self.new.room ≡ self.old.room }
+        ensures handed { OnOk result (self.new.handed ≡ self.old.items) }
+        ensures list { OnOk result (self.old.items ≡ self.old.handed ++ list.new.items) }
+        ensures err { OnErr result (self.new ≡ self.old) }
+        ensures refusal { IsOkUnless result Refusal.OutOfMemory }
+    {
+        list.clear();
+        list.reserve(self.room)?;
+        self.handed_out = self.handed_out.and(&self.kept);
+        self.lacks = self.lacks || !self.kept.items.is_empty();
+        mem::swap(&mut self.kept.items, list);
+        Ok(())
+    }
+
+    /// The numbers of all items, handed out or not, are those of their types. It does nothing.
+    pub fn items_fit(&self)
+        ensures { AllFit self.now.items }
+    {
+        // What is always true of a history is known where it is read.
+        let _kept = &self.kept;
     }
 }

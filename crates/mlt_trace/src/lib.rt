@@ -5,10 +5,12 @@
 //! transactions add up to. Each law is the contract of a function that does nothing.
 #![tactic(auto)]
 
+mod handed_out;
 mod history;
 mod item;
 mod kept;
 mod laws;
+mod ranges;
 mod rooms;
 mod trace;
 

@@ -18,7 +18,7 @@ use Rattle.mlt_text_words.proofs.Cutting.{line_cut}
 use Rattle.mlt_text_words.proofs.Pieces.{at_most, beside, key_text, number_again, number_alone, number_is}
 use Rattle.mlt_script.specs.Forms.{key_at, number_below, reply_after, reply_at, reply_word}
 use Rattle.mlt_text_words.proofs.Allowed.{all_allowed}
-use Rattle.mlt_script_print.specs.Ranges.{FitsReply}
+use Rattle.mlt_object_ranges.specs.Ranges.{FitsDone, FitsReply}
 use Rattle.mlt_script_print.proofs.Printed.{no_lines}
 use Rattle.mlt_script_print.proofs.Rereading.{keeps_its_end, op_again, op_is, op_words}
 use Rattle.mlt_trace.specs.declared.item.TraceItem.{TraceItem}
@@ -29,7 +29,7 @@ use Rattle.mlt_trace_check.specs.Plain.{PieceIs}
 use Rattle.mlt_trace_check.proofs.PlainItems.{both}
 use Rattle.mlt_trace_check.specs.Readings.{item_of, item_with, reading}
 use Rattle.mlt_trace_check.specs.Words.{done_at, positive_at}
-use Rattle.mlt_trace_laws.specs.Writable.{AreWritable, FitsDone, IsWritable}
+use Rattle.mlt_trace_laws.specs.Writable.{AreWritable, IsWritable}
 
 -- ---- pieces of a line
 

@@ -1,7 +1,6 @@
 -- The places of items.
-use Rattle.std.proofs.Common.{◌≡◌, ◌≢◌, ℕ, ◌+◌, ◌<◌, ◌≤◌, List, [], ◌∷◌, ◌++◌, length, Contains, sym, ap, subst, inl, inr, get_or, take, ◌∙◌, arith}
+use Rattle.std.proofs.Common.{◌≡◌, ◌≢◌, ℕ, ◌+◌, ◌≤◌, List, [], ◌∷◌, ◌++◌, Contains, sym, ap, subst, inl, inr, arith}
 use Rattle.std.proofs.lemmas.List.Elements.{Contains-append_left, Contains-append_right}
-use Rattle.std.proofs.lemmas.List.{take_more}
 use Rattle.mlt_order.proofs.RunLemmas.{contains-first, contains-nothing}
 use Rattle.mlt_trace.specs.declared.item.TraceItem.{TraceItem}
 use Rattle.mlt_trace.specs.declared.item.TraceItem.TheVariants.{Begin, Op, Back, Commit, Abort}
@@ -11,7 +10,8 @@ use Rattle.mlt_trace.proofs.BegunLaws.{first_or_later}
 use Rattle.mlt_trace_check.specs.Traces.{ArePlaced, HasPlace, IsRunning, IsWhole}
 use Rattle.mlt_trace_check.proofs.Growing.{earlier_or_last, no_cut}
 use Rattle.mlt_trace_check.proofs.Lasting.{runs_begun}
-use Rattle.mlt_trace_laws.specs.Writable.{AllFit, AreWritable, FitsItem, IsNumbered}
+use Rattle.mlt_trace.specs.Ranges.{AllFit}
+use Rattle.mlt_trace_laws.specs.Writable.{AreWritable, IsNumbered}
 
 pub nothing_placed : ArePlaced []
 nothing_placed before later item e = absurd (no_cut before later item e)
@@ -76,13 +76,3 @@ pub writable : (items : List TraceItem) → ArePlaced items → AreBegunInOrder 
 writable items placed order fit item h =
     let s = stands items item h in
     record { fits = fit item h; numbered = numbered_at items s.0 s.1 item s.2 order (placed s.0 s.1 item s.2) }
-
--- ---- going over the items
-
-pub fit_more : (items : List TraceItem) (i : ℕ) (item : TraceItem) → i < length items → item ≡ get_or items i item → FitsItem item → AllFit (take i items) → AllFit (take (i + 1) items)
-fit_more items i item within is fits all one h =
-    let more : take (i + 1) items ≡ take i items ++ item ∷ [] = take_more items i item within ∙ ap (λ (x : TraceItem). take i items ++ x ∷ []) (sym is) in
-    elim (earlier_or_last (take i items) item one (subst (λ (xs : List TraceItem). Contains xs one) more h)) [
-      | inl before ↦ all one before
-      | inr last ↦ subst FitsItem last fits
-    ]

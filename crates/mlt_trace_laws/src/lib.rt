@@ -10,4 +10,4 @@ mod ranges;
 pub use history_law::history_passes_the_checker;
 pub use line_laws::written_items_are_read;
 pub use place_laws::{items_stay_placed, transactions_stay_whole};
-pub use ranges::{items_fit, placed_items_are_writable};
+pub use ranges::placed_items_are_writable;

@@ -36,6 +36,7 @@ impl Transaction {
             self.old self.new commons.old commons.new) }
         ensures err { OnErr result (IsNotCalled self.old self.new commons.old commons.new) }
         ensures refusal { IsOkUnless result Refusal.OutOfMemory }
+        ensures handed { commons.new.history.handed ≡ commons.old.history.handed }
     {
         self.make_room(commons, op)?;
         if let Some(reply) = self.step_at_once(op, commons, setting) {
@@ -63,6 +64,7 @@ impl Transaction {
             StepsAtOnce (basis_in P.bits_of setting.now self.old.subtx.tx)
             (called_with op self.old) self.new commons.old commons.new reply) }
         ensures none { IfNone result ((self.new ≡ self.old) × (commons.new ≡ commons.old)) }
+        ensures handed { commons.new.history.handed ≡ commons.old.history.handed }
     {
         let plan = plan_at_once(&op, setting, &self.subtx, &commons.pages)?;
         let done = Done::new(op, plan.reply);

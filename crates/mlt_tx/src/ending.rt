@@ -29,6 +29,7 @@ pub(crate) fn finish(
     ensures tells { TellsOfEnd done
         (workplace subtx.old undo.old commons.old) (workplace subtx.new undo.new commons.new)
         result }
+    ensures handed { commons.new.history.handed ≡ commons.old.history.handed }
 {
     let tx = subtx.tx();
     if let Err(by) = commons.objects.ask(tx, &done) {

@@ -46,6 +46,7 @@ pub(crate) fn step_on<P: Pseudo>(
         operation.old operation.new
         (workplace subtx.old undo.old commons.old) (workplace subtx.new undo.new commons.new)
         result }
+    ensures handed { commons.new.history.handed ≡ commons.old.history.handed }
 {
     match (operation.request(), operation.reply()) {
         (_, None) => answer_of(operation.step(setting, subtx, &mut commons.pages)),
@@ -76,6 +77,7 @@ fn take_back(tx: TxId, undo: &mut UndoList, commons: &mut Commons) -> Answer
         × (undo.old.entries ≡ front ++ last ∷ []) }
     requires room { 2 ≤ commons.old.history.room }
     ensures tells { TakesBack tx undo.old undo.new commons.old commons.new result }
+    ensures handed { commons.new.history.handed ≡ commons.old.history.handed }
 {
     undo.pop();
     commons.history.push(TraceItem::Back(tx));
@@ -102,6 +104,7 @@ pub(crate) fn step_back<P: Pseudo>(
         inverting.old inverting.new
         (workplace subtx.old undo.old commons.old) (workplace subtx.new undo.new commons.new)
         result }
+    ensures handed { commons.new.history.handed ≡ commons.old.history.handed }
 {
     match inverting {
         Some(operation) => match operation.reply() {
@@ -137,6 +140,7 @@ fn begin_inverse<P: Pseudo>(
     ensures keeps { KeepsObjects commons.old commons.new }
     ensures tells { TellsOfStart (basis_in P.bits_of setting.now subtx.old.tx) last inverting.new
         (moment subtx.old commons.old.pages) (moment subtx.new commons.new.pages) result }
+    ensures handed { commons.new.history.handed ≡ commons.old.history.handed }
 {
     let mut operation = Operation::start(commons.alloc, Request::TakeBack(last));
     let told = operation.step(setting, subtx, &mut commons.pages);

@@ -76,6 +76,7 @@ impl Transaction {
         ensures calls { OnOk result (TellsOfCall op self.old self.new commons.old commons.new) }
         ensures err { OnErr result (IsNotCalled self.old self.new commons.old commons.new) }
         ensures refusal { IsOkUnless result Refusal.OutOfMemory }
+        ensures handed { commons.new.history.handed ≡ commons.old.history.handed }
     {
         self.make_room(commons, op)?;
         self.at = At::Pending(Operation::start(commons.alloc, Request::Do(op)));
@@ -90,6 +91,7 @@ impl Transaction {
         ensures room { OnOk result (HasRoomFor op self.old self.new commons.old commons.new) }
         ensures err { OnErr result (IsNotCalled self.old self.new commons.old commons.new) }
         ensures refusal { IsOkUnless result Refusal.OutOfMemory }
+        ensures handed { commons.new.history.handed ≡ commons.old.history.handed }
     {
         self.undo.reserve()?;
         commons.objects.reserve(self.subtx.tx(), &op.cell())?;
@@ -105,6 +107,7 @@ impl Transaction {
             self.old commons.old }
         ensures tells { TellsOfTransaction (basis_in P.bits_of setting.now self.old.subtx.tx)
             self.old self.new commons.old commons.new result }
+        ensures handed { commons.new.history.handed ≡ commons.old.history.handed }
     {
         match &mut self.at {
             At::Idle => unreachable!(),
@@ -137,6 +140,7 @@ impl Transaction {
         requires there { AreThere self.old.subtx.images commons.old.pages.store.pages }
         requires room { 2 ≤ commons.old.history.room }
         ensures tells { TellsOfCancel self.old self.new commons.old commons.new }
+        ensures handed { commons.new.history.handed ≡ commons.old.history.handed }
     {
         self.subtx
             .roll_back(&mut commons.pages.store, &mut commons.pages.locks);

@@ -31,44 +31,40 @@ begin_inverse-requires g c =
     let may = c.requires.ready.starts c.in-None.is (subst IsSome (sym inverse) refl) in
     record { ready = subst (λ (x : ObjOp × ObjReply). MayOperate basis m (started_for (TakeBack x))) same may }
 
-pub returns-in-Some-reply : goal.returns-in-Some-reply
-returns-in-Some-reply g c =
+pub returns-in-Some-reply-clause-tells : goal.returns-in-Some-reply-clause-tells
+returns-in-Some-reply-clause-tells g c =
     let basis : Basis = basis_in g.P.Pseudo.bits_of c.args.setting.now c.args.subtx.now.tx in
     let old : Commons = c.args.commons.now in
     let between : Commons = record { alloc = old.alloc; pages = record { store = old.pages.store; locks = c.end.new.locks }; objects = old.objects; history = old.history } in
     let tx : c.tx.result ≡ c.args.subtx.now.tx = c.tx.ensures ∙ ap (λ (r : Running). r.tx) c.end.ensures.images in
     let takes = subst (λ (tx : ℕ). TakesBack tx c.args.undo.now c.take_back.new.undo between c.take_back.new.commons c.take_back.result) tx c.take_back.ensures.tells in
     let answered : IsSome c.in-Some.operation.reply = subst IsSome (sym c.in-Some-reply.is ∙ c.reply.ensures) refl in
-    record {
-      tells = end_tells basis c.args.inverting.now None c.args.subtx.now c.end.new.self c.args.undo.now c.take_back.new.undo old c.take_back.new.commons c.take_back.result
-          (record {
-            between = between;
-            none = refl;
-            at_once = λ is. absurd (none-some c.in-Some.operation (sym is ∙ c.in-Some.is));
-            without = λ front x is entries. absurd (none-some c.in-Some.operation (sym is ∙ c.in-Some.is));
-            at_end = λ o is. (
-              subst (λ (p : OperationFields). IsSome p.reply) (same_some c.in-Some.operation o (sym c.in-Some.is ∙ is)) answered,
-              record { running = c.end.ensures.images; locks = c.end.ensures.locks; store = refl },
-              refl,
-              refl,
-            );
-            takes = takes;
-          });
-    }
+    end_tells basis c.args.inverting.now None c.args.subtx.now c.end.new.self c.args.undo.now c.take_back.new.undo old c.take_back.new.commons c.take_back.result
+    (record {
+      between = between;
+      none = refl;
+      at_once = λ is. absurd (none-some c.in-Some.operation (sym is ∙ c.in-Some.is));
+      without = λ front x is entries. absurd (none-some c.in-Some.operation (sym is ∙ c.in-Some.is));
+      at_end = λ o is. (
+        subst (λ (p : OperationFields). IsSome p.reply) (same_some c.in-Some.operation o (sym c.in-Some.is ∙ is)) answered,
+        record { running = c.end.ensures.images; locks = c.end.ensures.locks; store = refl },
+        refl,
+        refl,
+      );
+      takes = takes;
+    })
 
-pub returns-in-None-inverse : goal.returns-in-None-inverse
-returns-in-None-inverse g c =
+pub returns-in-None-inverse-clause-tells : goal.returns-in-None-inverse-clause-tells
+returns-in-None-inverse-clause-tells g c =
     let basis : Basis = basis_in g.P.Pseudo.bits_of c.args.setting.now c.args.subtx.now.tx in
     let last : IsLast (Some c.in-Some-last.last) c.args.undo.now.entries = c.in-Some-last.ensures in
     let takes = subst (λ (tx : ℕ). TakesBack tx c.args.undo.now c.take_back-in-None-inverse.new.undo c.args.commons.now c.take_back-in-None-inverse.new.commons c.take_back-in-None-inverse.result) c.tx-in-None-inverse.ensures c.take_back-in-None-inverse.ensures.tells in
-    record {
-      tells = end_tells basis c.args.inverting.now c.args.inverting.now c.args.subtx.now c.args.subtx.now c.args.undo.now c.take_back-in-None-inverse.new.undo c.args.commons.now c.take_back-in-None-inverse.new.commons c.take_back-in-None-inverse.result
-          (record {
-            between = c.args.commons.now;
-            none = c.in-None.is;
-            at_once = λ is. (refl, refl);
-            without = λ front x is entries. ap inverse_of (one_last c.args.undo.now.entries front last.0 x c.in-Some-last.last entries last.1) ∙ sym c.inverse.ensures.table ∙ c.in-None-inverse.is;
-            at_end = λ o is. absurd (none-some o (sym c.in-None.is ∙ is));
-            takes = takes;
-          });
-    }
+    end_tells basis c.args.inverting.now c.args.inverting.now c.args.subtx.now c.args.subtx.now c.args.undo.now c.take_back-in-None-inverse.new.undo c.args.commons.now c.take_back-in-None-inverse.new.commons c.take_back-in-None-inverse.result
+    (record {
+      between = c.args.commons.now;
+      none = c.in-None.is;
+      at_once = λ is. (refl, refl);
+      without = λ front x is entries. ap inverse_of (one_last c.args.undo.now.entries front last.0 x c.in-Some-last.last entries last.1) ∙ sym c.inverse.ensures.table ∙ c.in-None-inverse.is;
+      at_end = λ o is. absurd (none-some o (sym c.in-None.is ∙ is));
+      takes = takes;
+    })

@@ -1,20 +1,18 @@
 use Rattle.std.proofs.Common.{refl}
 use Rattle.mlt_tx.proofs.transaction.Transaction.cancel.Goals as goal
 
-pub returns : goal.returns
-returns c = record {
-  tells = record {
-    between = record {
-      alloc = c.args.commons.now.alloc;
-      pages = record { store = c.roll_back.new.store; locks = c.roll_back.new.locks };
-      objects = c.args.commons.now.objects;
-      history = c.args.commons.now.history;
-    };
-    back = record { running = c.roll_back.ensures.images; locks = c.roll_back.ensures.locks; store = c.roll_back.ensures.store };
-    objects = refl;
-    history = refl;
-    undo_kept = refl;
-    idle = refl;
-    room = record { pages = refl; objects = refl; items = c.release.ensures.items; room = c.release.ensures.room };
+pub returns-clause-tells : goal.returns-clause-tells
+returns-clause-tells c = record {
+  between = record {
+    alloc = c.args.commons.now.alloc;
+    pages = record { store = c.roll_back.new.store; locks = c.roll_back.new.locks };
+    objects = c.args.commons.now.objects;
+    history = c.args.commons.now.history;
   };
+  back = record { running = c.roll_back.ensures.images; locks = c.roll_back.ensures.locks; store = c.roll_back.ensures.store };
+  objects = refl;
+  history = refl;
+  undo_kept = refl;
+  idle = refl;
+  room = record { pages = refl; objects = refl; items = c.release.ensures.items; room = c.release.ensures.room };
 }
