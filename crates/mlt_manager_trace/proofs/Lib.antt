@@ -1,5 +1,5 @@
+pub mod CommittedBases
 pub mod Places
 pub mod Wholes
 pub mod Items
 pub mod Stays
-pub mod CommittedBases

@@ -11,7 +11,7 @@ use Rattle.mlt_trace.specs.Items.{trace_text}
 use Rattle.mlt_trace.specs.HistoryItems.{ItemsWithRoom}
 use Rattle.mlt_trace.specs.Numbers.{committed_txs}
 use Rattle.mlt_trace_check.specs.Traces.{ArePlaced, IsAcceptedTrace, IsWhole, told}
-use Rattle.mlt_trace_laws.specs.Writable.{AllFit}
+use Rattle.mlt_trace.specs.Ranges.{AllFit}
 use Rattle.mlt_trace_laws.proofs.Histories.{accepted_history, accepted_where_nothing_is_open, nothing_of_others}
 use Rattle.mlt_trace_laws.proofs.Places.{nothing_placed, writable}
 use Rattle.mlt_hash_subtx_laws.specs.CleanPages.{RunningImages}

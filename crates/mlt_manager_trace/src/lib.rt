@@ -2,13 +2,11 @@
 //! nothing.
 #![tactic(auto)]
 
-mod base_law;
 mod event_laws;
 mod item_laws;
 mod place_laws;
 mod trace_law;
 
-pub use base_law::committed_base_of_a_manager;
 pub use event_laws::{events_without_an_item, opening_state_is_traced};
 pub use item_laws::{
     ends_of_transactions_are_traced, operations_are_traced, transaction_that_begins_is_traced,

@@ -7,7 +7,7 @@ ghost use Rattle.mlt_order.specs.Interleavings.{UndoneTo};
 ghost use Rattle.mlt_trace.specs.Items.{trace_text};
 ghost use Rattle.mlt_trace.specs.Numbers.{committed_txs};
 ghost use Rattle.mlt_trace_check.specs.Traces.{IsAcceptedTrace};
-ghost use Rattle.mlt_trace_laws.specs.Writable.{AllFit};
+ghost use Rattle.mlt_trace.specs.Ranges.{AllFit};
 ghost use Rattle.mlt_tx_meaning.specs.Worlds.{lists_in};
 ghost use Rattle.mlt_manager_invariant.specs.Sound.{IsSound};
 ghost use Rattle.mlt_manager_invariant.specs.States.{State, world_of};

@@ -1,5 +1,5 @@
 -- A text that a checker goes over, line by line.
-use Rattle.std.proofs.Common.{◌≡◌, ℕ, ◌+◌, Bool, true, false, cond, List, [], ◌∷◌, ◌++◌, length, map, Result, Ok, Err, Option, Some, None, nat_lt, refl, sym, ap, subst, ◌∙◌, inl, inr, append_assoc, length-append}
+use Rattle.std.proofs.Common.{◌≡◌, ℕ, ◌+◌, Bool, true, false, cond, List, [], ◌∷◌, ◌++◌, length, map, Ok, Err, Option, Some, None, nat_lt, refl, sym, ap, subst, ◌∙◌, inl, inr, append_assoc, length-append}
 use Rattle.std.proofs.lemmas.List.{map-append}
 use Rattle.std.specs.List.{list_all}
 use Rattle.mlt_types.specs.declared.refusal.Refusal.{Refusal}
@@ -11,6 +11,7 @@ use Rattle.mlt_text_words.specs.Lines.{Raw, lines, content, is_allowed}
 use Rattle.mlt_text_words.specs.Words.{raw_words}
 use Rattle.mlt_text_words.proofs.Cutting.{no_lines}
 use Rattle.mlt_trace.specs.declared.item.TraceItem.{TraceItem}
+use Rattle.mlt_trace.specs.Numbers.{committed_txs}
 use Rattle.mlt_trace_check.specs.declared.checker.Checker.{Checker}
 use Rattle.mlt_trace_check.specs.declared.reading.Reading.{Reading}
 use Rattle.mlt_trace_check.specs.declared.reading.Reading.TheVariants.{Bad, Says}
@@ -18,7 +19,7 @@ use Rattle.mlt_trace_check.specs.Answering.{Answers, TakesLine, WentOver}
 use Rattle.mlt_trace_check.specs.Checkers.{Knows, Takes}
 use Rattle.mlt_trace_check.specs.Readings.{item_of, item_or_fault, reading}
 use Rattle.mlt_trace_check.specs.Traces.{ArePlaced, HasPlace, IsAcceptedTrace, IsItemFault, IsLineFault}
-use Rattle.mlt_trace_check.proofs.Growing.{append_nil, no_cut, split_last}
+use Rattle.mlt_trace_check.proofs.Growing.{append_nil, committed_txs-append, no_cut, split_last}
 
 -- ---- a line that is faulty by itself
 
@@ -65,12 +66,12 @@ fault_line cause.Words items base raw item line is found = absurd found
 fault_line cause.Place items base raw item line is found = (item, is, found)
 fault_line cause.Reply items base raw item line is found = (item, is, found)
 
-pub item_line : (result : Result (Unit {0}) Refusal) (old new : Checker) (line : ℕ) (raw : Raw) (item : TraceItem) → reading raw ≡ Says item
-    → Takes result old new line item → TakesLine result old new line raw
-item_line (Ok done) old new line raw item is takes = (item, is, takes)
-item_line (Err OutOfMemory) old new line raw item is takes = tt
-item_line (Err (TraceFault n fault)) old new line raw item is takes = λ items h at. fault_line fault items old.base raw item n is (takes items h at)
-item_line (Err refusal) old new line raw item is takes = absurd takes
+-- a line of which the item is refused
+pub item_line : (refusal : Refusal) (old new : Checker) (line : ℕ) (raw : Raw) (item : TraceItem) → reading raw ≡ Says item
+    → Takes (Err refusal) old new line item → TakesLine (Err refusal) old new line raw
+item_line OutOfMemory old new line raw item is takes = tt
+item_line (TraceFault n fault) old new line raw item is takes = λ items h at. fault_line fault items old.base raw item n is (takes items h at)
+item_line refusal old new line raw item is takes = absurd takes
 
 -- ---- one more line
 
@@ -88,49 +89,51 @@ pub said_more : (before : List Raw) (items : List TraceItem) (raw : Raw) (item :
 said_more before items raw item said is =
     map-append reading before (raw ∷ []) ∙ ap (λ rs. rs ++ reading raw ∷ []) said ∙ ap (λ r. map Says items ++ r ∷ []) is ∙ sym (map-append Says items (item ∷ []))
 
-pub went_nowhere : (checker : Checker) (text : List ℕ) → Knows checker [] → WentOver checker 0 text text
+pub went_nowhere : (checker : Checker) (text : List ℕ) → Knows checker [] → WentOver checker 0 [] text text
 went_nowhere checker text knows = record {
   before = [];
   items = [];
   cut = refl;
   counted = refl;
+  order = refl;
   said = refl;
   placed = λ before later item e. absurd (no_cut before later item e);
   knows = knows;
 }
 
-pub went_on : (old new : Checker) (line : ℕ) (text rest more : List ℕ) (raw : Raw) → lines rest ≡ raw ∷ lines more → TakesLine (Ok tt) old new (line + 1) raw → WentOver old line text rest → WentOver new (line + 1) text more
-went_on old new line text rest more raw first takes over =
-    let item = takes.0 in
-    let next = takes.2 over.items over.knows (ap (λ n. n + 1) over.counted) in
+pub went_on : (old new : Checker) (line : ℕ) (txs text rest more : List ℕ) (raw : Raw) (item : TraceItem) → lines rest ≡ raw ∷ lines more → TakesLine (Ok item) old new (line + 1) raw
+    → WentOver old line txs text rest → WentOver new (line + 1) (txs ++ committed_txs (item ∷ [])) text more
+went_on old new line txs text rest more raw item first takes over =
+    let next = takes.1 over.items over.knows (ap (λ n. n + 1) over.counted) in
     record {
       before = over.before ++ raw ∷ [];
       items = over.items ++ item ∷ [];
       cut = over.cut ∙ ap (λ rs. over.before ++ rs) first ∙ sym (append_assoc over.before (raw ∷ []) (lines more));
       counted = ap (λ n. n + 1) over.counted ∙ sym (length-append over.items (item ∷ []));
-      said = said_more over.before over.items raw item over.said takes.1;
+      order = ap (λ ns. ns ++ committed_txs (item ∷ [])) over.order ∙ sym (committed_txs-append over.items (item ∷ []));
+      said = said_more over.before over.items raw item over.said takes.0;
       placed = placed_more over.items item over.placed next.0;
       knows = next.1;
     }
 
-pub went_wrong : (e : Refusal) (old new : Checker) (line : ℕ) (text rest more : List ℕ) (raw : Raw) → lines rest ≡ raw ∷ lines more → TakesLine (Err e) old new (line + 1) raw → WentOver old line text rest → Answers (Err e) text
-went_wrong OutOfMemory old new line text rest more raw first takes over = tt
-went_wrong (TraceFault n fault) old new line text rest more raw first takes over = (
+pub went_wrong : (e : Refusal) (old new : Checker) (line : ℕ) (txs text rest : List ℕ) (raw : Raw) (after : List Raw) → lines rest ≡ raw ∷ after → TakesLine (Err e) old new (line + 1) raw → WentOver old line txs text rest → Answers (Err e) text
+went_wrong OutOfMemory old new line txs text rest raw after first takes over = tt
+went_wrong (TraceFault n fault) old new line txs text rest raw after first takes over = (
   over.before,
   raw,
-  lines more,
+  after,
   over.items,
   old.base,
   over.cut ∙ ap (λ rs. over.before ++ rs) first,
   record { said = over.said; placed = over.placed; serial = over.knows.serial },
   takes over.items over.knows (ap (λ n. n + 1) over.counted),
 )
-went_wrong e old new line text rest more raw first takes over = absurd takes
+went_wrong e old new line txs text rest raw after first takes over = absurd takes
 
-pub went_to_end : (checker : Checker) (line : ℕ) (text rest : List ℕ) → length rest ≡ 0 → WentOver checker line text rest → IsAcceptedTrace text checker.txs.items checker.base
-went_to_end checker line text rest none over =
+pub went_to_end : (checker : Checker) (line : ℕ) (txs text rest : List ℕ) → length rest ≡ 0 → WentOver checker line txs text rest → IsAcceptedTrace text txs checker.base
+went_to_end checker line txs text rest none over =
     let all : lines text ≡ over.before = over.cut ∙ ap (λ rs. over.before ++ rs) (no_lines rest none) ∙ append_nil over.before in (
       over.items,
       record { said = ap (map reading) all ∙ over.said; placed = over.placed; serial = over.knows.serial },
-      over.knows.txs,
+      over.order,
     )

@@ -1,4 +1,4 @@
--- Each text is an accepted trace or has a first fault, and so are items.
+-- Each text is an accepted trace or has a first fault.
 use Rattle.std.proofs.Common.{◌≡◌, ◌≢◌, ◌⊎◌, inl, inr, ℕ, ◌+◌, ◌<◌, List, [], ◌∷◌, ◌++◌, length, map, Contains, refl, sym, ap, subst, ◌∙◌, append_assoc}
 use Rattle.std.proofs.lemmas.Bool.{cases_eq}
 use Rattle.mlt_types.specs.declared.refusal.TraceCause.{TraceCause}
@@ -17,11 +17,8 @@ use Rattle.mlt_trace.specs.Numbers.{begun_txs, commit_count, committed_txs}
 use Rattle.mlt_trace.proofs.BegunLaws.{first_or_later}
 use Rattle.mlt_trace_check.specs.declared.reading.Reading.{Reading}
 use Rattle.mlt_trace_check.specs.declared.reading.Reading.TheVariants.{Bad, Says}
-use Rattle.mlt_trace_check.specs.AcceptedItems.{AreAccepted, IsFirstFaultIn}
 use Rattle.mlt_trace_check.specs.Readings.{reading}
 use Rattle.mlt_trace_check.specs.Traces.{ArePlaced, HasPlace, IsAcceptedTrace, IsFirstFault, IsFirstFaultOf, IsItemFault, IsLineFault, IsRunning, IsTrace, IsWhole, told}
-use Rattle.mlt_trace_check.proofs.AcceptedItems.{no_first_fault, one_base}
-use Rattle.mlt_trace_check.proofs.Faults.{SameFault, cut_twice, next_same, one_item_fault}
 use Rattle.mlt_trace_check.proofs.Going.{bad_line, placed_more, said_more}
 use Rattle.mlt_trace_check.proofs.Growing.{append_nil, no_cut, told-push}
 use Rattle.mlt_trace_check.proofs.Lasting.{one_more}
@@ -153,54 +150,6 @@ module _ (items : List TraceItem) (base : Base) (h : LeadTo items base) where
     | inl place ↦ placed_goes_on item place
     | inr none ↦ inr (length items + 1, cause.Place, (none, refl))
   ]
-
--- ---- items
-
-abbrev AcceptedOrNot : List TraceItem → Type 0
-AcceptedOrNot items = ((base : Base) × AreAccepted items base) ⊎ ((line : ℕ) × (fault : TraceCause) × IsFirstFaultIn items line fault)
-
-items_from : (later items all : List TraceItem) (base : Base) → all ≡ items ++ later → LeadTo items base → AcceptedOrNot all
-items_from [] items all base e h =
-    inl (base, let F : List TraceItem → Type 0 = λ is. AreAccepted is base in subst F (sym (e ∙ append_nil items)) (record { placed = h.placed; serial = h.serial }))
-items_from (item ∷ later) items all base e h = elim (goes_on_or_not items base h item) [
-  | inl next ↦ items_from later (one_more items item) all next.0 (e ∙ sym (append_assoc items (item ∷ []) later)) next.1
-  | inr f ↦ inr (
-    f.0,
-    f.1,
-    record {
-      before = items;
-      item = item;
-      later = later;
-      base = base;
-      cut = e;
-      accepted = record { placed = h.placed; serial = h.serial };
-      faulty = f.2;
-    },
-  )
-]
-
-pub accepted_or_not : (items : List TraceItem) → AcceptedOrNot items
-accepted_or_not items = items_from items [] items empty_base refl none_lead
-
--- items have one first fault
-pub one_first_fault_in : (items : List TraceItem) (line other : ℕ) (fault another : TraceCause) → IsFirstFaultIn items line fault → IsFirstFaultIn items other another → SameFault line other fault another
-one_first_fault_in items line other fault another h k = elim (cut_twice h.before k.before h.later k.later h.item k.item (sym h.cut ∙ k.cut)) [
-  | inl more ↦ absurd (no_first_fault k.before k.base line fault k.accepted
-      (record { before = h.before; item = h.item; later = more.0; base = h.base; cut = more.1; accepted = h.accepted; faulty = h.faulty }))
-  | inr rest ↦ elim rest [
-    | inl same ↦ at_one same
-    | inr less ↦ absurd (no_first_fault h.before h.base other another h.accepted
-        (record { before = k.before; item = k.item; later = less.0; base = k.base; cut = less.1; accepted = k.accepted; faulty = k.faulty }))
-  ]
-] where
-  at_one : h.before ≡ k.before → SameFault line other fault another
-  at_one same =
-      let rests : h.before ++ h.item ∷ h.later ≡ h.before ++ k.item ∷ k.later = sym h.cut ∙ k.cut ∙ ap (λ is. is ++ k.item ∷ k.later) (sym same) in
-      let one : k.item ≡ h.item = sym (next_same h.before h.later k.later h.item k.item rests) in
-      let base : k.base ≡ h.base = one_base h.before k.base h.base (subst (λ is. AreAccepted is k.base) (sym same) k.accepted) h.accepted in
-      let there : IsItemFault h.before h.base h.item other another = subst (λ is. IsItemFault is h.base h.item other another) (sym same)
-      (subst (λ b. IsItemFault k.before b h.item other another) base (subst (λ item. IsItemFault k.before k.base item other another) one k.faulty)) in
-      one_item_fault h.before h.base h.item line other fault another h.accepted.placed h.faulty there
 
 -- ---- lines
 

@@ -22,13 +22,13 @@ use Rattle.mlt_order.proofs.Tables.{at_each, changed}
 use Rattle.mlt_trace.specs.declared.item.TraceItem.{TraceItem}
 use Rattle.mlt_trace.specs.declared.item.TraceItem.TheVariants.{Begin, Op, Back, Commit, Abort}
 use Rattle.mlt_trace.specs.Numbers.{begun_txs, commit_count}
-use Rattle.mlt_trace.proofs.ItemLaws.{begun_txs-append, committed_txs_counted, no_begin}
+use Rattle.mlt_trace.proofs.ItemLaws.{begun_txs-append, commits_counted, no_begin, no_commit}
 use Rattle.mlt_trace_check.specs.declared.open_tx.OpenTx.{OpenTx}
 use Rattle.mlt_trace_check.specs.declared.checker.Checker.{Checker}
 use Rattle.mlt_trace_check.specs.Replaying.{DoneAt, dones, IsFalseAt, Replays, ReplaysOne}
 use Rattle.mlt_trace_check.specs.Checkers.{AreInLines, Knows, KnowsBegun, KnowsRunning, KnowsTx, Takes}
 use Rattle.mlt_trace_check.specs.Traces.{HasFalseReply, HasPlace, IsRunning, IsWhole, told}
-use Rattle.mlt_trace_check.proofs.Growing.{number_in, told-push, stage-other, transcript-other, committed_txs-append, no_commit, last_one, earlier_or_last, begun_stays, split_last, no_cut}
+use Rattle.mlt_trace_check.proofs.Growing.{number_in, told-push, stage-other, transcript-other, last_one, earlier_or_last, begun_stays, split_last, no_cut}
 
 in_lines_more : (tx : ℕ) (items : List TraceItem) (item : TraceItem) (ops : List DoneAt) → AreInLines tx items ops → AreInLines tx (items ++ item ∷ []) ops
 in_lines_more tx items item ops h front rest op e =
@@ -92,9 +92,9 @@ begun_greatest items tx place = subst (KnowsBegun (Some tx)) (sym (begun_txs-app
 pub knows_begin : (old new : Checker) (items : List TraceItem) (tx : ℕ) (one : OpenTx) → one.ops.items ≡ [] → one.undoing ≡ false
     → ((last : ℕ) → old.begun ≡ Some last → last < tx)
     → at_tx new tx ≡ Some one → ((other : ℕ) → other ≢ tx → at_tx new other ≡ at_tx old other)
-    → new.begun ≡ Some tx → new.txs.items ≡ old.txs.items → new.base ≡ old.base
+    → new.begun ≡ Some tx → new.commits ≡ old.commits → new.base ≡ old.base
     → Knows old items → HasPlace items (Begin tx) × Knows new (items ++ Begin tx ∷ [])
-knows_begin old new items tx one empty whole above there same begun txs base h =
+knows_begin old new items tx one empty whole above there same begun commits base h =
     let place : HasPlace items (Begin tx) = place_to_begin old.begun (begun_txs items) tx h.begun above in
     let none = not_begun (at_tx old tx) tx items place (h.open_txs tx) in
     let own : KnowsRunning one tx (items ++ Begin tx ∷ []) = record {
@@ -113,7 +113,7 @@ knows_begin old new items tx one empty whole above there same begun txs base h =
         open_txs = knows_all old new items (Begin tx) h.open_txs same (subst (λ o. KnowsTx o tx (items ++ Begin tx ∷ [])) (sym there) own);
         begun = subst (λ b. KnowsBegun b (begun_txs (items ++ Begin tx ∷ []))) (sym begun) (begun_greatest items tx place);
         backs = backs_more items (Begin tx) h.backs (λ other e. absurd (cc e));
-        txs = txs ∙ h.txs ∙ sym (no_commit items (Begin tx) refl);
+        commits = commits ∙ h.commits ∙ sym (ap length (no_commit items (Begin tx) refl));
         serial = subst (IsSerialBase Step empty_base (told (items ++ Begin tx ∷ [])).committed) (sym base)
             (subst (λ (l : Lists (ObjOp × ObjReply)). IsSerialBase Step empty_base l.committed old.base) (sym (told-push items (Begin tx))) h.serial);
       },
@@ -138,9 +138,9 @@ in_lines_done tx line done items ops more is at same h front rest op e =
 pub knows_done : (old new : Checker) (items : List TraceItem) (tx line : ℕ) (done : ObjOp × ObjReply) (one next : OpenTx)
     → at_tx old tx ≡ Some one → one.undoing ≡ false → next.ops.items ≡ one.ops.items ++ (line, done) ∷ [] → next.undoing ≡ one.undoing
     → at_tx new tx ≡ Some next → ((other : ℕ) → other ≢ tx → at_tx new other ≡ at_tx old other)
-    → new.begun ≡ old.begun → new.txs.items ≡ old.txs.items → new.base ≡ old.base
+    → new.begun ≡ old.begun → new.commits ≡ old.commits → new.base ≡ old.base
     → Knows old items → line ≡ length items + 1 → HasPlace items (Op tx done) × Knows new (items ++ Op tx done ∷ [])
-knows_done old new items tx line done one next was whole ops undoing there same begun txs base h at =
+knows_done old new items tx line done one next was whole ops undoing there same begun commits base h at =
     let had : KnowsRunning one tx items = subst (λ o. KnowsTx o tx items) was (h.open_txs tx) in
     let after = told-push items (Op tx done) in
     let own : KnowsRunning next tx (items ++ Op tx done ∷ []) = record {
@@ -157,7 +157,7 @@ knows_done old new items tx line done one next was whole ops undoing there same 
         open_txs = knows_all old new items (Op tx done) h.open_txs same (subst (λ o. KnowsTx o tx (items ++ Op tx done ∷ [])) (sym there) own);
         begun = subst (λ b. KnowsBegun b (begun_txs (items ++ Op tx done ∷ []))) (sym begun) (subst (KnowsBegun old.begun) (sym (no_begin items (Op tx done) refl)) h.begun);
         backs = backs_more items (Op tx done) h.backs (λ other e. absurd (cc e));
-        txs = txs ∙ h.txs ∙ sym (no_commit items (Op tx done) refl);
+        commits = commits ∙ h.commits ∙ sym (ap length (no_commit items (Op tx done) refl));
         serial = subst (IsSerialBase Step empty_base (told (items ++ Op tx done ∷ [])).committed) (sym base)
             (subst (λ (l : Lists (ObjOp × ObjReply)). IsSerialBase Step empty_base l.committed old.base) (sym after) h.serial);
       },
@@ -170,9 +170,9 @@ not_empty (op ∷ ops) last e = cc e
 pub knows_back : (old new : Checker) (items : List TraceItem) (tx : ℕ) (one next : OpenTx) (last : DoneAt)
     → at_tx old tx ≡ Some one → one.ops.items ≡ next.ops.items ++ last ∷ [] → next.undoing ≡ true
     → at_tx new tx ≡ Some next → ((other : ℕ) → other ≢ tx → at_tx new other ≡ at_tx old other)
-    → new.begun ≡ old.begun → new.txs.items ≡ old.txs.items → new.base ≡ old.base
+    → new.begun ≡ old.begun → new.commits ≡ old.commits → new.base ≡ old.base
     → Knows old items → HasPlace items (Back tx) × Knows new (items ++ Back tx ∷ [])
-knows_back old new items tx one next last was ops undoing there same begun txs base h =
+knows_back old new items tx one next last was ops undoing there same begun commits base h =
     let had : KnowsRunning one tx items = subst (λ o. KnowsTx o tx items) was (h.open_txs tx) in
     let after = told-push items (Back tx) in
     let front : (told items).transcripts tx ≡ dones next.ops.items ++ last.1 ∷ [] = sym had.ops ∙ ap dones ops ∙ map-append (λ (d : DoneAt). d.1) next.ops.items (last ∷ []) in
@@ -190,7 +190,7 @@ knows_back old new items tx one next last was ops undoing there same begun txs b
         open_txs = knows_all old new items (Back tx) h.open_txs same (subst (λ o. KnowsTx o tx (items ++ Back tx ∷ [])) (sym there) own);
         begun = subst (λ b. KnowsBegun b (begun_txs (items ++ Back tx ∷ []))) (sym begun) (subst (KnowsBegun old.begun) (sym (no_begin items (Back tx) refl)) h.begun);
         backs = backs_more items (Back tx) h.backs (λ other e. let same_tx : tx ≡ other = cc e in subst (Contains (begun_txs items)) same_tx had.begun);
-        txs = txs ∙ h.txs ∙ sym (no_commit items (Back tx) refl);
+        commits = commits ∙ h.commits ∙ sym (ap length (no_commit items (Back tx) refl));
         serial = subst (IsSerialBase Step empty_base (told (items ++ Back tx ∷ [])).committed) (sym base)
             (subst (λ (l : Lists (ObjOp × ObjReply)). IsSerialBase Step empty_base l.committed old.base) (sym after) h.serial);
       },
@@ -204,9 +204,9 @@ not_running e f = let g : Ended ≡ Running = sym e ∙ f in cc g
 pub knows_abort : (old new : Checker) (items : List TraceItem) (tx : ℕ) (one : OpenTx)
     → at_tx old tx ≡ Some one → one.ops.items ≡ []
     → at_tx new tx ≡ None → ((other : ℕ) → other ≢ tx → at_tx new other ≡ at_tx old other)
-    → new.begun ≡ old.begun → new.txs.items ≡ old.txs.items → new.base ≡ old.base
+    → new.begun ≡ old.begun → new.commits ≡ old.commits → new.base ≡ old.base
     → Knows old items → HasPlace items (Abort tx) × Knows new (items ++ Abort tx ∷ [])
-knows_abort old new items tx one was none gone same begun txs base h =
+knows_abort old new items tx one was none gone same begun commits base h =
     let had : KnowsRunning one tx items = subst (λ o. KnowsTx o tx items) was (h.open_txs tx) in
     let after = told-push items (Abort tx) in
     let own : KnowsTx None tx (items ++ Abort tx ∷ []) = (
@@ -218,31 +218,31 @@ knows_abort old new items tx one was none gone same begun txs base h =
         open_txs = knows_all old new items (Abort tx) h.open_txs same (subst (λ o. KnowsTx o tx (items ++ Abort tx ∷ [])) (sym gone) own);
         begun = subst (λ b. KnowsBegun b (begun_txs (items ++ Abort tx ∷ []))) (sym begun) (subst (KnowsBegun old.begun) (sym (no_begin items (Abort tx) refl)) h.begun);
         backs = backs_more items (Abort tx) h.backs (λ other e. absurd (cc e));
-        txs = txs ∙ h.txs ∙ sym (no_commit items (Abort tx) refl);
+        commits = commits ∙ h.commits ∙ sym (ap length (no_commit items (Abort tx) refl));
         serial = subst (IsSerialBase Step empty_base (told (items ++ Abort tx ∷ [])).committed) (sym base)
             (subst (λ (l : Lists (ObjOp × ObjReply)). IsSerialBase Step empty_base l.committed old.base) (sym after) h.serial);
       },
     )
 
 pub knows_commit : (old new : Checker) (items : List TraceItem) (tx number : ℕ) (one : OpenTx)
-    → at_tx old tx ≡ Some one → one.undoing ≡ false → number ≡ length old.txs.items + 1 → Runs Step old.base (dones one.ops.items) new.base
+    → at_tx old tx ≡ Some one → one.undoing ≡ false → number ≡ old.commits + 1 → Runs Step old.base (dones one.ops.items) new.base
     → at_tx new tx ≡ None → ((other : ℕ) → other ≢ tx → at_tx new other ≡ at_tx old other)
-    → new.begun ≡ old.begun → new.txs.items ≡ old.txs.items ++ tx ∷ []
+    → new.begun ≡ old.begun → new.commits ≡ number
     → Knows old items → HasPlace items (Commit tx number) × Knows new (items ++ Commit tx number ∷ [])
-knows_commit old new items tx number one was whole counted runs gone same begun txs h =
+knows_commit old new items tx number one was whole counted runs gone same begun commits h =
     let had : KnowsRunning one tx items = subst (λ o. KnowsTx o tx items) was (h.open_txs tx) in
     let after = told-push items (Commit tx number) in
     let own : KnowsTx None tx (items ++ Commit tx number ∷ []) = (
       not_running (ap (λ (l : Lists (ObjOp × ObjReply)). l.stage tx) after ∙ (changed (told items).stage tx Ended).0),
       ap (λ (l : Lists (ObjOp × ObjReply)). l.transcripts tx) after ∙ (changed (told items).transcripts tx _).0,
     ) in
-    let as_many : length old.txs.items ≡ commit_count items = ap length h.txs ∙ committed_txs_counted items in (
-      (had.running, had.whole whole, counted ∙ ap (λ n. n + 1) as_many),
+    let next : number ≡ commit_count items + 1 = counted ∙ ap (λ n. n + 1) h.commits in (
+      (had.running, had.whole whole, next),
       record {
         open_txs = knows_all old new items (Commit tx number) h.open_txs same (subst (λ o. KnowsTx o tx (items ++ Commit tx number ∷ [])) (sym gone) own);
         begun = subst (λ b. KnowsBegun b (begun_txs (items ++ Commit tx number ∷ []))) (sym begun) (subst (KnowsBegun old.begun) (sym (no_begin items (Commit tx number) refl)) h.begun);
         backs = backs_more items (Commit tx number) h.backs (λ other e. absurd (cc e));
-        txs = txs ∙ ap (λ ns. ns ++ tx ∷ []) h.txs ∙ sym (committed_txs-append items (Commit tx number ∷ []));
+        commits = commits ∙ next ∙ sym (commits_counted items tx number);
         serial = subst (λ (l : Lists (ObjOp × ObjReply)). IsSerialBase Step empty_base l.committed new.base) (sym after)
             (serial_push Step (told items).committed ((told items).transcripts tx) empty_base old.base new.base h.serial
             (subst (λ t. Runs Step old.base t new.base) had.ops runs));
@@ -259,9 +259,6 @@ is_undoing old items tx one was undoing h whole = let own : KnowsRunning one tx 
 
 pub ops_of : (old : Checker) (items : List TraceItem) (tx : ℕ) (one : OpenTx) → at_tx old tx ≡ Some one → Knows old items → dones one.ops.items ≡ (told items).transcripts tx
 ops_of old items tx one was h = let own : KnowsRunning one tx items = subst (λ o. KnowsTx o tx items) was (h.open_txs tx) in own.ops
-
-pub commits_so_far : (old : Checker) (items : List TraceItem) → Knows old items → length old.txs.items ≡ commit_count items
-commits_so_far old items h = ap length h.txs ∙ committed_txs_counted items
 
 -- the operation that is false where it is done anew
 pub false_reply : (old : Checker) (items : List TraceItem) (tx line : ℕ) (one : OpenTx) (front rest : List DoneAt) (done : ObjOp × ObjReply) (middle : Base)
@@ -313,14 +310,14 @@ replay_fails (TraceFault line cause.Reply) start base next last ops i item withi
 replay_fails e start base next last ops i item within is runs h = absurd h
 
 pub commit_fails : (e : Refusal) (old new : Checker) (tx number line : ℕ) (one : OpenTx) (last : Base)
-    → at_tx old tx ≡ Some one → one.undoing ≡ false → number ≡ length old.txs.items + 1 → Replays (Err e) one.ops.items old.base last → Takes (Err e) old new line (Commit tx number)
+    → at_tx old tx ≡ Some one → one.undoing ≡ false → number ≡ old.commits + 1 → Replays (Err e) one.ops.items old.base last → Takes (Err e) old new line (Commit tx number)
 commit_fails OutOfMemory old new tx number line one last was whole counted h = tt
 commit_fails (TraceFault n cause.Reply) old new tx number line one last was whole counted h = λ items known at.
     let had : KnowsRunning one tx items = subst (λ o. KnowsTx o tx items) was (known.open_txs tx) in (
       tx,
       number,
       refl,
-      (had.running, had.whole whole, counted ∙ ap (λ k. k + 1) (commits_so_far old items known)),
+      (had.running, had.whole whole, counted ∙ ap (λ k. k + 1) known.commits),
       false_reply old items tx n one h.0 h.1 h.2 h.3 was whole h.4 h.5 h.6 known,
     )
 commit_fails e old new tx number line one last was whole counted h = absurd h

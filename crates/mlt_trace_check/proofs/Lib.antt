@@ -6,7 +6,6 @@ pub mod Deciding
 pub mod Lasting
 pub mod Faults
 pub mod Exactness
-pub mod AcceptedItems
 pub mod Stepping
 pub mod Standing
 pub mod Judging

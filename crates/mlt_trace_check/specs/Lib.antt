@@ -3,7 +3,6 @@ pub mod Readings
 pub mod Traces
 pub mod Replaying
 pub mod Checkers
-pub mod AcceptedItems
 pub mod Answering
 pub mod Plain
 pub mod OrderTexts

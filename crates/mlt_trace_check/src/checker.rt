@@ -1,10 +1,14 @@
 //! The items of a trace, gone over one after another.
 
-ghost use Rattle.std.specs.Prelude.{◌≡◌, ◌<◌, ◌≤◌, ℕ, [], Some, false, true};
-ghost use Rattle.mlt_trace_check.specs.Checkers.{Knows, Takes};
+ghost use Rattle.std.specs.Prelude.{◌≡◌, ◌≢◌, ◌<◌, ◌≤◌, ◌+◌, ℕ, [], Some, false, true};
+ghost use Rattle.mlt_text_words.specs.Lines.{Raw};
+ghost use Rattle.mlt_trace_check.specs.Answering.{TakesLine};
+ghost use Rattle.mlt_trace_check.specs.Checkers.{Knows, Takes, reached};
+ghost use Rattle.mlt_trace_check.specs.Readings.{reading};
 ghost use Rattle.mlt_trace_check.specs.Replaying.{Replays, ReplaysOne};
 
 use crate::open_tx::{OpenTx, put_tx, take_tx};
+use crate::reading::Reading;
 use mlt_object_base::Base;
 use mlt_object_kinds::Done;
 use mlt_trace::TraceItem;
@@ -12,14 +16,15 @@ use mlt_types::{Refusal, TraceCause, TxId};
 use std::alloc::Global;
 use std::collections::BTreeMap;
 
-// What was read of a trace: who is running, the greatest number that was begun, the committed order, and the
-// base that the commits lead to. After an `Err` it is of no more use.
+/// What is kept of a trace as its items are gone over: who is running and what they did, the greatest number that was
+/// begun, how many committed, and the base that the commits lead to. So its memory grows with what is open and with the
+/// objects that there are, and not with the items. After an `Err` it is of no more use.
 #[derive(Drop)]
-pub(crate) struct Checker {
-    pub(crate) running: BTreeMap<u64, OpenTx>,
-    pub(crate) begun: Option<u64>,
-    pub(crate) txs: Vec<TxId>,
-    pub(crate) base: Base,
+pub struct Checker {
+    running: BTreeMap<u64, OpenTx>,
+    begun: Option<u64>,
+    commits: u64,
+    base: Base,
 }
 
 fn misplaced(line: u64) -> Refusal
@@ -40,6 +45,14 @@ fn may_begin(begun: Option<u64>, tx: u64) -> bool
         None => true,
         Some(last) => last < tx,
     }
+}
+
+// Whether a commit has the number behind so many commits.
+fn is_next(commits: u64, number: u64) -> bool
+    ensures next { result ≡ true → number ≡ commits + 1 }
+    ensures other { result ≡ false → number ≢ commits + 1 }
+{
+    commits < number && number - commits == 1
 }
 
 // Does one operation anew; another reply than it was told is a fault.
@@ -67,13 +80,14 @@ fn replay(base: &mut Base, ops: &[(u64, Done)]) -> Result<(), Refusal>
 }
 
 impl Checker {
-    pub(crate) fn new(alloc: Global) -> Checker
+    /// A checker that went over no item.
+    pub fn new(alloc: Global) -> Checker
         ensures { Knows result [] }
     {
         Checker {
             running: BTreeMap::new(alloc),
             begun: None,
-            txs: Vec::new(alloc),
+            commits: 0,
             base: Base::new(alloc),
         }
     }
@@ -126,11 +140,11 @@ impl Checker {
         let Some(one) = take_tx(&mut self.running, tx) else {
             return Err(misplaced(line));
         };
-        if one.undoing || number != self.txs.len() as u64 + 1 {
+        if one.undoing || !is_next(self.commits, number) {
             return Err(misplaced(line));
         }
         replay(&mut self.base, one.ops.as_slice())?;
-        self.txs.push(TxId(tx))?;
+        self.commits = number;
         Ok(())
     }
 
@@ -146,8 +160,12 @@ impl Checker {
         Ok(())
     }
 
-    // Goes over the item in the line of this number.
-    pub(crate) fn take(&mut self, alloc: Global, item: &TraceItem, line: u64) -> Result<(), Refusal>
+    /// Goes over the item in the line of this number, from 1 on. A commit does the transaction's operations anew.
+    ///
+    /// # Errors
+    /// `TraceFault`, with the line of the fault, where the item has no place behind those before it, or an operation of
+    /// the transaction that commits was told another reply; `OutOfMemory` where a growth was refused.
+    pub fn take(&mut self, alloc: Global, item: &TraceItem, line: u64) -> Result<(), Refusal>
         ensures { Takes result self.old self.new line item.now }
     {
         match item {
@@ -157,5 +175,42 @@ impl Checker {
             TraceItem::Commit(TxId(tx), number) => self.commit(*tx, *number, line),
             TraceItem::Abort(TxId(tx)) => self.abort(*tx, line),
         }
+    }
+
+    /// Goes over the line of this number, from 1 on, which says this, and answers its item.
+    ///
+    /// # Errors
+    /// `TraceFault` where the line is faulty by itself, or its item is refused as `take` says; `OutOfMemory` where a growth
+    /// was refused.
+    pub fn take_line(
+        &mut self,
+        alloc: Global,
+        line: u64,
+        said: Reading,
+    ) -> Result<TraceItem, Refusal>
+        ensures { (raw : Raw) → reading raw ≡ said
+            → TakesLine result self.old self.new line raw }
+    {
+        match said {
+            Reading::Bad(cause) => Err(Refusal::TraceFault { line, cause }),
+            Reading::Says(item) => {
+                self.take(alloc, &item, line)?;
+                Ok(item)
+            }
+        }
+    }
+
+    /// The base that the commits so far lead to.
+    pub fn base(&self) -> &Base
+        ensures { result.now ≡ reached self.now }
+    {
+        &self.base
+    }
+
+    /// The base that the commits lead to, of a checker that is done.
+    pub fn into_base(self) -> Base
+        ensures { result ≡ reached self }
+    {
+        self.base
     }
 }

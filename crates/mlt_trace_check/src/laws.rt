@@ -1,11 +1,9 @@
-//! What a text or a list of items can be answered.
+//! What a text can be answered.
 
 ghost use Rattle.std.specs.Prelude.{◌≡◌, ◌⊎◌, ℕ, List};
 ghost use Rattle.mlt_object_kinds.specs.Bases.{Base};
 ghost use Rattle.mlt_types.specs.declared.refusal.TraceCause.{TraceCause};
-ghost use Rattle.mlt_trace_check.specs.AcceptedItems.{AreAccepted, IsFirstFaultIn};
 ghost use Rattle.mlt_trace_check.specs.Traces.{IsAcceptedTrace, IsFirstFault};
-ghost use Rattle.mlt_trace.specs.declared.item.TraceItem.{TraceItem};
 
 /// A text that is an accepted trace is one of one order and one base, and has no fault.
 pub fn accepted_traces_have_one_answer()
@@ -28,19 +26,4 @@ pub fn texts_are_accepted_or_faulty()
     ensures { (text : List ℕ)
         → ((txs : List ℕ) × (base : Base) × IsAcceptedTrace text txs base)
         ⊎ ((line : ℕ) × (fault : TraceCause) × IsFirstFault text line fault) }
-{}
-
-/// Each list of items is accepted or has a first fault, and not both. Accepted items have one base, and others
-/// one first fault.
-pub fn items_are_accepted_or_faulty()
-    ensures either { (items : List TraceItem)
-        → ((base : Base) × AreAccepted items base)
-        ⊎ ((line : ℕ) × (fault : TraceCause) × IsFirstFaultIn items line fault) }
-    ensures one_base { (items : List TraceItem) (base other : Base)
-        → AreAccepted items base → AreAccepted items other → base ≡ other }
-    ensures no_fault { (items : List TraceItem) (base : Base) (line : ℕ) (fault : TraceCause)
-        → AreAccepted items base → IsFirstFaultIn items line fault → ⊥ }
-    ensures one_fault { (items : List TraceItem) (line other : ℕ) (fault another : TraceCause)
-        → IsFirstFaultIn items line fault → IsFirstFaultIn items other another
-        → (line ≡ other) × (fault ≡ another) }
 {}

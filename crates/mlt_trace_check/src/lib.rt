@@ -1,11 +1,9 @@
 //! The check of a trace: whether its committed transactions, run alone in the order of their commits, give
-//! the replies that they were told. The trace comes from a reader, and what the check says of it goes to a writer; or
-//! it is a list of items.
+//! the replies that they were told. The trace comes from a reader, and what the check says of it goes to a writer.
 #![tactic(auto)]
 
 mod check_engine;
 mod checker;
-mod committed;
 mod laws;
 mod open_tx;
 mod plain;
@@ -14,9 +12,9 @@ mod trace_check;
 mod words;
 
 pub use check_engine::check_trace;
-pub use committed::committed_base;
+pub use checker::Checker;
 pub use laws::{
-    accepted_traces_have_one_answer, items_are_accepted_or_faulty, texts_are_accepted_or_faulty,
-    texts_have_one_first_fault,
+    accepted_traces_have_one_answer, texts_are_accepted_or_faulty, texts_have_one_first_fault,
 };
+pub use reading::{Reading, read_first};
 pub use trace_check::{Order, check};

@@ -1,19 +1,19 @@
 //! The check of a trace.
 
-ghost use Rattle.std.specs.Prelude.{◌≡◌, ◌⊎◌, ℕ, List, Err, IfErr, IfOk, IsErrAnd, MatchResult, Some};
+ghost use Rattle.std.specs.Prelude.{◌≡◌, ◌⊎◌, ◌∷◌, ◌++◌, [], ℕ, List, Err, IfErr, IfOk, IsErrAnd, IsOkUnless, MatchResult, OnOk, Some};
 ghost use Rattle.mlt_types.specs.declared.refusal.TraceCause.{TraceCause};
 ghost use Rattle.mlt_text.specs.Failures.{IsTraceFault, IsWant, ReadsWithinLimit, RefusesLong};
 ghost use Rattle.mlt_text.specs.Inputs.{GivesWhole};
-ghost use Rattle.mlt_text_words.specs.Lines.{Raw};
-ghost use Rattle.mlt_trace_check.specs.Readings.{reading};
-ghost use Rattle.mlt_trace_check.specs.Answering.{Answers, TakesLine};
+ghost use Rattle.mlt_trace.specs.Numbers.{committed_txs};
+ghost use Rattle.mlt_trace_check.specs.Answering.{Answers};
 ghost use Rattle.mlt_object_kinds.specs.Bases.{Base as ObjectBase};
 ghost use Rattle.mlt_trace_check.specs.Traces.{IsAcceptedTrace, IsFirstFault};
 
 use crate::checker::Checker;
-use crate::reading::{Reading, read_first};
+use crate::reading::read_first;
 use mlt_object_base::Base;
 use mlt_text::read_input;
+use mlt_trace::TraceItem;
 use mlt_types::{Refusal, TxId};
 use std::alloc::Global;
 use std::io::Read;
@@ -27,15 +27,16 @@ pub struct Order {
     pub base: Base,
 }
 
-// Goes over a line that says this.
-fn take_line(checker: &mut Checker, alloc: Global, line: u64, said: Reading) -> Result<(), Refusal>
-    ensures { (raw : Raw) → reading raw ≡ said
-        → TakesLine result checker.old checker.new line raw }
+// Adds the transaction of a commit behind those before it.
+fn note_commit(txs: &mut Vec<TxId>, item: &TraceItem) -> Result<(), Refusal>
+    ensures txs { OnOk result
+        (txs.new.items ≡ txs.old.items ++ committed_txs (item.now ∷ [])) }
+    ensures refusal { IsOkUnless result Refusal.OutOfMemory }
 {
-    match said {
-        Reading::Bad(cause) => Err(Refusal::TraceFault { line, cause }),
-        Reading::Says(item) => checker.take(alloc, &item, line),
+    if let TraceItem::Commit(tx, _) = item {
+        txs.push(*tx)?;
     }
+    Ok(())
 }
 
 // The committed order and the base of a text, or its first fault, line by line.
@@ -43,21 +44,20 @@ pub(crate) fn check_text(alloc: Global, text: &[u8]) -> Result<Order, Refusal>
     ensures { Answers result text.now }
 {
     let mut checker = Checker::new(alloc);
+    let mut txs = Vec::new(alloc);
     let mut rest = text;
     let mut line = 0u64;
     while !rest.is_empty() {
         let (said, after) = read_first(rest);
         line += 1;
-        take_line(&mut checker, alloc, line, said)?;
+        let item = checker.take_line(alloc, line, said)?;
+        note_commit(&mut txs, &item)?;
         rest = after;
     }
-    let Checker {
-        running: _,
-        begun: _,
+    Ok(Order {
         txs,
-        base,
-    } = checker;
-    Ok(Order { txs, base })
+        base: checker.into_base(),
+    })
 }
 
 /// Reads a trace to the end of the input, and answers the committed order and the base that its commits lead

@@ -5,7 +5,7 @@ use Rattle.mlt_trace_check.proofs.trace_check.check_text.Given as goal
 abbrev pub invariant-loop-rest : goal.invariant-loop-rest
 invariant-loop-rest l = record {
   counted : l.line + length l.rest ≤ length l.text;
-  over : WentOver l.checker l.line l.text l.rest;
+  over : WentOver l.checker l.line l.txs.items l.text l.rest;
 }
 
 abbrev pub decreases-loop-rest : goal.decreases-loop-rest

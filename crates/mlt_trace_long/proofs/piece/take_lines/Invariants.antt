@@ -1,0 +1,12 @@
+-- The lines so far were gone over, and their commits said.
+use Rattle.std.proofs.Common.{◌≡◌, ℕ, List, length}
+use Rattle.std.specs.String.{string_bytes}
+use Rattle.mlt_trace_check.specs.OrderTexts.{serial_lines}
+use Rattle.mlt_trace_long.specs.Goings.{GoesOver}
+use Rattle.mlt_trace_long.proofs.piece.take_lines.Given as goal
+
+abbrev pub invariant-loop-said : goal.invariant-loop-said
+invariant-loop-said l = (txs : List ℕ) × GoesOver l.initial.going l.going l.text l.rest txs × (string_bytes l.out ≡ serial_lines txs)
+
+abbrev pub decreases-loop-said : goal.decreases-loop-said
+decreases-loop-said l = length l.rest

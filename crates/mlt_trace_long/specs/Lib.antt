@@ -1,0 +1,5 @@
+pub mod Settled
+pub mod Goings
+pub mod Pieces
+pub mod LongTexts
+pub mod LongChecks
