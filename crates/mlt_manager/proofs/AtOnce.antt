@@ -94,7 +94,7 @@ module _ {P : Type 0} (bits_of : P → ℕ → ℕ) (m : ManagerFields P) (tx : 
   abbrev with_room : Commons
   with_room = record m.commons {
     objects = record { held = m.commons.objects.held; reserved = (t.subtx.tx, cell_of op) ∷ m.commons.objects.reserved };
-    history = record { items = m.commons.history.items; room = m.commons.history.room + 2 };
+    history = record m.commons.history { room = m.commons.history.room + 2 };
   }
 
   abbrev were_called : ManagerFields P

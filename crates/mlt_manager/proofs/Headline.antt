@@ -47,7 +47,7 @@ same_transcripts items = same_after no_lists items
 
 -- ## A live slot is a record
 
-contained : (slots : List Slot) (i key value : ℕ) → get_or slots i Free ≡ Live key value → Contains slots (Live key value)
+pub contained : (slots : List Slot) (i key value : ℕ) → get_or slots i Free ≡ Live key value → Contains slots (Live key value)
 contained [] i key value is = (let none : Free ≡ Live key value = is in cc)
 contained (slot ∷ slots) zero key value is = (zero, omega arith, is)
 contained (slot ∷ slots) (suc i) key value is =
@@ -69,7 +69,7 @@ module _ (pages : map.FinMap nat_cmp Page) (key value : ℕ) where
   slot_of_record : HasRecord (map.get pages) key value → HasLiveSlot pages key value
   slot_of_record (number, i, is) = on_page number i (map.get pages number) refl is
 
-  record_of_slot : HasLiveSlot pages key value → HasRecord (map.get pages) key value
+  pub record_of_slot : HasLiveSlot pages key value → HasRecord (map.get pages) key value
   record_of_slot (number, bucket, there, inside) =
       (number, inside.0, ap (λ (p : Option Page). get_or (bucket_of p).slots inside.0 Free) there ∙ same_slot bucket.slots inside.0 Free (Live key value) inside.1 ∙ inside.2)
 

@@ -2,16 +2,18 @@ pub mod AtOnce
 pub mod Called
 pub mod Chains
 pub mod CleanPages
-mod ClosedBases
+mod CopiedBuckets
 pub mod Counts
 pub mod Depths
 pub mod EachOpen
 pub mod Ended
 pub mod Ending
 pub mod Finding
+pub mod HandingOut
 pub mod Headline
 pub mod Keeping
 pub mod Kept
+mod LeftBases
 pub mod Others
 pub mod PassLocks
 pub mod Playing

@@ -1,9 +1,6 @@
 -- Every manager keeps its promises
-use Rattle.std.proofs.Common.{◌≡◌, ℕ, List, IfOk, IfErr, Result, refl, sym, subst}
+use Rattle.std.proofs.Common.{◌≡◌, ℕ, List, sym, subst}
 use Rattle.std.specs.FinMap as map
-use Rattle.std.proofs.lemmas.Result.{IfOk-weaker}
-use Rattle.mlt_types.specs.declared.refusal.Refusal.{Refusal}
-use Rattle.mlt_types.specs.declared.refusal.Refusal.TheVariants as refusal
 use Rattle.mlt_object_kinds.specs.Bases.{Base, Step, empty_base}
 use Rattle.mlt_order.specs.Interleavings.{UndoneTo}
 use Rattle.mlt_trace.specs.declared.item.TraceItem.{TraceItem}
@@ -16,8 +13,8 @@ use Rattle.mlt_hash_form.specs.Records.{IsRecordMap, live_records}
 use Rattle.mlt_page.specs.declared.page.Page.{Page}
 use Rattle.mlt_hash_ghosts.proofs.Transactions.{kept_by_match}
 use Rattle.mlt_hash_subtx_laws.specs.CleanPages.{clean_pages}
-use Rattle.mlt_trace_check.specs.AcceptedItems.{AreAccepted}
-use Rattle.mlt_trace_laws.specs.Writable.{AllFit, AreWritable}
+use Rattle.mlt_trace.specs.Ranges.{AllFit}
+use Rattle.mlt_trace_laws.specs.Writable.{AreWritable}
 use Rattle.mlt_order.specs.Histories.{IsCommitOrderSerializable}
 use Rattle.mlt_order.specs.Runs.{IsSerialBase}
 use Rattle.mlt_trace.specs.Items.{trace_text}
@@ -27,7 +24,7 @@ use Rattle.mlt_trace_laws.proofs.Histories.{serializable}
 use Rattle.mlt_tx_meaning.specs.Worlds.{ledger_of}
 use Rattle.mlt_manager_invariant.specs.States.{world_of}
 use Rattle.mlt_manager_trace.specs.Traced.{IsCommittedBase}
-use Rattle.mlt_manager_trace.proofs.CommittedBases.{only_base, with_base}
+use Rattle.mlt_manager_trace.proofs.CommittedBases.{with_base}
 use Rattle.mlt_manager.specs.Managers.{IsManager, ManagerFields, state_of}
 use Rattle.mlt_manager.specs.Headline.{KeepsMainPromise, Transcripts, transcripts_of}
 use Rattle.mlt_manager.specs.Promises.{IsCommittedBaseOf, KeepsPromises, PassesTheChecker, lists_by}
@@ -85,24 +82,11 @@ module _ {P : Type 0} (bits_of : P → ℕ → ℕ) (m : ManagerFields P) (h : I
     commits = h.sound.commits;
   }
 
-  committed_of : (base : Base) → IsCommittedBase (state_of bits_of m h.images h.base) base → IsCommittedBaseOf m base
+  pub committed_of : (base : Base) → IsCommittedBase (state_of bits_of m h.images h.base) base → IsCommittedBaseOf m base
   committed_of base c = record {
     serial = c.serial;
     undone = λ state leads. subst (λ (b : Base). UndoneTo Step base (lists_by m).transcripts b) (sym (same_base bits_of m h 0 state leads)) c.undone;
   }
-
-  -- the base of what is committed, as it is read from the items
-  pub base_told : (r : Result Base Refusal) (items : List TraceItem) → items ≡ m.commons.history.items → IfOk r (λ base. AreAccepted items base) → IfOk r (λ base. IsCommittedBaseOf m base)
-  base_told r items is told =
-      IfOk-weaker r (λ base. AreAccepted m.commons.history.items base) (λ base. IsCommittedBaseOf m base)
-      (λ base accepted. committed_of base (only_base (state_of bits_of m h.images h.base) base h.sound accepted))
-      (subst (λ (l : List TraceItem). IfOk r (λ base. AreAccepted l base)) is told)
-
-  pub base_refused : (r : Result Base Refusal) (items : List TraceItem) → items ≡ m.commons.history.items
-      → ((base : Base) → AreAccepted items base → IfErr r (λ reason. reason ≡ refusal.OutOfMemory)) → IfErr r (λ reason. reason ≡ refusal.OutOfMemory)
-  base_refused r items is none =
-      let led = with_base (state_of bits_of m h.images h.base) h.sound h.traced in
-      none led.0 (subst (λ (l : List TraceItem). AreAccepted l led.0) (sym is) led.1)
 
   -- the text of the history is an accepted trace
   pub checker_passed : (items : List TraceItem) → items ≡ m.commons.history.items → AllFit items
@@ -111,9 +95,9 @@ module _ {P : Type 0} (bits_of : P → ℕ → ℕ) (m : ManagerFields P) (h : I
       → PassesTheChecker m
   checker_passed items is fit writable accepted =
       let l = m.commons.history.items in
-      let led = with_base (state_of bits_of m h.images h.base) h.sound h.traced in
+      let led = with_base (state_of bits_of m h.images h.base) h.sound in
       record {
         base = led.0;
         accepted = accepted l led.0 (writable l h.traced.placed h.sound.begun (subst AllFit is fit)) h.traced.placed led.1.serial;
-        committed = committed_of led.0 led.2;
+        committed = committed_of led.0 led.1;
       }

@@ -48,7 +48,8 @@ looks called = record {
   turned = λ u t is op pending. absurd (subst (IsPendingWith op) is pending);
 }
 
-abbrev Agree : {P : Type 0} → CalledOps → ManagerFields P → Type 0
+-- what is pending was called
+abbrev pub Agree : {P : Type 0} → CalledOps → ManagerFields P → Type 0
 Agree called m = Each (IsCalled called) m.txs
 
 -- others are called as they were
@@ -84,7 +85,7 @@ asked_before (at.Pending o) basis before after old new answer.Aborted s op pendi
 
 module _ {P : Type 0} (bits_of : P → ℕ → ℕ) where
   -- what an event adds, and that what is pending is what was called
-  abbrev Tells : Event → Told → CalledOps → ManagerFields P → ManagerFields P → Type 0
+  abbrev pub Tells : Event → Told → CalledOps → ManagerFields P → ManagerFields P → Type 0
   Tells e t called m m' =
       (here : List TraceItem) × (m'.commons.history.items ≡ m.commons.history.items ++ here) × AddsItems e t called here × Agree (called_after e t called) m'
 
@@ -262,7 +263,7 @@ module _ {P : Type 0} (bits_of : P → ℕ → ℕ) where
     undoing_tells tx (told.Refused reason) a = let same = refused called m m' agree a.1 in ([], same.0, refl, same.1)
     undoing_tells tx other none = absurd none
 
-    event_tells : (e : Event) (t : Told) → Meets bits_of e t m m' → Tells e t called m m'
+    pub event_tells : (e : Event) (t : Told) → Meets bits_of e t m m' → Tells e t called m m'
     event_tells event.Begin t meets = begin_tells called m m' agree t meets
     event_tells (event.Call tx op) t meets = call_tells called m m' agree tx op t meets
     event_tells (event.Step tx) t meets = step_tells called m m' agree tx t meets

@@ -1,7 +1,9 @@
 pub mod Answers
 pub mod Bases
 pub mod Chains
+pub mod CleanBuckets
 pub mod Events
+pub mod HandingOut
 pub mod Headline
 pub mod Managers
 pub mod Openings

@@ -29,6 +29,7 @@ pub record IsNew {P : Type 0} (m : ManagerFields P) (limits : Limits) (pseudo : 
   pub page_locks : m.commons.pages.locks ≡ no_locks limits.max_open
   pub object_locks : m.commons.objects ≡ objects.no_locks
   pub items : m.commons.history.items ≡ []
+  pub handed : m.commons.history.handed ≡ []
   pub room : m.commons.history.room ≡ 0
   pub txs : m.txs ≡ map.empty
   pub opens : m.opens ≡ set.empty

@@ -1,12 +1,13 @@
 //! The manager of transactions.
 
-ghost use Rattle.std.specs.Prelude.{◌≡◌, ◌≤◌, IfNone, IfOk, IfSome, IsOkUnless, OnOk};
+ghost use Rattle.std.specs.Prelude.{◌≡◌, ◌≢◌, ◌≤◌, ◌++◌, [], IfNone, IfOk, IfSome, IsOkUnless, OnErr, OnOk};
 ghost use Rattle.mlt_trace_check.specs.Traces.{ArePlaced};
 ghost use Rattle.mlt_trace.specs.Numbers.{AreBegunInOrder};
 ghost use Rattle.mlt_tx_open.specs.Tables.{KeepsImage, KeepsNoImage};
 ghost use Rattle.mlt_manager.specs.Answers.{AnswersAbort, AnswersBegin, AnswersCall, AnswersCancel, AnswersCommit, AnswersStep, IsByAnother, counted};
 ghost use Rattle.mlt_manager.specs.Bases.{HasDepth, KeepsWhatCounts, LeavesBase, UndoingLeavesBase, WholeLeavesBase};
 ghost use Rattle.mlt_manager.specs.Events.{AreWholeEvents, Meets, NoneWaits, Plays, told_of};
+ghost use Rattle.mlt_manager.specs.HandingOut.{HandsOut};
 ghost use Rattle.mlt_manager.specs.Managers.{IsManager};
 ghost use Rattle.mlt_manager.specs.Openings.{IsNew};
 ghost use Rattle.mlt_manager.specs.Undoings.{AnswersWholeUndo};
@@ -16,14 +17,12 @@ ghost use Rattle.mlt_manager.specs.Promises.{IsCommittedBaseOf, KeepsPromises, P
 use crate::parts::Parts;
 use mlt_event::{Answer, Event, Told};
 use mlt_hash_form::{form_is_extendible_hashing, records_are_a_map};
-use mlt_manager_base::base_of_pages;
 use mlt_object_base::Base;
 use mlt_object_kinds::ObjOp;
 use mlt_page::Page;
 use mlt_page_store::Store;
 use mlt_trace::KeptItem;
-use mlt_trace_check::committed_base;
-use mlt_trace_laws::{history_passes_the_checker, items_fit, placed_items_are_writable};
+use mlt_trace_laws::{history_passes_the_checker, placed_items_are_writable};
 use mlt_types::{Limits, PageNo, Pseudo, Refusal, TxId};
 use std::alloc::Global;
 use std::marker::Model;
@@ -70,6 +69,7 @@ impl<P: Pseudo> Manager<P> {
     /// `OutOfMemory`, where a growth was refused. Nothing is begun then.
     pub fn begin(&mut self) -> Result<TxId, Refusal>
         ensures answers { AnswersBegin (counted self.old) self.new result }
+        ensures handed { self.new.commons.history.handed ≡ self.old.commons.history.handed }
     {
         self.parts.count();
         self.parts.begin()
@@ -83,6 +83,7 @@ impl<P: Pseudo> Manager<P> {
     /// growth was refused. No operation is pending then that was not before.
     pub fn call(&mut self, tx: TxId, op: ObjOp) -> Result<(), Refusal>
         ensures answers { AnswersCall (counted self.old) self.new tx op result }
+        ensures handed { self.new.commons.history.handed ≡ self.old.commons.history.handed }
     {
         self.parts.count();
         self.parts.call(tx, op)
@@ -97,6 +98,7 @@ impl<P: Pseudo> Manager<P> {
         ensures answers { AnswersStep P.bits_of (counted self.old) self.new tx result }
         ensures base { IfOk result (λ told. LeavesBase told (counted self.old) self.new tx) }
         ensures others { IfOk result (λ told. IsByAnother told self.new.txs tx) }
+        ensures handed { self.new.commons.history.handed ≡ self.old.commons.history.handed }
     {
         self.parts.count();
         self.parts.step(tx)
@@ -110,6 +112,7 @@ impl<P: Pseudo> Manager<P> {
     pub fn cancel(&mut self, tx: TxId) -> Result<(), Refusal>
         ensures answers { AnswersCancel (counted self.old) self.new tx result }
         ensures base { OnOk result (KeepsWhatCounts (counted self.old) self.new) }
+        ensures handed { self.new.commons.history.handed ≡ self.old.commons.history.handed }
     {
         self.parts.count();
         self.parts.cancel(tx)
@@ -122,6 +125,7 @@ impl<P: Pseudo> Manager<P> {
     /// operation is pending.
     pub fn commit(&mut self, tx: TxId) -> Result<u64, Refusal>
         ensures answers { AnswersCommit (counted self.old) self.new tx result }
+        ensures handed { self.new.commons.history.handed ≡ self.old.commons.history.handed }
     {
         self.parts.count();
         self.parts.commit(tx)
@@ -135,6 +139,7 @@ impl<P: Pseudo> Manager<P> {
     /// operation is pending.
     pub fn abort(&mut self, tx: TxId) -> Result<bool, Refusal>
         ensures answers { AnswersAbort (counted self.old) self.new tx result }
+        ensures handed { self.new.commons.history.handed ≡ self.old.commons.history.handed }
     {
         self.parts.count();
         self.parts.abort(tx)
@@ -149,6 +154,7 @@ impl<P: Pseudo> Manager<P> {
         ensures base { IfOk result
             (λ told. WholeLeavesBase told (counted self.old) self.new tx op) }
         ensures others { IfOk result (λ told. IsByAnother told self.new.txs tx) }
+        ensures handed { self.new.commons.history.handed ≡ self.old.commons.history.handed }
     {
         self.parts.count();
         self.parts.whole(tx, op)
@@ -162,6 +168,7 @@ impl<P: Pseudo> Manager<P> {
         ensures answers { AnswersWholeUndo P.bits_of (counted self.old) self.new tx result }
         ensures base { IfOk result (λ told. UndoingLeavesBase told (counted self.old) self.new tx) }
         ensures others { IfOk result (λ told. IsByAnother told self.new.txs tx) }
+        ensures handed { self.new.commons.history.handed ≡ self.old.commons.history.handed }
     {
         self.parts.count();
         self.parts.whole_undo(tx)
@@ -171,6 +178,7 @@ impl<P: Pseudo> Manager<P> {
     #[inline(always)]
     pub fn act(&mut self, event: Event) -> Told
         ensures meets { Meets P.bits_of event result (counted self.old) self.new }
+        ensures handed { self.new.commons.history.handed ≡ self.old.commons.history.handed }
     {
         match event {
             Event::Begin => match self.begin() {
@@ -214,6 +222,8 @@ impl<P: Pseudo> Manager<P> {
         P: Drop,
         ensures plays { IfOk result (λ played.
             Plays P.bits_of limits pseudo events.now played.1.items played.0) }
+        // all of the history is there
+        ensures history { IfOk result (λ played. played.0.commons.history.handed ≡ []) }
         // among whole events nobody waits
         ensures whole { AreWholeEvents events.now
             → IfOk result (λ played. NoneWaits played.1.items) }
@@ -231,11 +241,38 @@ impl<P: Pseudo> Manager<P> {
         Ok((manager, tolds))
     }
 
-    /// What transactions did, in order.
-    pub fn history(&self) -> &[KeptItem]
-        ensures { result.now ≡ self.now.commons.history.items }
+    /// What transactions did, in order, where none of it was handed out.
+    pub fn history(&self) -> Option<&[KeptItem]>
+        ensures some { IfSome result (λ items. items.now ≡ self.now.commons.history.items) }
+        ensures none { IfNone result (self.now.commons.history.handed ≢ []) }
     {
         self.parts.commons.history.items()
+    }
+
+    /// What transactions did and was not handed out yet, in order.
+    pub fn kept_history(&self) -> &[KeptItem]
+        ensures { self.now.commons.history.items
+            ≡ self.now.commons.history.handed ++ result.now }
+    {
+        self.parts.commons.history.kept()
+    }
+
+    /// Hands out what transactions did since this was called last, in order: it is what the list has then, and what that had is
+    /// gone. The manager keeps no more of it, and goes on in the memory of the list. It is no event, copies no item, and takes memory
+    /// only where that of the list is less than the room that open transactions may need.
+    ///
+    /// # Errors
+    /// `OutOfMemory`, where a growth was refused; nothing is handed out then.
+    pub fn take_history(&mut self, list: &mut Vec<KeptItem>) -> Result<(), Refusal>
+        ensures rest { HandsOut self.old self.new }
+        ensures handed { OnOk result
+            (self.new.commons.history.handed ≡ self.old.commons.history.items) }
+        ensures list { OnOk result (self.old.commons.history.items
+            ≡ self.old.commons.history.handed ++ list.new.items) }
+        ensures err { OnErr result (self.new ≡ self.old) }
+        ensures refusal { IsOkUnless result Refusal.OutOfMemory }
+    {
+        self.parts.hand_out(list)
     }
 
     /// The pages, with what running operations have written.
@@ -265,8 +302,8 @@ impl<P: Pseudo> Manager<P> {
     }
 
     /// The base to which the committed transactions lead, run alone in commit order: what the pages mean, once running
-    /// operations are put back and open transactions are taken back. Where nobody is open, it is read from the pages; else
-    /// the committed operations are done anew.
+    /// operations are put back and open transactions are taken back. It is read from the pages and the undo lists, and no
+    /// operation is done anew.
     ///
     /// # Errors
     /// `OutOfMemory`, where a growth was refused.
@@ -274,13 +311,7 @@ impl<P: Pseudo> Manager<P> {
         ensures base { IfOk result (λ base. IsCommittedBaseOf self.now base) }
         ensures refusal { IsOkUnless result Refusal.OutOfMemory }
     {
-        let commons = &self.parts.commons;
-        let items = commons.history.items();
-        if self.parts.opens.is_empty() {
-            base_of_pages(commons.alloc, &commons.pages.store, &self.parts.root, items)
-        } else {
-            committed_base(commons.alloc, items)
-        }
+        self.parts.base()
     }
 
     /// What is promised of every manager, between any two events.
@@ -301,12 +332,12 @@ impl<P: Pseudo> Manager<P> {
         let _parts = &self.parts;
     }
 
-    /// The text of the history passes the checker of traces, with the committed order and the base of what is committed.
-    /// It goes over the history and changes nothing.
+    /// The text of the history passes the checker of traces, with the committed order and the base of what is committed: of all of
+    /// it, handed out or not. It does nothing.
     pub fn passes_the_checker(&self)
         ensures { PassesTheChecker self.now }
     {
-        items_fit(self.parts.commons.history.items());
+        self.parts.commons.history.items_fit();
         placed_items_are_writable();
         history_passes_the_checker();
     }
@@ -327,6 +358,20 @@ impl<P: Pseudo> Manager<P> {
         P: Drop,
     {
         drop(self);
+    }
+
+    /// How many transactions have begun, 0 to 2^32.
+    pub fn begun(&self) -> u64
+        ensures { result ≡ self.now.begun }
+    {
+        self.parts.begun
+    }
+
+    /// How many transactions have committed, 0 to 2^32.
+    pub fn commits(&self) -> u64
+        ensures { result ≡ self.now.commits }
+    {
+        self.parts.commits
     }
 
     /// How many events there were; it stays at 2^64 - 1.

@@ -1,9 +1,10 @@
 //! The parts of a manager, and what each event does to them.
 
-ghost use Rattle.std.specs.Prelude.{◌≡◌, ◌≤◌, ◌+◌, IfErr, IsOkUnless, IfOk, OnOk, option_copied};
+ghost use Rattle.std.specs.Prelude.{◌≡◌, ◌≤◌, ◌+◌, ◌++◌, IfErr, IsOkUnless, IfOk, OnErr, OnOk, option_copied};
 ghost use Rattle.std.specs.FinMap as map;
 ghost use Rattle.mlt_manager.specs.Answers.{AnswersAbort, AnswersBegin, AnswersCall, AnswersCancel, AnswersCommit, AnswersStep, HasEnded, HasStepped, IsBusy, IsCauseAtCall, IsCauseAtCancel, IsCauseAtStep, IsIdleWith, IsNotIdle, IsOpenAt, IsUndoing, MayCall, counted};
 ghost use Rattle.mlt_manager.specs.Bases.{HasCleanPage, HasDepth};
+ghost use Rattle.mlt_manager.specs.HandingOut.{HandsOut};
 ghost use Rattle.mlt_manager.specs.Wholes.{AnswersWhole, RunsToEnd, StandsIn, StepsOnUpTo};
 ghost use Rattle.mlt_manager.specs.Undoings.{AnswersWholeUndo, IsCauseAtUndo, StepsBackUpTo};
 ghost use Rattle.mlt_manager.specs.Openings.{IsNew};
@@ -20,7 +21,7 @@ use mlt_object_locks::ObjectLocks;
 use mlt_page::Page;
 use mlt_page_locks::PageLocks;
 use mlt_page_store::Store;
-use mlt_trace::{History, TraceItem};
+use mlt_trace::{History, KeptItem, TraceItem};
 use mlt_tx::{At, Commons};
 use mlt_tx_meaning::operation_is_in_range;
 use mlt_tx_open::OpenTransactions;
@@ -85,6 +86,22 @@ impl<P: Pseudo> Parts<P> {
         ensures { fields_of self.new ≡ counted (fields_of self.old) }
     {
         self.events = self.events.saturating_add(1);
+    }
+
+    /// Hands out the items of the history that are kept.
+    ///
+    /// # Errors
+    /// `OutOfMemory`, where a growth was refused; nothing is handed out then.
+    pub(crate) fn hand_out(&mut self, list: &mut Vec<KeptItem>) -> Result<(), Refusal>
+        ensures rest { HandsOut (fields_of self.old) (fields_of self.new) }
+        ensures handed { OnOk result
+            (self.new.commons.history.handed ≡ self.old.commons.history.items) }
+        ensures list { OnOk result (self.old.commons.history.items
+            ≡ self.old.commons.history.handed ++ list.new.items) }
+        ensures err { OnErr result (fields_of self.new ≡ fields_of self.old) }
+        ensures refusal { IsOkUnless result Refusal.OutOfMemory }
+    {
+        self.commons.history.hand_out(list)
     }
 
     /// What the transaction of a number is at.
@@ -166,7 +183,7 @@ impl<P: Pseudo> Parts<P> {
     }
 
     /// A page as it was before the running subtransactions wrote it.
-    fn clean_page(&self, number: PageNo) -> Option<&Page>
+    pub(crate) fn clean_page(&self, number: PageNo) -> Option<&Page>
         requires sound { IsManager P.bits_of (fields_of self.now) }
         ensures clean { HasCleanPage (fields_of self.now) number (option_copied result) }
     {
@@ -194,6 +211,7 @@ impl<P: Pseudo> Parts<P> {
     pub(crate) fn begin(&mut self) -> Result<TxId, Refusal>
         requires sound { IsManager P.bits_of (fields_of self.old) }
         ensures answers { AnswersBegin (fields_of self.old) (fields_of self.new) result }
+        ensures handed { self.new.commons.history.handed ≡ self.old.commons.history.handed }
     {
         if self.txs.len() >= self.limits.max_open as usize {
             return Err(Refusal::TooManyOpen);
@@ -230,6 +248,7 @@ impl<P: Pseudo> Parts<P> {
 
     pub(crate) fn call(&mut self, tx: TxId, op: ObjOp) -> Result<(), Refusal>
         ensures answers { AnswersCall (fields_of self.old) (fields_of self.new) tx op result }
+        ensures handed { self.new.commons.history.handed ≡ self.old.commons.history.handed }
     {
         self.may_call(tx)?;
         operation_is_in_range(&op);
@@ -240,6 +259,7 @@ impl<P: Pseudo> Parts<P> {
         requires sound { IsManager P.bits_of (fields_of self.old) }
         ensures answers { AnswersStep P.bits_of (fields_of self.old) (fields_of self.new)
             tx result }
+        ensures handed { self.new.commons.history.handed ≡ self.old.commons.history.handed }
     {
         self.busy(tx)?;
         Ok(self.step_open(tx))
@@ -250,6 +270,7 @@ impl<P: Pseudo> Parts<P> {
         requires sound { IsManager P.bits_of (fields_of self.old) }
         requires busy { IsOpenAt self.old.txs tx IsBusy }
         ensures steps { HasStepped P.bits_of (fields_of self.old) (fields_of self.new) tx result }
+        ensures handed { self.new.commons.history.handed ≡ self.old.commons.history.handed }
     {
         let setting = Setting {
             root: &self.root,
@@ -267,6 +288,7 @@ impl<P: Pseudo> Parts<P> {
         requires sound { IsManager P.bits_of (fields_of self.old) }
         ensures answers { AnswersWhole P.bits_of (fields_of self.old) (fields_of self.new)
             tx op result }
+        ensures handed { self.new.commons.history.handed ≡ self.old.commons.history.handed }
     {
         if self.txs.len() <= 1 {
             return self.whole_alone(tx, op);
@@ -282,6 +304,7 @@ impl<P: Pseudo> Parts<P> {
         requires alone { map.len self.old.txs ≤ 1 }
         ensures answers { AnswersWhole P.bits_of (fields_of self.old) (fields_of self.new)
             tx op result }
+        ensures handed { self.new.commons.history.handed ≡ self.old.commons.history.handed }
     {
         self.may_call(tx)?;
         operation_is_in_range(&op);
@@ -300,6 +323,7 @@ impl<P: Pseudo> Parts<P> {
         requires sound { IsManager P.bits_of (fields_of self.old) }
         requires pending { IsOpenAt self.old.txs tx IsPending }
         ensures runs { RunsToEnd P.bits_of (fields_of self.old) (fields_of self.new) tx result }
+        ensures handed { self.new.commons.history.handed ≡ self.old.commons.history.handed }
     {
         let answer = self.run_on(tx);
         match answer {
@@ -316,6 +340,7 @@ impl<P: Pseudo> Parts<P> {
         requires pending { IsOpenAt self.old.txs tx IsPending }
         ensures steps { StepsOnUpTo P.bits_of (fields_of self.old) (fields_of self.new) tx result }
         ensures pending { StandsIn (fields_of self.new) tx result }
+        ensures handed { self.new.commons.history.handed ≡ self.old.commons.history.handed }
     {
         loop {
             match self.step_open(tx) {
@@ -329,6 +354,7 @@ impl<P: Pseudo> Parts<P> {
         requires sound { IsManager P.bits_of (fields_of self.old) }
         ensures answers { AnswersWholeUndo P.bits_of (fields_of self.old) (fields_of self.new)
             tx result }
+        ensures handed { self.new.commons.history.handed ≡ self.old.commons.history.handed }
     {
         self.undoing(tx)?;
         Ok(self.undo_all(tx))
@@ -340,6 +366,7 @@ impl<P: Pseudo> Parts<P> {
         requires undoing { IsOpenAt self.old.txs tx IsUndoing }
         ensures steps { StepsBackUpTo P.bits_of (fields_of self.old) (fields_of self.new)
             tx result }
+        ensures handed { self.new.commons.history.handed ≡ self.old.commons.history.handed }
     {
         loop {
             match self.step_open(tx) {
@@ -352,6 +379,7 @@ impl<P: Pseudo> Parts<P> {
     pub(crate) fn cancel(&mut self, tx: TxId) -> Result<(), Refusal>
         requires sound { IsManager P.bits_of (fields_of self.old) }
         ensures answers { AnswersCancel (fields_of self.old) (fields_of self.new) tx result }
+        ensures handed { self.new.commons.history.handed ≡ self.old.commons.history.handed }
     {
         self.pending(tx)?;
         self.txs.cancel(tx, &mut self.commons);
@@ -361,6 +389,7 @@ impl<P: Pseudo> Parts<P> {
     pub(crate) fn commit(&mut self, tx: TxId) -> Result<u64, Refusal>
         requires sound { IsManager P.bits_of (fields_of self.old) }
         ensures answers { AnswersCommit (fields_of self.old) (fields_of self.new) tx result }
+        ensures handed { self.new.commons.history.handed ≡ self.old.commons.history.handed }
     {
         let count = self.idle(tx)?;
         let number = self.commits + 1;
@@ -372,6 +401,7 @@ impl<P: Pseudo> Parts<P> {
     pub(crate) fn abort(&mut self, tx: TxId) -> Result<bool, Refusal>
         requires sound { IsManager P.bits_of (fields_of self.old) }
         ensures answers { AnswersAbort (fields_of self.old) (fields_of self.new) tx result }
+        ensures handed { self.new.commons.history.handed ≡ self.old.commons.history.handed }
     {
         let count = self.idle(tx)?;
         if count == 0 {
@@ -392,6 +422,7 @@ impl<P: Pseudo> Parts<P> {
           txs = self.new.txs;
           opens = self.new.opens;
         } }
+        ensures handed { self.new.commons.history.handed ≡ self.old.commons.history.handed }
     {
         self.commons.history.push(item);
         self.commons.history.release(count);

@@ -1,2 +1,2 @@
-mod Copies
-mod Making
+pub mod Nothing
+mod OneByOne

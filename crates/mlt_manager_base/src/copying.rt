@@ -46,21 +46,19 @@ fn copy_counter(base: &mut Base, counter: u32, value: u64) -> Result<(), Refusal
     Ok(())
 }
 
-/// Gives a cell that holds nothing yet what its record means. A cell that holds this already stays as it is.
+/// Gives a cell that holds nothing yet what a record of this value means. A cell that holds this already stays as it is.
 ///
 /// # Errors
 /// `OutOfMemory`, where a growth was refused.
-pub(crate) fn copy_cell(base: &mut Base, cell: &Cell, live: Option<Value>) -> Result<(), Refusal>
-    requires range { IsRecord cell.now live }
-    requires before { (state_at base.old cell.now ≡ state_of_record cell.now live)
+pub(crate) fn copy_cell(base: &mut Base, cell: &Cell, value: Value) -> Result<(), Refusal>
+    requires range { IsRecord cell.now (Some value) }
+    requires before { (state_at base.old cell.now ≡ state_of_record cell.now (Some value))
         ⊎ (state_at base.old cell.now ≡ state_of_record cell.now None) }
-    ensures holds { OnOk result (state_at base.new cell.now ≡ state_of_record cell.now live) }
+    ensures holds { OnOk result (state_at base.new cell.now
+        ≡ state_of_record cell.now (Some value)) }
     ensures others { OnOk result (SameBut base.old base.new cell.now) }
     ensures refusal { IsOkUnless result Refusal.OutOfMemory }
 {
-    let Some(value) = live else {
-        return Ok(());
-    };
     match *cell {
         Cell::Account(account) => copy_account(base, account, value),
         Cell::Element(set, element) => copy_element(base, set, element),

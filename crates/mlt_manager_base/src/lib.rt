@@ -1,8 +1,8 @@
-//! The base that pages mean, copied from their records.
+//! A base that is copied from the live slots of buckets.
 #![tactic(auto)]
 
+mod cells;
 mod copying;
-mod pages;
-mod records;
+mod slots;
 
-pub use pages::base_of_pages;
+pub use slots::copy_slots;

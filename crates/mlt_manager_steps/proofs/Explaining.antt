@@ -40,7 +40,8 @@ use Rattle.mlt_manager_reasons.specs.Pendings.{Pendings, none_pending, op_of, pe
 use Rattle.mlt_manager_reasons.specs.Reasons.{AreReasons, HasBlockReason, HasReason, IsInTheWay, first_clash}
 use Rattle.mlt_manager_reasons.specs.Tables.{KnowsSoFar}
 use Rattle.mlt_manager_steps.specs.Explained.{AreExplained, IsExplainedRun}
-use Rattle.mlt_manager_steps.proofs.Growing.{Agree, behind_keeps, event_grows, ops_of}
+use Rattle.mlt_manager.proofs.Tolds.{Agree}
+use Rattle.mlt_manager_steps.proofs.Growing.{behind_keeps, event_grows, ops_of}
 
 -- ---- a block has its reason
 

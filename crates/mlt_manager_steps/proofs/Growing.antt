@@ -1,252 +1,25 @@
 -- From event to event the history grows at its end, and what is pending is what was called.
-use Rattle.std.proofs.lemmas.List.{append-nil}
-use Rattle.std.proofs.Common.{◌≡◌, ◌==◌, if◌then◌else◌, ℕ, Bool, List, [], ◌∷◌, ◌++◌, length, replicate, true, false, Option, None, Some, Ok, Err, refl, sym, ap, subst, ◌∙◌}
-use Rattle.std.specs.FinMap as map
+use Rattle.std.proofs.Common.{◌≡◌, ◌==◌, if◌then◌else◌, ℕ, Bool, List, ◌++◌, true, false, Option, None, Some, refl, sym, ap, subst, ◌∙◌}
 use Rattle.std.specs.Option.{option_map}
-use Rattle.mlt_types.specs.declared.refusal.Refusal.TheVariants as refusal
 use Rattle.mlt_object_kinds.specs.declared.operation.ObjOp.{ObjOp}
 use Rattle.mlt_order.specs.Tables.{table_with}
 use Rattle.mlt_order.proofs.Tables.{at_each, with_entry-other, with_entry-same}
 use Rattle.mlt_trace.specs.declared.item.TraceItem.{TraceItem}
-use Rattle.mlt_trace.specs.declared.item.TraceItem.TheVariants as trace
-use Rattle.mlt_event.specs.declared.answer.Answer.{Answer}
 use Rattle.mlt_event.specs.declared.answer.Answer.TheVariants as answer
 use Rattle.mlt_event.specs.declared.event.Event.{Event}
 use Rattle.mlt_event.specs.declared.event.Event.TheVariants as event
 use Rattle.mlt_event.specs.declared.told.Told.{Told}
 use Rattle.mlt_event.specs.declared.told.Told.TheVariants as told
-use Rattle.mlt_hash.specs.Walks.{Basis, basis_by}
-use Rattle.mlt_hash_access.specs.Moments.{moment}
-use Rattle.mlt_tx_operation.specs.Operating.{OperationFields}
-use Rattle.mlt_object_base.specs.declared.request.Request.TheVariants.{Do}
-use Rattle.mlt_tx.specs.declared.commons.Commons.{Commons}
-use Rattle.mlt_tx.specs.declared.transaction.At.{At}
-use Rattle.mlt_tx.specs.declared.transaction.At.TheVariants as at
-use Rattle.mlt_tx.specs.declared.transaction.Transaction.{Transaction}
-use Rattle.mlt_tx.specs.Transactions.{TellsAt}
-use Rattle.mlt_tx_open.specs.Tables.{Table}
-use Rattle.mlt_manager.specs.Answers.{HasStepped, txs_after}
-use Rattle.mlt_manager.specs.Bases.{IsPendingWith, LeavesBase, WholeLeavesBase}
-use Rattle.mlt_manager.specs.Chains.{StepsBy, StepsUpTo}
 use Rattle.mlt_manager.specs.Events.{Meets}
 use Rattle.mlt_manager.specs.Managers.{ManagerFields}
 use Rattle.mlt_manager.specs.Tolds.{CalledOps, called_after}
-use Rattle.mlt_manager.specs.Undoings.{GoesOnBack, StopsBack}
-use Rattle.mlt_manager.proofs.EachOpen.{Each, EachOther, LooksAt, abort_each, begin_each, commit_each, each_with, each_without, others_of, others_with, same_each, table_is, whole_each}
-use Rattle.mlt_manager.proofs.Tolds.{IsCalled}
-use Rattle.mlt_manager.proofs.WholeBases.{same_request}
+use Rattle.mlt_manager.proofs.Tolds.{Agree, event_tells}
 use Rattle.mlt_manager_reasons.specs.declared.pending.Pending.{Pending}
 use Rattle.mlt_manager_reasons.specs.Pendings.{Pendings, behind, op_of, pending_after, put_behind}
 
-looks : (called : CalledOps) → LooksAt (IsCalled called)
-looks called = record {
-  by_at = λ u t t' same is op pending. is op (subst (IsPendingWith op) same pending);
-  idle = λ u t is op pending. absurd (subst (IsPendingWith op) is pending);
-  turned = λ u t is op pending. absurd (subst (IsPendingWith op) is pending);
-}
-
--- what is pending was called
-abbrev pub Agree : {P : Type 0} → CalledOps → ManagerFields P → Type 0
-Agree called m = Each (IsCalled called) m.txs
-
-others_called : (called : CalledOps) (tx : ℕ) (entry : Option ObjOp) (txs : Table) → EachOther (IsCalled called) tx txs → EachOther (IsCalled (table_with called tx entry)) tx txs
-others_called called tx entry txs each u one ne there op pending = with_entry-other called tx u entry ne ∙ each u one ne there op pending
-
--- an answer that leaves the operation pending
-abbrev LeavesCalled : Answer → Type 0
-LeavesCalled (answer.Done reply) = ⊥
-LeavesCalled (answer.Refused reason) = ⊥
-LeavesCalled other = Unit {0}
-
-not_pending : (op : ObjOp) (a b : At) → a ≡ b → (IsPendingWith op b → ⊥) → IsPendingWith op a → ⊥
-not_pending op a b same not pending = not (subst (IsPendingWith op) same pending)
-
--- what is pending after a step was pending before it
-asked_before : (a : At) (basis : Basis) (before after : Transaction) (old new : Commons) (told : Answer) → TellsAt a basis before after old new told → (op : ObjOp) → IsPendingWith op after.at → IsPendingWith op a × LeavesCalled told
-asked_before at.Idle basis before after old new told none op pending = absurd none
-asked_before (at.Undoing inverting) basis before after old new told s op pending = absurd (not_pending op after.at (at.Undoing s.next) s.now_at (λ none. none) pending)
-asked_before (at.Pending o) basis before after old new answer.Going s op pending =
-    let is : s.next.request ≡ Do op = subst (IsPendingWith op) s.now_at pending in
-    (sym (same_request basis (moment before.subtx old.pages) (moment after.subtx s.between.pages) o s.next s.tells.tells) ∙ is, tt)
-asked_before (at.Pending o) basis before after old new (answer.Waiting page by) s op pending =
-    let is : s.next.request ≡ Do op = subst (IsPendingWith op) s.now_at pending in
-    (sym (ap (λ (p : OperationFields). p.request) s.tells.tells.stays) ∙ is, tt)
-asked_before (at.Pending o) basis before after old new (answer.Blocked by) s op pending =
-    let is : s.next.request ≡ Do op = subst (IsPendingWith op) s.now_at pending in
-    (sym (ap (λ (p : OperationFields). p.request) s.tells.1) ∙ is, tt)
-asked_before (at.Pending o) basis before after old new (answer.Done reply) s op pending = absurd (not_pending op after.at at.Idle s.now_at (λ none. none) pending)
-asked_before (at.Pending o) basis before after old new (answer.Refused reason) s op pending = absurd (not_pending op after.at at.Idle s.now_at (λ none. none) pending)
-asked_before (at.Pending o) basis before after old new answer.Undone s op pending = absurd s.tells
-asked_before (at.Pending o) basis before after old new answer.Aborted s op pending = absurd s.tells
-
-module _ {P : Type 0} (bits_of : P → ℕ → ℕ) where
-  -- the history has grown by some items
-  abbrev pub Grows : ManagerFields P → ManagerFields P → Type 0
-  Grows m m' = (here : List TraceItem) × (m'.commons.history.items ≡ m.commons.history.items ++ here)
-
-  abbrev Leaves : Event → Told → CalledOps → ManagerFields P → ManagerFields P → Type 0
-  Leaves e t called m m' = Grows m m' × Agree (called_after e t called) m'
-
-  same_items : (m m' : ManagerFields P) → m'.commons.history.items ≡ m.commons.history.items → Grows m m'
-  same_items m m' same = ([], same ∙ sym (append-nil m.commons.history.items))
-
-  module _ (called : CalledOps) (m m' : ManagerFields P) (agree : Agree called m) where
-    abbrev G : ℕ → Transaction → Type 0
-    G = IsCalled called
-
-    -- nothing has changed
-    refused : m' ≡ m → Grows m m' × Agree called m'
-    refused same = (same_items m m' (ap (λ (n : ManagerFields P). n.commons.history.items) same), same_each G (looks called) m m' same agree)
-
-    begin_leaves : (t : Told) → Meets bits_of event.Begin t m m' → Leaves event.Begin t called m m'
-    begin_leaves (told.Begun tx) b = ((trace.Begin tx ∷ [], b.items), begin_each G (looks called) m m' (Ok tx) b agree)
-    begin_leaves (told.Refused reason) a = refused a.1
-    begin_leaves other none = absurd none
-
-    called_with : (tx : ℕ) (op : ObjOp) (after : Transaction) → IsPendingWith op after.at → IsCalled (table_with called tx (Some op)) tx after
-    called_with tx op after asked other pending = with_entry-same called tx tx (Some op) refl ∙ same after.at asked pending
-      where
-        same : (a : At) → IsPendingWith op a → IsPendingWith other a → Some op ≡ Some other
-        same at.Idle none also = absurd none
-        same (at.Pending o) is also = let one : Do op ≡ Do other = sym is ∙ also in cc
-        same (at.Undoing inverting) none also = absurd none
-
-    call_leaves : (tx : ℕ) (op : ObjOp) (t : Told) → Meets bits_of (event.Call tx op) t m m' → Leaves (event.Call tx op) t called m m'
-    call_leaves tx op told.Called c =
-        let ch = c.calls.changes in
-        let called' = table_with called tx (Some op) in (
-          same_items m m' c.calls.tells.makes.items,
-          table_is (IsCalled called') (looks called') m' (map.insert m.txs tx ch.after) ch.is
-              (each_with (IsCalled called') m.txs tx ch.after (others_called called tx (Some op) m.txs (others_of G m.txs tx agree)) (called_with tx op ch.after (subst (IsPendingWith op) (sym c.calls.tells.pending) refl))),
-        )
-    call_leaves tx op (told.Refused refusal.OutOfMemory) a =
-        let ch = a.1.changes in (
-          same_items m m' a.1.tells.makes.items,
-          table_is G (looks called) m' (map.insert m.txs tx ch.after) ch.is
-              (each_with G m.txs tx ch.after (others_of G m.txs tx agree) ((looks called).by_at tx ch.before ch.after a.1.tells.idle (agree tx ch.before ch.was))),
-        )
-    call_leaves tx op (told.Refused reason) a = refused a.1
-    call_leaves tx op other none = absurd none
-
-    cancel_leaves : (tx : ℕ) (t : Told) → Meets bits_of (event.Cancel tx) t m m' → Leaves (event.Cancel tx) t called m m'
-    cancel_leaves tx told.Cancelled (a, keeps) =
-        let ch = a.1.changes in
-        let called' = table_with called tx None in (
-          same_items m m' keeps.items,
-          table_is (IsCalled called') (looks called') m' (map.insert m.txs tx ch.after) ch.is
-              (each_with (IsCalled called') m.txs tx ch.after (others_called called tx None m.txs (others_of G m.txs tx agree)) ((looks called').idle tx ch.after a.1.tells.idle)),
-        )
-    cancel_leaves tx (told.Refused reason) a = refused a.1
-    cancel_leaves tx other none = absurd none
-
-    commit_leaves : (tx : ℕ) (t : Told) → Meets bits_of (event.Commit tx) t m m' → Leaves (event.Commit tx) t called m m'
-    commit_leaves tx (told.Committed number) c = ((trace.Commit tx number ∷ [], c.ends.items), commit_each G (looks called) m m' tx (Ok number) c agree)
-    commit_leaves tx (told.Refused reason) a = refused a.1
-    commit_leaves tx other none = absurd none
-
-    abort_leaves : (tx : ℕ) (t : Told) → Meets bits_of (event.Abort tx) t m m' → Leaves (event.Abort tx) t called m m'
-    abort_leaves tx (told.Aborting true) c = ((trace.Abort tx ∷ [], c.ends.items), abort_each G (looks called) m m' tx (Ok true) c agree)
-    abort_leaves tx (told.Aborting false) a =
-        (same_items m m' (ap (λ (n : ManagerFields P). n.commons.history.items) a.rest), abort_each G (looks called) m m' tx (Ok false) a agree)
-    abort_leaves tx (told.Refused reason) a = refused a.1
-    abort_leaves tx other none = absurd none
-
-    -- a step: who is called stays so where the operation stays pending, and else is called no more
-    module _ (tx : ℕ) (told : Answer) (d : HasStepped bits_of m m' tx told) where
-      others_here : EachOther G tx m.txs
-      others_here = others_of G m.txs tx agree
-
-      after_is : (op : ObjOp) → IsPendingWith op d.steps.changes.after.at → (called tx ≡ Some op) × LeavesCalled told
-      after_is op pending =
-          let was = asked_before d.steps.changes.before.at (basis_by bits_of m.root m.opens d.steps.changes.before.subtx.tx) d.steps.changes.before d.steps.changes.after m.commons m'.commons told d.steps.tells op pending in
-          (agree tx d.steps.changes.before d.steps.changes.was op was.0, was.1)
-
-      stays_called : txs_after told tx d.txs ≡ d.txs → Agree called m'
-      stays_called stays =
-          table_is G (looks called) m' (map.insert m.txs tx d.steps.changes.after) (ap (λ (n : ManagerFields P). n.txs) d.rest ∙ stays ∙ d.steps.changes.is)
-          (each_with G m.txs tx d.steps.changes.after others_here (λ op pending. (after_is op pending).0))
-
-      ends_called : txs_after told tx d.txs ≡ d.txs → (LeavesCalled told → ⊥) → Agree (table_with called tx None) m'
-      ends_called stays ends =
-          let called' = table_with called tx None in
-          table_is (IsCalled called') (looks called') m' (map.insert m.txs tx d.steps.changes.after) (ap (λ (n : ManagerFields P). n.txs) d.rest ∙ stays ∙ d.steps.changes.is)
-          (each_with (IsCalled called') m.txs tx d.steps.changes.after (others_called called tx None m.txs others_here) (λ op pending. absurd (ends (after_is op pending).1)))
-
-      closes_called : txs_after told tx d.txs ≡ map.remove d.txs tx → Agree called m'
-      closes_called gone =
-          table_is G (looks called) m' (map.remove d.txs tx) (ap (λ (n : ManagerFields P). n.txs) d.rest ∙ gone)
-          (each_without G d.txs tx (subst (EachOther G tx) (sym d.steps.changes.is) (others_with G m.txs tx d.steps.changes.after others_here)))
-
-    answer_leaves : (tx : ℕ) (said : Answer) → HasStepped bits_of m m' tx said → LeavesBase said m m' tx → Leaves (event.Step tx) (told.Answered said) called m m'
-    answer_leaves tx answer.Going d keeps = (same_items m m' keeps.items, stays_called tx answer.Going d refl)
-    answer_leaves tx (answer.Waiting page by) d keeps = (same_items m m' keeps.items, stays_called tx (answer.Waiting page by) d refl)
-    answer_leaves tx (answer.Blocked by) d (keeps, found) = (same_items m m' keeps.items, stays_called tx (answer.Blocked by) d refl)
-    answer_leaves tx (answer.Refused reason) d keeps = (same_items m m' keeps.items, ends_called tx (answer.Refused reason) d refl (λ none. none))
-    answer_leaves tx (answer.Done reply) d (op, makes) =
-        ((trace.Op tx (op, reply) ∷ [], makes.adds.items), ends_called tx (answer.Done reply) d refl (λ none. none))
-    answer_leaves tx answer.Undone d takes = ((trace.Back tx ∷ [], takes.2.items), stays_called tx answer.Undone d refl)
-    answer_leaves tx answer.Aborted d takes = ((trace.Back tx ∷ trace.Abort tx ∷ [], takes.1.items), closes_called tx answer.Aborted d refl)
-
-    step_leaves : (tx : ℕ) (t : Told) → Meets bits_of (event.Step tx) t m m' → Leaves (event.Step tx) t called m m'
-    step_leaves tx (told.Answered said) (d, leaves, named) = answer_leaves tx said d leaves
-    step_leaves tx (told.Refused reason) a = refused a.1
-    step_leaves tx other none = absurd none
-
-    -- whole operations
-    whole_grows : (tx : ℕ) (op : ObjOp) (said : Answer) → WholeLeavesBase said m m' tx op → Grows m m'
-    whole_grows tx op (answer.Done reply) adds = (trace.Op tx (op, reply) ∷ [], adds.items)
-    whole_grows tx op (answer.Blocked by) (keeps, found) = same_items m m' keeps.items
-    whole_grows tx op answer.Going keeps = same_items m m' keeps.items
-    whole_grows tx op (answer.Waiting page by) keeps = same_items m m' keeps.items
-    whole_grows tx op answer.Undone keeps = same_items m m' keeps.items
-    whole_grows tx op answer.Aborted keeps = same_items m m' keeps.items
-    whole_grows tx op (answer.Refused reason) keeps = same_items m m' keeps.items
-
-    whole_leaves : (tx : ℕ) (op : ObjOp) (t : Told) → Meets bits_of (event.Whole tx op) t m m' → Leaves (event.Whole tx op) t called m m'
-    whole_leaves tx op (told.Answered said) (a, leaves, named) = (whole_grows tx op said leaves, whole_each G (looks called) bits_of tx op m m' (Ok said) a agree)
-    whole_leaves tx op (told.Refused refusal.OutOfMemory) a = (same_items m m' a.1.tells.makes.items, whole_each G (looks called) bits_of tx op m m' (Err refusal.OutOfMemory) a agree)
-    whole_leaves tx op (told.Refused reason) a = refused a.1
-    whole_leaves tx op other none = absurd none
-
-  -- whole undoings
-  module _ (called : CalledOps) (tx : ℕ) where
-    back_agrees : (m m' : ManagerFields P) (told : Answer) → GoesOnBack told → HasStepped bits_of m m' tx told → Agree called m → Agree called m'
-    back_agrees m m' answer.Going goes d agree = stays_called called m m' agree tx answer.Going d refl
-    back_agrees m m' answer.Undone goes d agree = stays_called called m m' agree tx answer.Undone d refl
-    back_agrees m m' (answer.Waiting page by) none d agree = absurd none
-    back_agrees m m' (answer.Blocked by) none d agree = absurd none
-    back_agrees m m' (answer.Done reply) none d agree = absurd none
-    back_agrees m m' answer.Aborted none d agree = absurd none
-    back_agrees m m' (answer.Refused reason) none d agree = absurd none
-
-    steps_agree : (m last : ManagerFields P) (steps : List (ManagerFields P × Answer)) → StepsBy bits_of GoesOnBack m steps last tx → Agree called m → Agree called last
-    steps_agree m last [] same agree = same_each (IsCalled called) (looks called) m last same agree
-    steps_agree m last (one ∷ more) (first, on, rest) agree = steps_agree one.0 last more rest (back_agrees m one.0 one.1 on first agree)
-
-    undoing_agrees : (m m' : ManagerFields P) (told : Answer) → StepsUpTo bits_of GoesOnBack StopsBack m m' tx told → Agree called m → Agree called m'
-    undoing_agrees m m' answer.Aborted s agree = closes_called called s.before m' (steps_agree m s.before s.steps s.goes agree) tx answer.Aborted s.ends refl
-    undoing_agrees m m' (answer.Waiting page by) s agree = stays_called called s.before m' (steps_agree m s.before s.steps s.goes agree) tx (answer.Waiting page by) s.ends refl
-    undoing_agrees m m' other s agree = absurd s.stops
-
-  module _ (called : CalledOps) (m m' : ManagerFields P) (agree : Agree called m) where
-    undoing_leaves : (tx : ℕ) (t : Told) → Meets bits_of (event.WholeUndo tx) t m m' → Leaves (event.WholeUndo tx) t called m m'
-    undoing_leaves tx (told.Answered answer.Aborted) (a, takes, named) =
-        ((replicate (length takes.taken) (trace.Back tx) ++ trace.Abort tx ∷ [], takes.items), undoing_agrees called tx m m' answer.Aborted a.1 agree)
-    undoing_leaves tx (told.Answered (answer.Waiting page by)) (a, takes, named) =
-        ((replicate (length takes.1.taken) (trace.Back tx) ++ [], takes.1.items), undoing_agrees called tx m m' (answer.Waiting page by) a.1 agree)
-    undoing_leaves tx (told.Answered other) (a, none, named) = absurd none
-    undoing_leaves tx (told.Refused reason) a = refused called m m' agree a.1
-    undoing_leaves tx other none = absurd none
-
-    event_leaves : (e : Event) (t : Told) → Meets bits_of e t m m' → Leaves e t called m m'
-    event_leaves event.Begin t meets = begin_leaves called m m' agree t meets
-    event_leaves (event.Call tx op) t meets = call_leaves called m m' agree tx op t meets
-    event_leaves (event.Step tx) t meets = step_leaves called m m' agree tx t meets
-    event_leaves (event.Cancel tx) t meets = cancel_leaves called m m' agree tx t meets
-    event_leaves (event.Commit tx) t meets = commit_leaves called m m' agree tx t meets
-    event_leaves (event.Abort tx) t meets = abort_leaves called m m' agree tx t meets
-    event_leaves (event.Whole tx op) t meets = whole_leaves called m m' agree tx op t meets
-    event_leaves (event.WholeUndo tx) t meets = undoing_leaves tx t meets
+-- the history has grown by some items
+abbrev pub Grows : {P : Type 0} → ManagerFields P → ManagerFields P → Type 0
+Grows m m' = (here : List TraceItem) × (m'.commons.history.items ≡ m.commons.history.items ++ here)
 
 -- ---- the pending operations are those that were called
 
@@ -285,7 +58,7 @@ ops_follow e t pendings = refl
 
 -- **Behind an event the history has grown, and what is pending is known.**
 pub event_grows : {P : Type 0} (bits_of : P → ℕ → ℕ) (e : Event) (t : Told) (pendings : Pendings) (m m' : ManagerFields P)
-    → Agree (ops_of pendings) m → Meets bits_of e t m m' → Grows bits_of m m' × Agree (ops_of (pending_after e t pendings)) m'
+    → Agree (ops_of pendings) m → Meets bits_of e t m m' → Grows m m' × Agree (ops_of (pending_after e t pendings)) m'
 event_grows bits_of e t pendings m m' agree meets =
-    let leaves = event_leaves bits_of (ops_of pendings) m m' agree e t meets in
-    (leaves.0, subst (λ (called : CalledOps). Agree called m') (sym (ops_follow e t pendings)) leaves.1)
+    let tells = event_tells bits_of (ops_of pendings) m m' agree e t meets in
+    ((tells.0, tells.1), subst (λ (called : CalledOps). Agree called m') (sym (ops_follow e t pendings)) tells.3)

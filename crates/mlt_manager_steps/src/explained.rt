@@ -1,6 +1,6 @@
 //! Events that are played in order, and the lines of what each is told, with the reasons.
 
-ghost use Rattle.std.specs.Prelude.{IfOk, IsOkUnless};
+ghost use Rattle.std.specs.Prelude.{◌≡◌, [], IfOk, IsOkUnless};
 ghost use Rattle.std.specs.String.{string_bytes};
 ghost use Rattle.mlt_manager_steps.specs.Explained.{IsExplainedRun};
 
@@ -21,6 +21,8 @@ where
     P: Drop,
     ensures explained { IfOk result (λ played.
         IsExplainedRun P.bits_of limits pseudo events.now played.0 (string_bytes played.1)) }
+    // all of the history is there
+    ensures history { IfOk result (λ played. played.0.commons.history.handed ≡ []) }
     ensures refusal { IsOkUnless result Refusal.OutOfMemory }
 {
     let mut text = String::new(alloc);
@@ -30,7 +32,10 @@ where
     for event in events {
         let told = manager.act(*event);
         manager.keeps_its_invariant();
-        if let Err(refusal) = known.explain(&mut text, event, &told, manager.history()) {
+        let Some(history) = manager.history() else {
+            unreachable!()
+        };
+        if let Err(refusal) = known.explain(&mut text, event, &told, history) {
             manager.close();
             return Err(refusal);
         }

@@ -9,7 +9,7 @@ use mlt_manager_steps::steps;
 use mlt_object_base::write_base;
 use mlt_test_tools::same;
 use mlt_trace::write_trace;
-use mlt_types::{Limits, Low, Mult, Pseudo};
+use mlt_types::{Limits, Low, Mult, Pseudo, Refusal};
 use std::alloc::Global;
 use std::test::Fail;
 
@@ -89,6 +89,7 @@ fn goes_through<P: Pseudo>(
         match part {
             Part::Told(rows) => are_told(alloc, manager, rows)?,
             Part::Seen(sights) => are_seen(alloc, manager, sights)?,
+            Part::Taken(text) => hands_out(alloc, manager, text)?,
         }
     }
     are_seen(alloc, manager, end)
@@ -106,6 +107,17 @@ fn are_told<P: Pseudo>(alloc: Global, manager: &mut Manager<P>, rows: &[Row]) ->
         writeln!(found, "{told}")?;
     }
     same(&found.as_str(), &wanted.as_str())
+}
+
+// It hands out items of this text, and has none of them any more.
+fn hands_out<P: Pseudo>(alloc: Global, manager: &mut Manager<P>, wanted: &str) -> Result<(), Fail> {
+    let mut items = Vec::new(alloc);
+    manager.take_history(&mut items)?;
+    let mut text = Vec::new(alloc);
+    write_trace(items.as_slice(), &mut text)?;
+    same(&text.as_slice(), &wanted.as_bytes())?;
+    same(&manager.kept_history().len(), &0)?;
+    same(&manager.history().is_none(), &true)
 }
 
 // All this is to be seen of a manager.
@@ -131,6 +143,6 @@ fn has_base<P: Pseudo>(alloc: Global, manager: &Manager<P>, wanted: &str) -> Res
 
 fn has_trace<P: Pseudo>(alloc: Global, manager: &Manager<P>, wanted: &str) -> Result<(), Fail> {
     let mut text = Vec::new(alloc);
-    write_trace(manager.history(), &mut text)?;
+    write_trace(manager.history().ok_or(Refusal::Audit)?, &mut text)?;
     same(&text.as_slice(), &wanted.as_bytes())
 }

@@ -12,6 +12,8 @@ mod engines;
 #[cfg(test)]
 mod objects;
 #[cfg(test)]
+mod open_bases;
+#[cfg(test)]
 mod refusals;
 #[cfg(test)]
 mod room;

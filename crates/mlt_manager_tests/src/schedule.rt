@@ -27,6 +27,8 @@ pub enum Part {
     Told(&'static [Row]),
     /// This is to be seen before the next event.
     Seen(&'static [Sight]),
+    /// The history is handed out, and what was not handed out before has this text.
+    Taken(&'static str),
 }
 
 /// The limits of a manager: the greatest numbers of open transactions, of begins, of pages, of depth and of operations in

@@ -1,3 +1,4 @@
 pub mod AtOnce
-pub mod TxSlots
 pub mod Images
+pub mod TakingBack
+pub mod TxSlots

@@ -32,10 +32,10 @@ len-table_of (slot ∷ slots) = grind (arith, len-table_of slots, map.len-insert
 pub record OneEach (slots : List TxSlot) : Type 0 where
   pub as_many : map.len (table_of slots) ≡ slots_taken slots
 
-later : (slot : TxSlot) (slots : List TxSlot) → OneEach (slot ∷ slots) → OneEach slots
+pub later : (slot : TxSlot) (slots : List TxSlot) → OneEach (slot ∷ slots) → OneEach slots
 later slot slots one = record { as_many = grind (arith, one.as_many, len-table_of slots, map.len-insert nat_cmp_total (table_of slots) slot.tx slot.transaction.value) }
 
-no_second : (slot : TxSlot) (slots : List TxSlot) → OneEach (slot ∷ slots) → is_free slot ≡ false → is_some (map.get (table_of slots) slot.tx) ≡ false
+pub no_second : (slot : TxSlot) (slots : List TxSlot) → OneEach (slot ∷ slots) → is_free slot ≡ false → is_some (map.get (table_of slots) slot.tx) ≡ false
 no_second slot slots one used = grind (arith, one.as_many, len-table_of slots, map.len-insert nat_cmp_total (table_of slots) slot.tx slot.transaction.value)
 
 -- so whoever lies in a slot stands under its number

@@ -1,5 +1,7 @@
 -- The table that slots make.
 use Rattle.std.specs.Prelude.{◌≡◌, ℕ, ◌==◌, ◌+◌, ◌<◌, Bool, false, not, ◌&&◌, cond, Option, None, Some, List, [], ◌∷◌, length, slice_index_or}
+use Rattle.mlt_object_kinds.specs.declared.operation.ObjOp.{ObjOp}
+use Rattle.mlt_object_kinds.specs.declared.operation.ObjReply.{ObjReply}
 use Rattle.mlt_page.specs.declared.page.Page.{Page}
 use Rattle.mlt_page_subtx.specs.Images.{image_of}
 use Rattle.std.specs.FinMap as map
@@ -24,6 +26,14 @@ table_of (slot ∷ slots) =
 abbrev pub slots_taken : List TxSlot → ℕ
 slots_taken [] = 0
 slots_taken (slot ∷ slots) = cond (is_free slot) 0 1 + slots_taken slots
+
+-- what stands of who lies there
+abbrev pub entries_in : TxSlot → List (ObjOp × ObjReply)
+entries_in slot = cond (is_free slot) [] slot.transaction.value.undo.entries
+
+-- each number has one slot at most: as many slots are taken as numbers have one
+abbrev pub HaveOneEach : List TxSlot → Type 0
+HaveOneEach slots = map.len (table_of slots) ≡ slots_taken slots
 
 -- each number has one slot at most, and so many are taken
 pub record AreTxSlots (slots : List TxSlot) (taken : ℕ) : Type 0 where

@@ -3,16 +3,20 @@
 ghost use Rattle.std.specs.Prelude.{◌≡◌, ◌≤◌, None, Some, IsSome, OnOk, OnErr, IsOkUnless, IfOk, IfSome, IfNone, option_copied};
 ghost use Rattle.std.specs.FinMap as map;
 ghost use Rattle.mlt_types.specs.Maps.{with_entry};
+ghost use Rattle.mlt_order.specs.Interleavings.{UndoneTo};
+ghost use Rattle.mlt_object_kinds.specs.Bases.{Base as ObjectBase, Step};
 ghost use Rattle.mlt_page_subtx.specs.Images.{AreThere};
 ghost use Rattle.mlt_hash.specs.Walks.{basis_in};
 ghost use Rattle.mlt_tx.specs.declared.transaction.Transaction.{Transaction as TransactionFields};
 ghost use Rattle.mlt_tx.specs.AtOnce.{MayCallAtOnce};
 ghost use Rattle.mlt_tx.specs.Transactions.{IsPending, MayStepIn};
+ghost use Rattle.mlt_tx_open.specs.Standing.{standing_in};
 ghost use Rattle.mlt_tx_open.specs.Tables.{BeginsOne, CallsNone, CallsOne, CallsOneAtOnce, CancelsOne, KeepsImage, KeepsNoImage, PutsOneAt, StepsOne};
 
-use crate::tx_slot::{TxSlot, free_slot, image_in, slot_of};
+use crate::tx_slot::{TxSlot, free_slot, image_in, slot_of, take_back_each};
 use mlt_event::Answer;
 use mlt_hash::Setting;
+use mlt_object_base::Base;
 use mlt_object_kinds::{ObjOp, ObjReply};
 use mlt_page::Page;
 use mlt_tx::{At, Commons, Transaction};
@@ -84,6 +88,18 @@ impl OpenTransactions {
         image_in(&self.slots, page)
     }
 
+    /// Takes back on a base what stands of all open transactions, of each its last operation first.
+    ///
+    /// # Errors
+    /// `OutOfMemory`, where a growth was refused.
+    pub fn take_back(&self, base: &mut Base) -> Result<(), Refusal>
+        ensures back { OnOk result ((left : ObjectBase)
+            → UndoneTo Step left (standing_in self.now) base.old → base.new ≡ left) }
+        ensures refusal { IsOkUnless result Refusal.OutOfMemory }
+    {
+        take_back_each(&self.slots, base)
+    }
+
     /// Opens a transaction of a number, which has done nothing.
     ///
     /// # Errors
@@ -128,6 +144,7 @@ impl OpenTransactions {
         ensures calls { OnOk result (CallsOne tx op self.old self.new commons.old commons.new) }
         ensures err { OnErr result (CallsNone tx self.old self.new commons.old commons.new) }
         ensures refusal { IsOkUnless result Refusal.OutOfMemory }
+        ensures handed { commons.new.history.handed ≡ commons.old.history.handed }
     {
         let Some(place) = slot_of(&self.slots, tx) else {
             unreachable!()
@@ -153,6 +170,7 @@ impl OpenTransactions {
             tx op self.old self.new commons.old commons.new) }
         ensures err { OnErr result (CallsNone tx self.old self.new commons.old commons.new) }
         ensures refusal { IsOkUnless result Refusal.OutOfMemory }
+        ensures handed { commons.new.history.handed ≡ commons.old.history.handed }
     {
         let Some(place) = slot_of(&self.slots, tx) else {
             unreachable!()
@@ -173,6 +191,7 @@ impl OpenTransactions {
             × MayStepIn (basis_in P.bits_of setting.now t.subtx.tx) t commons.old }
         ensures steps { StepsOne (basis_in P.bits_of setting.now) tx self.old self.new
             commons.old commons.new result }
+        ensures handed { commons.new.history.handed ≡ commons.old.history.handed }
     {
         match slot_of(&self.slots, tx) {
             Some(place) => self.slots[place].transaction.step(commons, setting),
@@ -186,6 +205,7 @@ impl OpenTransactions {
             × IsPending t.at × AreThere t.subtx.images commons.old.pages.store.pages
             × (2 ≤ commons.old.history.room) }
         ensures cancels { CancelsOne tx self.old self.new commons.old commons.new }
+        ensures handed { commons.new.history.handed ≡ commons.old.history.handed }
     {
         let Some(place) = slot_of(&self.slots, tx) else {
             unreachable!()

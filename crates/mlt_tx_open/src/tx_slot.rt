@@ -1,12 +1,17 @@
 //! The slots of open transactions.
 
-ghost use Rattle.std.specs.Prelude.{◌≡◌, None, Some, IfOk, IfSome, IfNone, false, length, position};
+ghost use Rattle.std.specs.Prelude.{◌≡◌, None, Some, IfOk, IfSome, IfNone, IsOkUnless, OnOk, [], ◌∷◌, false, length, position};
+ghost use Rattle.mlt_order.specs.Interleavings.{UndoneTo};
+ghost use Rattle.mlt_object_kinds.specs.Bases.{Base as ObjectBase, Step, TranscriptLeads};
 ghost use Rattle.mlt_page_subtx.specs.Images.{image_of};
-ghost use Rattle.mlt_tx_open.specs.TxSlots.{KeepsInSlot, LackImage, BeginsInSlot, is_free, is_slot_of};
+ghost use Rattle.mlt_tx_open.specs.Standing.{standing_in};
+ghost use Rattle.mlt_tx_open.specs.TxSlots.{BeginsInSlot, HaveOneEach, KeepsInSlot, LackImage, entries_in, is_free, is_slot_of, table_of};
 
+use mlt_object_base::Base;
+use mlt_object_undo::take_back;
 use mlt_page::Page;
 use mlt_tx::Transaction;
-use mlt_types::{PageNo, TxId};
+use mlt_types::{PageNo, Refusal, TxId};
 use std::alloc::{AllocError, Global};
 
 /// A slot for one open transaction, up to its end. Then it is free for another, with its memory. The transaction stays where it
@@ -55,6 +60,18 @@ impl TxSlot {
         self.transaction.subtx.first_image(page)
     }
 
+    // Takes back on a base what stands of who lies here.
+    fn take_back(&self, base: &mut Base) -> Result<(), Refusal>
+        ensures back { OnOk result ((before : ObjectBase)
+            → TranscriptLeads before (entries_in self.now) base.old → base.new ≡ before) }
+        ensures refusal { IsOkUnless result Refusal.OutOfMemory }
+    {
+        if !self.is_free {
+            take_back(base, self.transaction.undo.entries())?;
+        }
+        Ok(())
+    }
+
     // Whether the transaction of a number lies here.
     fn is_of(&self, tx: TxId) -> bool
         ensures { result ≡ is_slot_of tx self.now }
@@ -89,4 +106,20 @@ pub(crate) fn image_in(slots: &[TxSlot], page: PageNo) -> Option<&Option<Page>>
         }
     }
     None
+}
+
+/// Takes back on a base what stands of those who lie in slots.
+///
+/// # Errors
+/// `OutOfMemory`, where a growth was refused.
+pub(crate) fn take_back_each(slots: &[TxSlot], base: &mut Base) -> Result<(), Refusal>
+    requires one_each { HaveOneEach slots.now }
+    ensures back { OnOk result ((left : ObjectBase)
+        → UndoneTo Step left (standing_in (table_of slots.now)) base.old → base.new ≡ left) }
+    ensures refusal { IsOkUnless result Refusal.OutOfMemory }
+{
+    for slot in slots {
+        slot.take_back(base)?;
+    }
+    Ok(())
 }

@@ -1,4 +1,4 @@
-use Rattle.std.proofs.Common.{subst}
+use Rattle.std.proofs.Common.{refl, subst}
 use Rattle.mlt_manager.specs.Parts.{fields_of}
 use Rattle.mlt_manager.specs.Promises.{PassesTheChecker}
 use Rattle.mlt_manager.proofs.Promises.{checker_passed}
@@ -8,4 +8,4 @@ pub returns : goal.returns
 returns g c =
     let m = fields_of c.self.inside.parts in
     subst PassesTheChecker c.self.view_is
-    (checker_passed g.P.Pseudo.bits_of m c.self.invariant c.items.result.now c.items.ensures c.items_fit.ensures c.placed_items_are_writable.ensures c.history_passes_the_checker.ensures.committed)
+    (checker_passed g.P.Pseudo.bits_of m c.self.invariant m.commons.history.items refl c.items_fit.ensures c.placed_items_are_writable.ensures c.history_passes_the_checker.ensures.committed)

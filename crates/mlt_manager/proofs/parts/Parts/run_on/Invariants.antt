@@ -1,3 +1,4 @@
+use Rattle.std.proofs.Common.{◌≡◌}
 use Rattle.mlt_tx.specs.Transactions.{IsPending}
 use Rattle.mlt_manager.specs.Parts.{fields_of}
 use Rattle.mlt_manager.specs.Wholes.{LetsGoOn}
@@ -7,6 +8,7 @@ use Rattle.mlt_manager.proofs.parts.Parts.run_on.Given as goal
 
 abbrev pub invariant-loop-answer : goal.invariant-loop-answer
 invariant-loop-answer g l = IsUnderWay g.P.Pseudo.bits_of LetsGoOn IsPending (fields_of l.fn.self) (fields_of l.self) l.tx
+    × (l.self.commons.history.handed ≡ l.fn.self.commons.history.handed)
 
 abbrev pub decreases-loop-answer : goal.decreases-loop-answer
 decreases-loop-answer g l = on_left (fields_of l.self) l.tx

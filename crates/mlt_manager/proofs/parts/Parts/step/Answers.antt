@@ -2,7 +2,7 @@ use Rattle.std.proofs.Common.{refl}
 use Rattle.std.proofs.lemmas.Result.{err_from_is_err_and}
 use Rattle.mlt_manager.proofs.parts.Parts.step.Goals as goal
 
-pub returns-in_err-busy : goal.returns-in_err-busy
-returns-in_err-busy g c =
+pub returns-in_err-busy-clause-answers : goal.returns-in_err-busy-clause-answers
+returns-in_err-busy-clause-answers g c =
     let p = err_from_is_err_and c.from_residual.result c.from_residual.ensures.1 in
-    record { answers = rw (p.1, p.2) (c.in_err-busy.ensures.refusal, refl) }
+    rw (p.1, p.2) (c.in_err-busy.ensures.refusal, refl)

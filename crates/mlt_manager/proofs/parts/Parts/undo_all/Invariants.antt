@@ -1,3 +1,4 @@
+use Rattle.std.proofs.Common.{◌≡◌}
 use Rattle.mlt_manager.specs.Answers.{IsUndoing}
 use Rattle.mlt_manager.specs.Parts.{fields_of}
 use Rattle.mlt_manager.specs.Undoings.{GoesOnBack}
@@ -7,6 +8,7 @@ use Rattle.mlt_manager.proofs.parts.Parts.undo_all.Given as goal
 
 abbrev pub invariant-loop-answer : goal.invariant-loop-answer
 invariant-loop-answer g l = IsUnderWay g.P.Pseudo.bits_of GoesOnBack IsUndoing (fields_of l.fn.self) (fields_of l.self) l.tx
+    × (l.self.commons.history.handed ≡ l.fn.self.commons.history.handed)
 
 abbrev pub decreases-loop-answer : goal.decreases-loop-answer
 decreases-loop-answer g l = back_left (fields_of l.self) l.tx

@@ -26,23 +26,18 @@ run-requires-clause-pending g c =
     (called_at_once g.P.Pseudo.bits_of (fields_of c.args.self.now) c.args.tx c.args.op c.call_at_once.new.self c.call_at_once.new.commons c.in_ok-reply.field-0 c.in-None.is c.in_ok-may_call.ensures.may c.operation_is_in_range.ensures
     c.in_ok-reply.ensures.calls)
 
-pub returns-in-Some : goal.returns-in-Some
-returns-in-Some g c =
+pub returns-in-Some-clause-answers : goal.returns-in-Some-clause-answers
+returns-in-Some-clause-answers g c =
     let m : ManagerFields _ = fields_of c.args.self.now in
-    record {
-      answers =
-          done_at_once g.P.Pseudo.bits_of m c.args.tx c.args.op c.call_at_once.new.self c.call_at_once.new.commons c.in-Some.reply c.in_ok-may_call.ensures.may c.operation_is_in_range.ensures
-          (subst (λ (told : Option ObjReply). CallsOneAtOnce told (basis_by g.P.Pseudo.bits_of m.root m.opens) c.args.tx c.args.op m.txs c.call_at_once.new.self m.commons c.call_at_once.new.commons) c.in-Some.is
-          c.in_ok-reply.ensures.calls);
-    }
+    done_at_once g.P.Pseudo.bits_of m c.args.tx c.args.op c.call_at_once.new.self c.call_at_once.new.commons c.in-Some.reply c.in_ok-may_call.ensures.may c.operation_is_in_range.ensures
+    (subst (λ (told : Option ObjReply). CallsOneAtOnce told (basis_by g.P.Pseudo.bits_of m.root m.opens) c.args.tx c.args.op m.txs c.call_at_once.new.self m.commons c.call_at_once.new.commons) c.in-Some.is
+    c.in_ok-reply.ensures.calls)
 
-pub returns-in-None : goal.returns-in-None
-returns-in-None g c = record {
-  answers = record {
-    called = _;
-    calls =
-        called_at_once g.P.Pseudo.bits_of (fields_of c.args.self.now) c.args.tx c.args.op c.call_at_once.new.self c.call_at_once.new.commons c.in_ok-reply.field-0 c.in-None.is c.in_ok-may_call.ensures.may c.operation_is_in_range.ensures
-        c.in_ok-reply.ensures.calls;
-    runs = c.run.ensures.runs;
-  };
+pub returns-in-None-clause-answers : goal.returns-in-None-clause-answers
+returns-in-None-clause-answers g c = record {
+  called = _;
+  calls =
+      called_at_once g.P.Pseudo.bits_of (fields_of c.args.self.now) c.args.tx c.args.op c.call_at_once.new.self c.call_at_once.new.commons c.in_ok-reply.field-0 c.in-None.is c.in_ok-may_call.ensures.may c.operation_is_in_range.ensures
+      c.in_ok-reply.ensures.calls;
+  runs = c.run.ensures.runs;
 }

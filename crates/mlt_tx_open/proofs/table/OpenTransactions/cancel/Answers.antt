@@ -14,5 +14,5 @@ cancel-requires-clause-pending c = rw (it_sits c.self.inside.slots.items c.deref
 pub cancel-requires-clause-there : goal.cancel-requires-clause-there
 cancel-requires-clause-there c = rw (it_sits c.self.inside.slots.items c.deref.result.now c.args.self.now c.args.tx c.in-Some.place c.index_mut.result.now c.requires.is_open.0 c.self.view_is c.deref.ensures.value c.in-Some.ensures c.index_mut.ensures.value c.requires.is_open.1 c.deref_mut.result.now c.deref_mut.ensures.value) c.requires.is_open.3
 
-pub returns : goal.returns
-returns c = record { cancels = record { changes = one_changes c.self.inside.slots.items c.deref.result.now c.args.self.now c.self.inside.taken c.args.tx c.in-Some.place c.index_mut.result.now c.cancel.new.self c.self.invariant c.self.view_is c.deref.ensures.value c.in-Some.ensures c.index_mut.ensures.value c.deref_mut.result.now c.deref_mut.ensures.value; tells = c.cancel.ensures.tells } }
+pub returns-clause-cancels : goal.returns-clause-cancels
+returns-clause-cancels c = record { changes = one_changes c.self.inside.slots.items c.deref.result.now c.args.self.now c.self.inside.taken c.args.tx c.in-Some.place c.index_mut.result.now c.cancel.new.self c.self.invariant c.self.view_is c.deref.ensures.value c.in-Some.ensures c.index_mut.ensures.value c.deref_mut.result.now c.deref_mut.ensures.value; tells = c.cancel.ensures.tells }

@@ -11,5 +11,5 @@ invariant_of-self g c = (transaction_changed c.self.inside.slots.items c.deref.r
 pub step-requires : goal.step-requires
 step-requires g c = record { ready = rw (it_sits c.self.inside.slots.items c.deref.result.now c.args.self.now c.args.tx c.in-Some.place c.index_mut.result.now c.requires.is_open.0 c.self.view_is c.deref.ensures.value c.in-Some.ensures c.index_mut.ensures.value c.requires.is_open.1 c.deref_mut.result.now c.deref_mut.ensures.value) c.requires.is_open.2 }
 
-pub returns : goal.returns
-returns g c = record { steps = record { changes = one_changes c.self.inside.slots.items c.deref.result.now c.args.self.now c.self.inside.taken c.args.tx c.in-Some.place c.index_mut.result.now c.step.new.self c.self.invariant c.self.view_is c.deref.ensures.value c.in-Some.ensures c.index_mut.ensures.value c.deref_mut.result.now c.deref_mut.ensures.value; tells = c.step.ensures.tells } }
+pub returns-clause-steps : goal.returns-clause-steps
+returns-clause-steps g c = record { changes = one_changes c.self.inside.slots.items c.deref.result.now c.args.self.now c.self.inside.taken c.args.tx c.in-Some.place c.index_mut.result.now c.step.new.self c.self.invariant c.self.view_is c.deref.ensures.value c.in-Some.ensures c.index_mut.ensures.value c.deref_mut.result.now c.deref_mut.ensures.value; tells = c.step.ensures.tells }

@@ -1,0 +1,73 @@
+-- A manager stays one where items of its history are handed out.
+use Rattle.std.proofs.Common.{ℕ, List, None, Some, sym, subst}
+use Rattle.mlt_trace.specs.declared.item.TraceItem.{TraceItem}
+use Rattle.mlt_tx.specs.declared.transaction.At.{At}
+use Rattle.mlt_tx.specs.declared.transaction.At.TheVariants as at
+use Rattle.mlt_tx.specs.declared.transaction.Transaction.{Transaction}
+use Rattle.mlt_manager_invariant.specs.Sound.{Fits, FitsAt, IsSound}
+use Rattle.mlt_manager_invariant.specs.States.{State}
+use Rattle.mlt_manager_trace.specs.Traced.{IsTraced}
+use Rattle.mlt_manager.specs.HandingOut.{HandsOut, with_handed}
+use Rattle.mlt_manager.specs.Managers.{IsManager, IsWithinLimits, ManagerFields}
+
+-- the state, with these items of its history handed out
+abbrev state_with : List TraceItem → State → State
+state_with handed s = record s {
+  commons = record s.commons { history = record s.commons.history { handed = handed } };
+}
+
+module _ (handed : List TraceItem) where
+  fits_at : (where_at : At) (s : State) (i : ℕ) (t : Transaction) → FitsAt where_at s i t → FitsAt where_at (state_with handed s) i t
+  fits_at at.Idle s i t f = f
+  fits_at (at.Pending o) s i t f =
+      record { op = f.op; asked = f.asked; in_range = f.in_range; operates = f.operates; reserved = f.reserved; spare = f.spare; fewer = f.fewer }
+  fits_at (at.Undoing None) s i t f = f
+  fits_at (at.Undoing (Some o)) s i t f = record { front = f.front; last = f.last; entries = f.entries; inverts = f.inverts; has = f.has; operates = f.operates }
+
+  fits : (s : State) (i : ℕ) (t : Transaction) → Fits s i t → Fits (state_with handed s) i t
+  fits s i t f = record { number = f.number; stands = f.stands; few = f.few; where_at = fits_at t.at s i t f.where_at }
+
+  sound_with : (s : State) → IsSound s → IsSound (state_with handed s)
+  sound_with s h = record {
+    match = h.match;
+    running = h.running;
+    kept = h.kept;
+    opened = h.opened;
+    fits = λ i t is. fits s i t (h.fits i t is);
+    held = h.held;
+    begun = h.begun;
+    count = h.count;
+    commits = h.commits;
+    room = h.room;
+  }
+
+  traced_with : (s : State) → IsTraced s → IsTraced (state_with handed s)
+  traced_with s h = record { placed = h.placed; whole = h.whole }
+
+  module _ {P : Type 0} (bits_of : P → ℕ → ℕ) where
+    limits_with : (m : ManagerFields P) → IsWithinLimits m → IsWithinLimits (with_handed handed m)
+    limits_with m l = record {
+      locks_for = l.locks_for;
+      pages_for = l.pages_for;
+      few_open = l.few_open;
+      open_in_set = l.open_in_set;
+      set_holds = l.set_holds;
+      few_ids = l.few_ids;
+      ids_fit = l.ids_fit;
+      ops_fit = l.ops_fit;
+      ended = l.ended;
+      counted = l.counted;
+    }
+
+    manager_with : (m : ManagerFields P) → IsManager bits_of m → IsManager bits_of (with_handed handed m)
+    manager_with m h = record {
+      images = h.images;
+      base = h.base;
+      sound = sound_with _ h.sound;
+      traced = traced_with _ h.traced;
+      limits = limits_with m h.limits;
+    }
+
+-- **Handing out keeps the manager.**
+pub hands_out_keeps : {P : Type 0} (bits_of : P → ℕ → ℕ) (old new : ManagerFields P) → HandsOut old new → IsManager bits_of old → IsManager bits_of new
+hands_out_keeps bits_of old new out h = subst (IsManager bits_of) (sym out.same) (manager_with new.commons.history.handed bits_of old h)

@@ -1,0 +1,38 @@
+-- What is left when all that stands is taken back is the base of the committed transactions
+use Rattle.std.proofs.Common.{◌≡◌, ℕ, true, false, Option, None, Some, is_some, refl, sym, ap, subst, ◌∙◌}
+use Rattle.std.specs.FinMap as map
+use Rattle.mlt_object_kinds.specs.Bases.{Base, Step}
+use Rattle.mlt_order.specs.Histories.Stage.{Running}
+use Rattle.mlt_order.specs.Interleavings.{UndoneTo}
+use Rattle.mlt_order.proofs.UndoLaws.{undone_to_same}
+use Rattle.mlt_trace_laws.proofs.Histories.{nothing_of_others}
+use Rattle.mlt_tx.specs.declared.transaction.Transaction.{Transaction}
+use Rattle.mlt_tx_open.specs.Standing.{entries_of, standing_in}
+use Rattle.mlt_manager_trace.proofs.CommittedBases.{with_base}
+use Rattle.mlt_manager.specs.Bases.{HasBase}
+use Rattle.mlt_manager.specs.Managers.{IsManager, ManagerFields, state_of}
+use Rattle.mlt_manager.specs.Promises.{IsCommittedBaseOf, lists_by}
+use Rattle.mlt_manager.proofs.Promises.{committed_of}
+use Rattle.mlt_manager.proofs.Stepped.{same_base}
+
+module _ {P : Type 0} (bits_of : P → ℕ → ℕ) (m : ManagerFields P) (h : IsManager bits_of m) where
+  -- undo lists have what the history says that stands
+  stands : (i : ℕ) → standing_in m.txs i ≡ (lists_by m).transcripts i
+  stands i = by (map.get m.txs i) refl
+    where
+      not_running : map.get m.txs i ≡ None → (lists_by m).stage i ≡ Running → ⊥
+      not_running none running =
+          let both : true ≡ false = sym ((h.sound.match.records.running i).1 running) ∙ h.sound.opened i ∙ ap is_some none in
+          cc both
+
+      by : (one : Option Transaction) → map.get m.txs i ≡ one → standing_in m.txs i ≡ (lists_by m).transcripts i
+      by None none = ap entries_of none ∙ sym (nothing_of_others m.commons.history.items h.base h.sound.match.records.history i (not_running none))
+      by (Some one) there = ap entries_of there ∙ (h.sound.fits i one there).stands
+
+  -- **The base that is left is the committed one.**
+  pub left_is_committed : (state base : Base) → HasBase m state → ((left : Base) → UndoneTo Step left (standing_in m.txs) state → base ≡ left) → IsCommittedBaseOf m base
+  left_is_committed state base leads back =
+      let led = with_base (state_of bits_of m h.images h.base) h.sound in
+      let from_lists = undone_to_same Step led.0 h.base (lists_by m).transcripts (standing_in m.txs) stands led.1.undone in
+      let undone : UndoneTo Step led.0 (standing_in m.txs) state = subst (UndoneTo Step led.0 (standing_in m.txs)) (sym (same_base bits_of m h 0 state leads)) from_lists in
+      subst (IsCommittedBaseOf m) (sym (back led.0 undone)) (committed_of bits_of m h led.0 led.1)

@@ -1,0 +1,6 @@
+use Rattle.mlt_manager.specs.Parts.{fields_of}
+use Rattle.mlt_manager.proofs.HandingOut.{hands_out_keeps}
+use Rattle.mlt_manager.proofs.manager.Manager.take_history.Goals as goal
+
+pub invariant_of-self : goal.invariant_of-self
+invariant_of-self g c = hands_out_keeps g.P.Pseudo.bits_of (fields_of c.self.inside.parts) (fields_of c.hand_out.new.self) c.hand_out.ensures.rest c.self.invariant

@@ -1,0 +1,15 @@
+use Rattle.std.proofs.Common.{◌≡◌, OnOk, sym, ap, subst, ◌∙◌}
+use Rattle.mlt_order.specs.Interleavings.{UndoneTo}
+use Rattle.mlt_object_kinds.specs.Bases.{Base as ObjectBase, Step}
+use Rattle.mlt_tx_open.specs.Standing.{standing_in}
+use Rattle.mlt_tx_open.specs.Tables.{Table}
+use Rattle.mlt_tx_open.specs.TxSlots.{HaveOneEach, table_of}
+use Rattle.mlt_tx_open.proofs.table.OpenTransactions.take_back.Goals as goal
+
+pub take_back_each-requires : goal.take_back_each-requires
+take_back_each-requires c = record { one_each = subst HaveOneEach (sym c.deref.ensures.value) c.self.invariant.one_each }
+
+pub returns-clause-back : goal.returns-clause-back
+returns-clause-back c =
+    let F : Table → Type 0 = λ table. OnOk c.take_back_each.result ((left : ObjectBase) → UndoneTo Step left (standing_in table) c.args.base.now → c.take_back_each.new.base ≡ left) in
+    subst F (ap table_of c.deref.ensures.value ∙ c.self.view_is) c.take_back_each.ensures.back
