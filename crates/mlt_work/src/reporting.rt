@@ -28,7 +28,9 @@ fn audit_and_base<P: Pseudo, R: Threads>(
     ensures base { IfOk result.1 (λ base. IsCommittedBaseOf manager.now base) }
     ensures refusal { IsOkUnless result.1 Refusal.OutOfMemory }
 {
-    let history = manager.history();
+    let Some(history) = manager.history() else {
+        return (Err(Refusal::Audit), manager.base());
+    };
     if workers == 1 {
         return (audit(alloc, outcomes, history), manager.base());
     }

@@ -1,4 +1,5 @@
 pub mod Holds
+pub mod Looks
 pub mod Makings
 pub mod Refusals
 pub mod Waits

@@ -1,14 +1,16 @@
 //! What can be seen of a manager under its lock, without an event.
 
-ghost use Rattle.std.specs.Prelude.{◌≡◌, ◌≤◌, ◌++◌, OnOk, drop, length, take};
+ghost use Rattle.std.specs.Prelude.{◌≡◌, ◌≤◌, ◌+◌, ◌++◌, IsOkUnless, OnOk, length};
 ghost use Rattle.std.specs.FinMap as map;
 ghost use Rattle.mlt_manager.specs.Bases.{HasDepth};
+ghost use Rattle.mlt_manager.specs.HandingOut.{HandsOut};
+ghost use Rattle.mlt_work_desk.specs.Looks.{AddsKept};
 
 use crate::locked_state::LockedState;
 use crate::made_with::MadeWith;
 use arrayvec::ArrayVec;
 use mlt_trace::KeptItem;
-use mlt_types::Pseudo;
+use mlt_types::{Pseudo, Refusal};
 use mlt_work_waits::Waiting;
 use std::alloc::AllocError;
 
@@ -17,7 +19,7 @@ use std::alloc::AllocError;
 pub struct Look {
     /// How many events the manager has had; it stays at 2^64 - 1.
     pub events: u64,
-    /// How many items its history has.
+    /// How many items of its history are kept.
     pub items: usize,
     /// How many pages there are.
     pub pages: usize,
@@ -33,7 +35,8 @@ impl<P: Pseudo, L: MadeWith<P>> LockedState<P, L> {
     /// What a look sees now.
     pub(crate) fn look(&self) -> Look
         ensures events { result.events ≡ self.now.manager.events }
-        ensures items { result.items ≡ length self.now.manager.commons.history.items }
+        ensures items { length self.now.manager.commons.history.items
+            ≡ length self.now.manager.commons.history.handed + result.items }
         ensures pages { result.pages ≡ map.len self.now.manager.commons.pages.store.pages }
         ensures depth { HasDepth self.now.manager result.depth }
         ensures for_objects { result.for_objects.items ≡ self.now.desks.waits.objects }
@@ -42,7 +45,7 @@ impl<P: Pseudo, L: MadeWith<P>> LockedState<P, L> {
         let waits = self.desks.waits();
         Look {
             events: self.manager.events(),
-            items: self.manager.history().len(),
+            items: self.manager.kept_history().len(),
             pages: self.manager.pages().len(),
             depth: self.manager.depth(),
             for_objects: copied(waits.objects()),
@@ -50,7 +53,7 @@ impl<P: Pseudo, L: MadeWith<P>> LockedState<P, L> {
         }
     }
 
-    /// Adds the items of the history from this place on, at most so many.
+    /// Adds the items of the history that are kept, from this place among them on, at most so many.
     ///
     /// # Errors
     /// Where a growth is refused, then fewer are added.
@@ -60,16 +63,30 @@ impl<P: Pseudo, L: MadeWith<P>> LockedState<P, L> {
         most: usize,
         items: &mut Vec<KeptItem>,
     ) -> Result<(), AllocError>
-        ensures { OnOk result (items.new.items
-            ≡ items.old.items ++ take most (drop from self.now.manager.commons.history.items)) }
+        ensures { OnOk result (AddsKept from most self.now.manager.commons.history
+            items.old.items items.new.items) }
     {
-        let history = self.manager.history();
+        let history = self.manager.kept_history();
         let rest = history.get(from..).unwrap_or(&[]);
         let first = &rest[..most.min(rest.len())];
         for item in first {
             items.push(KeptItem::of(item.get()))?;
         }
         Ok(())
+    }
+
+    /// Hands out the items of the history that are kept.
+    ///
+    /// # Errors
+    /// Where a growth is refused; nothing is handed out then.
+    pub(crate) fn take_items(&mut self, items: &mut Vec<KeptItem>) -> Result<(), Refusal>
+        ensures rest { HandsOut self.old.manager self.new.manager }
+        ensures list { OnOk result (self.old.manager.commons.history.items
+            ≡ self.old.manager.commons.history.handed ++ items.new.items) }
+        ensures desks { self.new.desks ≡ self.old.desks }
+        ensures refusal { IsOkUnless result Refusal.OutOfMemory }
+    {
+        self.manager.take_history(items)
     }
 }
 

@@ -10,7 +10,7 @@ use crate::tuning::{FIRST_LOCK_SPINS, LOCK_SPINS, PAUSES_PER_LOCK_SPIN};
 use crate::turn::Sleeper;
 use mlt_manager::Manager;
 use mlt_trace::KeptItem;
-use mlt_types::{Pseudo, TxId};
+use mlt_types::{Pseudo, Refusal, TxId};
 use mlt_work_waits::{Waker, Wakers};
 use std::alloc::AllocError;
 use std::array;
@@ -128,7 +128,8 @@ impl<P: Pseudo, L: MadeWith<P>> Shared<P, L> {
         state.look()
     }
 
-    /// Adds the items of the history from this place on, at most so many. It takes the lock once, and is no event.
+    /// Adds the items of the history that are kept, from this place among them on, at most so many. It takes the lock once, and is no
+    /// event.
     ///
     /// # Errors
     /// Where a growth is refused, then fewer are added.
@@ -141,6 +142,16 @@ impl<P: Pseudo, L: MadeWith<P>> Shared<P, L> {
     ) -> Result<(), AllocError> {
         let state = self.lock(rt);
         state.copy_items(from, most, items)
+    }
+
+    /// Hands out the items of the history that are kept: the list has them then, and what it had is gone. The history goes on in
+    /// its memory. It takes the lock once, for no longer with many items than with one, and is no event.
+    ///
+    /// # Errors
+    /// Where a growth is refused; nothing is handed out then.
+    pub fn take_items<R: Wait>(&self, rt: &R, items: &mut Vec<KeptItem>) -> Result<(), Refusal> {
+        let mut state = self.lock(rt);
+        state.take_items(items)
     }
 
     /// Wakes the sleepers, with the lock free.
