@@ -75,13 +75,14 @@ impl<'a, R: Wait + Clock> Admission<'a, R> {
         self.place.set(Place::Admitted);
     }
 
-    /// Leaves, if it is at work.
+    /// Leaves, if it is at work. What it has done until now it shows to others.
     pub fn leave(&self) {
         match self.place.replace(Place::Outside) {
             Place::Outside => (),
             Place::Bypassing => self.admission_queue.end_bypass(),
             Place::Admitted => self.admission_queue.leave(self.rt),
         }
+        self.sitting.show();
     }
 }
 

@@ -2,6 +2,7 @@
 #![tactic(auto)]
 
 mod count;
+mod draft;
 mod seat;
 mod session;
 mod sitting;

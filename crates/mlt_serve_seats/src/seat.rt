@@ -9,7 +9,7 @@ use mlt_types::TxId;
 use std::alloc::{AllocError, Global};
 use std::array;
 use std::net::{Shutdown, TcpStream};
-use std::sync::atomic::{AtomicBool, Ordering};
+use std::sync::atomic::{AtomicBool, AtomicU64, Ordering};
 use std::sync::{Arc, Mutex, Wait};
 use std::time::{Clock, Duration, Instant};
 
@@ -25,9 +25,12 @@ pub struct Patience {
     pub open: Option<Duration>,
 }
 
-/// What one session thread does, for others to see, and the session that it serves.
+/// What one session thread does, for others to see, and the session that it serves. There are 64 unused bytes on each side, so that
+/// who notes something at another seat does not take the cache lines of this one.
 #[derive(Drop)]
+#[repr(C)]
 pub struct Seat {
+    _before: [u64; 8],
     /// How many transactions were begun.
     pub begun: Count,
     /// How many operations were done.
@@ -42,12 +45,16 @@ pub struct Seat {
     pub deadlocks: Count,
     /// Whether an operation of the session that is to wait is given up.
     hurries: AtomicBool,
+    /// The number of the transaction that the session has begun last, where it is watched.
+    last: AtomicU64,
     session: Mutex<Option<Session>>,
+    _after: [u64; 8],
 }
 
 impl Seat {
     fn new() -> Seat {
         Seat {
+            _before: [0; 8],
             begun: Count::new(),
             operations: Count::new(),
             commits: Count::new(),
@@ -55,7 +62,9 @@ impl Seat {
             gave_up: Count::new(),
             deadlocks: Count::new(),
             hurries: AtomicBool::new(false),
+            last: AtomicU64::new(0),
             session: Mutex::new(None),
+            _after: [0; 8],
         }
     }
 
@@ -63,6 +72,7 @@ impl Seat {
     pub fn enter<R: Wait + Clock>(&self, rt: &R, client: u32, stream: Arc<TcpStream>) {
         let state = SessionState::new(client, Instant::now(rt).ok());
         self.hurries.store(false, Ordering::Relaxed);
+        self.last.store(0, Ordering::Relaxed);
         *self.session.lock(rt) = Some(Session { state, stream });
     }
 
@@ -77,13 +87,22 @@ impl Seat {
     pub fn state<R: Wait>(&self, rt: &R) -> Option<SessionState> {
         let session = self.session.lock(rt);
         let found = session.as_ref()?;
-        Some(found.state)
+        Some(SessionState {
+            last: TxId(self.last.load(Ordering::Relaxed)),
+            ..found.state
+        })
     }
 
     /// Whether an operation of the session that is to wait is given up.
     #[inline(always)]
     pub(crate) fn hurries(&self) -> bool {
         self.hurries.load(Ordering::Relaxed)
+    }
+
+    /// The session has begun this transaction.
+    #[inline(always)]
+    pub(crate) fn begin(&self, number: TxId) {
+        self.last.store(number.0, Ordering::Relaxed);
     }
 
     /// Changes what others see of the session.

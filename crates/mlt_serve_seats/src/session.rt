@@ -1,6 +1,6 @@
 //! The state of one session, as others see it.
 
-ghost use Rattle.std.specs.Prelude.{◌≡◌, ◌==◌, false, IfSome, None};
+ghost use Rattle.std.specs.Prelude.{◌≡◌, IfSome, None};
 
 use mlt_object_kinds::{Done, ObjOp};
 use mlt_serve_notes::Cut;
@@ -40,7 +40,7 @@ pub struct WaitState {
 #[derive(Clone, Copy, Debug)]
 pub struct OpenTransaction {
     pub number: TxId,
-    /// When it began, if a clock could say so.
+    /// Since when others see it, if a clock could say so: since its session first waited after it began, for its client or for others.
     pub since: Option<Instant>,
     /// How many operations it has done.
     pub operations: u64,
@@ -56,6 +56,8 @@ pub struct SessionState {
     /// When it began, if a clock could say so.
     pub since: Option<Instant>,
     pub transaction: Option<OpenTransaction>,
+    /// The number of the transaction that it has begun last, whether or not that is shown; 0 before the first.
+    pub last: TxId,
     /// The operation that it is in.
     pub op: Option<ObjOp>,
     /// Its wait, if the operation has had to wait.
@@ -78,6 +80,7 @@ impl SessionState {
             client,
             since,
             transaction: None,
+            last: TxId(0),
             op: None,
             wait: None,
             cut: None,
@@ -120,26 +123,16 @@ impl SessionState {
         self.wait = None;
     }
 
-    /// Its transaction has done an operation, with its reply.
-    pub(crate) fn add(&mut self, done: Done) {
+    /// Of its transaction this is the operation with this number, from 0, and the last one.
+    pub(crate) fn put_deed(&mut self, number: u64, deed: Deed) {
         if let Some(transaction) = &mut self.transaction {
-            transaction.add(done);
+            transaction.deeds[(number % DEEDS as u64) as usize] = deed;
+            transaction.operations = number.saturating_add(1);
         }
     }
 }
 
 impl SessionState {
-    /// Whether its operation waits, as one of this transaction.
-    pub fn waits_as(&self, tx: TxId) -> bool
-        ensures some { IfSome self.now.wait (λ wait. result ≡ (wait.waiter == tx)) }
-        ensures none { self.now.wait ≡ None → result ≡ false }
-    {
-        match &self.wait {
-            Some(wait) => wait.waiter == tx,
-            None => false,
-        }
-    }
-
     /// Since when its operation waits, if it does, and a clock could say so.
     pub fn waits_since(&self) -> Option<Instant>
         ensures some { IfSome self.now.wait (λ wait. result ≡ wait.since) }
@@ -166,11 +159,5 @@ impl OpenTransaction {
             }
         }
         Ok(last)
-    }
-
-    fn add(&mut self, done: Done) {
-        let at = (self.operations % DEEDS as u64) as usize;
-        self.deeds[at] = Some(done);
-        self.operations = self.operations.saturating_add(1);
     }
 }

@@ -1,5 +1,7 @@
 //! A session at its seat, as its own thread sees it.
 
+use crate::count::Tally;
+use crate::draft::Draft;
 use crate::seat::Seat;
 use crate::session::Awaits;
 use mlt_event::{Answer, Told};
@@ -9,8 +11,8 @@ use std::cell::Cell;
 use std::sync::Wait;
 use std::time::{Clock, Instant};
 
-/// A session at its seat. What others are to see it notes there: waits always, and where it is watched its transactions and what they
-/// did too.
+/// A session at its seat. It notes what it does in cells of its own, and shows it to others now and then: what it has counted, and
+/// where it is watched its open transaction. A wait it shows at once.
 #[derive(Drop)]
 pub struct Sitting<'a, R: Wait + Clock> {
     rt: &'a R,
@@ -19,8 +21,12 @@ pub struct Sitting<'a, R: Wait + Clock> {
     tx: Cell<TxId>,
     /// The operation that it has called last.
     op: Cell<Option<ObjOp>>,
-    /// Whether a wait of its operation is noted.
+    /// Whether a wait of its operation is shown.
     waits: Cell<bool>,
+    /// What it does, where it is watched.
+    draft: Draft,
+    /// What it has counted and not shown.
+    tallies: Tallies,
 }
 
 impl<'a, R: Wait + Clock> Sitting<'a, R> {
@@ -33,6 +39,8 @@ impl<'a, R: Wait + Clock> Sitting<'a, R> {
             tx: Cell::new(TxId(0)),
             op: Cell::new(None),
             waits: Cell::new(false),
+            draft: Draft::new(),
+            tallies: Tallies::new(),
         }
     }
 
@@ -55,7 +63,7 @@ impl<'a, R: Wait + Clock> Sitting<'a, R> {
 
     /// Its operation is given up since its transaction is the youngest of a circle of waits.
     pub fn deadlock(&self) {
-        self.seat.deadlocks.add_one();
+        self.tallies.deadlocks.add_one();
     }
 
     /// An event of it was told this.
@@ -76,13 +84,13 @@ impl<'a, R: Wait + Clock> Sitting<'a, R> {
         self.end_wait();
         match told {
             Told::Begun(tx) => self.begin(*tx),
-            Told::Cancelled => self.seat.gave_up.add_one(),
+            Told::Cancelled => self.tallies.gave_up.add_one(),
             Told::Committed(_) => {
-                self.seat.commits.add_one();
+                self.tallies.commits.add_one();
                 self.end();
             }
             Told::Aborting(true) | Told::Answered(Answer::Aborted) => {
-                self.seat.aborts.add_one();
+                self.tallies.aborts.add_one();
                 self.end();
             }
             _ => (),
@@ -91,35 +99,46 @@ impl<'a, R: Wait + Clock> Sitting<'a, R> {
 
     fn begin(&self, tx: TxId) {
         self.tx.set(tx);
-        self.seat.begun.add_one();
+        self.tallies.begun.add_one();
         if self.is_watched {
-            let now = Instant::now(self.rt).ok();
-            self.seat.change(self.rt, |state| state.begin(tx, now));
+            self.seat.begin(tx);
+            self.draft.begin(tx);
         }
     }
 
+    /// Its transaction has ended. One that others see they see no longer, so that none is taken for open that is not.
     fn end(&self) {
-        if self.is_watched {
+        if self.draft.end() {
             self.seat.change(self.rt, |state| state.transaction = None);
         }
     }
 
     fn finish(&self, reply: ObjReply) {
-        self.seat.operations.add_one();
+        self.tallies.operations.add_one();
         self.end_wait();
         if let Some(op) = self.op.take() {
-            if self.is_watched {
-                let done = Done::new(op, reply);
-                self.seat.change(self.rt, |state| state.add(done));
-            }
+            self.draft.add(Done::new(op, reply));
+        }
+    }
+
+    /// Shows what it has done until now. It is called before the client hears of it, and before the session waits for what comes
+    /// next: so one whose transaction stays open shows that.
+    pub fn show(&self) {
+        self.tallies.show(self.seat);
+        if self.draft.is_to_be_shown() {
+            let now = self.draft.time(self.rt);
+            self.seat
+                .change(self.rt, |state| self.draft.show(state, now));
         }
     }
 
     fn wait(&self, awaits: Awaits) {
         let (tx, op) = (self.tx.get(), self.op.get());
         let now = Instant::now(self.rt).ok();
-        self.seat
-            .change(self.rt, |state| state.wait(tx, op, awaits, now));
+        self.seat.change(self.rt, |state| {
+            self.draft.show(state, now);
+            state.wait(tx, op, awaits, now)
+        });
         self.waits.set(true);
     }
 
@@ -127,5 +146,39 @@ impl<'a, R: Wait + Clock> Sitting<'a, R> {
         if self.waits.replace(false) {
             self.seat.end_wait(self.rt);
         }
+    }
+}
+
+/// What a session has counted and not shown.
+#[derive(Drop)]
+struct Tallies {
+    begun: Tally,
+    operations: Tally,
+    commits: Tally,
+    aborts: Tally,
+    gave_up: Tally,
+    deadlocks: Tally,
+}
+
+impl Tallies {
+    fn new() -> Tallies {
+        Tallies {
+            begun: Tally::new(),
+            operations: Tally::new(),
+            commits: Tally::new(),
+            aborts: Tally::new(),
+            gave_up: Tally::new(),
+            deadlocks: Tally::new(),
+        }
+    }
+
+    /// Shows all counts at the seat. A transaction is counted as begun before it is counted as ended.
+    fn show(&self, seat: &Seat) {
+        self.begun.show(&seat.begun);
+        self.operations.show(&seat.operations);
+        self.commits.show(&seat.commits);
+        self.aborts.show(&seat.aborts);
+        self.gave_up.show(&seat.gave_up);
+        self.deadlocks.show(&seat.deadlocks);
     }
 }
