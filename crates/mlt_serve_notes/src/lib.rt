@@ -6,5 +6,5 @@ mod notes;
 mod writing;
 
 pub use note::{Cut, Ended, Note};
-pub use notes::{Notes, Sent};
+pub use notes::{Notes, Outlet};
 pub use writing::write_notes;

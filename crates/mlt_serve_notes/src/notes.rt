@@ -3,27 +3,39 @@
 use crate::note::Note;
 use crossbeam_channel::{Receiver, Sender};
 use std::alloc::{AllocError, Global};
-use std::sync::Wait;
 use std::sync::atomic::{AtomicU64, Ordering};
-use std::time::{Clock, SystemTime};
+use std::sync::{Arc, Wait};
+use std::time::{Clock, Duration, SystemTime};
 
 /// How many notes may be on their way.
 const MOST_ON_THEIR_WAY: usize = 128;
 
-/// What is on its way.
+/// For how many seconds the end waits until all notes are written.
+const LAST_WRITES_SECONDS: u64 = 5;
+
+/// A note that was told.
 #[derive(Clone, Copy, Debug, Drop)]
-pub enum Sent {
-    /// A note, and how many seconds after the start of 1970 it was told, if a clock could say so.
-    Told(Option<u64>, Note),
-    /// No more follow.
-    Last,
+pub(crate) struct Told {
+    pub(crate) note: Note,
+    /// How many seconds after the start of 1970 it was told, if a clock could say so.
+    pub(crate) seconds: Option<u64>,
 }
 
 /// Where notes are told. Nobody who tells one waits: where too many are on their way it is lost, and only counted.
 #[derive(Drop)]
 pub struct Notes {
-    to: Sender<Sent, Global>,
-    lost: AtomicU64,
+    to: Sender<Told, Global>,
+    lost: Arc<AtomicU64>,
+    /// Nothing comes by it. It is closed once the outlet is gone.
+    outlet_is_gone: Receiver<(), Global>,
+}
+
+/// Where notes come out. It needs nothing of who tells them, so a thread that writes them may go on when all others have ended.
+#[derive(Drop)]
+pub struct Outlet {
+    from: Receiver<Told, Global>,
+    lost: Arc<AtomicU64>,
+    _here: Sender<(), Global>,
 }
 
 impl Notes {
@@ -31,27 +43,49 @@ impl Notes {
     ///
     /// # Errors
     /// Where a growth is refused.
-    pub fn new(alloc: Global) -> Result<(Notes, Receiver<Sent, Global>), AllocError> {
+    pub fn new(alloc: Global) -> Result<(Notes, Outlet), AllocError> {
         let (to, from) = crossbeam_channel::bounded(alloc, MOST_ON_THEIR_WAY)?;
+        let (here, outlet_is_gone) = crossbeam_channel::bounded(alloc, 1)?;
+        let lost = Arc::new(alloc, AtomicU64::new(0))?;
+        let outlet = Outlet {
+            from,
+            lost: lost.clone()?,
+            _here: here,
+        };
         let notes = Notes {
             to,
-            lost: AtomicU64::new(0),
+            lost,
+            outlet_is_gone,
         };
-        Ok((notes, from))
+        Ok((notes, outlet))
     }
 
     /// Tells a note, at once.
     pub fn tell<R: Wait + Clock>(&self, rt: &R, note: Note) {
-        let sent = Sent::Told(seconds_now(rt), note);
-        if self.to.try_send(rt, sent).is_err() {
+        let seconds = seconds_now(rt);
+        if self.to.try_send(rt, Told { note, seconds }).is_err() {
             self.lost.fetch_add(1, Ordering::SeqCst);
         }
     }
 
-    /// Tells that no more follow, once there is room.
-    pub fn end<R: Wait>(&self, rt: &R) {
-        // It fails only where nobody takes notes any more.
-        let _ = self.to.send(rt, Sent::Last);
+    /// No more notes follow. It waits until those that were told are written, but for 5 seconds at most: who reads them may have
+    /// stopped, and a thread in a write can't be called back.
+    pub fn end<R: Wait + Clock>(self, rt: &R) {
+        let Notes {
+            to,
+            lost: _,
+            outlet_is_gone,
+        } = self;
+        drop(to);
+        // It fails, since the outlet is gone or the time is over.
+        let _ = outlet_is_gone.recv_timeout(rt, Duration::from_secs(LAST_WRITES_SECONDS));
+    }
+}
+
+impl Outlet {
+    /// The next note, once there is one. None follows that.
+    pub(crate) fn next<R: Wait>(&self, rt: &R) -> Option<Told> {
+        self.from.recv(rt).ok()
     }
 
     /// How many were lost since this was asked last.

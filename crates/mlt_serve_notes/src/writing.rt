@@ -1,37 +1,29 @@
 //! Lines of notes.
 
-use crate::note::Note;
-use crate::notes::{Notes, Sent};
-use crossbeam_channel::Receiver;
+use crate::notes::{Outlet, Told};
 use httpdate::HttpDate;
 use mlt_text::write_text;
 use std::alloc::{AllocError, Global};
 use std::io::Write;
 use std::sync::Wait;
 
-/// Writes a line for each note as it comes, until it is told that no more follow. A line that can't be written is lost, as is one
-/// that memory is refused for.
-pub fn write_notes<R: Wait, W: Write>(
-    rt: &R,
-    alloc: Global,
-    notes: &Notes,
-    from: &Receiver<Sent, Global>,
-    writer: &mut W,
-) {
+/// Writes a line for each note as it comes, until no more follow. A line that can't be written is lost, as is one that memory is
+/// refused for.
+pub fn write_notes<R: Wait, W: Write>(rt: &R, alloc: Global, outlet: &Outlet, writer: &mut W) {
     for _ in rt.forever() {
-        match from.recv(rt) {
-            Ok(Sent::Told(seconds, note)) => write_note(alloc, seconds, &note, writer),
-            Ok(Sent::Last) | Err(_) => return,
-        }
-        let lost = notes.take_lost();
+        let Some(told) = outlet.next(rt) else {
+            return;
+        };
+        write_note(alloc, &told, writer);
+        let lost = outlet.take_lost();
         if lost > 0 {
             write_lost(alloc, lost, writer);
         }
     }
 }
 
-fn write_note<W: Write>(alloc: Global, seconds: Option<u64>, note: &Note, writer: &mut W) {
-    if let Ok(line) = line_of(alloc, seconds, note) {
+fn write_note<W: Write>(alloc: Global, told: &Told, writer: &mut W) {
+    if let Ok(line) = line_of(alloc, told) {
         // Nobody can be told that a note was lost so.
         let _ = write_text(writer, line.as_bytes());
     }
@@ -44,8 +36,9 @@ fn write_lost<W: Write>(alloc: Global, lost: u64, writer: &mut W) {
 }
 
 /// The line of a note, with its time as HTTP writes it (RFC 9110, section 5.6.7), if it has one.
-fn line_of(alloc: Global, seconds: Option<u64>, note: &Note) -> Result<String, AllocError> {
-    match seconds.map(HttpDate::from_unix_secs) {
+fn line_of(alloc: Global, told: &Told) -> Result<String, AllocError> {
+    let note = &told.note;
+    match told.seconds.map(HttpDate::from_unix_secs) {
         Some(Ok(date)) => format!(in alloc; "mltx: note {date}: {note}\n"),
         _ => format!(in alloc; "mltx: note {note}\n"),
     }
