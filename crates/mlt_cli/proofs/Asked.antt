@@ -8,8 +8,8 @@ use Rattle.clap.specs.declared.builder.command.Command.TheViews.{out-Command}
 use Rattle.clap.specs.declared.builder.value_parser.ValueParser.{ValueParser}
 use Rattle.clap.proofs.OnLiterals.{clap_on_literals}
 use Rattle.clap.specs.declared.error.Error.{Error}
-use Rattle.clap.specs.declared.error.kind.ErrorKind.TheVariants.{MissingRequiredArgument, OutOfMemory}
-use Rattle.mlt_cli.specs.CommandLine.{AreNames, AskFor, Asked, FailsAt, IsFileWord, NameLists, SaysVerbose, Subcommand, asked_by, asked_in, begins_with_hyphen, hash_named, is_verbose_in, mltx_app, run_in, run_of, subcommand_name, with_input}
+use Rattle.clap.specs.declared.error.kind.ErrorKind.TheVariants.{OutOfMemory}
+use Rattle.mlt_cli.specs.CommandLine.{AreNames, AskFor, Asked, FailsAt, IsFileWord, NameLists, SaysVerbose, Subcommand, asked_by, asked_in, begins_with_hyphen, hash_named, is_verbose_in, kind_of_want, mltx_app, run_in, run_of, subcommand_name, with_input}
 use Rattle.mlt_cli.specs.declared.words.Hash.{Hash}
 use Rattle.mlt_cli.specs.CommandLine.Subcommand.{solo, steps, run, check, serve}
 
@@ -145,9 +145,11 @@ module _ (names : NameLists) (are : AreNames names) (app : App) (is : app ≡ ml
   fails_by_kind (word ∷ words) error some (inl memory) = inl memory
   fails_by_kind (word ∷ words) error some (inr among) = inr (names, are, inl (subst (λ a. IsAmong (kind_of error) (fault_of a (word ∷ words))) is among))
 
-  pub fails_by_want : (words : List Text) (error : Error) → words ≢ [] → asked_in (subcommand_of app words) ≡ None → kind_of error ≡ MissingRequiredArgument → FailsAt words error
+  pub fails_by_want : (words : List Text) (error : Error) → words ≢ [] → asked_in (subcommand_of app words) ≡ None
+      → kind_of error ≡ kind_of_want (subcommand_of app words) → FailsAt words error
   fails_by_want [] error some none kind = absurd (some refl)
-  fails_by_want (word ∷ words) error some none kind = inr (names, are, inr (subst (λ a. asked_in (subcommand_of a (word ∷ words)) ≡ None) is none, kind))
+  fails_by_want (word ∷ words) error some none kind =
+      inr (names, are, inr (subst (λ a. asked_in (subcommand_of a (word ∷ words)) ≡ None) is none, subst (λ a. kind_of error ≡ kind_of_want (subcommand_of a (word ∷ words))) is kind))
 
 -- ---- the subcommand that a parse met
 

@@ -1,5 +1,5 @@
 -- What the words of a command line ask for.
-use Rattle.std.specs.Prelude.{◌≡◌, ◌==◌, ◌⊎◌, ◌≤◌, ◌<◌, ◌&&◌, ◌||◌, ℕ, Bool, true, false, List, [], ◌∷◌, map, length, nat_lt, nat_le, Option, Some, None, option_map, codes, if◌then◌else◌}
+use Rattle.std.specs.Prelude.{◌≡◌, ◌==◌, ◌⊎◌, ◌≤◌, ◌<◌, ◌&&◌, ◌||◌, ℕ, Bool, true, false, List, [], ◌∷◌, map, length, nat_lt, nat_le, Option, Some, None, is_some, option_map, codes, if◌then◌else◌}
 use Rattle.std.specs.Borrow.{Bor}
 use Rattle.std.specs.Char.{digit_value}
 use Rattle.std.specs.List.{list_all}
@@ -11,15 +11,18 @@ use Rattle.clap.specs.Words.{App, IsAmong, Row, Rule, Text, fault_of, first_of, 
 use Rattle.clap.specs.declared.builder.value_parser.ValueParser.TheVariants.{Names, Unsigned}
 use Rattle.clap.specs.declared.builder.action.ArgAction.TheVariants.{SetTrue}
 use Rattle.clap.specs.declared.error.kind.ErrorKind.{ErrorKind}
-use Rattle.clap.specs.declared.error.kind.ErrorKind.TheVariants.{DisplayHelp, DisplayVersion, MissingRequiredArgument, OutOfMemory}
+use Rattle.clap.specs.declared.error.kind.ErrorKind.TheVariants.{ArgumentConflict, DisplayHelp, DisplayVersion, MissingRequiredArgument, OutOfMemory}
 use Rattle.clap.specs.declared.error.Error.{Error}
 use Rattle.mlt_object_tables.specs.declared.tables.TableName.{TableName}
 use Rattle.mlt_object_tables.specs.declared.tables.TableName.TheVariants as table
 use Rattle.mlt_cli.specs.declared.words.Hash.{Hash}
 use Rattle.mlt_cli.specs.declared.words.Hash.TheVariants.{Mult, Low}
+use Rattle.mlt_cli.specs.declared.words.Connections.{Connections}
+use Rattle.mlt_cli.specs.declared.words.Connections.TheVariants.{Limit, Endless}
 use Rattle.mlt_cli.specs.declared.words.Full.{Full}
 use Rattle.mlt_cli.specs.declared.words.Full.TheVariants.{Wait, Refuse}
 use Rattle.mlt_cli.specs.declared.words.Operating.{Operating}
+use Rattle.mlt_cli.specs.declared.words.Check.{Check}
 use Rattle.mlt_cli.specs.declared.words.Run.{Run}
 use Rattle.mlt_cli.specs.declared.words.Schedule.{Schedule}
 use Rattle.mlt_cli.specs.declared.words.Work.{Work}
@@ -106,6 +109,10 @@ steps_app names = with_rule (run_app names (codes "steps")) explain_rule
 abbrev pub tries_rule : Rule
 tries_rule = number_rule (codes "tries") 1 1000000
 
+-- `check`, which may take a trace of any length
+abbrev pub check_app : App
+check_app = with_rule (input_app (codes "check")) (flag_rule (codes "long"))
+
 -- `run`, which has workers
 abbrev pub work_app : NameList → App
 work_app names =
@@ -137,9 +144,11 @@ with_operating fulls app =
     (with_rule (with_rule app (choice_rule (codes "full") fulls)) (text_rule (codes "admin")))
     (flag_rule (codes "until-eof"))
 
--- `serve`, which has counts and times, and is operated
+-- `serve`, which may be without end, has counts and times, and is operated
 abbrev pub serve_app : NameList → NameList → App
-serve_app names fulls = with_operating fulls (with_times (with_counts (run_app names (codes "serve"))))
+serve_app names fulls =
+    with_operating fulls
+    (with_times (with_counts (with_rule (run_app names (codes "serve")) (flag_rule (codes "endless")))))
 
 abbrev pub table_rule : NameList → Rule
 table_rule names = record (new_rule (codes "table")) {
@@ -172,7 +181,7 @@ mltx_app names =
     (with_subcommand bare_app (run_app names.hashes (codes "solo")).top)
     (steps_app names.hashes).top)
     (work_app names.hashes).top)
-    (input_app (codes "check")).top)
+    check_app.top)
     (serve_app names.hashes names.fulls).top)
     (tables_app names.tables).top
 
@@ -189,6 +198,11 @@ pub record ScheduleForm : Type 0 where
   pub run : RunForm
   pub explains : Bool
 
+-- a trace that is checked, and whether it may have any length
+pub record CheckForm : Type 0 where
+  pub input : Text
+  pub is_long : Bool
+
 -- the workers, and how often a script may be told to wait
 pub record WorkForm : Type 0 where
   pub run : RunForm
@@ -198,7 +212,7 @@ pub record WorkForm : Type 0 where
 -- how many sessions there are at once, how many connections in all, and how often an operation may be told to wait
 pub record CountsForm : Type 0 where
   pub sessions : ℕ
-  pub limit : ℕ
+  pub connections : Connections
   pub tries : ℕ
 
 -- where an operator connects, if anywhere, and whether the server ends with its standard input
@@ -219,7 +233,7 @@ pub data Asked : Type 0 where
   to_solo : RunForm → Asked
   to_steps : ScheduleForm → Asked
   to_work : WorkForm → Asked
-  to_check : Text → Asked
+  to_check : CheckForm → Asked
   to_serve : ServeForm → Asked
   to_tables : Option TableName → Asked
 
@@ -234,6 +248,9 @@ abbrev pub form_of_schedule : Schedule → ScheduleForm
 form_of_schedule schedule =
     record { run = form_of_run schedule.run; explains = schedule.explains }
 
+abbrev pub form_of_check : Check → CheckForm
+form_of_check check = record { input = string_bytes check.input; is_long = check.is_long }
+
 abbrev pub form_of_work : Work → WorkForm
 form_of_work work =
     record { run = form_of_run work.run; workers = work.workers; tries = work.tries }
@@ -247,7 +264,7 @@ form_of_operating operating = record {
 abbrev pub form_of_serve : Serve → ServeForm
 form_of_serve serve = record {
   run = form_of_run serve.run;
-  counts = record { sessions = serve.sessions; limit = serve.limit; tries = serve.tries };
+  counts = record { sessions = serve.sessions; connections = serve.connections; tries = serve.tries };
   times = serve.times;
   full = serve.full;
   operating = form_of_operating serve.operating;
@@ -258,7 +275,7 @@ abbrev pub asked_of : Job → Asked
 asked_of (job.Solo run) = to_solo (form_of_run run)
 asked_of (job.Steps schedule) = to_steps (form_of_schedule schedule)
 asked_of (job.Work work) = to_work (form_of_work work)
-asked_of (job.Check file) = to_check (string_bytes file)
+asked_of (job.Check check) = to_check (form_of_check check)
 asked_of (job.Serve serve) = to_serve (form_of_serve serve)
 asked_of (job.Tables name) = to_tables name
 
@@ -266,12 +283,17 @@ asked_of (job.Tables name) = to_tables name
 abbrev pub AreWithinDay : Times → Type 0
 AreWithinDay times = (times.idle ≤ 86400) × (times.wait ≤ 86400) × (times.transaction ≤ 86400)
 
+-- a limit is from 1 to a million
+abbrev pub IsWithinLimit : Connections → Type 0
+IsWithinLimit (Limit limit) = (0 < limit) × (limit ≤ 1000000)
+IsWithinLimit Endless = Unit {0}
+
 -- the numbers of a job are within their bounds
 abbrev pub IsWithinBounds : Job → Type 0
 IsWithinBounds (job.Work work) = (0 < work.workers) × (work.workers ≤ 8)
     × (0 < work.tries) × (work.tries ≤ 1000000)
 IsWithinBounds (job.Serve serve) = (0 < serve.sessions) × (serve.sessions ≤ 64)
-    × (0 < serve.limit) × (serve.limit ≤ 1000000) × (0 < serve.tries) × (serve.tries ≤ 1000000)
+    × IsWithinLimit serve.connections × (0 < serve.tries) × (serve.tries ≤ 1000000)
     × AreWithinDay serve.times
 IsWithinBounds other = Unit {0}
 
@@ -283,7 +305,7 @@ plain_run input = record { input = input; hash = Mult; trace = None }
 abbrev pub plain_serve : Text → ServeForm
 plain_serve input = record {
   run = plain_run input;
-  counts = record { sessions = 8; limit = 1; tries = 10000 };
+  counts = record { sessions = 8; connections = Limit 1; tries = 10000 };
   times = record { idle = 0; wait = 0; transaction = 0 };
   full = Wait;
   operating = record { admin = None; until_eof = false };
@@ -310,7 +332,7 @@ abbrev pub with_input : Subcommand → Text → Asked
 with_input solo input = to_solo (plain_run input)
 with_input steps input = to_steps (record { run = plain_run input; explains = false })
 with_input run input = to_work (record { run = plain_run input; workers = 4; tries = 10000 })
-with_input check input = to_check input
+with_input check input = to_check (record { input = input; is_long = false })
 with_input serve input = to_serve (plain_serve input)
 
 -- ---- what the words ask for
@@ -355,6 +377,10 @@ abbrev pub schedule_in : List Row → Option ScheduleForm
 schedule_in rows =
     option_map (λ run. record { run = run; explains = has_flag (codes "explain") rows }) (run_in rows)
 
+-- what the matches of `check` ask for
+abbrev pub check_in : List Row → Option CheckForm
+check_in rows = option_map (λ input. record { input = input; is_long = has_flag (codes "long") rows }) (first_of (codes "input") rows)
+
 abbrev pub tries_in : List Row → Option ℕ
 tries_in rows = number_named 1 1000000 10000 (first_of (codes "tries") rows)
 
@@ -369,16 +395,25 @@ work_of (Some r) (Some workers) (Some tries) =
 abbrev pub work_in : List Row → Option WorkForm
 work_in rows = work_of (run_in rows) (number_named 1 8 4 (first_of (codes "workers") rows)) (tries_in rows)
 
-abbrev pub counts_of : Option ℕ → Option ℕ → Option ℕ → Option CountsForm
-counts_of None limit tries = None
+-- as many connections as the limit says, or as come; None where both are asked for
+abbrev pub connections_of : Bool → Option Text → Option Connections
+connections_of false limit = option_map Limit (number_named 1 1000000 1 limit)
+connections_of true None = Some Endless
+connections_of true (Some limit) = None
+
+abbrev pub connections_in : List Row → Option Connections
+connections_in rows = connections_of (has_flag (codes "endless") rows) (first_of (codes "limit") rows)
+
+abbrev pub counts_of : Option ℕ → Option Connections → Option ℕ → Option CountsForm
+counts_of None connections tries = None
 counts_of (Some sessions) None tries = None
-counts_of (Some sessions) (Some limit) None = None
-counts_of (Some sessions) (Some limit) (Some tries) =
-    Some (record { sessions = sessions; limit = limit; tries = tries })
+counts_of (Some sessions) (Some connections) None = None
+counts_of (Some sessions) (Some connections) (Some tries) =
+    Some (record { sessions = sessions; connections = connections; tries = tries })
 
 abbrev pub counts_in : List Row → Option CountsForm
 counts_in rows = counts_of (number_named 1 64 8 (first_of (codes "sessions") rows))
-    (number_named 1 1000000 1 (first_of (codes "limit") rows)) (tries_in rows)
+    (connections_in rows) (tries_in rows)
 
 -- the seconds that the option of this name gives, and 0 where it is not given
 abbrev pub seconds_in : Text → List Row → Option ℕ
@@ -440,7 +475,7 @@ abbrev pub asked_by : Text → List Row → Option Asked
 asked_by name rows = if bytes_eq name (codes "solo") then option_map to_solo (run_in rows)
     else (if bytes_eq name (codes "steps") then option_map to_steps (schedule_in rows)
     else (if bytes_eq name (codes "run") then option_map to_work (work_in rows)
-    else (if bytes_eq name (codes "check") then option_map to_check (first_of (codes "input") rows)
+    else (if bytes_eq name (codes "check") then option_map to_check (check_in rows)
     else (if bytes_eq name (codes "serve") then option_map to_serve (serve_in rows)
     else (if bytes_eq name (codes "tables") then option_map to_tables (tables_in rows)
     else None)))))
@@ -469,10 +504,24 @@ SaysVerbose (word ∷ words) verbose = (names : NameLists) × AreNames names
     × (verbose ≡ is_verbose_in (matches_of (mltx_app names) (word ∷ words))
     (subcommand_of (mltx_app names) (word ∷ words)))
 
--- something is wrong with the words, and the error is of its kind; or no input is found in them
+-- what was found asks for connections without end, and limits them too
+abbrev pub has_both : List Row → Bool
+has_both rows = has_flag (codes "endless") rows && is_some (first_of (codes "limit") rows)
+
+-- the subcommand does so
+abbrev pub are_endless_and_limited : Option (Text × List Row) → Bool
+are_endless_and_limited None = false
+are_endless_and_limited (Some met) = has_both met.1
+
+-- of which kind the error is where no job is found: two options exclude each other, or an input is wanted
+abbrev pub kind_of_want : Option (Text × List Row) → ErrorKind
+kind_of_want met = if are_endless_and_limited met then ArgumentConflict else MissingRequiredArgument
+
+-- something is wrong with the words, and the error is of its kind; or no job is found in them
 abbrev pub IsWrongBy : NameLists → List Text → Error → Type 0
 IsWrongBy names words error = IsAmong (kind_of error) (fault_of (mltx_app names) words)
-    ⊎ ((asked_in (subcommand_of (mltx_app names) words) ≡ None) × (kind_of error ≡ MissingRequiredArgument))
+    ⊎ ((asked_in (subcommand_of (mltx_app names) words) ≡ None)
+    × (kind_of error ≡ kind_of_want (subcommand_of (mltx_app names) words)))
 
 -- an error that the words call for: memory ran out, or something is wrong with them by the program's description
 abbrev pub FailsAt : List Text → Error → Type 0

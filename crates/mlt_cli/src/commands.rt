@@ -3,7 +3,7 @@
 ghost use Rattle.std.specs.Prelude.{◌≡◌, IfOk, false};
 ghost use Rattle.clap.specs.Words.{app_of, rule_of};
 ghost use Rattle.clap.specs.declared.builder.command.Command.TheViews.{out-Command};
-ghost use Rattle.mlt_cli.specs.CommandLine.{bare_app, choice_rule, flag_rule, input_app, mltx_app, names_of, number_rule, run_app, serve_app, steps_app, tables_app, text_rule, verbose_rule, with_counts, with_operating, with_times, work_app};
+ghost use Rattle.mlt_cli.specs.CommandLine.{bare_app, check_app, choice_rule, flag_rule, input_app, mltx_app, names_of, number_rule, run_app, serve_app, steps_app, tables_app, text_rule, verbose_rule, with_counts, with_operating, with_times, work_app};
 
 use clap::builder::ValueParser;
 use clap::{Arg, ArgAction, Command};
@@ -98,7 +98,7 @@ An open transaction is taken back as its connection ends. The trace, where one i
 written as the server goes. At the end the program writes `served` and how many there were.
 
 A server that stays up, shows http://127.0.0.1:7001, and ends by its button or a POST to /stop:
-  mltx serve 127.0.0.1:7000 --limit 1000000 --sessions 64 --idle 600 --admin 127.0.0.1:7001";
+  mltx serve 127.0.0.1:7000 --endless --sessions 64 --idle 600 --admin 127.0.0.1:7001";
 
 const CHECK_ABOUT: &str =
     "Checks the trace of FILE: whether its transactions, run alone in the order of their commits, are told the same.";
@@ -152,6 +152,9 @@ const TABLE_HELP: &str = "The table that is printed; without it all of them";
 const TRIES_HELP: &str =
     "How often a script, or an operation of a session, may be told to wait, from 1 to 1000000; without it 10000";
 
+const LONG_HELP: &str =
+    "The trace may have any length: it is checked as it is read, and written of as it is checked";
+
 const EXPLAIN_HELP: &str = "Where an event is blocked or waits, lines that begin with `#` say why";
 
 const WORKERS_HELP: &str = "How many workers run scripts at once, from 1 to 8; without it 4";
@@ -159,6 +162,9 @@ const WORKERS_HELP: &str = "How many workers run scripts at once, from 1 to 8; w
 const SESSIONS_HELP: &str = "How many sessions are held at once, from 1 to 64; without it 8";
 
 const LIMIT_HELP: &str = "How many connections are served in all, from 1 to 1000000; without it 1";
+
+const ENDLESS_HELP: &str =
+    "As many connections are served as come, and nothing is kept of what was done; not with --limit";
 
 const IDLE_HELP: &str =
     "How many seconds a connection may be idle, from 0, which is for ever, to 86400; without it 0";
@@ -205,7 +211,7 @@ pub(crate) fn mltx_command<'a>(
     let command = command.subcommand(steps)?;
     let run = work_command(alloc, names)?;
     let command = command.subcommand(run)?;
-    let check = input_command(alloc, "check", FILE, CHECK_ABOUT, CHECK_EXAMPLE)?;
+    let check = check_command(alloc)?;
     let command = command.subcommand(check)?;
     let serve = serve_command(alloc, names, fulls)?;
     let command = command.subcommand(serve)?;
@@ -285,6 +291,15 @@ fn steps_command<'a>(alloc: Global, names: &'a [&'a str]) -> Result<Command<'a>,
 {
     let explain = flag_option(alloc, "explain", EXPLAIN_HELP);
     run_command(alloc, "steps", FILE, names, STEPS_ABOUT, STEPS_EXAMPLE)?.arg(explain)
+}
+
+// `check`, which may take a trace of any length.
+fn check_command<'a>(alloc: Global) -> Result<Command<'a>, AllocError>
+    ensures app { IfOk result (λ command. app_of command ≡ check_app) }
+    ensures globals { IfOk result (λ command. (out-Command command).has_globals ≡ false) }
+{
+    let long = flag_option(alloc, "long", LONG_HELP);
+    input_command(alloc, "check", FILE, CHECK_ABOUT, CHECK_EXAMPLE)?.arg(long)
 }
 
 // `tables`, where these are the names of the tables.
@@ -378,6 +393,7 @@ fn serve_command<'a>(
     ensures globals { IfOk result (λ command. (out-Command command).has_globals ≡ false) }
 {
     let command = run_command(alloc, "serve", ADDRESS, names, SERVE_ABOUT, SERVE_EXAMPLE)?;
+    let command = command.arg(flag_option(alloc, "endless", ENDLESS_HELP))?;
     let command = with_counts(alloc, command)?;
     let command = with_times(alloc, command)?;
     with_operating(alloc, command, fulls)

@@ -1,10 +1,10 @@
 //! The words of the command line, and the job that they ask for.
 
-ghost use Rattle.std.specs.Prelude.{◌≡◌, ◌≤◌, ℕ, List, [], ◌∷◌, IfOk, IfErr, IfSome, map, option_map, codes};
+ghost use Rattle.std.specs.Prelude.{◌≡◌, ◌≤◌, ◌&&◌, ℕ, List, [], ◌∷◌, IfOk, IfErr, IfSome, is_some, map, option_map, codes};
 ghost use Rattle.std.specs.Str.Parse.{without_leading_plus};
 ghost use Rattle.std.specs.String.{string_bytes};
 ghost use Rattle.clap.specs.Words.{first_of, found_of, kind_of, rows_of, subcommand_rows_of};
-ghost use Rattle.mlt_cli.specs.CommandLine.{AreWithinDay, AskFor, FailsAt, IsFileWord, IsWithinBounds, SaysVerbose, Subcommand, asked_by, asked_in, asked_of, form_of_operating, form_of_run, form_of_schedule, form_of_serve, form_of_work, full_in, full_named, has_flag, hash_named, is_verbose_in, number_named, number_of_digits, operating_in, run_in, schedule_in, seconds_in, serve_in, subcommand_name, table_named, tables_in, times_in, tries_in, with_input, work_in};
+ghost use Rattle.mlt_cli.specs.CommandLine.{AreWithinDay, AskFor, FailsAt, IsFileWord, IsWithinBounds, IsWithinLimit, SaysVerbose, Subcommand, are_endless_and_limited, asked_by, asked_in, asked_of, check_in, connections_in, connections_of, form_of_check, form_of_operating, form_of_run, form_of_schedule, form_of_serve, form_of_work, full_in, full_named, has_both, has_flag, hash_named, is_verbose_in, kind_of_want, number_named, number_of_digits, operating_in, run_in, schedule_in, seconds_in, serve_in, subcommand_name, table_named, tables_in, times_in, tries_in, with_input, work_in};
 ghost use Rattle.mlt_cli.specs.CommandLine.Subcommand.{solo};
 
 use crate::commands::mltx_command;
@@ -60,8 +60,8 @@ pub struct Serve {
     pub run: Run,
     /// How many sessions there are at once, from 1 to 64; 8 where none is said.
     pub sessions: usize,
-    /// How many connections there are in all, from 1 to 1,000,000; 1 where none is said.
-    pub limit: u32,
+    /// How many connections there are in all; one where nothing is said.
+    pub connections: Connections,
     /// How often an operation may be told to wait, from 1 to 1,000,000; 10,000 where none is said.
     pub tries: u64,
     /// After how many seconds a silence, a wait and an open transaction are ended.
@@ -70,6 +70,24 @@ pub struct Serve {
     pub full: Full,
     /// How the server is run and ended.
     pub operating: Operating,
+}
+
+/// A trace that is checked.
+#[derive(Debug, Drop)]
+pub struct Check {
+    /// The input's file as it stands on the command line. `-` is standard input.
+    pub input: String,
+    /// Whether the trace may have any length: then it is checked as it is read.
+    pub is_long: bool,
+}
+
+/// How many connections a server takes in all.
+#[derive(Clone, Copy, Debug, PartialEq, Eq)]
+pub enum Connections {
+    /// So many, from 1 to 1,000,000.
+    Limit(u32),
+    /// As many as come: neither what they were told nor what was done is kept.
+    Endless,
 }
 
 /// After how many seconds a server gives up, each from 0 to 86,400. 0 is never, also where none is said.
@@ -111,10 +129,7 @@ pub enum Job {
     /// To run the scripts of an input side by side.
     Work(Work),
     /// To check the trace of an input.
-    Check {
-        /// The input's file as it stands on the command line. `-` is standard input.
-        file: String,
-    },
+    Check(Check),
     /// To serve connections.
     Serve(Serve),
     /// To write the conflict table of this name, or all of them.
@@ -135,6 +150,9 @@ static HASH_NAMES: [&str; 2] = ["mult", "low"];
 
 // The names of the conflict tables.
 static TABLE_NAMES: [&str; 3] = ["account", "set", "counter"];
+
+// What is said where connections are to be without end, and limited too.
+const ENDLESS_AND_LIMITED: &str = "the argument '--endless' cannot be used with '--limit <N>'";
 
 // The names of what a client finds while all sessions are taken.
 static FULL_NAMES: [&str; 2] = ["wait", "refuse"];
@@ -191,7 +209,10 @@ fn read_job(alloc: Global, words: &[String]) -> Result<CommandLine, Error>
     let verbose = is_verbose_in(&matches);
     match job_in(alloc, &matches)? {
         Some(job) => Ok(CommandLine { job, verbose }),
-        None => Err(command.error(ErrorKind::MissingRequiredArgument, "an input is wanted")?),
+        None => {
+            let kind = kind_of_want(&matches);
+            Err(command.error(kind, text_of_want(kind))?)
+        }
     }
 }
 
@@ -215,6 +236,47 @@ fn is_verbose_in(matches: &ArgMatches<'_>) -> bool
         Some((_, found)) => flag_found(matches, "verbose") || flag_found(found, "verbose"),
         None => flag_found(matches, "verbose"),
     }
+}
+
+// Of which kind the error is where no job is found.
+fn kind_of_want(matches: &ArgMatches<'_>) -> ErrorKind
+    ensures { result ≡ kind_of_want (subcommand_rows_of matches.now) }
+{
+    if are_endless_and_limited(matches) {
+        ErrorKind::ArgumentConflict
+    } else {
+        ErrorKind::MissingRequiredArgument
+    }
+}
+
+// What is said where no job is found and the error is of this kind.
+fn text_of_want(kind: ErrorKind) -> &'static str {
+    match kind {
+        ErrorKind::ArgumentConflict => ENDLESS_AND_LIMITED,
+        _ => "an input is wanted",
+    }
+}
+
+// Whether connections are to be without end, and limited too.
+fn are_endless_and_limited(matches: &ArgMatches<'_>) -> bool
+    ensures { result ≡ are_endless_and_limited (subcommand_rows_of matches.now) }
+{
+    match matches.subcommand() {
+        Some((_, found)) => has_both(found),
+        None => false,
+    }
+}
+
+fn has_both(found: &ArgMatches<'_>) -> bool
+    ensures { result ≡ has_both (rows_of (found_of found.now)) }
+{
+    are_both(flag_found(found, "endless"), limit_found(found))
+}
+
+fn are_both(endless: bool, limit: Option<&str>) -> bool
+    ensures { result ≡ (endless && is_some (option_map (λ text. text.now) limit.entry)) }
+{
+    endless && limit.is_some()
 }
 
 // Whether a flag was met.
@@ -250,7 +312,7 @@ fn job_of(alloc: Global, name: &str, found: &ArgMatches<'_>) -> Result<Option<Jo
     } else if name == "run" {
         Ok(work_found(alloc, found)?.map(Job::Work))
     } else if name == "check" {
-        Ok(text_found(alloc, found, "input")?.map(|file| Job::Check { file }))
+        Ok(check_found(alloc, found)?.map(Job::Check))
     } else if name == "serve" {
         Ok(serve_found(alloc, found)?.map(Job::Serve))
     } else if name == "tables" {
@@ -283,6 +345,17 @@ fn schedule_found(alloc: Global, found: &ArgMatches<'_>) -> Result<Option<Schedu
     };
     let explains = flag_found(found, "explain");
     Ok(Some(Schedule { run, explains }))
+}
+
+fn check_found(alloc: Global, found: &ArgMatches<'_>) -> Result<Option<Check>, AllocError>
+    ensures { IfOk result
+        (λ check. option_map form_of_check check ≡ check_in (rows_of (found_of found.now))) }
+{
+    let Some(input) = text_found(alloc, found, "input")? else {
+        return Ok(None);
+    };
+    let is_long = flag_found(found, "long");
+    Ok(Some(Check { input, is_long }))
 }
 
 fn work_found(alloc: Global, found: &ArgMatches<'_>) -> Result<Option<Work>, AllocError>
@@ -319,7 +392,7 @@ fn serve_found(alloc: Global, found: &ArgMatches<'_>) -> Result<Option<Serve>, A
     let Some(sessions) = number_found(found, "sessions", 1, 64, 8) else {
         return Ok(None);
     };
-    let Some(limit) = number_found(found, "limit", 1, 1_000_000, 1) else {
+    let Some(connections) = connections_found(found) else {
         return Ok(None);
     };
     let Some(tries) = tries_found(found) else {
@@ -335,12 +408,28 @@ fn serve_found(alloc: Global, found: &ArgMatches<'_>) -> Result<Option<Serve>, A
     Ok(Some(Serve {
         run,
         sessions: sessions as usize,
-        limit: limit as u32,
+        connections,
         tries,
         times,
         full,
         operating,
     }))
+}
+
+// How many connections there are; None where both a limit is given and none is to be.
+fn connections_found(found: &ArgMatches<'_>) -> Option<Connections>
+    ensures connections { result ≡ connections_in (rows_of (found_of found.now)) }
+    ensures within { IfSome result IsWithinLimit }
+{
+    connections_of(flag_found(found, "endless"), limit_found(found))
+}
+
+// The limit as it stands on the command line, if there is one.
+fn limit_found<'a>(found: &'a ArgMatches<'_>) -> Option<&'a str>
+    ensures { option_map (λ text. text.now) result
+        ≡ first_of (codes "limit") (rows_of (found_of found.now)) }
+{
+    found.get_str("limit")
 }
 
 fn times_found(found: &ArgMatches<'_>) -> Option<Times>
@@ -455,6 +544,23 @@ fn hash_of(name: Option<&str>) -> Option<Hash>
         Some(name) if name == "mult" => Some(Hash::Mult),
         Some(name) if name == "low" => Some(Hash::Low),
         Some(_) => None,
+    }
+}
+
+// As many connections as the limit says, or as come; one where neither is asked for, and None where both are.
+fn connections_of(endless: bool, limit: Option<&str>) -> Option<Connections>
+    ensures connections { result
+        ≡ connections_of endless (option_map (λ text. text.now) limit.entry) }
+    ensures within { IfSome result IsWithinLimit }
+{
+    match (endless, limit) {
+        (true, Some(_)) => None,
+        (true, None) => Some(Connections::Endless),
+        (false, Some(word)) => {
+            let limit = number_of(word, 1, 1_000_000)?;
+            Some(Connections::Limit(limit as u32))
+        }
+        (false, None) => Some(Connections::Limit(1)),
     }
 }
 

@@ -1,3 +1,4 @@
 pub mod Merging
+pub mod Numbering
 pub mod Receiving
 pub mod Sorting

@@ -1,6 +1,6 @@
 -- Lists that are taken in one after another, the last one first.
-use Rattle.std.proofs.Common.{◌≡◌, ◌++◌, ◌∷◌, [], List, subst, sym, ap, ◌∙◌}
-use Rattle.std.specs.Prelude.{IfOk, IsPermutation, Result, Ok, Err, is_ok, if◌then◌else◌}
+use Rattle.std.proofs.Common.{◌≡◌, ◌++◌, ◌∷◌, [], List, subst, ap, ◌∙◌}
+use Rattle.std.specs.Prelude.{IsPermutation}
 use Rattle.std.specs.List.{flat_map}
 use Rattle.std.proofs.lemmas.Grind.{flat_map-append}
 use Rattle.std.proofs.lemmas.List.{append_assoc, append-nil}
@@ -17,9 +17,3 @@ module _ {X A : Type 0} (f : X → List A) (xs : List X) (x : X) where
       let in_three : flat_map f (xs ++ x ∷ []) ++ got ≡ front ++ (f x ++ got) = ap (λ (ys : List A). ys ++ got) last_last ∙ append_assoc front (f x) got in
       IsPermutation-trans all (front ++ (f x ++ got)) (front ++ (got ++ f x)) (subst (λ (ys : List A). IsPermutation all ys) in_three before)
       (IsPermutation-append_right front (f x ++ got) (got ++ f x) (IsPermutation-append_comm (f x) got))
-
--- where nothing was refused both lists are there, whichever was moved
-pub joined : {A E : Type 0} (result : Result (Unit {0}) E) (old more left right new : List A) → IsPermutation (old ++ more) (left ++ right)
-    → new ≡ (if is_ok result then left ++ right else left) → IfOk result (λ _. IsPermutation (old ++ more) new)
-joined (Ok u) old more left right new both e = subst (IsPermutation (old ++ more)) (sym e) both
-joined (Err refused) old more left right new both e = tt

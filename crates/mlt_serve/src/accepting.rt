@@ -25,6 +25,7 @@ pub(crate) struct Connection {
     /// Its number among those accepted, from 1.
     pub(crate) client: u32,
     pub(crate) stream: TcpStream,
+    ghost numbered: { 1 ≤ client },
 }
 
 /// How the accepting ended.

@@ -1,23 +1,23 @@
 //! What all session threads have served, put together.
 
 ghost use Rattle.std.specs.Prelude.{◌≡◌, ◌+◌, ◌-◌, ◌*◌, ◌^◌, ◌≤◌, ◌++◌, [], IfOk, IsPermutation, false, min, vec_len};
+ghost use Rattle.mlt_serve.specs.Clients.{AreOfClients};
 ghost use Rattle.mlt_serve.specs.Threads.{AllHaveMemory, all_outcomes};
 
 use crate::session_thread::SessionThread;
-use mlt_script_serial::Outcome;
+use mlt_serve_session::Receipts;
 use std::alloc::{AllocError, Global};
-use std::mem;
 use std::sync::ledger::{Ledger, Share};
 
 /// So many session threads that have served nothing yet, each with two parts of the ledger.
 ///
 /// # Errors
 /// Where a growth is refused.
-pub(crate) fn new_threads<L: Ledger>(
+pub(crate) fn new_threads<L: Ledger, K: Receipts + Drop>(
     alloc: Global,
     all: &mut Share<L>,
     sessions: usize,
-) -> Result<Vec<SessionThread<L>>, AllocError>
+) -> Result<Vec<SessionThread<L, K>>, AllocError>
     requires most { sessions ≤ 64 }
     requires parts { all.old.parts ≡ 129 }
     requires amount { all.old.amount ≡ 0 }
@@ -33,54 +33,49 @@ pub(crate) fn new_threads<L: Ledger>(
     Ok(threads)
 }
 
-/// Puts two lists into one, of which only the shorter one is moved.
-///
-/// # Errors
-/// Where a growth is refused.
-fn join(all: &mut Vec<Outcome>, more: Vec<Outcome>) -> Result<(), AllocError>
-    ensures { IfOk result (λ _. IsPermutation (all.old.items ++ more.items) all.new.items) }
-{
-    let mut more = more;
-    if all.len() < more.len() {
-        mem::swap(all, &mut more);
-    }
-    all.append(&mut more)
-}
-
 /// What all sessions have done.
 #[derive(Drop)]
-pub(crate) struct Gathered {
-    /// The outcomes of all sessions.
-    pub(crate) outcomes: Vec<Outcome>,
+pub(crate) struct Gathered<K: Receipts> {
+    /// Who has taken the outcomes of all sessions.
+    pub(crate) outcomes: K,
     /// The number of their events; it stays at 2^64 - 1.
     pub(crate) events: u64,
     /// How many connections were served.
     pub(crate) connections: u64,
+    /// The greatest number of a connection that was served, 0 where there is none.
+    pub(crate) last: u32,
     /// Whether a growth was refused. Outcomes may be missing then.
     pub(crate) is_short: bool,
 }
 
-impl Gathered {
-    fn new(alloc: Global) -> Gathered
+impl<K: Receipts + Drop> Gathered<K> {
+    #[tactic(auto, using(crate::proofs::Numbering::none_of))]
+    fn new(alloc: Global) -> Gathered<K>
         ensures events { result.events ≡ 0 }
-        ensures outcomes { result.outcomes.items ≡ [] }
+        ensures outcomes { K.receipts result.outcomes ≡ [] }
+        ensures clients { AreOfClients result.last (K.receipts result.outcomes) }
     {
         Gathered {
-            outcomes: Vec::new(alloc),
+            outcomes: K::none(alloc),
             events: 0,
             connections: 0,
+            last: 0,
             is_short: false,
         }
     }
 
     /// Takes in what one thread has served, and the whole its share.
-    fn take_in<L: Ledger>(&mut self, all: &mut Share<L>, thread: SessionThread<L>)
+    #[tactic(auto, using(crate::proofs::Numbering::gathered))]
+    fn take_in<L: Ledger>(&mut self, all: &mut Share<L>, thread: SessionThread<L, K>)
         requires { self.old.events ≡ min all.old.amount (2 ^ 64 - 1) }
         ensures events { self.new.events ≡ min all.new.amount (2 ^ 64 - 1) }
         ensures parts { all.new.parts ≡ all.old.parts + 2 }
         ensures outcomes { self.new.is_short ≡ false
-            → IsPermutation (self.old.outcomes.items ++ thread.outcomes.items)
-            self.new.outcomes.items }
+            → IsPermutation (K.receipts self.old.outcomes ++ K.receipts thread.outcomes)
+            (K.receipts self.new.outcomes) }
+        ensures clients { self.new.is_short ≡ false
+            → AreOfClients self.old.last (K.receipts self.old.outcomes)
+            → AreOfClients self.new.last (K.receipts self.new.outcomes) }
         ensures short { self.new.is_short ≡ false
             → (self.old.is_short ≡ false) × (thread.is_short ≡ false) }
     {
@@ -89,28 +84,32 @@ impl Gathered {
             events,
             outcomes,
             connections,
+            last,
             is_short,
         } = thread;
         all.merge(share);
         self.events = self.events.saturating_add(events);
         self.connections = self.connections.saturating_add(connections);
-        let refused = join(&mut self.outcomes, outcomes).is_err();
+        self.last = self.last.max(last);
+        let refused = self.outcomes.take_in(outcomes).is_err();
         self.is_short = self.is_short || is_short || refused;
     }
 }
 
 /// Takes in what all threads have served, and the whole their shares. Unless a growth was refused, no outcome is missing.
-pub(crate) fn gather<L: Ledger>(
+pub(crate) fn gather<L: Ledger, K: Receipts + Drop>(
     alloc: Global,
     all: &mut Share<L>,
-    threads: Vec<SessionThread<L>>,
-) -> Gathered
+    threads: Vec<SessionThread<L, K>>,
+) -> Gathered<K>
     requires parts { all.old.parts + 2 * vec_len threads ≡ 129 }
     requires amount { all.old.amount ≡ 0 }
     ensures parts { all.new.parts ≡ 129 }
     ensures events { result.events ≡ min all.new.amount (2 ^ 64 - 1) }
     ensures outcomes { result.is_short ≡ false
-        → IsPermutation (all_outcomes threads.items) result.outcomes.items }
+        → IsPermutation (all_outcomes threads.items) (K.receipts result.outcomes) }
+    ensures clients { result.is_short ≡ false
+        → AreOfClients result.last (K.receipts result.outcomes) }
     ensures short { result.is_short ≡ false → AllHaveMemory threads.items }
 {
     let mut rest = threads;

@@ -4,6 +4,7 @@
 mod accepting;
 mod door;
 mod ending;
+mod endless;
 mod gathering;
 mod operating;
 mod operator;
@@ -15,10 +16,12 @@ mod session_thread;
 mod session_threads;
 mod supervising;
 mod talking;
+mod tallying;
 mod threads_beside;
 mod trace_keeping;
 mod tuning;
 
+pub use endless::{ServedEndless, serve_endless};
 pub use operating::{Admin, EndSignal, NoSignal, Operating, TraceFile};
 pub use options::ServeOptions;
 pub use serving::{Served, serve_on};

@@ -63,11 +63,21 @@ impl<'a, 'b, 'c, P: Pseudo, L: MadeWith<P>, R: Wait + Clock> Operator<'a, 'b, 'c
             deadlocks: totals.deadlocks,
             events: look.events,
             items: look.items as u64,
-            bytes: bytes_kept(look.items as u64, totals.ended(), totals.operations),
+            bytes: self.bytes_kept(look, totals.ended(), totals.operations),
             pages: look.pages as u64,
             most_pages: u64::from(options.limits.max_pages),
             depth: u64::from(look.depth),
             is_stopping: door.stops(),
+        }
+    }
+
+    /// How many bytes are kept of the history, and of the outcomes of so many transactions, of so many operations, if these are.
+    fn bytes_kept(&self, look: &Look, outcomes: u64, operations: u64) -> u64 {
+        let items = look.items as u64;
+        if self.service.is_endless {
+            bytes_kept(items, 0, 0)
+        } else {
+            bytes_kept(items, outcomes, operations)
         }
     }
 }
@@ -149,7 +159,8 @@ fn wait_view(
     states: &[SessionState],
     now: Option<Instant>,
 ) -> WaitView {
-    let state = states.iter().find(|state| is_of(state, wait.waiter));
+    // One that has just begun to wait has not shown its wait, nor always its transaction.
+    let state = states.iter().find(|state| state.last == wait.waiter);
     WaitView {
         waiter: wait.waiter,
         client: state.map_or(0, |state| state.client),
@@ -157,14 +168,6 @@ fn wait_view(
         awaited,
         operation: state.and_then(|state| state.op),
         milliseconds: state.map_or(0, |state| milliseconds(state.waits_since(), now)),
-    }
-}
-
-/// Whether it is the session of this transaction. One that has just begun to wait has not noted its wait yet.
-fn is_of(state: &SessionState, tx: TxId) -> bool {
-    match &state.transaction {
-        Some(transaction) if transaction.number == tx => true,
-        _ => state.waits_as(tx),
     }
 }
 

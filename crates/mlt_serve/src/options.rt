@@ -10,7 +10,7 @@ pub struct ServeOptions {
     pub limits: Limits,
     /// How many session threads there are, 1 to 64.
     pub sessions: usize,
-    /// How many connections are accepted in all, 1 to 1,000,000.
+    /// How many connections are accepted in all, from 1; a connection is numbered by 32 bits.
     pub connections: u32,
     /// How often an operation may be told to wait, or that it is blocked, 1 to 1,000,000. Then it is given up.
     pub tries: u64,

@@ -50,7 +50,7 @@ fn in_order(outcomes: Vec<Outcome>) -> Vec<Outcome>
 pub(crate) fn outcomes_of<P: Pseudo>(
     alloc: Global,
     accepting: Accepting,
-    gathered: Gathered,
+    gathered: Gathered<Vec<Outcome>>,
     limit: u32,
     manager: &Manager<P>,
 ) -> Result<Outcomes, Refusal>
@@ -78,6 +78,9 @@ pub(crate) fn outcomes_of<P: Pseudo>(
     if !are_of_clients(outcomes.as_slice(), accepted) {
         return Err(Refusal::Audit);
     }
-    audit(alloc, outcomes.as_slice(), manager.history())?;
+    let Some(history) = manager.history() else {
+        return Err(Refusal::Audit);
+    };
+    audit(alloc, outcomes.as_slice(), history)?;
     Ok(Outcomes::of(outcomes))
 }

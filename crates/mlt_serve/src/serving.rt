@@ -1,23 +1,25 @@
 //! Connections that are accepted and served.
 
-ghost use Rattle.std.specs.Prelude.{◌≡◌, ◌⊎◌, ◌<◌, ◌≤◌, IfErr, IfOk, Some};
+ghost use Rattle.std.specs.Prelude.{◌≡◌, ◌⊎◌, ◌<◌, ◌≤◌, IfErr, IfOk, IsOkUnless, Some, false};
 ghost use Rattle.mlt_manager.specs.Openings.{IsMadeWith};
 ghost use Rattle.mlt_work_desk.specs.Makings.{making_by};
 ghost use Rattle.mlt_trace_audit.specs.Agreement.{Agrees};
 ghost use Rattle.mlt_serve.specs.Clients.{AreByClientAndNumber, AreOfClients};
 
+use crate::accepting::Accepting;
 use crate::door::Door;
-use crate::gathering::{gather, new_threads};
+use crate::gathering::{Gathered, gather, new_threads};
 use crate::operating::{EndSignal, Operating, TraceFile};
 use crate::options::ServeOptions;
 use crate::reporting::outcomes_of;
 use crate::service::Service;
 use crate::threads_beside::serve_with_notes;
 use mlt_manager::Manager;
-use mlt_script_serial::Outcomes;
+use mlt_script_serial::{Outcome, Outcomes};
 use mlt_serve_admission::{AdmissionQueue, RestartQueue};
 use mlt_serve_notes::Notes;
 use mlt_serve_seats::Seats;
+use mlt_serve_session::Receipts;
 use mlt_serve_socket::SpinPolicy;
 use mlt_types::{Pseudo, Refusal};
 use mlt_work_desk::{LockedState, MadeWith, Shared};
@@ -45,8 +47,24 @@ pub struct Served<P: Pseudo> {
     pub trace_failure: Option<io::Error>,
 }
 
-/// As `serve_on`. It answers too how many events the desks of the sessions have counted.
-fn serve_with<P, L, R, N, T, S>(
+/// What became of the connections, before it is looked at whether the manager knows of it.
+pub(crate) struct Ended<P: Pseudo, K: Receipts> {
+    /// What was accepted.
+    pub(crate) accepting: Accepting,
+    /// What all sessions have done.
+    pub(crate) gathered: Gathered<K>,
+    /// The manager, with the history of all that was done and not taken out of it.
+    pub(crate) manager: Manager<P>,
+    /// Why the trace was not written whole, if so.
+    pub(crate) trace_failure: Option<io::Error>,
+}
+
+/// Serves connections on a new manager, by sessions whose outcomes these receipts take. The history is taken out of it as it goes, or
+/// stays in it.
+///
+/// # Errors
+/// `OutOfMemory`, where a growth was refused before a connection was accepted.
+pub(crate) fn serve_with<P, L, K, R, N, T, S>(
     rt: &R,
     alloc: Global,
     blank: Blank,
@@ -54,12 +72,14 @@ fn serve_with<P, L, R, N, T, S>(
     pseudo: P,
     options: &ServeOptions,
     operating: Operating<'_, N, T, S>,
-) -> Result<(Served<P>, u64), Refusal>
+    is_endless: bool,
+) -> Result<Ended<P, K>, Refusal>
 where
     P: Pseudo + Drop + Send,
     L: MadeWith<P> + Send + Sync,
-    R: Threads + Wait + Clock + Sync,
-    N: Write + Send + Drop,
+    K: Receipts + Send + Drop,
+    R: Threads + Wait + Clock + Sync + Send + Copy + 'static,
+    N: Write + Send + Drop + 'static,
     T: TraceFile + Send + Drop,
     S: EndSignal + Send + Drop,
     requires name { blank.name ≡ L.name }
@@ -68,19 +88,15 @@ where
     requires all { blank.parts ≡ 129 }
     requires some { 0 < options.now.sessions }
     requires most { options.now.sessions ≤ 64 }
-    ensures made { IfOk result (λ got. IsMadeWith got.0.manager options.now.limits pseudo) }
-    ensures outcomes { IfOk result
-        (λ got. Agrees got.0.outcomes got.0.manager.commons.history.items) }
-    ensures clients { IfOk result (λ got. AreOfClients got.0.connections got.0.outcomes) }
-    ensures few { IfOk result (λ got. got.0.connections ≤ options.now.connections) }
-    ensures order { IfOk result (λ got. AreByClientAndNumber got.0.outcomes) }
-    ensures events { IfOk result (λ got. got.0.manager.events ≡ got.1) }
-    ensures refusal { IfErr result (λ refusal.
-        (refusal ≡ Refusal.Io) ⊎ (refusal ≡ Refusal.OutOfMemory) ⊎ (refusal ≡ Refusal.Audit)) }
+    ensures made { IfOk result (λ ended. IsMadeWith ended.manager options.now.limits pseudo) }
+    ensures events { IfOk result (λ ended. ended.manager.events ≡ ended.gathered.events) }
+    ensures clients { IfOk result (λ ended. ended.gathered.is_short ≡ false
+        → AreOfClients ended.gathered.last (K.receipts ended.gathered.outcomes)) }
+    ensures refusal { IsOkUnless result Refusal.OutOfMemory }
 {
     let (book, mut all) = blank.open::<L>();
     let mut threads = new_threads(alloc, &mut all, options.sessions)?;
-    let (notes, from) = Notes::new(alloc)?;
+    let (notes, outlet) = Notes::new(alloc)?;
     let manager = Manager::new(alloc, options.limits, pseudo)?;
     let shared = Shared::new(LockedState::new(manager, book));
     let service = Service {
@@ -94,27 +110,58 @@ where
         notes: &notes,
         running: &AtomicU64::new(0),
         is_watched: operating.admin.is_some() || options.open.is_some(),
+        is_endless,
     };
-    let ran = serve_with_notes(rt, alloc, &service, from, operating, threads.as_mut_slice());
-    let gathered = gather(alloc, &mut all, threads);
-    let events = gathered.events;
-    let manager = shared.close(&mut all);
-    match outcomes_of(
+    let ran = serve_with_notes(
+        rt,
         alloc,
-        ran.accepting,
+        &service,
+        outlet,
+        operating,
+        threads.as_mut_slice(),
+    );
+    notes.end(rt);
+    let gathered = gather(alloc, &mut all, threads);
+    let manager = shared.close(&mut all);
+    Ok(Ended {
+        accepting: ran.accepting,
         gathered,
-        options.connections,
-        &manager,
-    ) {
-        Ok(outcomes) => {
-            let served = Served {
-                outcomes,
-                manager,
-                connections: ran.accepting.connections,
-                trace_failure: ran.trace_failure,
-            };
-            Ok((served, events))
-        }
+        manager,
+        trace_failure: ran.trace_failure,
+    })
+}
+
+/// What was served, where the outcomes are those of the history.
+///
+/// # Errors
+/// As those of `outcomes_of`.
+fn served_of<P: Pseudo + Drop>(
+    alloc: Global,
+    ended: Ended<P, Vec<Outcome>>,
+    limit: u32,
+) -> Result<Served<P>, Refusal>
+    ensures manager { IfOk result (λ got. got.manager ≡ ended.manager) }
+    ensures outcomes { IfOk result
+        (λ got. Agrees got.outcomes got.manager.commons.history.items) }
+    ensures clients { IfOk result (λ got. AreOfClients got.connections got.outcomes) }
+    ensures few { IfOk result (λ got. got.connections ≤ limit) }
+    ensures order { IfOk result (λ got. AreByClientAndNumber got.outcomes) }
+    ensures refusal { IfErr result (λ refusal.
+        (refusal ≡ Refusal.Io) ⊎ (refusal ≡ Refusal.OutOfMemory) ⊎ (refusal ≡ Refusal.Audit)) }
+{
+    let Ended {
+        accepting,
+        gathered,
+        manager,
+        trace_failure,
+    } = ended;
+    match outcomes_of(alloc, accepting, gathered, limit, &manager) {
+        Ok(outcomes) => Ok(Served {
+            outcomes,
+            manager,
+            connections: accepting.connections,
+            trace_failure,
+        }),
         Err(refusal) => {
             manager.close();
             Err(refusal)
@@ -140,7 +187,7 @@ where
 /// `Io`, where an accept failed by the listener; others are tried again. `OutOfMemory`, where a growth or a thread
 /// was refused, in a session too. Either ends the accepting, and the connections that were taken are served. `Audit`, where
 /// neither came, and the outcomes do not agree with the manager's history or not all connections were served. All threads are
-/// joined.
+/// joined but the one that writes notes: that is waited for 5 seconds at most, and has nothing of the others.
 pub fn serve_on<P: Pseudo + Drop + Send, R, N, T, S>(
     rt: &R,
     alloc: Global,
@@ -150,8 +197,8 @@ pub fn serve_on<P: Pseudo + Drop + Send, R, N, T, S>(
     operating: Operating<'_, N, T, S>,
 ) -> Result<Served<P>, Refusal>
 where
-    R: Threads + Wait + Clock + Sync,
-    N: Write + Send + Drop,
+    R: Threads + Wait + Clock + Sync + Send + Copy + 'static,
+    N: Write + Send + Drop + 'static,
     T: TraceFile + Send + Drop,
     S: EndSignal + Send + Drop,
     requires some { 0 < options.now.sessions }
@@ -169,7 +216,7 @@ where
     ensures refusal { IfErr result (λ refusal.
         (refusal ≡ Refusal.Io) ⊎ (refusal ≡ Refusal.OutOfMemory) ⊎ (refusal ≡ Refusal.Audit)) }
 {
-    let (served, _) = serve_with::<P, Brand, R, N, T, S>(
+    let ended = serve_with::<P, Brand, Vec<Outcome>, R, N, T, S>(
         rt,
         alloc,
         Blank::new(129),
@@ -177,6 +224,7 @@ where
         pseudo,
         options,
         operating,
+        false,
     )?;
-    Ok(served)
+    served_of(alloc, ended, options.connections)
 }

@@ -1,16 +1,16 @@
 //! One session thread.
 
 ghost use Rattle.std.specs.Prelude.{◌≡◌, ◌≤◌, ◌+◌, ◌-◌, ◌^◌, [], false, min};
-ghost use Rattle.mlt_serve.specs.Clients.{GrowsFor};
+ghost use Rattle.mlt_serve.specs.Clients.{AreOfClients, GrowsFor};
 
 use crate::accepting::Connection;
 use crate::service::Service;
 use crate::talking::talk;
 use crossbeam_channel::Receiver;
-use mlt_script_serial::Outcome;
 use mlt_serve_admission::{Admission, Restarts};
 use mlt_serve_notes::{Cut, Note};
 use mlt_serve_seats::{Seat, Sitting};
+use mlt_serve_session::Receipts;
 use mlt_serve_socket::{Socket, lingering_close};
 use mlt_types::Pseudo;
 use mlt_work_desk::{LockDesk, MadeWith, Tries};
@@ -24,34 +24,39 @@ use std::time::Clock;
 /// A session thread, and what it has served so far. Its share of the ledger has two parts: one for itself, and one for the desk that it is
 /// at work at.
 #[derive(Drop)]
-pub(crate) struct SessionThread<L: Ledger> {
+pub(crate) struct SessionThread<L: Ledger, K: Receipts> {
     pub(crate) share: Share<L>,
     /// The number of its events; it stays at 2^64 - 1.
     pub(crate) events: u64,
-    /// The outcomes of its sessions, one session after the other.
-    pub(crate) outcomes: Vec<Outcome>,
+    /// Who has taken the outcomes of its sessions, one session after the other.
+    pub(crate) outcomes: K,
     /// How many connections it has served.
     pub(crate) connections: u64,
+    /// The greatest number of a connection that it has served, 0 where there is none.
+    pub(crate) last: u32,
     /// Whether a session was refused a growth.
     pub(crate) is_short: bool,
     ghost two_parts: { share.parts ≡ 2 },
     ghost counted: { events ≡ min share.amount (2 ^ 64 - 1) },
+    ghost of_clients: { AreOfClients last (K.receipts outcomes) },
 }
 
-impl<L: Ledger> SessionThread<L> {
+impl<L: Ledger, K: Receipts + Drop> SessionThread<L, K> {
     /// Nothing was served yet.
-    pub(crate) fn new(alloc: Global, share: Share<L>) -> SessionThread<L>
+    #[tactic(auto, using(crate::proofs::Numbering::none_of))]
+    pub(crate) fn new(alloc: Global, share: Share<L>) -> SessionThread<L, K>
         requires parts { share.parts ≡ 2 }
         requires amount { share.amount ≡ 0 }
         ensures share { result.share ≡ share }
-        ensures outcomes { result.outcomes.items ≡ [] }
+        ensures outcomes { K.receipts result.outcomes ≡ [] }
         ensures connections { result.connections ≡ 0 }
     {
         SessionThread {
             share,
             events: 0,
-            outcomes: Vec::new(alloc),
+            outcomes: K::none(alloc),
             connections: 0,
+            last: 0,
             is_short: false,
         }
     }
@@ -69,7 +74,9 @@ impl<L: Ledger> SessionThread<L> {
     ) -> Option<Cut>
     where
         L: MadeWith<P>,
-        ensures outcomes { GrowsFor client self.old.outcomes.items self.new.outcomes.items }
+        requires { 1 ≤ client }
+        ensures outcomes { GrowsFor client
+            (K.receipts self.old.outcomes) (K.receipts self.new.outcomes) }
         ensures connections { self.new.connections ≡ min (self.old.connections + 1) (2 ^ 64 - 1) }
         ensures short { self.new.is_short ≡ self.old.is_short }
     {
@@ -78,6 +85,7 @@ impl<L: Ledger> SessionThread<L> {
             events,
             outcomes,
             connections,
+            last,
             is_short: _,
         } = self;
         let mine = share.split_off(1, 0);
@@ -94,6 +102,7 @@ impl<L: Ledger> SessionThread<L> {
         share.merge(mine);
         *events = events.saturating_add(more);
         *connections = connections.saturating_add(1);
+        *last = (*last).max(client);
         cut
     }
 
@@ -109,7 +118,7 @@ impl<L: Ledger> SessionThread<L> {
     where
         L: MadeWith<P>,
         ensures outcomes { GrowsFor connection.client
-            self.old.outcomes.items self.new.outcomes.items }
+            (K.receipts self.old.outcomes) (K.receipts self.new.outcomes) }
         ensures connections { self.new.connections ≤ self.old.connections + 1 }
         ensures short { self.new.is_short ≡ false
             → (self.old.is_short ≡ false) × (result ≡ false) }

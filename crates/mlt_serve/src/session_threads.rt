@@ -5,6 +5,7 @@ ghost use Rattle.std.specs.Prelude.{◌≡◌, ◌<◌, ◌≤◌, length};
 use crate::accepting::{Accepting, accept_all};
 use crate::service::Service;
 use crate::session_thread::SessionThread;
+use mlt_serve_session::Receipts;
 use mlt_types::Pseudo;
 use mlt_work_desk::MadeWith;
 use std::alloc::Global;
@@ -18,8 +19,14 @@ use std::time::Clock;
 pub(crate) fn serve_connections<
     P: Pseudo + Send,
     L: MadeWith<P> + Send + Sync,
+    K: Receipts + Send + Drop,
     R: Threads + Wait + Clock + Sync,
->(rt: &R, alloc: Global, service: &Service<'_, P, L>, threads: &mut [SessionThread<L>]) -> Accepting
+>(
+    rt: &R,
+    alloc: Global,
+    service: &Service<'_, P, L>,
+    threads: &mut [SessionThread<L, K>],
+) -> Accepting
     requires { 0 < length threads.old }
 {
     let Ok((to, from)) = crossbeam_channel::bounded(alloc, threads.len()) else {
@@ -48,7 +55,7 @@ pub(crate) fn serve_connections<
                 rt,
                 threads,
                 count,
-                &|number, own: &mut SessionThread<L>| {
+                &|number, own: &mut SessionThread<L, K>| {
                     own.serve_all(rt, alloc, service, number, connections)
                 },
             );

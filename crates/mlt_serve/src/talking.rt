@@ -4,10 +4,9 @@ ghost use Rattle.std.specs.Prelude.{◌≡◌, Err, IsOk, None, Some};
 ghost use Rattle.mlt_serve.specs.Clients.{GrowsFor};
 
 use mlt_script_desk::Desk;
-use mlt_script_serial::Outcome;
 use mlt_serve_admission::{Admission, Outside};
 use mlt_serve_notes::Cut;
-use mlt_serve_session::{Summary, session};
+use mlt_serve_session::{Receipts, Summary, session};
 use mlt_serve_socket::{Failure, Socket};
 use mlt_types::Refusal;
 use std::alloc::Global;
@@ -17,15 +16,15 @@ use std::time::Clock;
 /// Talks over a socket by a session at the desk, which adds outcomes of this client alone. It answers why the session was cut, if it
 /// was: `Memory` where it was refused a growth. Any other end of it is an end of this connection alone. While it waits for the client
 /// it is not at work, nor at the end.
-pub(crate) fn talk<R: Wait + Clock, D: Desk>(
+pub(crate) fn talk<R: Wait + Clock, D: Desk, K: Receipts + Drop>(
     alloc: Global,
     socket: &Socket<'_, R>,
     admission: &Admission<'_, R>,
     desk: &mut D,
     client: u32,
-    outcomes: &mut Vec<Outcome>,
+    outcomes: &mut K,
 ) -> Option<Cut>
-    ensures { GrowsFor client outcomes.old.items outcomes.new.items }
+    ensures { GrowsFor client (K.receipts outcomes.old) (K.receipts outcomes.new) }
 {
     let mut reader = Outside::new(socket, admission);
     let mut writer = Outside::new(socket, admission);

@@ -11,9 +11,9 @@ use crate::session_thread::SessionThread;
 use crate::session_threads::serve_connections;
 use crate::supervising::supervise;
 use crate::trace_keeping::TraceKeeper;
-use crossbeam_channel::Receiver;
 use mlt_serve_admin::{Operated, serve_admin};
-use mlt_serve_notes::{Sent, write_notes};
+use mlt_serve_notes::{Outlet, write_notes};
+use mlt_serve_session::Receipts;
 use mlt_serve_socket::refuse_all;
 use mlt_types::Pseudo;
 use mlt_work_desk::MadeWith;
@@ -44,61 +44,63 @@ impl Ran {
 }
 
 /// Serves connections with a thread beside them that writes notes, and the others. Where one of these is refused, nothing is accepted.
-pub(crate) fn serve_with_notes<P, L, R, N, T, S>(
+pub(crate) fn serve_with_notes<P, L, K, R, N, T, S>(
     rt: &R,
     alloc: Global,
     service: &Service<'_, P, L>,
-    from: Receiver<Sent, Global>,
+    outlet: Outlet,
     operating: Operating<'_, N, T, S>,
-    threads: &mut [SessionThread<L>],
+    threads: &mut [SessionThread<L, K>],
 ) -> Ran
 where
     P: Pseudo + Send,
     L: MadeWith<P> + Send + Sync,
-    R: Threads + Wait + Clock + Sync,
-    N: Write + Send + Drop,
+    K: Receipts + Send + Drop,
+    R: Threads + Wait + Clock + Sync + Send + Copy + 'static,
+    N: Write + Send + Drop + 'static,
     T: TraceFile + Send + Drop,
     S: EndSignal + Send + Drop,
     requires { 0 < length threads.old }
 {
     let Operating {
-        notes: mut writer,
+        notes,
         trace,
         signal,
         admin,
     } = operating;
-    let notes = service.notes;
-    thread::scope(
-        thread::scope_env(),
-        rt,
-        |scope| -> Ran
-            requires { 0 < length threads.now }
-        {
-            let write = move || write_notes(rt, alloc, notes, &from, &mut writer);
-            let Ok(writing) = scope.spawn(write) else {
-                return Ran::none();
-            };
-            let ran = serve_with_watch(rt, alloc, service, trace, signal, admin, threads);
-            notes.end(rt);
-            writing.join(rt);
-            ran
-        },
-    )
+    if !starts_to_write(rt, alloc, outlet, notes) {
+        return Ran::none();
+    }
+    serve_with_watch(rt, alloc, service, trace, signal, admin, threads)
+}
+
+/// Starts the thread that writes notes, and answers whether there is one. Nobody joins it: who reads the notes may have stopped, and
+/// then it stays in its write. It has all that it needs.
+fn starts_to_write<R, N>(rt: &R, alloc: Global, outlet: Outlet, writer: N) -> bool
+where
+    R: Threads + Wait + Clock + Sync + Send + Copy + 'static,
+    N: Write + Send + Drop + 'static,
+{
+    let own = *rt;
+    let mut writer = writer;
+    let write = move || write_notes(&own, alloc, &outlet, &mut writer);
+    thread::spawn(rt, write).is_ok()
 }
 
 /// Serves connections with a thread beside them that looks after them, and the others.
-fn serve_with_watch<P, L, R, T, S>(
+fn serve_with_watch<P, L, K, R, T, S>(
     rt: &R,
     alloc: Global,
     service: &Service<'_, P, L>,
     trace: Option<T>,
     signal: S,
     admin: Option<Admin<'_>>,
-    threads: &mut [SessionThread<L>],
+    threads: &mut [SessionThread<L, K>],
 ) -> Ran
 where
     P: Pseudo + Send,
     L: MadeWith<P> + Send + Sync,
+    K: Receipts + Send + Drop,
     R: Threads + Wait + Clock + Sync,
     T: TraceFile + Send + Drop,
     S: EndSignal + Send + Drop,
@@ -124,29 +126,31 @@ where
     )
 }
 
-/// Serves connections with a thread beside them that writes the trace, if there is one, and the others.
-fn serve_with_trace<P, L, R, T>(
+/// Serves connections with a thread beside them that writes the trace, if there is one, or takes the history out of the manager, and
+/// the others.
+fn serve_with_trace<P, L, K, R, T>(
     rt: &R,
     alloc: Global,
     service: &Service<'_, P, L>,
     trace: Option<T>,
     admin: Option<Admin<'_>>,
-    threads: &mut [SessionThread<L>],
+    threads: &mut [SessionThread<L, K>],
 ) -> Ran
 where
     P: Pseudo + Send,
     L: MadeWith<P> + Send + Sync,
+    K: Receipts + Send + Drop,
     R: Threads + Wait + Clock + Sync,
     T: TraceFile + Send + Drop,
     requires { 0 < length threads.old }
 {
-    let Some(file) = trace else {
+    if trace.is_none() && !service.is_endless {
         return Ran {
             accepting: serve_with_admin(rt, alloc, service, admin, threads),
             trace_failure: None,
         };
-    };
-    let Ok(keeper) = TraceKeeper::new(alloc, file) else {
+    }
+    let Ok(keeper) = TraceKeeper::new(alloc, trace, service.is_endless) else {
         return Ran::none();
     };
     let trace_ending = Ending::new();
@@ -173,16 +177,17 @@ where
 }
 
 /// Serves connections with two threads beside them that answer the operator, if there is one.
-fn serve_with_admin<P, L, R>(
+fn serve_with_admin<P, L, K, R>(
     rt: &R,
     alloc: Global,
     service: &Service<'_, P, L>,
     admin: Option<Admin<'_>>,
-    threads: &mut [SessionThread<L>],
+    threads: &mut [SessionThread<L, K>],
 ) -> Accepting
 where
     P: Pseudo + Send,
     L: MadeWith<P> + Send + Sync,
+    K: Receipts + Send + Drop,
     R: Threads + Wait + Clock + Sync,
     requires { 0 < length threads.old }
 {
@@ -195,18 +200,19 @@ where
 }
 
 /// Serves connections with two threads beside them that answer this operator, until it is over.
-fn serve_beside_operator<P, L, R, O>(
+fn serve_beside_operator<P, L, K, R, O>(
     rt: &R,
     alloc: Global,
     service: &Service<'_, P, L>,
     admin: Admin<'_>,
     operator: &O,
     is_over: &AtomicBool,
-    threads: &mut [SessionThread<L>],
+    threads: &mut [SessionThread<L, K>],
 ) -> Accepting
 where
     P: Pseudo + Send,
     L: MadeWith<P> + Send + Sync,
+    K: Receipts + Send + Drop,
     R: Threads + Wait + Clock + Sync,
     O: Operated + Sync,
     requires { 0 < length threads.old }

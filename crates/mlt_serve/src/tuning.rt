@@ -4,11 +4,17 @@
 /// it.
 pub(crate) const ACCEPT_PAUSE_MILLISECONDS: u64 = 100;
 
-/// How many milliseconds pass between two looks after sessions, and between two pieces of a trace. By `looked`.
+/// How many milliseconds pass between two looks after sessions, and at most between two pieces of a trace. By `looked`.
 pub(crate) const LOOK_MILLISECONDS: u64 = 250;
 
 /// How many items of a history are copied in one hold of the lock, in a microsecond or two. By `looked`.
 pub(crate) const ITEMS_PER_HOLD: usize = 256;
+
+/// How many items are many to be taken out of the manager at once, some 2 MB: where more are, they are taken sooner. By `endless`.
+pub(crate) const MANY_ITEMS: usize = 65_536;
+
+/// How many milliseconds pass at least between two pieces that are taken out of the manager. By `endless`.
+pub(crate) const LEAST_PAUSE_MILLISECONDS: u64 = 10;
 
 /// How many items a write of a trace has at most: some 2,000 bytes.
 pub(crate) const ITEMS_PER_WRITE: usize = 64;

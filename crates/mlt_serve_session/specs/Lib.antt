@@ -7,3 +7,4 @@ pub mod Sessions
 pub mod Talks
 pub mod Texts
 pub mod Turns
+pub mod Tallies

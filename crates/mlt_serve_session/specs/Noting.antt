@@ -9,6 +9,7 @@ use Rattle.mlt_script_cursor.specs.declared.call.DeskAnswer.TheVariants.{Begun, 
 use Rattle.mlt_script_cursor.specs.declared.call.DeskCall.{DeskCall}
 use Rattle.mlt_script_cursor.specs.declared.call.DeskCall.TheVariants as call
 use Rattle.mlt_serve_session.specs.declared.notes.Notes.{Notes}
+use Rattle.mlt_serve_session.specs.declared.receipts.Receipts.{Ghosts}
 use Rattle.mlt_serve_session.specs.Outcomes.{outcome_of}
 
 -- the outcome of the transaction that is open, if one is: it would be taken back now
@@ -17,8 +18,8 @@ pending client number None done = []
 pending client number (Some tx) done = outcome_of client number tx done end.Aborted ∷ []
 
 -- all outcomes so far, that of the open transaction among them
-abbrev pub outcomes_in : ℕ → Notes → List Outcome
-outcomes_in client notes = notes.outcomes.items
+abbrev pub outcomes_in : {K : Type 0} {of : Ghosts K} → ℕ → Notes K of → List Outcome
+outcomes_in {of = of} client notes = of.receipts notes.outcomes
     ++ pending client notes.progress.begun notes.progress.tx notes.done.items
 
 -- the outcomes after the answer to a begin

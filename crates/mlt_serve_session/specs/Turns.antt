@@ -6,6 +6,7 @@ use Rattle.mlt_script_cursor.specs.declared.call.DeskCall.{DeskCall}
 use Rattle.mlt_event_text.specs.declared.session_line.Line.{Line}
 use Rattle.mlt_serve_session.specs.declared.said.Said.{Said}
 use Rattle.mlt_serve_session.specs.declared.notes.Notes.{Notes}
+use Rattle.mlt_serve_session.specs.declared.receipts.Receipts.{Ghosts}
 use Rattle.mlt_serve_session.specs.declared.notes.Progress.{Progress}
 use Rattle.mlt_serve_session.specs.Noting.{outcomes_in, noted}
 use Rattle.mlt_serve_session.specs.Outcomes.{begins_by}
@@ -19,7 +20,7 @@ pub record Place (D : Type 0) : Type 0 where
   pub desk : D
   pub outcomes : List Outcome
 
-abbrev pub place : {D : Type 0} → ℕ → Notes → D → Place D
+abbrev pub place : {K D : Type 0} {of : Ghosts K} → ℕ → Notes K of → D → Place D
 place client notes desk =
     record { progress = notes.progress; desk = desk; outcomes = outcomes_in client notes }
 

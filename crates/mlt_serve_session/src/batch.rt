@@ -6,6 +6,7 @@ ghost use Rattle.mlt_serve_session.specs.Batches.{Answered, BrokeOff, front};
 ghost use Rattle.mlt_serve_session.specs.Turns.{IsSmall, place};
 
 use crate::notes::Notes;
+use crate::receipts::Receipts;
 use crate::said::push_said;
 use crate::turn::take_turn;
 use mlt_event_text::next_line;
@@ -17,8 +18,8 @@ use std::alloc::AllocError;
 ///
 /// # Errors
 /// A growth was refused: some lines were answered, and their answers are not all there.
-pub fn answer_lines<D: Desk>(
-    notes: &mut Notes,
+pub fn answer_lines<D: Desk, K: Receipts>(
+    notes: &mut Notes<K>,
     desk: &mut D,
     client: u32,
     out: &mut String,

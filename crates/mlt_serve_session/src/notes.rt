@@ -1,11 +1,10 @@
 //! What a session notes.
 
-ghost use Rattle.std.specs.Prelude.{◌<◌, vec_len};
+ghost use Rattle.std.specs.Prelude.{◌<◌};
 ghost use Rattle.std.specs.Option.{ForSome};
-ghost use Rattle.std.specs.Vec.{vec_capacity};
 
+use crate::receipts::Receipts;
 use mlt_object_kinds::Done;
-use mlt_script_serial::Outcome;
 use mlt_types::TxId;
 use std::alloc::Global;
 
@@ -29,13 +28,13 @@ pub struct Progress {
 /// How far a session is, and its outcomes. While a transaction is open its outcome is not among them yet,
 /// but there is room for it.
 #[derive(Drop)]
-pub struct Notes {
+pub struct Notes<K: Receipts> {
     /// How far it is.
     pub progress: Progress,
     /// What was done in the transaction that is open, in order.
     pub done: Vec<Done>,
-    /// The outcomes of the transactions that ended, in order.
-    pub outcomes: Vec<Outcome>,
+    /// Where the outcomes of the transactions that ended are.
+    pub outcomes: K,
     pub alloc: Global,
-    ghost room: { ForSome progress.tx (λ _. vec_len outcomes < vec_capacity outcomes) },
+    ghost room: { ForSome progress.tx (λ _. 0 < K.room outcomes) },
 }

@@ -1,19 +1,17 @@
 //! Noting what a session was told.
 
-ghost use Rattle.std.specs.Prelude.{◌≡◌, ◌<◌, ◌+◌, ◌^◌, [], ◌∷◌, ◌++◌, ℕ, IfOk, None, Some, vec_len};
-ghost use Rattle.std.specs.Vec.{vec_capacity};
+ghost use Rattle.std.specs.Prelude.{◌≡◌, ◌<◌, ◌+◌, ◌^◌, [], ◌∷◌, ◌++◌, ℕ, None, Some};
 ghost use Rattle.mlt_serve_session.specs.Noting.{outcomes_in};
 ghost use Rattle.mlt_serve_session.specs.Outcomes.{outcome_of};
 ghost use Rattle.mlt_serve_session.specs.Talks.{ends, is_long};
 ghost use Rattle.mlt_serve_session.specs.Turns.{after_line, start};
 
 use crate::notes::{Notes, Progress};
+use crate::receipts::Receipts;
 use mlt_event_text::{Command, Line};
-use mlt_object_kinds::Done;
-use mlt_script_serial::{End, Outcome, Transcript};
+use mlt_script_serial::End;
 use mlt_types::TxId;
-use std::alloc::{AllocError, Global};
-use std::mem;
+use std::alloc::Global;
 
 fn ends(line: Line) -> bool
     ensures { result ≡ ends line }
@@ -33,30 +31,11 @@ fn is_long(line: Line) -> bool
     }
 }
 
-fn copy_of(alloc: Global, done: &[Done]) -> Result<Vec<Done>, AllocError>
-    ensures { IfOk result (λ copy. copy.items ≡ done.now) }
-{
-    let mut copy = Vec::with_capacity(alloc, done.len())?;
-    copy.extend_from_slice(done)?;
-    Ok(copy)
-}
-
-/// What was done, in a list with no more room than that where there is memory for one, since outcomes are kept. The list in
-/// which a session notes it then keeps its room for the next transaction.
-fn noted(alloc: Global, done: &mut Vec<Done>) -> Vec<Done>
-    ensures { result.items ≡ done.old.items }
-{
-    match copy_of(alloc, done.as_slice()) {
-        Ok(copy) => copy,
-        Err(_) => mem::replace(done, Vec::new(alloc)),
-    }
-}
-
-impl Notes {
+impl<K: Receipts> Notes<K> {
     /// A session of which nothing was read, behind these outcomes. Takes no memory.
-    pub fn new(alloc: Global, outcomes: Vec<Outcome>) -> Notes
+    pub fn new(alloc: Global, outcomes: K) -> Notes<K>
         ensures progress { result.progress ≡ start }
-        ensures outcomes { result.outcomes.items ≡ outcomes.items }
+        ensures outcomes { K.receipts result.outcomes ≡ K.receipts outcomes }
     {
         Notes {
             progress: Progress {
@@ -75,11 +54,11 @@ impl Notes {
 
     /// Notes that a transaction began, which is open now. There is room for its outcome.
     pub fn open(&mut self, tx: TxId)
-        requires room { vec_len self.old.outcomes < vec_capacity self.old.outcomes }
+        requires room { 0 < K.room self.old.outcomes }
         requires small { self.old.progress.begun < 2 ^ 62 }
         ensures progress { self.new.progress
             ≡ record self.old.progress { tx = Some tx; begun = self.old.progress.begun + 1 } }
-        ensures outcomes { self.new.outcomes.items ≡ self.old.outcomes.items }
+        ensures outcomes { K.receipts self.new.outcomes ≡ K.receipts self.old.outcomes }
         ensures done { self.new.done.items ≡ [] }
     {
         self.done.clear();
@@ -91,17 +70,12 @@ impl Notes {
     pub fn close(&mut self, client: u32, tx: TxId, end: End)
         requires is_open { self.old.progress.tx ≡ Some tx }
         ensures progress { self.new.progress ≡ record self.old.progress { tx = None } }
-        ensures outcomes { self.new.outcomes.items ≡ self.old.outcomes.items
+        ensures outcomes { K.receipts self.new.outcomes ≡ K.receipts self.old.outcomes
             ++ outcome_of client self.old.progress.begun tx self.old.done.items end ∷ [] }
     {
-        let done = noted(self.alloc, &mut self.done);
-        self.outcomes.push_reserved(Outcome {
-            client,
-            number: self.progress.begun,
-            tx: tx.0,
-            done: Transcript::new(done),
-            end,
-        });
+        let number = self.progress.begun;
+        self.outcomes
+            .put(self.alloc, client, number, tx, &mut self.done, end);
         self.progress.tx = None;
     }
 

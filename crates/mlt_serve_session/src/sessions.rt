@@ -12,9 +12,9 @@ ghost use Rattle.mlt_serve_session.specs.Turns.{IsSmall, place, start};
 
 use crate::batch::answer_lines;
 use crate::notes::Notes;
+use crate::receipts::Receipts;
 use crate::turn::abort;
 use mlt_script_desk::Desk;
-use mlt_script_serial::Outcome;
 use mlt_text::{MAX_INPUT, read_some, write_text};
 use mlt_types::Refusal;
 use std::alloc::Global;
@@ -56,9 +56,9 @@ fn keep(buffer: &mut [u8], at: usize, end: usize) -> usize
 }
 
 // Answers all complete lines of the text in one write, and tells how many bytes these lines take.
-fn reply<W: Write, D: Desk>(
+fn reply<W: Write, D: Desk, K: Receipts>(
     writer: &mut W,
-    notes: &mut Notes,
+    notes: &mut Notes<K>,
     desk: &mut D,
     client: u32,
     out: &mut String,
@@ -91,10 +91,10 @@ fn reply<W: Write, D: Desk>(
 
 // Reads and answers until the input or the session ends. The buffer has room for a line that goes on, and
 // more.
-fn listen<R: Read, W: Write, D: Desk>(
+fn listen<R: Read, W: Write, D: Desk, K: Receipts>(
     reader: &mut R,
     writer: &mut W,
-    notes: &mut Notes,
+    notes: &mut Notes<K>,
     desk: &mut D,
     client: u32,
     buffer: &mut [u8],
@@ -148,10 +148,10 @@ pub struct Summary {
 }
 
 // Takes back what is open, and answers all outcomes.
-fn finish<D: Desk>(mut notes: Notes, desk: &mut D, client: u32) -> Vec<Outcome>
+fn finish<D: Desk, K: Receipts + Drop>(mut notes: Notes<K>, desk: &mut D, client: u32) -> K
     ensures asked { Answers D.moves desk.old
         (closing notes.progress.tx) (closing_answers notes.progress.tx) desk.new }
-    ensures outcomes { result.items ≡ outcomes_in client notes }
+    ensures outcomes { K.receipts result ≡ outcomes_in client notes }
 {
     if let Some(tx) = notes.progress.tx {
         abort(&mut notes, desk, client, tx);
@@ -160,25 +160,25 @@ fn finish<D: Desk>(mut notes: Notes, desk: &mut D, client: u32) -> Vec<Outcome>
 }
 
 // A session with its buffers.
-fn converse<R: Read, W: Write, D: Desk>(
+fn converse<R: Read, W: Write, D: Desk, K: Receipts + Drop>(
     reader: &mut R,
     writer: &mut W,
     desk: &mut D,
     client: u32,
-    outcomes: &mut Vec<Outcome>,
+    outcomes: &mut K,
     alloc: Global,
     buffer: &mut [u8],
 ) -> Result<Summary, Refusal>
     requires { (200 < length buffer.old) × (length buffer.old < 2 ^ 32) }
     ensures answers { SessionAnswers D.moves client
-        (scene desk.old (R.remaining reader.old) (W.contents writer.old) outcomes.old.items)
-        (scene desk.new (R.remaining reader.new) (W.contents writer.new) outcomes.new.items)
+        (scene desk.old (R.remaining reader.old) (W.contents writer.old) (K.receipts outcomes.old))
+        (scene desk.new (R.remaining reader.new) (W.contents writer.new) (K.receipts outcomes.new))
         result }
     ensures refusal { IfErr result (λ refusal. (refusal ≡ Refusal.LineTooLong)
         ⊎ (refusal ≡ Refusal.OutOfMemory) ⊎ (refusal ≡ Refusal.Io)) }
 {
     let mut out = String::new(alloc);
-    let mut notes = Notes::new(alloc, mem::replace(outcomes, Vec::new(alloc)));
+    let mut notes = Notes::new(alloc, mem::replace(outcomes, K::none(alloc)));
     let listened = listen(reader, writer, &mut notes, desk, client, buffer, &mut out);
     let progress = notes.progress;
     *outcomes = finish(notes, desk, client);
@@ -210,17 +210,17 @@ fn zeros(alloc: Global, count: usize) -> Result<Vec<u8>, Refusal>
 /// failed, or more than 16,777,216 bytes came: all lines of the first 16,777,216 bytes were heard, and a
 /// prefix of the text was written, or all of it where more bytes came. `OutOfMemory` where a growth was
 /// refused: the first lines were heard, and a prefix of the text was written.
-pub fn session<R: Read, W: Write, D: Desk>(
+pub fn session<R: Read, W: Write, D: Desk, K: Receipts + Drop>(
     alloc: Global,
     reader: &mut R,
     writer: &mut W,
     desk: &mut D,
     client: u32,
-    outcomes: &mut Vec<Outcome>,
+    outcomes: &mut K,
 ) -> Result<Summary, Refusal>
     ensures answers { SessionAnswers D.moves client
-        (scene desk.old (R.remaining reader.old) (W.contents writer.old) outcomes.old.items)
-        (scene desk.new (R.remaining reader.new) (W.contents writer.new) outcomes.new.items)
+        (scene desk.old (R.remaining reader.old) (W.contents writer.old) (K.receipts outcomes.old))
+        (scene desk.new (R.remaining reader.new) (W.contents writer.new) (K.receipts outcomes.new))
         result }
     ensures refusal { IfErr result (λ refusal. (refusal ≡ Refusal.LineTooLong)
         ⊎ (refusal ≡ Refusal.OutOfMemory) ⊎ (refusal ≡ Refusal.Io)) }

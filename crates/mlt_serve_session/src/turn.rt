@@ -6,6 +6,7 @@ ghost use Rattle.mlt_serve_session.specs.Talks.{call_for, said_by};
 ghost use Rattle.mlt_serve_session.specs.Turns.{Told, TakesTurn, IsSmall, place};
 
 use crate::notes::Notes;
+use crate::receipts::Receipts;
 use crate::said::Said;
 use mlt_event_text::{Command, Line};
 use mlt_object_kinds::{Done, ObjOp};
@@ -64,7 +65,11 @@ fn said_alone(before: Option<TxId>, line: Line) -> Said
 ///
 /// # Errors
 /// There was no room, and the desk was not asked.
-fn begin<D: Desk>(notes: &mut Notes, desk: &mut D, client: u32) -> Result<DeskAnswer, AllocError>
+fn begin<D: Desk, K: Receipts>(
+    notes: &mut Notes<K>,
+    desk: &mut D,
+    client: u32,
+) -> Result<DeskAnswer, AllocError>
     requires alone { notes.old.progress.tx ≡ None }
     requires small { notes.old.progress.begun < 2 ^ 62 }
     ensures told { IfOk result
@@ -73,7 +78,7 @@ fn begin<D: Desk>(notes: &mut Notes, desk: &mut D, client: u32) -> Result<DeskAn
     ensures err { OnErr result
         (place client notes.new desk.new ≡ place client notes.old desk.old) }
 {
-    notes.outcomes.reserve(1)?;
+    notes.outcomes.make_room()?;
     match desk.begin() {
         Ok(tx) => {
             notes.open(tx);
@@ -88,8 +93,8 @@ fn begin<D: Desk>(notes: &mut Notes, desk: &mut D, client: u32) -> Result<DeskAn
 ///
 /// # Errors
 /// There was no room, and the desk was not asked.
-fn operation<D: Desk>(
-    notes: &mut Notes,
+fn operation<D: Desk, K: Receipts>(
+    notes: &mut Notes<K>,
     desk: &mut D,
     client: u32,
     tx: TxId,
@@ -113,7 +118,12 @@ fn operation<D: Desk>(
 }
 
 /// Asks for the commit of the open transaction, which stays open where it is refused.
-fn commit<D: Desk>(notes: &mut Notes, desk: &mut D, client: u32, tx: TxId) -> DeskAnswer
+fn commit<D: Desk, K: Receipts>(
+    notes: &mut Notes<K>,
+    desk: &mut D,
+    client: u32,
+    tx: TxId,
+) -> DeskAnswer
     requires is_open { notes.old.progress.tx ≡ Some tx }
     requires small { notes.old.progress.commits < 2 ^ 62 }
     ensures { Told D.moves client (place client notes.old desk.old)
@@ -130,7 +140,7 @@ fn commit<D: Desk>(notes: &mut Notes, desk: &mut D, client: u32, tx: TxId) -> De
 }
 
 /// Takes the open transaction back.
-pub fn abort<D: Desk>(notes: &mut Notes, desk: &mut D, client: u32, tx: TxId)
+pub fn abort<D: Desk, K: Receipts>(notes: &mut Notes<K>, desk: &mut D, client: u32, tx: TxId)
     requires is_open { notes.old.progress.tx ≡ Some tx }
     ensures { Told D.moves client (place client notes.old desk.old)
         (DeskCall.Abort tx) DeskAnswer.Aborted (place client notes.new desk.new) }
@@ -143,8 +153,8 @@ pub fn abort<D: Desk>(notes: &mut Notes, desk: &mut D, client: u32, tx: TxId)
 ///
 /// # Errors
 /// There was no room to note the answer, and the desk was not asked.
-fn ask<D: Desk>(
-    notes: &mut Notes,
+fn ask<D: Desk, K: Receipts>(
+    notes: &mut Notes<K>,
     desk: &mut D,
     client: u32,
     call: DeskCall,
@@ -172,8 +182,8 @@ fn ask<D: Desk>(
 ///
 /// # Errors
 /// There was no room to note what the desk would answer. It was not asked, and nothing changed.
-pub fn take_turn<D: Desk>(
-    notes: &mut Notes,
+pub fn take_turn<D: Desk, K: Receipts>(
+    notes: &mut Notes<K>,
     desk: &mut D,
     client: u32,
     line: Line,

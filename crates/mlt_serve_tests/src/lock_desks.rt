@@ -99,7 +99,8 @@ fn is(alloc: Global, talk: &Talk, manager: &Manager<Mult>, session: &Session) ->
     same(&manager.base()?.value(7), &session.counter)?;
     if session.beside.is_none() {
         manager.keeps_a_placed_history();
-        same(&audit(alloc, talk.outcomes(), manager.history()), &Ok(()))?;
+        let history = manager.history().ok_or(Refusal::Audit)?;
+        same(&audit(alloc, talk.outcomes(), history), &Ok(()))?;
     }
     Ok(())
 }

@@ -23,7 +23,16 @@ begin 2\nop 2 balance 1 is 5\nback 2\nabort 2\n\
 serial 1\naccount 1 5\n";
 
 // The answers to these lines over one connection, its outcomes and the trace, within these limits.
-fn is_served<R: Net<Listener = TcpListener, Stream = TcpStream> + Threads + Wait + Clock + Sync>(
+fn is_served<
+    R: Net<Listener = TcpListener, Stream = TcpStream>
+        + Threads
+        + Wait
+        + Clock
+        + Sync
+        + Send
+        + Copy
+        + 'static,
+>(
     rt: &R,
     alloc: Global,
     limits: Limits,

@@ -45,14 +45,14 @@ fn text_of(alloc: Global, outcomes: Outcomes, manager: &Manager<Mult>) -> Result
     let mut text = Vec::new(alloc);
     write_report(alloc, &report, Form::Run, &mut text)?;
     let mut trace = Vec::new(alloc);
-    write_trace(manager.history(), &mut trace)?;
+    write_trace(manager.history().ok_or(Refusal::Audit)?, &mut trace)?;
     text.extend_from_slice(trace.as_slice())?;
     check_trace(alloc, &mut trace.as_slice(), &mut text)?;
     Ok(text)
 }
 
 /// The text of what that many connections were served within these limits, by two session threads.
-pub fn served_text<R: Threads + Wait + Clock + Sync>(
+pub fn served_text<R: Threads + Wait + Clock + Sync + Send + Copy + 'static>(
     rt: &R,
     alloc: Global,
     listener: &TcpListener,

@@ -1,6 +1,6 @@
 //! Sessions at a desk of answers, wherever their input is cut.
 
-use crate::talks::{Wanted, WantedOutcome, talk_with};
+use crate::talks::{Wanted, WantedOutcome, talk_unkept, talk_with};
 use mlt_object_kinds::{AccountOp, CounterOp, ObjOp, ObjReply};
 use mlt_script_cursor::DeskAnswer;
 use mlt_script_serial::End;
@@ -85,6 +85,18 @@ const WHOLE: &[Session] = &[Session {
 #[test]
 fn session_lines(rt: HostRuntime) -> Result<(), Fail> {
     are_wherever_cut(rt.alloc(), WHOLE)
+}
+
+// Nobody keeps its outcomes. What it says is the same.
+#[test]
+fn session_whose_outcomes_nobody_keeps(rt: HostRuntime) -> Result<(), Fail> {
+    let reader = FaultyReader::of_pieces(LINES, 7);
+    let talk = talk_unkept(rt.alloc(), ANSWERS, reader, FaultyWriter::new(rt.alloc()))?;
+    let wanted = Wanted {
+        outcomes: &[],
+        ..OF_LINES
+    };
+    talk.is(&"unkept", &wanted)
 }
 
 // A line of 200 bytes is none too many. Nothing behind 201 bytes is answered, whether they are a line or not.

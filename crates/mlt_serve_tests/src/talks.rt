@@ -4,7 +4,7 @@ use mlt_object_kinds::{Done, ObjOp, ObjReply};
 use mlt_script_cursor::DeskAnswer;
 use mlt_script_desk::{Desk, FakeDesk};
 use mlt_script_serial::{End, Outcome};
-use mlt_serve_session::{Summary, session};
+use mlt_serve_session::{NoReceipts, Summary, session};
 use mlt_test_tools::{FaultyReader, FaultyWriter, same_at};
 use mlt_types::Refusal;
 use std::alloc::{AllocError, Global};
@@ -71,6 +71,32 @@ pub fn talk_with(
     list.extend_from_slice(answers)?;
     let mut desk = FakeDesk::new(list);
     Ok(talk_at(alloc, &mut desk, reader, writer))
+}
+
+/// What came of a session at a desk with these answers, of which nobody keeps the outcomes.
+pub fn talk_unkept(
+    alloc: Global,
+    answers: &[DeskAnswer],
+    mut reader: FaultyReader,
+    mut writer: FaultyWriter,
+) -> Result<Talk, AllocError> {
+    let mut list = Vec::new(alloc);
+    list.extend_from_slice(answers)?;
+    let mut desk = FakeDesk::new(list);
+    let mut none = NoReceipts::new();
+    let answer = session(
+        alloc,
+        &mut reader,
+        &mut writer,
+        &mut desk,
+        CLIENT,
+        &mut none,
+    );
+    Ok(Talk {
+        answer,
+        writer,
+        outcomes: Vec::new(alloc),
+    })
 }
 
 fn are_done(found: &[Done], wanted: &[(ObjOp, ObjReply)]) -> bool {

@@ -55,6 +55,20 @@ impl Failure {
         };
         Failure { refusal, known }
     }
+
+    /// A run of an input of any length that was refused: its text was not kept.
+    pub(crate) fn of_long_run(
+        refusal: Refusal,
+        input: &Input,
+        written: Option<io::Error>,
+    ) -> Failure {
+        let known = match (refusal, input.failure(), written) {
+            (Refusal::Io, Some(error), _) => Known::OfInput(error),
+            (Refusal::Io, None, Some(error)) => Known::OfOutput(error),
+            _ => Known::Nothing,
+        };
+        Failure { refusal, known }
+    }
 }
 
 impl From<Refusal> for Failure {
@@ -151,7 +165,7 @@ fn input_name(job: &Job) -> &str {
         Job::Solo(run) => file_name(run.input.as_str()),
         Job::Steps(schedule) => file_name(schedule.run.input.as_str()),
         Job::Work(work) => file_name(work.run.input.as_str()),
-        Job::Check { file } => file_name(file.as_str()),
+        Job::Check(check) => file_name(check.input.as_str()),
         Job::Serve(serve) => serve.run.input.as_str(),
         Job::Tables(_) => "standard output",
     }
@@ -167,7 +181,7 @@ fn trace_name(job: &Job) -> &str {
         Job::Steps(schedule) => trace_of(&schedule.run),
         Job::Work(work) => trace_of(&work.run),
         Job::Serve(serve) => trace_of(&serve.run),
-        Job::Check { .. } | Job::Tables(_) => "",
+        Job::Check(_) | Job::Tables(_) => "",
     }
 }
 

@@ -17,9 +17,10 @@ use failure::{Failure, Known, explain};
 use input::Input;
 use input_end::InputEnd;
 use mlt_cli::{
-    CommandLine, Full, Hash, Job, Run, Schedule, Serve, Work, read_words, report_command_line,
-    report_fault, status,
+    CommandLine, Connections, Full, Hash, Job, Run, Schedule, Serve, Work, read_words,
+    report_command_line, report_fault, status,
 };
+use mlt_manager::Manager;
 use mlt_manager_laws::{
     aborts_of_a_run_take_few_steps, managers_of_a_run_keep_their_promises,
     operations_of_a_run_take_few_steps,
@@ -27,10 +28,11 @@ use mlt_manager_laws::{
 use mlt_manager_solo::solo;
 use mlt_manager_steps::{explained_steps, steps};
 use mlt_object_tables::{TableName, write_tables};
-use mlt_serve::{Admin, Operating, ServeOptions, serve_on};
+use mlt_serve::{Admin, Operating, ServeOptions, serve_endless, serve_on};
 use mlt_text::write_text;
 use mlt_trace::{KeptItem, write_trace};
 use mlt_trace_check::check_trace;
+use mlt_trace_long::check_long_trace;
 use mlt_types::{Limits, Low, Mult, Pseudo, Refusal};
 use mlt_work::{BeginQueue, RunOptions, run_scripts};
 use opened::Opened;
@@ -50,7 +52,10 @@ fn main(rt: HostRuntime) -> ExitCode {
 
 // The status. Help and the texts of runs go to standard output, and all else to standard error. The threads are those of
 // the runtime, which has them in `main` alone.
-fn run<T: Threads + Wait + Clock + Sync>(rt: &HostRuntime, threads: &T) -> u8 {
+fn run<T: Threads + Wait + Clock + Sync + Send + Copy + 'static>(
+    rt: &HostRuntime,
+    threads: &T,
+) -> u8 {
     let outcome = match words(rt) {
         Ok(words) => match read_words(rt.alloc(), words.as_slice()) {
             Ok(line) => return do_line(rt, threads, &line),
@@ -74,7 +79,7 @@ fn told_status(rt: &HostRuntime, refusal: Refusal) -> u8 {
 }
 
 // Does what the command line asks for. The second line of a fault comes behind the first.
-fn do_line<T: Threads + Wait + Clock + Sync>(
+fn do_line<T: Threads + Wait + Clock + Sync + Send + Copy + 'static>(
     rt: &HostRuntime,
     threads: &T,
     line: &CommandLine,
@@ -93,7 +98,7 @@ fn do_line<T: Threads + Wait + Clock + Sync>(
     }
 }
 
-fn do_job<T: Threads + Wait + Clock + Sync>(
+fn do_job<T: Threads + Wait + Clock + Sync + Send + Copy + 'static>(
     rt: &HostRuntime,
     threads: &T,
     line: &CommandLine,
@@ -114,7 +119,8 @@ fn do_job<T: Threads + Wait + Clock + Sync>(
             Hash::Mult => run_work(rt, threads, work, keeps, Mult),
             Hash::Low => run_work(rt, threads, work, keeps, Low),
         },
-        Job::Check { file } => run_check(rt, file.as_str(), keeps),
+        Job::Check(check) if check.is_long => run_long_check(rt, check.input.as_str()),
+        Job::Check(check) => run_check(rt, check.input.as_str(), keeps),
         Job::Serve(serve) => match serve.run.hash {
             Hash::Mult => run_server(rt, threads, serve, Mult),
             Hash::Low => run_server(rt, threads, serve, Low),
@@ -159,7 +165,7 @@ fn run_solo<P: Pseudo + Drop>(
         pseudo,
     );
     let manager = run_outcome(told, input, output.failure())?;
-    let written = write_history(rt, manager.history(), run);
+    let written = write_history(rt, &manager, run);
     manager.close();
     written
 }
@@ -183,7 +189,7 @@ fn run_steps<P: Pseudo + Drop>(
     managers_of_a_run_keep_their_promises::<P>();
     operations_of_a_run_take_few_steps::<P>();
     aborts_of_a_run_take_few_steps::<P>();
-    let written = write_history(rt, manager.history(), &schedule.run);
+    let written = write_history(rt, &manager, &schedule.run);
     manager.close();
     written
 }
@@ -193,6 +199,16 @@ fn run_check(rt: &HostRuntime, file: &str, keeps: bool) -> Result<(), Failure> {
     let mut output = Output::new(io::writer(rt));
     let told = check_trace(rt.alloc(), &mut input, &mut output);
     run_outcome(told, input, output.failure())
+}
+
+// Nothing is kept of an input of any length, also where a fault is to have its second line.
+fn run_long_check(rt: &HostRuntime, file: &str) -> Result<(), Failure> {
+    let mut input = open(rt, file, false)?;
+    let mut output = Output::new(io::writer(rt));
+    match check_long_trace(rt.alloc(), &mut input, &mut output) {
+        Ok(()) => Ok(()),
+        Err(refusal) => Err(Failure::of_long_run(refusal, &input, output.failure())),
+    }
 }
 
 fn run_tables(rt: &HostRuntime, name: Option<TableName>) -> Result<(), Failure> {
@@ -233,12 +249,12 @@ fn run_work<P: Pseudo + Drop + Send, T: Threads + Wait + Clock + Sync>(
         &BeginQueue::new(threads),
     );
     let manager = run_outcome(told, input, output.failure())?;
-    let written = write_history(rt, manager.history(), &work.run);
+    let written = write_history(rt, &manager, &work.run);
     manager.close();
     written
 }
 
-fn run_server<P: Pseudo + Drop + Send, T: Threads + Wait + Clock + Sync>(
+fn run_server<P: Pseudo + Drop + Send, T: Threads + Wait + Clock + Sync + Send + Copy + 'static>(
     rt: &HostRuntime,
     threads: &T,
     serve: &Serve,
@@ -265,10 +281,20 @@ fn run_server<P: Pseudo + Drop + Send, T: Threads + Wait + Clock + Sync>(
         },
     };
     let options = serve_options(serve);
-    let served = serve_on(threads, rt.alloc(), &listener, pseudo, &options, operating)?;
-    served.manager.close();
-    write_served(rt, served.connections)?;
-    match served.trace_failure {
+    let (connections, trace_failure) = match serve.connections {
+        Connections::Limit(_) => {
+            let served = serve_on(threads, rt.alloc(), &listener, pseudo, &options, operating)?;
+            served.manager.close();
+            (served.connections, served.trace_failure)
+        }
+        Connections::Endless => {
+            let told = serve_endless(threads, rt.alloc(), &listener, pseudo, &options, operating)?;
+            told.manager.close();
+            (told.connections, told.trace_failure)
+        }
+    };
+    write_served(rt, connections)?;
+    match trace_failure {
         Some(error) => Err(Failure::of_call(Known::OfTrace(error))),
         None => Ok(()),
     }
@@ -280,7 +306,10 @@ fn serve_options(serve: &Serve) -> ServeOptions
     ServeOptions {
         limits: Limits::program(),
         sessions: serve.sessions,
-        connections: serve.limit,
+        connections: match serve.connections {
+            Connections::Limit(limit) => limit,
+            Connections::Endless => u32::MAX,
+        },
         tries: serve.tries,
         idle: seconds(serve.times.idle),
         wait: seconds(serve.times.wait),
@@ -314,9 +343,16 @@ fn write_served(rt: &HostRuntime, connections: u32) -> Result<(), Failure> {
 }
 
 // Writes the trace of what the transactions did, where a file for it is named.
-fn write_history(rt: &HostRuntime, items: &[KeptItem], run: &Run) -> Result<(), Failure> {
+fn write_history<P: Pseudo>(
+    rt: &HostRuntime,
+    manager: &Manager<P>,
+    run: &Run,
+) -> Result<(), Failure> {
     let Some(file) = &run.trace else {
         return Ok(());
+    };
+    let Some(items) = manager.history() else {
+        return Err(Failure::from(Refusal::Audit));
     };
     let mut output = match File::create(rt, file.as_str()) {
         Ok(created) => Output::new(created),

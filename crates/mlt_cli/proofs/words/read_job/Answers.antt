@@ -2,7 +2,7 @@ use Rattle.std.proofs.Common.{rules, ◌≡◌, ◌≢◌, [], Some, None, map, 
 use Rattle.std.proofs.lemmas.Result.{err_from_is_err_and}
 use Rattle.std.specs.String.{string_bytes}
 use Rattle.clap.specs.Words.{app_of, is_simple, is_simple_and_free, subcommand_of, subcommand_rows_of}
-use Rattle.mlt_cli.specs.CommandLine.{AreNames, asked_in, asked_of, is_verbose_in, mltx_app, names_of}
+use Rattle.mlt_cli.specs.CommandLine.{AreNames, asked_in, asked_of, is_verbose_in, kind_of_want, mltx_app, names_of}
 use Rattle.mlt_cli.proofs.Asked.{asks, fails_by_kind, fails_by_want, fails_for_memory, mltx_is_free, mltx_is_simple, not_empty, says_verbose}
 use Rattle.mlt_cli.proofs.words.read_job.Goals as goal
 
@@ -59,4 +59,5 @@ returns-clause-err c =
     let app : app_of c.in_ok-command.command ≡ mltx_app names = c.in_ok-command.ensures in
     let met : subcommand_rows_of c.in_ok-matches.matches ≡ subcommand_of (app_of c.in_ok-command.command) words = (c.in_ok-matches.ensures.ok.2 (ap is_simple app ∙ mltx_is_simple names)).1 in
     let none : None ≡ asked_in (subcommand_rows_of c.in_ok-matches.matches) = ap (option_map asked_of) (sym c.in-None.is) ∙ c.in_ok-job.ensures.asked in
-    fails_by_want names are (app_of c.in_ok-command.command) app words c.in_ok-error-in-None.field-0 some (ap asked_in (sym met) ∙ sym none) c.in_ok-error-in-None.ensures.kind
+    fails_by_want names are (app_of c.in_ok-command.command) app words c.in_ok-error-in-None.field-0 some (ap asked_in (sym met) ∙ sym none)
+    (c.in_ok-error-in-None.ensures.kind ∙ c.kind_of_want-kind.ensures ∙ ap kind_of_want met)

@@ -11,7 +11,8 @@ loop-thread-preserved g c =
     let l = c.loop-thread in
     let w = c.in-Some.thread in
     let rest = c.pop.new.self.items in
-    let got = l.gathered.outcomes.items in
+    let got = g.K.Receipts.receipts l.gathered.outcomes in
+    let after = g.K.Receipts.receipts c.take_in.new.self.outcomes in
     let all = all_outcomes c.args.threads.items in
     record {
       parts = omega (arith, c.in-Some.ensures.len, c.take_in.ensures.parts, l.invariant.parts);
@@ -19,8 +20,9 @@ loop-thread-preserved g c =
       outcomes = λ f.
           let was = l.invariant.outcomes (c.take_in.ensures.short f).0 in
           let popped = subst (λ xs. IsPermutation all (all_outcomes xs ++ got)) c.in-Some.ensures.items was in
-          IsPermutation-trans all (all_outcomes rest ++ (got ++ outcomes_of w)) (all_outcomes rest ++ c.take_in.new.self.outcomes.items) (last_behind outcomes_of rest w all got popped)
-          (IsPermutation-append_right (all_outcomes rest) (got ++ outcomes_of w) c.take_in.new.self.outcomes.items (c.take_in.ensures.outcomes f));
+          IsPermutation-trans all (all_outcomes rest ++ (got ++ outcomes_of w)) (all_outcomes rest ++ after) (last_behind outcomes_of rest w all got popped)
+          (IsPermutation-append_right (all_outcomes rest) (got ++ outcomes_of w) after (c.take_in.ensures.outcomes f));
+      clients = λ f. c.take_in.ensures.clients f (l.invariant.clients (c.take_in.ensures.short f).0);
       short = λ f have.
           let both = c.take_in.ensures.short f in
           l.invariant.short both.0 (subst AllHaveMemory (sym c.in-Some.ensures.items) (All-push HasMemory rest w have both.1));

@@ -1,9 +1,9 @@
 use Rattle.std.proofs.Common.{◌++◌}
 use Rattle.std.specs.Prelude.{IsPermutation}
 use Rattle.std.proofs.lemmas.List.Sorted.{IsPermutation-append_comm, IsPermutation-refl}
-use Rattle.mlt_serve.proofs.Merging.{joined}
-use Rattle.mlt_serve.proofs.gathering.join.Goals as goal
-use Rattle.mlt_serve.proofs.gathering.join.Goals.{then-len, else-len}
+use Rattle.mlt_serve_session.proofs.Joining.{joined}
+use Rattle.mlt_serve_session.proofs.receipts.join.Goals as goal
+use Rattle.mlt_serve_session.proofs.receipts.join.Goals.{then-len, else-len}
 
 pub returns : goal.returns
 returns c =

@@ -1,0 +1,34 @@
+-- Whose outcomes they are, where others come behind them.
+use Rattle.std.proofs.Common.{◌≡◌, ℕ, ◌≤◌, ◌++◌, List, [], max, All, subst, sym, arith}
+use Rattle.std.specs.Prelude.{IsPermutation}
+use Rattle.std.proofs.lemmas.List.Elements.{All-append, All-nil, All-weaker}
+use Rattle.std.proofs.lemmas.List.Sorted.{All-permutation}
+use Rattle.mlt_script_serial.specs.declared.outcome.Outcome.{Outcome}
+use Rattle.mlt_serve.specs.Clients.{AreOfClients, GrowsFor, IsOf, IsOfClient}
+
+-- those of the first connections are among those of more connections
+pub of_more : (least most : ℕ) (outcomes : List Outcome) → least ≤ most → AreOfClients least outcomes → AreOfClients most outcomes
+of_more least most outcomes below are =
+    All-weaker (IsOfClient least) (IsOfClient most) (λ o is. (is.0, omega (arith, is.1, below))) outcomes are
+
+-- those of a client among them
+one_of_more : (client most : ℕ) (outcomes : List Outcome) → 1 ≤ client → client ≤ most → All (IsOf client) outcomes → AreOfClients most outcomes
+one_of_more client most outcomes some below are =
+    All-weaker (IsOf client) (IsOfClient most) (λ o is. (omega (arith, some, is), omega (arith, below, is))) outcomes are
+
+-- where there are none
+pub none_of : (limit : ℕ) (outcomes : List Outcome) → outcomes ≡ [] → AreOfClients limit outcomes
+none_of limit outcomes none = subst (AreOfClients limit) (sym none) (All-nil (IsOfClient limit))
+
+-- after a session of a client
+pub grown : (client last : ℕ) (old new : List Outcome) → 1 ≤ client → AreOfClients last old → GrowsFor client old new → AreOfClients (max last client) new
+grown client last old new some are grows =
+    subst (AreOfClients (max last client)) (sym grows.appended)
+    (All-append (IsOfClient (max last client)) old grows.more (of_more last (max last client) old (omega arith) are)
+    (one_of_more client (max last client) grows.more some (omega arith) grows.of_client))
+
+-- after those of another thread were taken in
+pub gathered : (one other : ℕ) (old more new : List Outcome) → IsPermutation (old ++ more) new → AreOfClients one old → AreOfClients other more → AreOfClients (max one other) new
+gathered one other old more new same are are_more =
+    All-permutation (IsOfClient (max one other)) (old ++ more) new same
+    (All-append (IsOfClient (max one other)) old more (of_more one (max one other) old (omega arith) are) (of_more other (max one other) more (omega arith) are_more))

@@ -1,0 +1,134 @@
+//! Connections without end, of which nothing is kept.
+
+ghost use Rattle.std.specs.Prelude.{◌≡◌, ◌⊎◌, ◌<◌, ◌≤◌, IfErr, IfOk, false, length};
+ghost use Rattle.mlt_manager.specs.Openings.{IsMadeWith};
+ghost use Rattle.mlt_serve_session.specs.Tallies.{commits_told};
+ghost use Rattle.mlt_serve.specs.Clients.{AreOfClients};
+
+use crate::operating::{EndSignal, Operating, TraceFile};
+use crate::options::ServeOptions;
+use crate::serving::{Ended, serve_with};
+use crate::tallying::tally_of;
+use mlt_manager::Manager;
+use mlt_serve_session::Tally;
+use mlt_types::{Pseudo, Refusal};
+use std::alloc::Global;
+use std::io;
+use std::io::Write;
+use std::marker::Brand;
+use std::net::TcpListener;
+use std::sync::Wait;
+use std::sync::ledger::Blank;
+use std::thread::Threads;
+use std::time::Clock;
+
+/// What became of the connections, of which the outcomes were counted and not kept.
+#[derive(Drop)]
+pub struct ServedEndless<P: Pseudo> {
+    /// How many transactions clients were told begun, and committed.
+    pub tally: Tally,
+    /// The manager. What it did was taken out of it.
+    pub manager: Manager<P>,
+    /// How many connections were accepted, and served.
+    pub connections: u32,
+    /// Why the trace was not written whole, if so.
+    pub trace_failure: Option<io::Error>,
+}
+
+/// What was served, where the counts are those of the manager.
+///
+/// # Errors
+/// As those of `tally_of`.
+fn served_of<P: Pseudo + Drop>(
+    ended: Ended<P, Tally>,
+    limit: u32,
+) -> Result<ServedEndless<P>, Refusal>
+    requires { ended.gathered.is_short ≡ false
+        → AreOfClients ended.gathered.last ended.gathered.outcomes.told.outcomes }
+    ensures manager { IfOk result (λ got. got.manager ≡ ended.manager) }
+    ensures begun { IfOk result
+        (λ got. length got.tally.told.outcomes ≡ got.manager.begun) }
+    ensures commits { IfOk result
+        (λ got. commits_told got.tally.told.outcomes ≡ got.manager.commits) }
+    ensures clients { IfOk result
+        (λ got. AreOfClients got.connections got.tally.told.outcomes) }
+    ensures few { IfOk result (λ got. got.connections ≤ limit) }
+    ensures refusal { IfErr result (λ refusal.
+        (refusal ≡ Refusal.Io) ⊎ (refusal ≡ Refusal.OutOfMemory) ⊎ (refusal ≡ Refusal.Audit)) }
+{
+    let Ended {
+        accepting,
+        gathered,
+        manager,
+        trace_failure,
+    } = ended;
+    match tally_of(accepting, gathered, limit, &manager) {
+        Ok(tally) => Ok(ServedEndless {
+            tally,
+            manager,
+            connections: accepting.connections,
+            trace_failure,
+        }),
+        Err(refusal) => {
+            manager.close();
+            Err(refusal)
+        }
+    }
+}
+
+/// Serves connections as `serve_on` does, and keeps neither what clients were told nor what the manager did: each outcome is counted as
+/// it comes, and the history is taken out of the manager four times a second, or sooner where much is there, and is written into the
+/// trace, if there is a file for it, and then dropped. So what the server holds does not grow with what it has done.
+///
+/// At the end as many transactions were told begun as the manager has begun, and as many told committed as it has committed. That each
+/// reply is what the manager told an event in a hold of the lock is the contract of the desk that each session has, and that a session
+/// says just what its desk answers is the contract of `session`: of both nothing is left to be looked at here. The outcomes of the tally
+/// are those of all sessions, as clauses see them.
+///
+/// There are no more connections than the options say, which is at most 4,294,967,295, as a client's number has 32 bits.
+///
+/// # Errors
+/// `Io` and `OutOfMemory`, as `serve_on`. `Audit`, where neither came, and the counts are not those of the manager or not all connections
+/// were served.
+pub fn serve_endless<P: Pseudo + Drop + Send, R, N, T, S>(
+    rt: &R,
+    alloc: Global,
+    listener: &TcpListener,
+    pseudo: P,
+    options: &ServeOptions,
+    operating: Operating<'_, N, T, S>,
+) -> Result<ServedEndless<P>, Refusal>
+where
+    R: Threads + Wait + Clock + Sync + Send + Copy + 'static,
+    N: Write + Send + Drop + 'static,
+    T: TraceFile + Send + Drop,
+    S: EndSignal + Send + Drop,
+    requires some { 0 < options.now.sessions }
+    requires most { options.now.sessions ≤ 64 }
+    // the manager has these limits and this function from keys to pseudokeys
+    ensures made { IfOk result (λ got. IsMadeWith got.manager options.now.limits pseudo) }
+    // as many transactions were told begun as the manager has begun
+    ensures begun { IfOk result
+        (λ got. length got.tally.told.outcomes ≡ got.manager.begun) }
+    // as many were told committed as it has committed
+    ensures commits { IfOk result
+        (λ got. commits_told got.tally.told.outcomes ≡ got.manager.commits) }
+    // each outcome was that of one of the connections, which are no more than the options say
+    ensures clients { IfOk result
+        (λ got. AreOfClients got.connections got.tally.told.outcomes) }
+    ensures few { IfOk result (λ got. got.connections ≤ options.now.connections) }
+    ensures refusal { IfErr result (λ refusal.
+        (refusal ≡ Refusal.Io) ⊎ (refusal ≡ Refusal.OutOfMemory) ⊎ (refusal ≡ Refusal.Audit)) }
+{
+    let ended = serve_with::<P, Brand, Tally, R, N, T, S>(
+        rt,
+        alloc,
+        Blank::new(129),
+        listener,
+        pseudo,
+        options,
+        operating,
+        true,
+    )?;
+    served_of(ended, options.connections)
+}
