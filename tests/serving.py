@@ -482,6 +482,46 @@ def notes_that_nobody_reads_hold_nobody_up(mltx):
     holds(took < 60, f"two thousand clients that are cut took {took} seconds")
 
 
+# How long the end of a server waits until its notes are written, in seconds.
+LAST_NOTES = 5
+
+
+def fill_standard_error(server):
+    """Writes what nobody reads into the pipe that the server writes its notes to, until it takes no more."""
+    with open(f"/proc/{server.process.pid}/fd/2", "wb", buffering=0, opener=opened_without_waits) as pipe:
+        while pipe.write(b"x" * 4096):
+            pass
+
+
+def opened_without_waits(path, flags):
+    return os.open(path, flags | os.O_NONBLOCK)
+
+
+@each({f"end-waits-for-no-reader-of-{count}-notes": count for count in (1, 200)}, seconds=7)
+def end_waits_for_no_reader(mltx, count):
+    """Who has stopped reading standard error, and keeps it open, holds the end up for some seconds only. Notes that are not written
+    by then never are; all else is done as ever."""
+    trace = mltx.folder / "trace"
+    with until_eof(mltx, "--trace", trace) as server:
+        same(server.first_line(), listening(server.address))
+        fill_standard_error(server)
+        for _ in range(count):
+            same(server.talk("x" * 201), b"error 12 LineTooLong\n", "a client that is cut")
+        told = server.talk("begin\nup 7 1\ncommit\nquit\n")
+        same(told, b"begun 1\ndone\ncommitted 1\nbye\n", "a client behind them")
+        began = time.monotonic()
+        end_input(server)
+        out = server.process.stdout.read()
+        status = server.process.wait(PATIENCE)
+        took = time.monotonic() - began
+        left = server.process.stderr.read()
+    same((status, out), (0, b"served %d\n" % (count + 1)), "the end")
+    holds(took < LAST_NOTES + SLACK, f"the server ended after {took} seconds")
+    same(left.strip(b"x"), b"", "what was written of notes")
+    checked = mltx.check(trace)
+    same((checked.status, checked.out), (0, b"serial 1\ncounter 7 1\n"), "the check of the trace")
+
+
 # The end of standard input.
 
 

@@ -1,0 +1,41 @@
+"""What a server without end holds in memory, after a million and after ten million transactions, and how fast it is."""
+from collections.abc import Iterator
+from functools import partial
+from pathlib import Path
+
+from machine import LOCAL, listening
+from sessions import CLIENT_THREADS, SESSIONS, Load, figures_of, rate, transaction
+from works import Bench, Group, Limit, Sample, Side, Work
+
+# How long a load may take at most.
+MOST_SECONDS = 600
+# Few conflicts, and all lines of a transaction in one write.
+SPREAD = Load(transaction("up 11 1", "up 12 1", "up 13 1"), SESSIONS, True, counters=50_000, threads=min(SESSIONS, CLIENT_THREADS))
+ENDLESS, LIMITED = ("--endless",), ("--limit", 1_000_000)
+
+
+def after(transactions: int, options: tuple[object, ...], has_trace: bool, bench: Bench, program: Path) -> Sample:
+    """So many transactions of 64 clients on one server, and what it holds at their end."""
+    trace = bench.folder / "endless.trace"
+    words = [program, "serve", f"{LOCAL}:0", "--sessions", SESSIONS, *options, *(["--trace", trace] if has_trace else [])]
+    limit = Limit(MOST_SECONDS, bench.pick(transactions, 1_000))
+    with listening(words) as server:
+        told = figures_of(bench, server.port, SPREAD, limit)
+        held = server.resident_bytes() / 1_048_576
+    trace.unlink(missing_ok=True)
+    return rate(told, **{"MB at the end": held})
+
+
+def endless_works() -> Iterator[Work]:
+    for transactions, what in ((1_000_000, "a million"), (10_000_000, "ten million")):
+        sides = [
+            Side("mltx", partial(after, transactions, ENDLESS, False), ("load",)),
+            Side("with a trace", partial(after, transactions, ENDLESS, True), ("load",)),
+        ]
+        if transactions == 1_000_000:
+            sides.append(Side("with a limit", partial(after, transactions, LIMITED, False), ("load",)))
+        yield Work("endless", f"{what} transactions of 64 clients", "transactions/s", tuple(sides), most_runs=2)
+
+
+# By its name what the group measures, and its works.
+GROUPS = {"endless": Group("what a server without end holds after a million and ten million transactions, and its rate", endless_works)}

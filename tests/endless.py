@@ -1,0 +1,169 @@
+"""A server without end: what it holds does not grow with what it has done, with a trace, without one, and with one that can't be
+written; its trace is whole; and it ends as any server does."""
+import errno
+import subprocess
+import threading
+import time
+from concurrent.futures import ThreadPoolExecutor
+from contextlib import contextmanager
+
+from harness import each, expect, free_address, holds, lines, listening, of_system, same, test
+from live_traces import commits_of, small_disk, under_load
+from operating import asked, posted
+from serving import IO, STOPPING, end_input
+
+# How many transactions are in what a client sends at once, and how many of these a connection sends: 2 MB of lines.
+BATCH, BATCHES = 500, 100
+MOST_CONNECTIONS = 2**32 - 1
+
+
+@contextmanager
+def endless(mltx, *options, **more):
+    """A server without end, which ends with its standard input."""
+    with mltx.serve("--endless", "--until-eof", *options, limit=None, stdin=subprocess.PIPE, **more) as server:
+        server.limit = MOST_CONNECTIONS
+        yield server
+
+
+def ends(server, connections, **more):
+    """It ends as its input does, and tells how many it has served."""
+    end_input(server)
+    expect(server.end(), out=f"served {connections}\n", **more)
+
+
+def works(server, number, batches):
+    """A client that counts up an object of its own in batches of transactions, and looks at the last answer of each."""
+    text = lines(f"begin|up {number} 1|commit") * BATCH
+    with server.connect() as peer:
+        for _ in range(batches):
+            peer.send(text)
+            for left in range(BATCH * 3, 0, -1):
+                told = peer.line()
+            holds(left == 1 and told.startswith("committed "), f"client {number} was told {told}")
+
+
+def runs(server, transactions, clients=4):
+    """So many transactions, of some clients at a time. It returns how many connections there were."""
+    connections = transactions // (BATCH * BATCHES)
+    with ThreadPoolExecutor(clients) as threads:
+        for told in [threads.submit(works, server, number, BATCHES) for number in range(connections)]:
+            told.result()
+    return connections
+
+
+def resident(server):
+    """How many bytes of the server's lie in memory."""
+    with open(f"/proc/{server.process.pid}/status") as told:
+        return next(int(line.split()[1]) * 1024 for line in told if line.startswith("VmRSS:"))
+
+
+def settled(server):
+    """The same, once what was done has been taken out."""
+    time.sleep(0.6)
+    return resident(server)
+
+
+def stays_flat(server, first, more):
+    """After so many transactions it holds what it holds after four times as many, but for a twentieth and 2 MB: items and outcomes
+    of the others would take 60 MB. It returns how many connections there were."""
+    connections = runs(server, first)
+    before = settled(server)
+    connections += runs(server, more)
+    after = settled(server)
+    holds(after <= before * 1.05 + 2_000_000, f"{before} bytes after {first} transactions, and {after} after {first + more}")
+    return connections
+
+
+@each({"memory-stays-flat-without-a-trace": False, "memory-stays-flat-with-a-trace": True}, seconds=12)
+def memory_stays_flat(mltx, has_trace):
+    trace = mltx.folder / "trace"
+    with endless(mltx, "--sessions", 4, *(["--trace", trace] if has_trace else [])) as server:
+        connections = stays_flat(server, 100_000, 300_000)
+        ends(server, connections, notes=[STOPPING])
+    if has_trace:
+        with open(trace) as text:
+            commits = [int(line.split()[2]) for line in text if line.startswith("commit ")]
+        same(commits, list(range(1, 400_001)), "the commits of the trace")
+    same(trace.exists(), has_trace, "the file of the trace")
+
+
+@test(seconds=8)
+def memory_stays_flat_on_a_full_disk(mltx):
+    """Where a small disk can be had, the trace on it is full soon: all clients are served, that is noted, and nothing is held for it.
+    What is there is right."""
+    with small_disk(mltx, 262_144) as disk:
+        trace = disk / "trace" if disk else "/dev/full"
+        with endless(mltx, "--sessions", 4, "--trace", trace) as server:
+            connections = stays_flat(server, 100_000, 200_000)
+            note = f"the trace is written no further: {of_system(errno.ENOSPC)}"
+            ends(server, connections, status=1, err=IO, notes=[note, STOPPING])
+        if disk:
+            checked = mltx.check(trace)
+            same((checked.status, checked.err), (0, b""), "the check of the trace")
+
+
+@test(seconds=3)
+def trace_has_all_that_was_told(mltx):
+    """Under load, where clients commit and abort: the trace is accepted, and has each commit that a client was told."""
+    trace = mltx.folder / "trace"
+    with endless(mltx, "--sessions", 8, "--trace", trace) as server:
+        with under_load(server) as told:
+            time.sleep(2)
+        ends(server, 8, notes=[STOPPING])
+    checked = mltx.check(trace)
+    same((checked.status, checked.err), (0, b""), "the check of the trace")
+    found = commits_of(trace.read_text())
+    same(found, list(range(1, len(found) + 1)), "the commits of the trace")
+    same(sorted(commit for _, commit in told), found, "the commits that clients were told")
+
+
+@test(seconds=2)
+def trace_is_there_while_it_goes(mltx):
+    """What was done stands in the trace some time later, and a transaction that is open at the end is taken back in it."""
+    trace = mltx.folder / "trace"
+    with endless(mltx, "--trace", trace) as server, server.connect() as peer:
+        for line, told in (("begin", "begun 1"), ("up 7 1", "done"), ("commit", "committed 1"), ("begin", "begun 2"), ("up 7 2", "done")):
+            same(peer.ask(line), told, line)
+        time.sleep(0.8)
+        first = "begin 1\nop 1 up 7 1 done\ncommit 1 1\nbegin 2\nop 2 up 7 2 done\n"
+        same(trace.read_text(), first, "the trace while it goes")
+        peer.end()
+        same(peer.rest(), b"", "what the client hears then")
+        ends(server, 1, notes=[STOPPING])
+    same(trace.read_text(), first + "back 2\nabort 2\n", "the trace at the end")
+
+
+@test(seconds=2)
+def operator_sees_what_is_kept(mltx):
+    """Nothing, some time after it was done, and the limit is that of the numbers of clients. It ends by `/stop`."""
+    with mltx.serve("--endless", limit=None, admin=free_address()) as server:
+        server.limit = MOST_CONNECTIONS
+        same(server.first_line(), listening(server.address))
+        server.first_line()
+        for number in range(1, 4):
+            same(server.talk(lines("begin|up 7 1|commit")), lines(f"begun {number}|done|committed {number}").encode(), "a client")
+        time.sleep(0.8)
+        told = asked(server, "/status")
+        names = ("connections", "limit", "begun", "operations", "commits", "items", "bytes")
+        same({name: told[name] for name in names}, dict(zip(names, (3, MOST_CONNECTIONS, 3, 3, 3, 0, 0))), "the numbers")
+        same(posted(server, "/stop"), (200, {"stopping": True}), "the command")
+        expect(server.end(said=""), out="served 3\n", notes=[STOPPING])
+
+
+@test(seconds=1)
+def server_without_clients_ends(mltx):
+    with endless(mltx) as server:
+        ends(server, 0, notes=[STOPPING])
+
+
+@test(seconds=2)
+def many_connections_are_served(mltx):
+    """More than one, which is the limit of a server that is told none, one after another and some at a time."""
+    with endless(mltx, "--sessions", 2) as server:
+        threads = [threading.Thread(target=server.talk, args=("begin\nup 1 1\ncommit\n",)) for _ in range(50)]
+        for one in threads:
+            one.start()
+        for one in threads:
+            one.join()
+        same(server.talk("begin\nread 1\ncommit\n"), b"begun 51\nis 50\ncommitted 51\n", "the last client")
+        ends(server, 51, notes=[STOPPING])

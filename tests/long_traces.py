@@ -1,0 +1,114 @@
+"""Traces of any length: `check --long` says of each trace what `check` says, and goes on past 16,777,216 bytes.
+
+The texts are cut at each place between two writes into a pipe, and given a byte at a time. A program that loses a line that
+two reads share, takes it twice, takes its part for a line, or keeps what was written back until the end, fails here."""
+import os
+import subprocess
+import time
+
+import model
+from harness import each, expect, holds, lines, same, test
+
+# A trace in which each form stands, with a CR before an LF, and its lines in another order of commits.
+ALL_FORMS = lines(
+    "begin 1|begin 2|op 2 open 1 opened|op 2 deposit 1 7 done|commit 2 1|op 1 balance 1 is 7|op 1 up 7 3 done|back 1|back 1|abort 1"
+    "|begin 4|  op 4 add 1 5 added\r|commit 4 2|begin 9|op 9 deposit 1 1 done"
+).encode()
+FAULTY = {
+    "a-word-behind-commits": (ALL_FORMS + b"start 10\nbegin 11\n", "line 16 Words", "serial 2|serial 4"),
+    "a-place-before-a-commit": (b"begin 2\nbegin 1\ncommit 2 1\n", "line 2 Place", ""),
+    "words-before-a-false-reply": (b"begin 1\ncommit 1 1\nbegin 2\nop 2 size 1 is 1\nup 1\n", "line 5 Words", "serial 1"),
+    "a-false-reply": (b"begin 1\ncommit 1 1\nbegin 2\nop 2 size 1 is 1\ncommit 2 2\nup\n", "line 4 Reply", "serial 1"),
+    "a-last-line-that-is-cut": (b"begin 1\ncommit 1 1\nbegin 2", "line 3 Cut", "serial 1"),
+    "a-cr-that-is-cut": (b"begin 1\ncommit 1 1\nbegin 2\r", "line 3 Line", "serial 1"),
+    "201-bytes-that-are-cut": (b"begin 1\ncommit 1 1\n" + b" " * 201, "line 3 Line", "serial 1"),
+    "200-bytes-that-are-cut": (b"begin 1\ncommit 1 1\n" + b" " * 200, "line 3 Cut", "serial 1"),
+    "a-line-of-many-bytes": (b"begin 1\ncommit 1 1\n" + b"x" * 1_000_000, "line 3 Line", "serial 1"),
+    "a-byte-that-is-not-allowed": (b"begin 1\ncommit 1 1\nbe\0gin 2\n", "line 3 Line", "serial 1"),
+    "an-empty-line": (b"begin 1\n\n", "line 2 Words", ""),
+}
+
+
+def fed(mltx, parts, pause=0.0):
+    """What `check --long -` comes to, where each part is a write of its own into a pipe."""
+    process = subprocess.Popen(
+        [mltx.path, "check", "--long", "-"], stdin=subprocess.PIPE, stdout=subprocess.PIPE, stderr=subprocess.PIPE, bufsize=0
+    )
+    try:
+        for part in parts:
+            process.stdin.write(part)
+            time.sleep(pause)
+    except BrokenPipeError:
+        pass
+    out, err = process.communicate(timeout=60)
+    return process.returncode, out, err
+
+
+@test
+def long_and_short_say_the_same(mltx):
+    for trace in (b"", ALL_FORMS, lines("begin 1|op 1 up 7 2 done|commit 1 1").encode()):
+        expect(mltx.run("check", "--long", "-", given=trace), out=model.check(trace), what="check --long")
+        same(mltx.run("check", "--long", mltx.file("a.trace", trace)), mltx.run("check", "-", given=trace), "both")
+
+
+@each(FAULTY)
+def faults_of_long_traces(mltx, case):
+    """The fault is that of `check`; the commits before it were written."""
+    trace, fault, said = case
+    err = f"mltx: 11 TraceFault {fault}\n"
+    expect(mltx.run("check", "-", given=trace), status=1, err=err, what="check")
+    expect(mltx.run("check", "--long", "-", given=trace), status=1, out=lines(said), err=err, what="check --long")
+
+
+@test(seconds=4)
+def long_traces_that_are_cut_at_each_place(mltx):
+    """Two writes, of which the first ends anywhere."""
+    wanted = (0, model.check(ALL_FORMS).encode(), b"")
+    for at in range(len(ALL_FORMS) + 1):
+        same(fed(mltx, [ALL_FORMS[:at], ALL_FORMS[at:]], pause=0.005), wanted, f"cut behind {at} bytes")
+
+
+@test(seconds=2)
+def long_traces_byte_by_byte(mltx):
+    same(fed(mltx, [bytes([byte]) for byte in ALL_FORMS], pause=0.001), (0, model.check(ALL_FORMS).encode(), b""))
+    trace, fault, said = FAULTY["a-false-reply"]
+    told = fed(mltx, [bytes([byte]) for byte in trace], pause=0.001)
+    same(told, (1, lines(said).encode(), f"mltx: 11 TraceFault {fault}\n".encode()))
+
+
+@test
+def commits_are_told_while_the_trace_goes_on(mltx):
+    """The line of a commit comes before the input ends."""
+    process = subprocess.Popen([mltx.path, "check", "--long", "-"], stdin=subprocess.PIPE, stdout=subprocess.PIPE, bufsize=0)
+    process.stdin.write(b"begin 3\ncommit 3 1\nbegi")
+    same(os.read(process.stdout.fileno(), 100), b"serial 3\n")
+    process.stdin.write(b"n 4\nop 4 up 7 2 done\ncommit 4 2\n")
+    same(os.read(process.stdout.fileno(), 100), b"serial 4\n")
+    process.stdin.close()
+    same((process.stdout.read(), process.wait(60)), (b"counter 7 2\n", 0))
+
+
+def long_trace(count):
+    """A trace of so many transactions on a few objects, in order."""
+    yield b"begin 1\nop 1 open 1 opened\ncommit 1 1\n"
+    for t in range(2, count + 1):
+        yield b"begin %d\nop %d deposit 1 1 done\nop %d up %d 3 done\ncommit %d %d\n" % (t, t, t, t % 7, t, t)
+
+
+@test(seconds=8)
+def traces_above_the_limit(mltx):
+    """Refused without `--long`, with no text, and accepted with it; a fault behind the limit has its line."""
+    count = 260_000
+    trace = b"".join(long_trace(count))
+    holds(len(trace) > 16_777_216, "the trace is too short for the test")
+    file = mltx.file("long.trace", trace)
+    expect(mltx.run("check", file), status=1, err="mltx: 13 Io\n")
+    ran = mltx.run("check", "--long", file)
+    counters = "".join(f"counter {c} {3 * len([t for t in range(2, count + 1) if t % 7 == c])}\n" for c in range(7))
+    base = f"account 1 {count - 1}\n{counters}".encode()
+    same((ran.status, ran.err), (0, b""))
+    same(ran.out, b"".join(b"serial %d\n" % t for t in range(1, count + 1)) + base)
+    faulty = mltx.file("faulty.trace", trace + b"commit 1 1\n")
+    ran = mltx.run("check", "--long", faulty)
+    same((ran.status, ran.err), (1, f"mltx: 11 TraceFault line {4 * count} Place\n".encode()))
+    same(ran.out, b"".join(b"serial %d\n" % t for t in range(1, count + 1)))
