@@ -14,7 +14,8 @@ use Rattle.mlt_trace_long.specs.declared.going.Going.{Going}
 pub record GoesOver (old new : Going) (text rest txs : List ℕ) : Type 0 where
   pub front : List ℕ
   pub cut : text ≡ front ++ rest
-  pub over : (before taken behind : List ℕ) → WentOver old.checker old.line before taken (text ++ behind)
+  pub over : (before taken behind : List ℕ)
+      → WentOver old.checker old.line before taken (text ++ behind)
       → WentOver new.checker new.line (before ++ txs) taken (rest ++ behind)
 
 -- a fault in the text is the first of all that was read, whatever comes behind; but behind the end nothing does
@@ -23,14 +24,17 @@ Refuses OutOfMemory going text ended = Unit {0}
 Refuses Io going text ended = Unit {0}
 Refuses (TraceFault line cause) going text ended =
     (before taken behind : List ℕ) → (ended ≡ true → behind ≡ [])
-    → WentOver going.checker going.line before taken (text ++ behind) → IsFirstFault taken line cause
+    → WentOver going.checker going.line before taken (text ++ behind)
+    → IsFirstFault taken line cause
 Refuses refusal going text ended = ⊥
 
 -- a line that says this was gone over, or refused
 abbrev pub TakesOne : Result TraceItem Refusal → Going → Going → Reading → Type 0
 TakesOne (Ok item) old new said =
     (new.line ≡ old.line + 1)
-    × ((raw : Raw) → reading raw ≡ said → TakesLine (Ok item) old.checker new.checker (old.line + 1) raw)
+    × ((raw : Raw) → reading raw ≡ said
+    → TakesLine (Ok item) old.checker new.checker (old.line + 1) raw)
 TakesOne (Err Io) old new said = Unit {0}
 TakesOne (Err refusal) old new said =
-    (raw : Raw) → reading raw ≡ said → TakesLine (Err refusal) old.checker new.checker (old.line + 1) raw
+    (raw : Raw) → reading raw ≡ said
+    → TakesLine (Err refusal) old.checker new.checker (old.line + 1) raw

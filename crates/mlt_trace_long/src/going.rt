@@ -22,7 +22,8 @@ pub(crate) struct Going {
 // Adds the line of a commit.
 pub(crate) fn push_commit(out: &mut String, item: &TraceItem) -> Result<(), AllocError>
     ensures { OnOk result
-        (string_bytes out.new ≡ string_bytes out.old ++ serial_lines (committed_txs (item.now ∷ []))) }
+        (string_bytes out.new
+        ≡ string_bytes out.old ++ serial_lines (committed_txs (item.now ∷ []))) }
 {
     if let TraceItem::Commit(TxId(tx), _) = item {
         writeln!(out, "serial {tx}")?;
