@@ -1,5 +1,6 @@
 pub mod Closing
 pub mod Filling
+pub mod Giving
 pub mod Joining
 pub mod Listening
 pub mod Outcomes

@@ -1,7 +1,9 @@
 -- The turns that were taken are those that the whole input and the answers fix.
 use Rattle.std.proofs.Common.{◌≡◌, ℕ, ◌+◌, List, [], ◌∷◌, ◌++◌, length, take, Option, Bool, true, false, ◌||◌, Some, None, refl, sym, ap, subst, ◌∙◌, arith, append-nil, cond}
 use Rattle.std.proofs.KnownBytes.{Appends-nil, Consumes-nil}
+use Rattle.std.proofs.lemmas.List.Elements.{All-nil}
 use Rattle.mlt_event_text.proofs.Cutting.{empty}
+use Rattle.mlt_serve_session.proofs.Giving.{gave_all}
 use Rattle.mlt_serve_session.proofs.Receiving.{noted_by, noted_all, all_noted}
 use Rattle.mlt_script_serial.specs.declared.outcome.Outcome.{Outcome}
 use Rattle.mlt_script_cursor.specs.declared.call.DeskAnswer.{DeskAnswer}
@@ -12,6 +14,7 @@ use Rattle.mlt_serve_session.specs.Batches.{lines_in}
 use Rattle.mlt_script_cursor.specs.Calls.{Moves}
 use Rattle.mlt_serve_session.specs.Desks.{Answers}
 use Rattle.mlt_event_text.specs.Inputs.{Begins}
+use Rattle.mlt_serve_session.specs.Given.{GaveAll}
 use Rattle.mlt_serve_session.specs.Outcomes.{begins_by, outcomes_of}
 use Rattle.mlt_serve_session.specs.Rounds.{Talked, Broken, BrokenHeard, AreLines, EndsInput, streams}
 use Rattle.mlt_serve_session.specs.Sessions.{Spoken, SpokenLong, Summed, BrokenOff, HeardAll, all_calls, all_answers, scene}
@@ -195,6 +198,7 @@ speaks moves client p q desk a b w v rs ss i j n x z t k =
       asked = asked_closed moves client p q desk t.turns x t.goes k;
       wrote = t.wrote;
       noted = noted_turns moves client p q rs ss t.turns i j n x z t.goes;
+      gave = gave_all moves client 0 p q t.turns t.goes;
     }
 
 -- its counts
@@ -246,6 +250,7 @@ breaks_off moves client p q desk a b w v rs ss i j n x z t k =
       asked = asked_closed moves client p q desk t.turns x t.goes k;
       wrote = t.wrote;
       noted = noted_turns moves client p q rs ss t.turns i j n x z t.goes;
+      gave = gave_all moves client 0 p q t.turns t.goes;
     }
 
 -- a session that was broken off when it had heard all lines
@@ -276,4 +281,5 @@ nothing_said moves client desk a w rs =
       wrote = ([], [], refl, Appends-nil w);
       asked = refl;
       noted = sym (append-nil rs);
+      gave = All-nil (GaveAll moves);
     }

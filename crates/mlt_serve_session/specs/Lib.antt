@@ -1,5 +1,6 @@
 pub mod Batches
 pub mod Desks
+pub mod Given
 pub mod Noting
 pub mod Outcomes
 pub mod Rounds

@@ -1,5 +1,5 @@
 -- Whole sessions.
-use Rattle.std.specs.Prelude.{◌≡◌, ◌≤◌, ℕ, List, ◌++◌, length, take, Option, None, true, false, Result, IfOk, IsErrOf}
+use Rattle.std.specs.Prelude.{◌≡◌, ◌≤◌, ℕ, List, All, ◌++◌, length, take, Option, None, true, false, Result, IfOk, IsErrOf}
 use Rattle.mlt_types.specs.declared.refusal.Refusal.{Refusal}
 use Rattle.mlt_types.specs.declared.refusal.Refusal.TheVariants.{Io, LineTooLong, OutOfMemory}
 use Rattle.mlt_script_serial.specs.declared.outcome.Outcome.{Outcome}
@@ -11,6 +11,7 @@ use Rattle.mlt_script_cursor.specs.declared.call.DeskCall.{DeskCall}
 use Rattle.mlt_serve_session.specs.declared.sessions.Summary.{Summary}
 use Rattle.mlt_script_cursor.specs.Calls.{Moves}
 use Rattle.mlt_serve_session.specs.Desks.{Answers}
+use Rattle.mlt_serve_session.specs.Given.{GaveAll}
 use Rattle.mlt_serve_session.specs.Outcomes.{outcomes_of}
 use Rattle.mlt_serve_session.specs.Talks.{Turn, turn_text, calls_in, answers_in, closing, closing_answers, open_at_end, session_turns, commits_in, ends_in, long_in}
 
@@ -51,6 +52,8 @@ pub record Spoken {D : Type 0} (moves : Moves D) (client : ℕ) (old new : Scene
   pub wrote : Appends old.written new.written (flat_map turn_text turns)
   -- an outcome was added for each transaction that began
   pub noted : new.outcomes ≡ old.outcomes ++ outcomes_of client 0 turns
+  -- all that is in these is what the desk answered
+  pub gave : All (GaveAll moves) (outcomes_of client 0 turns)
 
 -- so many lines were answered, and so many of them committed
 pub record Summed {D : Type 0} (moves : Moves D) (client : ℕ) (old new : Scene D)
@@ -82,6 +85,8 @@ pub record BrokenOff {D : Type 0} (moves : Moves D) (client : ℕ) (old new : Sc
   pub wrote : AppendsFront old.written new.written (flat_map turn_text heard)
   -- an outcome was added for each transaction that began
   pub noted : new.outcomes ≡ old.outcomes ++ outcomes_of client 0 heard
+  -- all that is in these is what the desk answered
+  pub gave : All (GaveAll moves) (outcomes_of client 0 heard)
 
 -- a session that a read, a write or the byte limit broke off: it has heard all lines of the bytes that
 -- it read up to the limit
