@@ -1,6 +1,6 @@
 //! A desk over a manager alone.
 
-ghost use Rattle.std.specs.Prelude.{◌≡◌};
+ghost use Rattle.std.specs.Prelude.{◌≡◌, []};
 ghost use Rattle.mlt_manager_solo.specs.Desks.{reply_told};
 
 use mlt_event::{Answer, Event, Told};
@@ -11,9 +11,10 @@ use mlt_script_desk::Desk;
 use mlt_types::{Pseudo, Refusal, TxId};
 
 /// A desk over a manager that nobody else asks. Each of its calls is one event, but for an abort that has something to take
-/// back, which is two.
+/// back, which is two. All of the history stays in the manager.
 pub(crate) struct ManagerDesk<P: Pseudo> {
     pub(crate) manager: Manager<P>,
+    ghost history: { manager.commons.history.handed ≡ [] },
 }
 
 /// What an operation answers that was told this. One that is to wait, or is blocked, is given up.

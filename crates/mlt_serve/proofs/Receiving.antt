@@ -9,6 +9,7 @@ use Rattle.mlt_serve_session.specs.Talks.{Turn}
 use Rattle.mlt_serve_session.specs.Outcomes.{begins_by, begun_in, call_of, outcome_if, outcome_behind, outcomes_of}
 use Rattle.mlt_serve_session.specs.Sessions.{BrokenOff, HeardAll, Scene, SpokenLong, Summed}
 use Rattle.mlt_serve.specs.Clients.{GrowsFor, IsOf}
+use Rattle.mlt_serve.proofs.Telling.{all_told, moves_of}
 
 one_of_client : (client number : ℕ) (began : Option ℕ) (behind : List Turn) → All (IsOf client) (outcome_if client number began behind)
 one_of_client client number None behind = All-nil (IsOf client)
@@ -21,12 +22,15 @@ all_of_client client begun (t ∷ ts) =
     All-append (IsOf client) (outcome_if client (begun + 1) (begun_in (call_of t) t.answer) ts) (outcomes_of client (begun + begins_by t.answer) ts)
     (one_of_client client (begun + 1) (begun_in (call_of t) t.answer) ts) (all_of_client client (begun + begins_by t.answer) ts)
 
-module _ {D S : Type 0} (moves : Moves D) (client : ℕ) (old new : Scene D) (lines commits : S → ℕ) where
-  long_grows : SpokenLong moves client old new → GrowsFor client old.outcomes new.outcomes
-  long_grows spoken = record { more = outcomes_of client 0 spoken.spoken.turns; appended = spoken.spoken.noted; of_client = all_of_client client 0 spoken.spoken.turns }
+module _ {P D S : Type 0} (bits_of : P → ℕ → ℕ) (client : ℕ) (old new : Scene D) (lines commits : S → ℕ) where
+  abbrev moves : Moves D
+  moves = moves_of bits_of
 
-  off_grows : BrokenOff moves client old new → GrowsFor client old.outcomes new.outcomes
-  off_grows off = record { more = outcomes_of client 0 off.heard; appended = off.noted; of_client = all_of_client client 0 off.heard }
+  long_grows : SpokenLong moves client old new → GrowsFor bits_of client old.outcomes new.outcomes
+  long_grows spoken = record { more = outcomes_of client 0 spoken.spoken.turns; appended = spoken.spoken.noted; of_client = all_of_client client 0 spoken.spoken.turns; told = all_told bits_of D _ spoken.spoken.gave }
+
+  off_grows : BrokenOff moves client old new → GrowsFor bits_of client old.outcomes new.outcomes
+  off_grows off = record { more = outcomes_of client 0 off.heard; appended = off.noted; of_client = all_of_client client 0 off.heard; told = all_told bits_of D _ off.gave }
 
   -- however a session ends, it adds outcomes of its client alone
   pub grows : (result : Result S Refusal) → IfOk result (λ s. Summed moves client old new (lines s) (commits s))
@@ -34,8 +38,8 @@ module _ {D S : Type 0} (moves : Moves D) (client : ℕ) (old new : Scene D) (li
       → (result ≡ Err refusal.Io → HeardAll moves client old new)
       → (result ≡ Err refusal.OutOfMemory → BrokenOff moves client old new)
       → IfErr result (λ r. (r ≡ refusal.LineTooLong) ⊎ (r ≡ refusal.OutOfMemory) ⊎ (r ≡ refusal.Io))
-      → GrowsFor client old.outcomes new.outcomes
-  grows (Ok s) ok long io memory why = record { more = outcomes_of client 0 ok.spoken.turns; appended = ok.spoken.noted; of_client = all_of_client client 0 ok.spoken.turns }
+      → GrowsFor bits_of client old.outcomes new.outcomes
+  grows (Ok s) ok long io memory why = record { more = outcomes_of client 0 ok.spoken.turns; appended = ok.spoken.noted; of_client = all_of_client client 0 ok.spoken.turns; told = all_told bits_of D _ ok.spoken.gave }
   grows (Err r) ok long io memory (inl e) = long_grows (long (ap (λ (x : Refusal). Err x) e))
   grows (Err r) ok long io memory (inr (inl e)) = off_grows (memory (ap (λ (x : Refusal). Err x) e))
   grows (Err r) ok long io memory (inr (inr e)) = off_grows (io (ap (λ (x : Refusal). Err x) e)).off

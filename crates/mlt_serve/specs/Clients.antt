@@ -1,16 +1,19 @@
--- Whose outcomes they are, and how they stand.
+-- Whose outcomes they are, what is in them, and how they stand.
 use Rattle.std.specs.Prelude.{◌≡◌, ◌⊎◌, ℕ, ◌<◌, ◌≤◌, ◌++◌, List, All, AllPairs}
 use Rattle.mlt_script_serial.specs.declared.outcome.Outcome.{Outcome}
+use Rattle.mlt_serve.specs.Tellings.{AreTold}
 
 -- the outcome is that of this client
 abbrev pub IsOf : ℕ → Outcome → Type 0
 IsOf client o = o.client ≡ client
 
--- to these outcomes others were added at the end, all of this client
-pub record GrowsFor (client : ℕ) (before after : List Outcome) : Type 0 where
+-- to these outcomes others were added at the end, all of this client, and all told under the lock
+pub record GrowsFor {P : Type 0} (bits_of : P → ℕ → ℕ) (client : ℕ) (before after : List Outcome)
+    : Type 0 where
   pub more : List Outcome
   pub appended : after ≡ before ++ more
   pub of_client : All (IsOf client) more
+  pub told : AreTold bits_of more
 
 -- the outcome is that of one of the first connections, which have the numbers from 1 to the limit
 abbrev pub IsOfClient : ℕ → Outcome → Type 0
@@ -22,7 +25,8 @@ AreOfClients limit outcomes = All (IsOfClient limit) outcomes
 
 -- it is of an earlier client, or of the same one and has no greater number
 abbrev pub MayPrecede : Outcome → Outcome → Type 0
-MayPrecede one other = (one.client < other.client) ⊎ ((one.client ≡ other.client) × (one.number ≤ other.number))
+MayPrecede one other =
+    (one.client < other.client) ⊎ ((one.client ≡ other.client) × (one.number ≤ other.number))
 
 -- each outcome is of an earlier client than any that stands behind it, or of the same one with no
 -- greater number

@@ -1,3 +1,4 @@
 pub mod Clients
 pub mod Threads
 pub mod Endings
+pub mod Tellings

@@ -2,20 +2,24 @@
 use Rattle.std.specs.Prelude.{◌≡◌, List, All, false}
 use Rattle.std.specs.List.{flat_map}
 use Rattle.mlt_script_serial.specs.declared.outcome.Outcome.{Outcome}
-use Rattle.mlt_serve_session.specs.declared.receipts.Receipts.{Ghosts}
+use Rattle.mlt_types.specs.declared.pseudo.Pseudo as pseudo
+use Rattle.mlt_work_desk.specs.declared.made_with.MadeWith as making
+use Rattle.mlt_serve_session.specs.declared.receipts.Receipts as receipts
 use Rattle.mlt_serve.specs.declared.session_thread.SessionThread.{SessionThread}
 
--- the outcomes that its receipts have taken
-abbrev pub outcomes_of : {L K : Type 0} {of : Ghosts K} → SessionThread L K of → List Outcome
-outcomes_of {of = of} thread = of.receipts thread.outcomes
+module _ {P L K : Type 0} {by : pseudo.Ghosts P} {made : making.Ghosts L P}
+    {of : receipts.Ghosts K} where
+  -- the outcomes that its receipts have taken
+  abbrev pub outcomes_of : SessionThread P L K by made of → List Outcome
+  outcomes_of thread = of.receipts thread.outcomes
 
--- the outcomes of all threads, one thread after the other
-abbrev pub all_outcomes : {L K : Type 0} {of : Ghosts K} → List (SessionThread L K of) → List Outcome
-all_outcomes threads = flat_map outcomes_of threads
+  -- the outcomes of all threads, one thread after the other
+  abbrev pub all_outcomes : List (SessionThread P L K by made of) → List Outcome
+  all_outcomes threads = flat_map outcomes_of threads
 
--- none of their sessions was refused a growth
-abbrev pub HasMemory : {L K : Type 0} {of : Ghosts K} → SessionThread L K of → Type 0
-HasMemory thread = thread.is_short ≡ false
+  -- none of their sessions was refused a growth
+  abbrev pub HasMemory : SessionThread P L K by made of → Type 0
+  HasMemory thread = thread.is_short ≡ false
 
-abbrev pub AllHaveMemory : {L K : Type 0} {of : Ghosts K} → List (SessionThread L K of) → Type 0
-AllHaveMemory threads = All HasMemory threads
+  abbrev pub AllHaveMemory : List (SessionThread P L K by made of) → Type 0
+  AllHaveMemory threads = All HasMemory threads

@@ -4,6 +4,7 @@ ghost use Rattle.std.specs.Prelude.{◌≡◌, ◌⊎◌, ◌<◌, ◌≤◌, If
 ghost use Rattle.mlt_manager.specs.Openings.{IsMadeWith};
 ghost use Rattle.mlt_serve_session.specs.Tallies.{commits_told};
 ghost use Rattle.mlt_serve.specs.Clients.{AreOfClients};
+ghost use Rattle.mlt_serve.specs.Tellings.{AreTold};
 
 use crate::operating::{EndSignal, Operating, TraceFile};
 use crate::options::ServeOptions;
@@ -43,8 +44,10 @@ fn served_of<P: Pseudo + Drop>(
     ended: Ended<P, Tally>,
     limit: u32,
 ) -> Result<ServedEndless<P>, Refusal>
-    requires { ended.gathered.is_short ≡ false
+    requires clients { ended.gathered.is_short ≡ false
         → AreOfClients ended.gathered.last ended.gathered.outcomes.told.outcomes }
+    requires told { ended.gathered.is_short ≡ false
+        → AreTold P.bits_of ended.gathered.outcomes.told.outcomes }
     ensures manager { IfOk result (λ got. got.manager ≡ ended.manager) }
     ensures begun { IfOk result
         (λ got. length got.tally.told.outcomes ≡ got.manager.begun) }
@@ -52,6 +55,7 @@ fn served_of<P: Pseudo + Drop>(
         (λ got. commits_told got.tally.told.outcomes ≡ got.manager.commits) }
     ensures clients { IfOk result
         (λ got. AreOfClients got.connections got.tally.told.outcomes) }
+    ensures told { IfOk result (λ got. AreTold P.bits_of got.tally.told.outcomes) }
     ensures few { IfOk result (λ got. got.connections ≤ limit) }
     ensures refusal { IfErr result (λ refusal.
         (refusal ≡ Refusal.Io) ⊎ (refusal ≡ Refusal.OutOfMemory) ⊎ (refusal ≡ Refusal.Audit)) }
@@ -80,10 +84,8 @@ fn served_of<P: Pseudo + Drop>(
 /// it comes, and the history is taken out of the manager four times a second, or sooner where much is there, and is written into the
 /// trace, if there is a file for it, and then dropped. So what the server holds does not grow with what it has done.
 ///
-/// At the end as many transactions were told begun as the manager has begun, and as many told committed as it has committed. That each
-/// reply is what the manager told an event in a hold of the lock is the contract of the desk that each session has, and that a session
-/// says just what its desk answers is the contract of `session`: of both nothing is left to be looked at here. The outcomes of the tally
-/// are those of all sessions, as clauses see them.
+/// At the end as many transactions were told begun as the manager has begun, and as many told committed as it has committed; and each
+/// reply was told by an event in a hold of the lock. The outcomes of the tally are those of all sessions, as clauses see them.
 ///
 /// There are no more connections than the options say, which is at most 4,294,967,295, as a client's number has 32 bits.
 ///
@@ -113,6 +115,8 @@ where
     // as many were told committed as it has committed
     ensures commits { IfOk result
         (λ got. commits_told got.tally.told.outcomes ≡ got.manager.commits) }
+    // in each outcome, all that the client was told was told to an event, in a hold of the lock
+    ensures told { IfOk result (λ got. AreTold P.bits_of got.tally.told.outcomes) }
     // each outcome was that of one of the connections, which are no more than the options say
     ensures clients { IfOk result
         (λ got. AreOfClients got.connections got.tally.told.outcomes) }

@@ -2,22 +2,25 @@
 
 ghost use Rattle.std.specs.Prelude.{◌≡◌, ◌+◌, ◌-◌, ◌*◌, ◌^◌, ◌≤◌, ◌++◌, [], IfOk, IsPermutation, false, min, vec_len};
 ghost use Rattle.mlt_serve.specs.Clients.{AreOfClients};
+ghost use Rattle.mlt_serve.specs.Tellings.{AreTold};
 ghost use Rattle.mlt_serve.specs.Threads.{AllHaveMemory, all_outcomes};
 
 use crate::session_thread::SessionThread;
 use mlt_serve_session::Receipts;
+use mlt_types::Pseudo;
+use mlt_work_desk::MadeWith;
 use std::alloc::{AllocError, Global};
-use std::sync::ledger::{Ledger, Share};
+use std::sync::ledger::Share;
 
 /// So many session threads that have served nothing yet, each with two parts of the ledger.
 ///
 /// # Errors
 /// Where a growth is refused.
-pub(crate) fn new_threads<L: Ledger, K: Receipts + Drop>(
+pub(crate) fn new_threads<P: Pseudo, L: MadeWith<P>, K: Receipts + Drop>(
     alloc: Global,
     all: &mut Share<L>,
     sessions: usize,
-) -> Result<Vec<SessionThread<L, K>>, AllocError>
+) -> Result<Vec<SessionThread<P, L, K>>, AllocError>
     requires most { sessions ≤ 64 }
     requires parts { all.old.parts ≡ 129 }
     requires amount { all.old.amount ≡ 0 }
@@ -65,8 +68,12 @@ impl<K: Receipts + Drop> Gathered<K> {
     }
 
     /// Takes in what one thread has served, and the whole its share.
-    #[tactic(auto, using(crate::proofs::Numbering::gathered))]
-    fn take_in<L: Ledger>(&mut self, all: &mut Share<L>, thread: SessionThread<L, K>)
+    #[tactic(auto, using(crate::proofs::Numbering::gathered, crate::proofs::Telling::both_told))]
+    fn take_in<P: Pseudo, L: MadeWith<P>>(
+        &mut self,
+        all: &mut Share<L>,
+        thread: SessionThread<P, L, K>,
+    )
         requires { self.old.events ≡ min all.old.amount (2 ^ 64 - 1) }
         ensures events { self.new.events ≡ min all.new.amount (2 ^ 64 - 1) }
         ensures parts { all.new.parts ≡ all.old.parts + 2 }
@@ -76,6 +83,9 @@ impl<K: Receipts + Drop> Gathered<K> {
         ensures clients { self.new.is_short ≡ false
             → AreOfClients self.old.last (K.receipts self.old.outcomes)
             → AreOfClients self.new.last (K.receipts self.new.outcomes) }
+        ensures told { self.new.is_short ≡ false
+            → AreTold P.bits_of (K.receipts self.old.outcomes)
+            → AreTold P.bits_of (K.receipts self.new.outcomes) }
         ensures short { self.new.is_short ≡ false
             → (self.old.is_short ≡ false) × (thread.is_short ≡ false) }
     {
@@ -86,6 +96,7 @@ impl<K: Receipts + Drop> Gathered<K> {
             connections,
             last,
             is_short,
+            pseudo: _,
         } = thread;
         all.merge(share);
         self.events = self.events.saturating_add(events);
@@ -97,10 +108,10 @@ impl<K: Receipts + Drop> Gathered<K> {
 }
 
 /// Takes in what all threads have served, and the whole their shares. Unless a growth was refused, no outcome is missing.
-pub(crate) fn gather<L: Ledger, K: Receipts + Drop>(
+pub(crate) fn gather<P: Pseudo, L: MadeWith<P>, K: Receipts + Drop>(
     alloc: Global,
     all: &mut Share<L>,
-    threads: Vec<SessionThread<L, K>>,
+    threads: Vec<SessionThread<P, L, K>>,
 ) -> Gathered<K>
     requires parts { all.old.parts + 2 * vec_len threads ≡ 129 }
     requires amount { all.old.amount ≡ 0 }
@@ -110,6 +121,7 @@ pub(crate) fn gather<L: Ledger, K: Receipts + Drop>(
         → IsPermutation (all_outcomes threads.items) (K.receipts result.outcomes) }
     ensures clients { result.is_short ≡ false
         → AreOfClients result.last (K.receipts result.outcomes) }
+    ensures told { result.is_short ≡ false → AreTold P.bits_of (K.receipts result.outcomes) }
     ensures short { result.is_short ≡ false → AllHaveMemory threads.items }
 {
     let mut rest = threads;

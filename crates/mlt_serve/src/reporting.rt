@@ -1,6 +1,6 @@
 //! The outcomes, once all connections are served.
 
-ghost use Rattle.std.specs.Prelude.{◌≡◌, ◌≤◌, ◌↔◌, IfErr, IsOk, IsOkUnless, IfOk, IsPermutation, IsTrue, Err, true, false};
+ghost use Rattle.std.specs.Prelude.{◌≡◌, ◌≤◌, ◌↔◌, IfErr, IsOk, IsOkUnless, IfOk, IsPermutation, IsTrue, Err, [], true, false};
 ghost use Rattle.mlt_trace_audit.specs.Agreement.{Agrees};
 ghost use Rattle.mlt_serve.specs.Clients.{AreByClientAndNumber, AreOfClients, IsOfClient};
 ghost use Rattle.mlt_serve.specs.Endings.{result_of_accepting};
@@ -54,6 +54,7 @@ pub(crate) fn outcomes_of<P: Pseudo>(
     limit: u32,
     manager: &Manager<P>,
 ) -> Result<Outcomes, Refusal>
+    requires { manager.now.commons.history.handed ≡ [] }
     ensures same { IfOk result (λ outcomes. IsPermutation gathered.outcomes.items outcomes) }
     ensures agrees { IfOk result (λ outcomes. Agrees outcomes manager.now.commons.history.items) }
     ensures clients { IfOk result (λ outcomes. AreOfClients accepting.connections outcomes) }
@@ -79,7 +80,7 @@ pub(crate) fn outcomes_of<P: Pseudo>(
         return Err(Refusal::Audit);
     }
     let Some(history) = manager.history() else {
-        return Err(Refusal::Audit);
+        unreachable!()
     };
     audit(alloc, outcomes.as_slice(), history)?;
     Ok(Outcomes::of(outcomes))

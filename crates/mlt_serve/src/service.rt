@@ -1,5 +1,7 @@
 //! What the sessions of a server have in common.
 
+ghost use Rattle.std.specs.Prelude.{◌≡◌, true};
+
 use crate::door::Door;
 use crate::options::ServeOptions;
 use mlt_serve_admission::{AdmissionQueue, RestartQueue};
@@ -27,4 +29,5 @@ pub(crate) struct Service<'a, P: Pseudo, L: MadeWith<P>> {
     pub(crate) is_watched: bool,
     /// Whether the history is taken out of the manager as the server goes, and outcomes are not kept.
     pub(crate) is_endless: bool,
+    ghost endless: { is_endless ≡ true → L.hands_out ≡ true },
 }

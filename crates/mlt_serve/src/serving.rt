@@ -1,10 +1,11 @@
 //! Connections that are accepted and served.
 
-ghost use Rattle.std.specs.Prelude.{◌≡◌, ◌⊎◌, ◌<◌, ◌≤◌, IfErr, IfOk, IsOkUnless, Some, false};
+ghost use Rattle.std.specs.Prelude.{◌≡◌, ◌⊎◌, ◌<◌, ◌≤◌, IfErr, IfOk, IsOkUnless, Some, [], false, true};
 ghost use Rattle.mlt_manager.specs.Openings.{IsMadeWith};
 ghost use Rattle.mlt_work_desk.specs.Makings.{making_by};
 ghost use Rattle.mlt_trace_audit.specs.Agreement.{Agrees};
 ghost use Rattle.mlt_serve.specs.Clients.{AreByClientAndNumber, AreOfClients};
+ghost use Rattle.mlt_serve.specs.Tellings.{AreTold};
 
 use crate::accepting::Accepting;
 use crate::door::Door;
@@ -85,13 +86,18 @@ where
     requires name { blank.name ≡ L.name }
     requires parts { blank.parts ≡ L.parts }
     requires made { Some (making_by options.now.limits pseudo) ≡ L.made_with }
+    requires endless { is_endless ≡ true → L.hands_out ≡ true }
     requires all { blank.parts ≡ 129 }
     requires some { 0 < options.now.sessions }
     requires most { options.now.sessions ≤ 64 }
     ensures made { IfOk result (λ ended. IsMadeWith ended.manager options.now.limits pseudo) }
+    ensures history { L.hands_out ≡ false
+        → IfOk result (λ ended. ended.manager.commons.history.handed ≡ []) }
     ensures events { IfOk result (λ ended. ended.manager.events ≡ ended.gathered.events) }
     ensures clients { IfOk result (λ ended. ended.gathered.is_short ≡ false
         → AreOfClients ended.gathered.last (K.receipts ended.gathered.outcomes)) }
+    ensures told { IfOk result (λ ended. ended.gathered.is_short ≡ false
+        → AreTold P.bits_of (K.receipts ended.gathered.outcomes)) }
     ensures refusal { IsOkUnless result Refusal.OutOfMemory }
 {
     let (book, mut all) = blank.open::<L>();
@@ -140,6 +146,7 @@ fn served_of<P: Pseudo + Drop>(
     ended: Ended<P, Vec<Outcome>>,
     limit: u32,
 ) -> Result<Served<P>, Refusal>
+    requires { ended.manager.commons.history.handed ≡ [] }
     ensures manager { IfOk result (λ got. got.manager ≡ ended.manager) }
     ensures outcomes { IfOk result
         (λ got. Agrees got.outcomes got.manager.commons.history.items) }
@@ -205,6 +212,8 @@ where
     requires most { options.now.sessions ≤ 64 }
     // the manager has these limits and this function from keys to pseudokeys
     ensures made { IfOk result (λ got. IsMadeWith got.manager options.now.limits pseudo) }
+    // all of its history is there
+    ensures history { IfOk result (λ got. got.manager.commons.history.handed ≡ []) }
     // what clients were told is what the manager has done
     ensures outcomes { IfOk result
         (λ got. Agrees got.outcomes got.manager.commons.history.items) }

@@ -2,6 +2,7 @@
 
 ghost use Rattle.std.specs.Prelude.{◌≡◌, ◌≤◌, ◌+◌, ◌-◌, ◌^◌, [], false, min};
 ghost use Rattle.mlt_serve.specs.Clients.{AreOfClients, GrowsFor};
+ghost use Rattle.mlt_serve.specs.Tellings.{AreTold};
 
 use crate::accepting::Connection;
 use crate::service::Service;
@@ -15,16 +16,17 @@ use mlt_serve_socket::{Socket, lingering_close};
 use mlt_types::Pseudo;
 use mlt_work_desk::{LockDesk, MadeWith, Tries};
 use std::alloc::{AllocError, Global};
+use std::marker::PhantomData;
 use std::net::TcpStream;
 use std::sync::atomic::Ordering;
-use std::sync::ledger::{Ledger, Share};
+use std::sync::ledger::Share;
 use std::sync::{Arc, Wait};
 use std::time::Clock;
 
 /// A session thread, and what it has served so far. Its share of the ledger has two parts: one for itself, and one for the desk that it is
 /// at work at.
 #[derive(Drop)]
-pub(crate) struct SessionThread<L: Ledger, K: Receipts> {
+pub(crate) struct SessionThread<P: Pseudo, L: MadeWith<P>, K: Receipts> {
     pub(crate) share: Share<L>,
     /// The number of its events; it stays at 2^64 - 1.
     pub(crate) events: u64,
@@ -36,15 +38,18 @@ pub(crate) struct SessionThread<L: Ledger, K: Receipts> {
     pub(crate) last: u32,
     /// Whether a session was refused a growth.
     pub(crate) is_short: bool,
+    /// The manager's function from keys to pseudokeys, by its type.
+    pub(crate) pseudo: PhantomData<P>,
     ghost two_parts: { share.parts ≡ 2 },
     ghost counted: { events ≡ min share.amount (2 ^ 64 - 1) },
     ghost of_clients: { AreOfClients last (K.receipts outcomes) },
+    ghost told: { AreTold P.bits_of (K.receipts outcomes) },
 }
 
-impl<L: Ledger, K: Receipts + Drop> SessionThread<L, K> {
+impl<P: Pseudo, L: MadeWith<P>, K: Receipts + Drop> SessionThread<P, L, K> {
     /// Nothing was served yet.
-    #[tactic(auto, using(crate::proofs::Numbering::none_of))]
-    pub(crate) fn new(alloc: Global, share: Share<L>) -> SessionThread<L, K>
+    #[tactic(auto, using(crate::proofs::Numbering::none_of, crate::proofs::Telling::none_told))]
+    pub(crate) fn new(alloc: Global, share: Share<L>) -> SessionThread<P, L, K>
         requires parts { share.parts ≡ 2 }
         requires amount { share.amount ≡ 0 }
         ensures share { result.share ≡ share }
@@ -58,12 +63,13 @@ impl<L: Ledger, K: Receipts + Drop> SessionThread<L, K> {
             connections: 0,
             last: 0,
             is_short: false,
+            pseudo: PhantomData,
         }
     }
 
     /// Serves a connection by a session at a desk of its own, so that no desk is counted while there is nothing to serve. It answers
     /// why the session was cut, if it was.
-    fn serve<P: Pseudo, R: Wait + Clock>(
+    fn serve<R: Wait + Clock>(
         &mut self,
         rt: &R,
         alloc: Global,
@@ -72,10 +78,8 @@ impl<L: Ledger, K: Receipts + Drop> SessionThread<L, K> {
         client: u32,
         stream: &TcpStream,
     ) -> Option<Cut>
-    where
-        L: MadeWith<P>,
         requires { 1 ≤ client }
-        ensures outcomes { GrowsFor client
+        ensures outcomes { GrowsFor P.bits_of client
             (K.receipts self.old.outcomes) (K.receipts self.new.outcomes) }
         ensures connections { self.new.connections ≡ min (self.old.connections + 1) (2 ^ 64 - 1) }
         ensures short { self.new.is_short ≡ self.old.is_short }
@@ -87,6 +91,7 @@ impl<L: Ledger, K: Receipts + Drop> SessionThread<L, K> {
             connections,
             last,
             is_short: _,
+            pseudo: _,
         } = self;
         let mine = share.split_off(1, 0);
         let restarts = Restarts::new(service.restart_queue);
@@ -107,7 +112,7 @@ impl<L: Ledger, K: Receipts + Drop> SessionThread<L, K> {
     }
 
     /// Serves a connection at its seat, and then closes it with the client. It answers whether memory was refused.
-    fn seat<P: Pseudo, R: Wait + Clock>(
+    fn seat<R: Wait + Clock>(
         &mut self,
         rt: &R,
         alloc: Global,
@@ -115,9 +120,7 @@ impl<L: Ledger, K: Receipts + Drop> SessionThread<L, K> {
         seat: &Seat,
         connection: Connection,
     ) -> bool
-    where
-        L: MadeWith<P>,
-        ensures outcomes { GrowsFor connection.client
+        ensures outcomes { GrowsFor P.bits_of connection.client
             (K.receipts self.old.outcomes) (K.receipts self.new.outcomes) }
         ensures connections { self.new.connections ≤ self.old.connections + 1 }
         ensures short { self.new.is_short ≡ false
@@ -140,17 +143,14 @@ impl<L: Ledger, K: Receipts + Drop> SessionThread<L, K> {
     }
 
     /// Serves one connection after the other at a seat, until no more come. Where memory is refused no more are let in.
-    pub(crate) fn serve_all<P: Pseudo, R: Wait + Clock>(
+    pub(crate) fn serve_all<R: Wait + Clock>(
         &mut self,
         rt: &R,
         alloc: Global,
         service: &Service<'_, P, L>,
         number: usize,
         connections: &Receiver<Connection, Global>,
-    )
-    where
-        L: MadeWith<P>,
-    {
+    ) {
         service.running.fetch_add(1, Ordering::SeqCst);
         let seat = service.seats.seat(number);
         for _ in rt.forever() {

@@ -25,7 +25,7 @@ pub(crate) fn serve_connections<
     rt: &R,
     alloc: Global,
     service: &Service<'_, P, L>,
-    threads: &mut [SessionThread<L, K>],
+    threads: &mut [SessionThread<P, L, K>],
 ) -> Accepting
     requires { 0 < length threads.old }
 {
@@ -55,7 +55,7 @@ pub(crate) fn serve_connections<
                 rt,
                 threads,
                 count,
-                &|number, own: &mut SessionThread<L, K>| {
+                &|number, own: &mut SessionThread<P, L, K>| {
                     own.serve_all(rt, alloc, service, number, connections)
                 },
             );

@@ -3,28 +3,28 @@
 ghost use Rattle.std.specs.Prelude.{◌≡◌, Err, IsOk, None, Some};
 ghost use Rattle.mlt_serve.specs.Clients.{GrowsFor};
 
-use mlt_script_desk::Desk;
 use mlt_serve_admission::{Admission, Outside};
 use mlt_serve_notes::Cut;
 use mlt_serve_session::{Receipts, Summary, session};
 use mlt_serve_socket::{Failure, Socket};
-use mlt_types::Refusal;
+use mlt_types::{Pseudo, Refusal};
+use mlt_work_desk::{LockDesk, MadeWith};
 use std::alloc::Global;
 use std::sync::Wait;
 use std::time::Clock;
 
-/// Talks over a socket by a session at the desk, which adds outcomes of this client alone. It answers why the session was cut, if it
+/// Talks over a socket by a session at the desk, which adds outcomes of this client alone, in which all was told under the lock. It answers why the session was cut, if it
 /// was: `Memory` where it was refused a growth. Any other end of it is an end of this connection alone. While it waits for the client
 /// it is not at work, nor at the end.
-pub(crate) fn talk<R: Wait + Clock, D: Desk, K: Receipts + Drop>(
+pub(crate) fn talk<P: Pseudo, L: MadeWith<P>, R: Wait + Clock, K: Receipts + Drop>(
     alloc: Global,
     socket: &Socket<'_, R>,
     admission: &Admission<'_, R>,
-    desk: &mut D,
+    desk: &mut LockDesk<'_, P, L, R, Admission<'_, R>>,
     client: u32,
     outcomes: &mut K,
 ) -> Option<Cut>
-    ensures { GrowsFor client (K.receipts outcomes.old) (K.receipts outcomes.new) }
+    ensures { GrowsFor P.bits_of client (K.receipts outcomes.old) (K.receipts outcomes.new) }
 {
     let mut reader = Outside::new(socket, admission);
     let mut writer = Outside::new(socket, admission);

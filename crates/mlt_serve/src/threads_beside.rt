@@ -10,7 +10,7 @@ use crate::service::Service;
 use crate::session_thread::SessionThread;
 use crate::session_threads::serve_connections;
 use crate::supervising::supervise;
-use crate::trace_keeping::TraceKeeper;
+use crate::trace_keeping::{keep_trace, room_for_items};
 use mlt_serve_admin::{Operated, serve_admin};
 use mlt_serve_notes::{Outlet, write_notes};
 use mlt_serve_session::Receipts;
@@ -50,7 +50,7 @@ pub(crate) fn serve_with_notes<P, L, K, R, N, T, S>(
     service: &Service<'_, P, L>,
     outlet: Outlet,
     operating: Operating<'_, N, T, S>,
-    threads: &mut [SessionThread<L, K>],
+    threads: &mut [SessionThread<P, L, K>],
 ) -> Ran
 where
     P: Pseudo + Send,
@@ -95,7 +95,7 @@ fn serve_with_watch<P, L, K, R, T, S>(
     trace: Option<T>,
     signal: S,
     admin: Option<Admin<'_>>,
-    threads: &mut [SessionThread<L, K>],
+    threads: &mut [SessionThread<P, L, K>],
 ) -> Ran
 where
     P: Pseudo + Send,
@@ -134,7 +134,7 @@ fn serve_with_trace<P, L, K, R, T>(
     service: &Service<'_, P, L>,
     trace: Option<T>,
     admin: Option<Admin<'_>>,
-    threads: &mut [SessionThread<L, K>],
+    threads: &mut [SessionThread<P, L, K>],
 ) -> Ran
 where
     P: Pseudo + Send,
@@ -150,19 +150,18 @@ where
             trace_failure: None,
         };
     }
-    let Ok(keeper) = TraceKeeper::new(alloc, trace, service.is_endless) else {
+    let Ok(next) = room_for_items(alloc) else {
         return Ran::none();
     };
     let trace_ending = Ending::new();
     let ending = &trace_ending;
-    let (shared, notes) = (service.shared, service.notes);
     thread::scope(
         thread::scope_env(),
         rt,
         |scope| -> Ran
             requires { 0 < length threads.now }
         {
-            let keep = move || keeper.keep_on(rt, shared, notes, ending);
+            let keep = move || keep_trace(rt, service, trace, next, ending);
             let Ok(keeping) = scope.spawn(keep) else {
                 return Ran::none();
             };
@@ -182,7 +181,7 @@ fn serve_with_admin<P, L, K, R>(
     alloc: Global,
     service: &Service<'_, P, L>,
     admin: Option<Admin<'_>>,
-    threads: &mut [SessionThread<L, K>],
+    threads: &mut [SessionThread<P, L, K>],
 ) -> Accepting
 where
     P: Pseudo + Send,
@@ -207,7 +206,7 @@ fn serve_beside_operator<P, L, K, R, O>(
     admin: Admin<'_>,
     operator: &O,
     is_over: &AtomicBool,
-    threads: &mut [SessionThread<L, K>],
+    threads: &mut [SessionThread<P, L, K>],
 ) -> Accepting
 where
     P: Pseudo + Send,

@@ -1,11 +1,12 @@
 //! A trace that is written as the server goes.
 
-ghost use Rattle.std.specs.Prelude.{OnOk};
+ghost use Rattle.std.specs.Prelude.{◌≡◌, true, OnOk};
 ghost use Rattle.std.specs.Io.KnownBytes.{Appends};
 ghost use Rattle.mlt_trace.specs.Items.{trace_text};
 
 use crate::ending::Ending;
 use crate::operating::TraceFile;
+use crate::service::Service;
 use crate::tuning::{
     ITEMS_PER_HOLD, ITEMS_PER_WRITE, LEAST_PAUSE_MILLISECONDS, LOOK_MILLISECONDS, MANY_ITEMS,
 };
@@ -61,7 +62,9 @@ impl<T: Write> Write for Counting<T> {
 
 /// The trace so far, and what is about to be written of it.
 #[derive(Drop)]
-pub(crate) struct TraceKeeper<T> {
+struct TraceKeeper<'a, P: Pseudo, L: MadeWith<P>, T> {
+    /// The manager whose trace it is.
+    shared: &'a Shared<P, L>,
     /// Where it is written, if it is.
     file: Option<Counting<T>>,
     /// How many items of the history were written, where they are copied.
@@ -74,34 +77,35 @@ pub(crate) struct TraceKeeper<T> {
     is_behind: bool,
     /// Whether a write failed. Nothing is written then.
     is_over: bool,
+    ghost endless: { takes ≡ true → L.hands_out ≡ true },
 }
 
-impl<T: TraceFile + Drop> TraceKeeper<T> {
-    /// Nothing is written yet. Items are taken out of the manager, or are copied.
-    ///
-    /// # Errors
-    /// Where a growth is refused.
-    pub(crate) fn new(
-        alloc: Global,
+impl<'a, P: Pseudo, L: MadeWith<P>, T: TraceFile + Drop> TraceKeeper<'a, P, L, T> {
+    /// Nothing is written yet. Items are taken out of the manager into this list, or are copied.
+    fn new(
+        shared: &'a Shared<P, L>,
         file: Option<T>,
+        next: Vec<KeptItem>,
         takes: bool,
-    ) -> Result<TraceKeeper<T>, AllocError> {
-        Ok(TraceKeeper {
+    ) -> TraceKeeper<'a, P, L, T>
+        requires { takes ≡ true → L.hands_out ≡ true }
+    {
+        TraceKeeper {
+            shared,
             file: file.map(Counting::new),
             items: 0,
-            next: Vec::with_capacity(alloc, ITEMS_PER_HOLD)?,
+            next,
             takes,
             is_behind: false,
             is_over: false,
-        })
+        }
     }
 
     /// Takes or copies what is new, and writes it, again and again, until there is nothing left to do; and then what is left. It
     /// answers why the trace was not written whole, if so.
-    pub(crate) fn keep_on<P: Pseudo, L: MadeWith<P>, R: Wait + Clock>(
+    fn keep_on<R: Wait + Clock>(
         mut self,
         rt: &R,
-        shared: &Shared<P, L>,
         notes: &Notes,
         ending: &Ending,
     ) -> Option<io::Error> {
@@ -109,10 +113,10 @@ impl<T: TraceFile + Drop> TraceKeeper<T> {
         for _ in rt.forever() {
             let is_last = ending.sleep(rt, Duration::from_millis(pause));
             if self.takes {
-                let taken = self.take_new(rt, shared, notes);
+                let taken = self.take_new(rt, notes);
                 pause = pause_after(pause, taken);
             } else if !self.is_over {
-                self.catch_up(rt, shared, notes);
+                self.catch_up(rt, notes);
             }
             if is_last {
                 break;
@@ -135,16 +139,12 @@ impl<T: TraceFile + Drop> TraceKeeper<T> {
         }
     }
 
-    /// Takes all that is new out of the manager, in one hold of the lock, and writes it. Where a growth is refused nothing is taken,
-    /// and nothing is lost. It answers how many items were taken. The manager goes on in the memory of those that were taken before.
-    fn take_new<P: Pseudo, L: MadeWith<P>, R: Wait + Clock>(
-        &mut self,
-        rt: &R,
-        shared: &Shared<P, L>,
-        notes: &Notes,
-    ) -> usize {
-        self.next.clear();
-        self.is_behind = shared.take_items(rt, &mut self.next).is_err();
+    /// Takes all that is new out of the manager, and writes it. Where a growth is refused nothing is taken, and nothing is lost. It
+    /// answers how many items were taken.
+    fn take_new<R: Wait + Clock>(&mut self, rt: &R, notes: &Notes) -> usize
+        requires { L.hands_out ≡ true }
+    {
+        self.is_behind = self.take_next(rt).is_err();
         if self.is_behind {
             return 0;
         }
@@ -152,17 +152,28 @@ impl<T: TraceFile + Drop> TraceKeeper<T> {
         self.next.len()
     }
 
+    /// Takes all that is new out of the manager, in one hold of the lock. The manager goes on in the memory of what was taken before,
+    /// which is that of many items: what a long pause has made of it is given back, and it grows under the lock in none but such.
+    ///
+    /// # Errors
+    /// Where a growth is refused; nothing is taken then.
+    fn take_next<R: Wait>(&mut self, rt: &R) -> Result<(), Refusal>
+        requires { L.hands_out ≡ true }
+    {
+        self.next.clear();
+        self.next.shrink_to(MANY_ITEMS);
+        self.next.reserve(MANY_ITEMS)?;
+        self.shared.take_items(rt, &mut self.next)
+    }
+
     /// Copies all that is new, and writes it.
-    fn catch_up<P: Pseudo, L: MadeWith<P>, R: Wait + Clock>(
-        &mut self,
-        rt: &R,
-        shared: &Shared<P, L>,
-        notes: &Notes,
-    ) {
+    fn catch_up<R: Wait + Clock>(&mut self, rt: &R, notes: &Notes) {
         for _ in rt.forever() {
             self.next.clear();
             // There is room for so many.
-            let _ = shared.copy_items(rt, self.items, ITEMS_PER_HOLD, &mut self.next);
+            let _ = self
+                .shared
+                .copy_items(rt, self.items, ITEMS_PER_HOLD, &mut self.next);
             self.write_next(rt, notes);
             if self.next.is_empty() || self.is_over {
                 return;
@@ -184,6 +195,27 @@ impl<T: TraceFile + Drop> TraceKeeper<T> {
             notes.tell(rt, Note::TraceFailed(error));
         }
     }
+}
+
+/// Room for the items that are copied in one hold of the lock.
+///
+/// # Errors
+/// Where a growth is refused.
+pub(crate) fn room_for_items(alloc: Global) -> Result<Vec<KeptItem>, AllocError> {
+    Vec::with_capacity(alloc, ITEMS_PER_HOLD)
+}
+
+/// Writes the trace into this file, if there is one, or takes the history out of the manager, until there is nothing left to do. It
+/// answers why the trace was not written whole, if so.
+pub(crate) fn keep_trace<P: Pseudo, L: MadeWith<P>, R: Wait + Clock, T: TraceFile + Drop>(
+    rt: &R,
+    service: &Service<'_, P, L>,
+    file: Option<T>,
+    next: Vec<KeptItem>,
+    ending: &Ending,
+) -> Option<io::Error> {
+    let keeper = TraceKeeper::new(service.shared, file, next, service.is_endless);
+    keeper.keep_on(rt, service.notes, ending)
 }
 
 /// After how many milliseconds what is new is taken again, where so many items were there after this pause: sooner where these were

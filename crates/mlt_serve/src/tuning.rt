@@ -10,8 +10,8 @@ pub(crate) const LOOK_MILLISECONDS: u64 = 250;
 /// How many items of a history are copied in one hold of the lock, in a microsecond or two. By `looked`.
 pub(crate) const ITEMS_PER_HOLD: usize = 256;
 
-/// How many items are many to be taken out of the manager at once, some 2 MB: where more are, they are taken sooner. By `endless`.
-pub(crate) const MANY_ITEMS: usize = 65_536;
+/// How many items are many to be taken out of the manager at once, 262,144 bytes: where more are, they are taken sooner. By `endless`.
+pub(crate) const MANY_ITEMS: usize = 8_192;
 
 /// How many milliseconds pass at least between two pieces that are taken out of the manager. By `endless`.
 pub(crate) const LEAST_PAUSE_MILLISECONDS: u64 = 10;

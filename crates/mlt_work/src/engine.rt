@@ -1,6 +1,6 @@
 //! Scripts from a reader, run side by side, and their text to a writer.
 
-ghost use Rattle.std.specs.Prelude.{◌≡◌, ◌≤◌, ◌<◌, ◌⊎◌, ℕ, List, Err, IfErr, IfOk};
+ghost use Rattle.std.specs.Prelude.{◌≡◌, ◌≤◌, ◌<◌, ◌⊎◌, ℕ, List, [], Err, IfErr, IfOk};
 ghost use Rattle.std.specs.Io.KnownBytes.{Appends};
 ghost use Rattle.mlt_types.specs.declared.refusal.ScriptCause.{ScriptCause};
 ghost use Rattle.mlt_text.specs.Failures.{FailsCleanly, IsScriptFault, IsWant};
@@ -62,6 +62,8 @@ pub fn run_scripts<
         × IsRunOf options.now.limits pseudo (R.remaining reader.old) (R.remaining reader.new)
         input text manager
         × Appends (W.contents writer.old) (W.contents writer.new) text) }
+    // all of the history is there
+    ensures history { IfOk result (λ manager. manager.commons.history.handed ≡ []) }
     // a fault is the first one of the input
     ensures fault { (line : ℕ) (cause : ScriptCause) → result ≡ Err (Refusal.ScriptFault line cause)
         → (input : List ℕ) × GivesWhole (R.remaining reader.old) (R.remaining reader.new) input

@@ -1,6 +1,6 @@
 //! The report, once all workers have given back what they have.
 
-ghost use Rattle.std.specs.Prelude.{◌≡◌, ◌⊎◌, IfErr, IsOkUnless, IfOk, OnOk};
+ghost use Rattle.std.specs.Prelude.{◌≡◌, ◌⊎◌, [], IfErr, IsOkUnless, IfOk, OnOk};
 ghost use Rattle.mlt_trace_audit.specs.Agreement.{Agrees};
 ghost use Rattle.mlt_trace_audit.specs.Committed.{IsBaseOfOutcomes};
 ghost use Rattle.mlt_manager.specs.Promises.{IsCommittedBaseOf};
@@ -23,13 +23,14 @@ fn audit_and_base<P: Pseudo, R: Threads>(
     outcomes: &[Outcome],
     manager: &Manager<P>,
 ) -> (Result<(), Refusal>, Result<Base, Refusal>)
+    requires { manager.now.commons.history.handed ≡ [] }
     ensures agrees { OnOk result.0 (Agrees outcomes.now manager.now.commons.history.items) }
     ensures differs { IsOkUnless result.0 Refusal.Audit }
     ensures base { IfOk result.1 (λ base. IsCommittedBaseOf manager.now base) }
     ensures refusal { IsOkUnless result.1 Refusal.OutOfMemory }
 {
     let Some(history) = manager.history() else {
-        return (Err(Refusal::Audit), manager.base());
+        unreachable!()
     };
     if workers == 1 {
         return (audit(alloc, outcomes, history), manager.base());
@@ -59,6 +60,7 @@ pub(crate) fn report_of<P: Pseudo, R: Threads>(
     events: u64,
     manager: &Manager<P>,
 ) -> Result<Report, Refusal>
+    requires { manager.now.commons.history.handed ≡ [] }
     ensures outcomes { IfOk result (λ report. report.outcomes ≡ outcomes) }
     ensures events { IfOk result (λ report. report.events ≡ events) }
     ensures agrees { IfOk result

@@ -1,6 +1,6 @@
 //! The scripts of all clients, by several workers.
 
-ghost use Rattle.std.specs.Prelude.{◌≡◌, ◌≤◌, ◌<◌, ◌⊎◌, IfErr, IfOk, Some};
+ghost use Rattle.std.specs.Prelude.{◌≡◌, ◌≤◌, ◌<◌, ◌⊎◌, [], false, IfErr, IfOk, Some};
 ghost use Rattle.mlt_work_desk.specs.Makings.{making_by};
 ghost use Rattle.mlt_work_clients.specs.Places.{scripts_of_clients};
 ghost use Rattle.mlt_work.specs.Runs.{HasRunAll};
@@ -38,11 +38,13 @@ fn run_with<
     requires name { blank.name ≡ L.name }
     requires parts { blank.parts ≡ L.parts }
     requires made { Some (making_by options.now.limits pseudo) ≡ L.made_with }
+    requires stays { L.hands_out ≡ false }
     requires nine { blank.parts ≡ 9 }
     requires some { 0 < options.now.workers }
     requires most { options.now.workers ≤ 8 }
     ensures ran { IfOk result
         (λ got. HasRunAll (scripts_of_clients clients.now) options.now.limits pseudo got.0 got.1) }
+    ensures history { IfOk result (λ got. got.1.commons.history.handed ≡ []) }
     ensures refusal { IfErr result
         (λ refusal. (refusal ≡ Refusal.OutOfMemory) ⊎ (refusal ≡ Refusal.Audit)) }
 {
@@ -114,6 +116,8 @@ pub fn run<P: Pseudo + Drop + Send, R: Threads + Wait + Sync, G: Gate + Sync>(
     // manager has these limits and this function from keys to pseudokeys
     ensures ran { IfOk result
         (λ got. HasRunAll (scripts_of_clients clients.now) options.now.limits pseudo got.0 got.1) }
+    // all of the history is there
+    ensures history { IfOk result (λ got. got.1.commons.history.handed ≡ []) }
     ensures refusal { IfErr result
         (λ refusal. (refusal ≡ Refusal.OutOfMemory) ⊎ (refusal ≡ Refusal.Audit)) }
 {

@@ -1,6 +1,6 @@
 //! What a desk does while it holds the lock.
 
-ghost use Rattle.std.specs.Prelude.{◌≡◌, ◌++◌, ◌+◌, ◌-◌, ◌<◌, ◌^◌, [], List, Some, min};
+ghost use Rattle.std.specs.Prelude.{◌≡◌, ◌++◌, ◌+◌, ◌-◌, ◌<◌, ◌^◌, [], false, List, Some, min};
 ghost use Rattle.mlt_manager.specs.Answers.{counted};
 ghost use Rattle.mlt_manager.specs.Events.{Meets};
 ghost use Rattle.mlt_manager.specs.Managers.{IsManager};
@@ -23,6 +23,7 @@ impl<P: Pseudo, L: MadeWith<P>> LockedState<P, L> {
     pub fn new(manager: Manager<P>, book: Book<L>) -> LockedState<P, L>
         requires events { manager.events ≡ 0 }
         requires made { Some (making_of manager) ≡ L.made_with }
+        requires history { L.hands_out ≡ false → manager.commons.history.handed ≡ [] }
         requires total { book.total ≡ 0 }
     {
         LockedState {
@@ -35,6 +36,7 @@ impl<P: Pseudo, L: MadeWith<P>> LockedState<P, L> {
     /// No desk, over a manager whose events so far count in the share.
     pub fn of(manager: Manager<P>, book: Book<L>, share: &mut Share<L>) -> LockedState<P, L>
         requires made { Some (making_of manager) ≡ L.made_with }
+        requires history { L.hands_out ≡ false → manager.commons.history.handed ≡ [] }
         requires total { book.total ≡ 0 }
         requires part { 0 < share.old.parts }
         ensures amount { share.new.amount ≡ share.old.amount + manager.events }
@@ -99,6 +101,7 @@ impl<P: Pseudo, L: MadeWith<P>> LockedState<P, L> {
         requires { all.old.parts ≡ L.parts }
         ensures events { result.events ≡ min all.old.amount (2 ^ 64 - 1) }
         ensures made { Some (making_of result) ≡ L.made_with }
+        ensures history { L.hands_out ≡ false → result.commons.history.handed ≡ [] }
         ensures amount { all.new.amount ≡ all.old.amount }
         ensures parts { all.new.parts ≡ all.old.parts }
     {

@@ -1,6 +1,6 @@
 //! What lies under the lock.
 
-ghost use Rattle.std.specs.Prelude.{◌≡◌, ◌-◌, ◌^◌, Some, min};
+ghost use Rattle.std.specs.Prelude.{◌≡◌, ◌-◌, ◌^◌, [], false, Some, min};
 ghost use Rattle.mlt_work_desk.specs.Makings.{making_of};
 
 use crate::desks::Desks;
@@ -16,4 +16,5 @@ pub struct LockedState<P: Pseudo, L: MadeWith<P>> {
     pub(crate) desks: Desks,
     ghost counted: { manager.events ≡ min book.total (2 ^ 64 - 1) },
     ghost made: { Some (making_of manager) ≡ L.made_with },
+    ghost history: { L.hands_out ≡ false → manager.commons.history.handed ≡ [] },
 }

@@ -1,6 +1,6 @@
 //! What can be seen of a manager under its lock, without an event.
 
-ghost use Rattle.std.specs.Prelude.{◌≡◌, ◌≤◌, ◌+◌, ◌++◌, IsOkUnless, OnOk, length};
+ghost use Rattle.std.specs.Prelude.{◌≡◌, ◌≤◌, ◌+◌, ◌++◌, true, IsOkUnless, OnOk, length};
 ghost use Rattle.std.specs.FinMap as map;
 ghost use Rattle.mlt_manager.specs.Bases.{HasDepth};
 ghost use Rattle.mlt_manager.specs.HandingOut.{HandsOut};
@@ -80,6 +80,7 @@ impl<P: Pseudo, L: MadeWith<P>> LockedState<P, L> {
     /// # Errors
     /// Where a growth is refused; nothing is handed out then.
     pub(crate) fn take_items(&mut self, items: &mut Vec<KeptItem>) -> Result<(), Refusal>
+        requires { L.hands_out ≡ true }
         ensures rest { HandsOut self.old.manager self.new.manager }
         ensures list { OnOk result (self.old.manager.commons.history.items
             ≡ self.old.manager.commons.history.handed ++ items.new.items) }

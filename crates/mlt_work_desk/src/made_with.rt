@@ -1,18 +1,22 @@
 //! With what the manager under a lock is made.
 
-ghost use Rattle.std.specs.Prelude.{Option, None};
+ghost use Rattle.std.specs.Prelude.{Bool, false, Option, None};
 ghost use Rattle.mlt_work_desk.specs.Makings.{Making};
 
 use std::marker::Brand;
 use std::sync::ledger::Ledger;
 
-/// The ledger of the desks over a manager, and with which limits and which function from keys to pseudokeys that was made. No
-/// value of it is made: who runs desks picks both.
+/// The ledger of the desks over a manager, with which limits and which function from keys to pseudokeys that was made, and whether
+/// its history is handed out. No value of it is made: who runs desks picks all three.
 pub trait MadeWith<P>: Ledger {
     /// The limits and the function.
     ghost made_with: { Option (Making P) };
+    /// Whether items of the history may be handed out. Else all of it stays in the manager.
+    ghost hands_out: { Bool };
 }
 
 impl<P> MadeWith<P> for Brand {
     ghost made_with = { None };
+
+    ghost hands_out = { false };
 }

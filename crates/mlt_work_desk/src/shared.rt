@@ -1,6 +1,6 @@
 //! The manager under its lock.
 
-ghost use Rattle.std.specs.Prelude.{◌≡◌, ◌-◌, ◌^◌, Some, min};
+ghost use Rattle.std.specs.Prelude.{◌≡◌, ◌-◌, ◌^◌, [], false, true, Some, min};
 ghost use Rattle.mlt_work_desk.specs.Makings.{making_of};
 
 use crate::locked_state::LockedState;
@@ -149,7 +149,9 @@ impl<P: Pseudo, L: MadeWith<P>> Shared<P, L> {
     ///
     /// # Errors
     /// Where a growth is refused; nothing is handed out then.
-    pub fn take_items<R: Wait>(&self, rt: &R, items: &mut Vec<KeptItem>) -> Result<(), Refusal> {
+    pub fn take_items<R: Wait>(&self, rt: &R, items: &mut Vec<KeptItem>) -> Result<(), Refusal>
+        requires { L.hands_out ≡ true }
+    {
         let mut state = self.lock(rt);
         state.take_items(items)
     }
@@ -171,6 +173,7 @@ impl<P: Pseudo, L: MadeWith<P>> Shared<P, L> {
         requires { all.old.parts ≡ L.parts }
         ensures events { result.events ≡ min all.old.amount (2 ^ 64 - 1) }
         ensures made { Some (making_of result) ≡ L.made_with }
+        ensures history { L.hands_out ≡ false → result.commons.history.handed ≡ [] }
         ensures amount { all.new.amount ≡ all.old.amount }
         ensures parts { all.new.parts ≡ all.old.parts }
     {

@@ -9,7 +9,7 @@ mod opened;
 mod output;
 mod streams;
 
-ghost use Rattle.std.specs.Prelude.{◌≡◌, ◌≤◌, ◌<◌};
+ghost use Rattle.std.specs.Prelude.{◌≡◌, ◌≤◌, ◌<◌, [], IfOk, Ok};
 ghost use Rattle.mlt_cli.specs.CommandLine.{IsWithinBounds};
 
 use arguments::words;
@@ -142,7 +142,9 @@ fn run_outcome<V>(
     told: Result<V, Refusal>,
     input: Input,
     written: Option<io::Error>,
-) -> Result<V, Failure> {
+) -> Result<V, Failure>
+    ensures { IfOk result (λ value. told ≡ Ok value) }
+{
     match told {
         Ok(value) => Ok(value),
         Err(refusal) => Err(Failure::of_run(refusal, input, written)),
@@ -347,12 +349,14 @@ fn write_history<P: Pseudo>(
     rt: &HostRuntime,
     manager: &Manager<P>,
     run: &Run,
-) -> Result<(), Failure> {
+) -> Result<(), Failure>
+    requires { manager.now.commons.history.handed ≡ [] }
+{
     let Some(file) = &run.trace else {
         return Ok(());
     };
     let Some(items) = manager.history() else {
-        return Err(Failure::from(Refusal::Audit));
+        unreachable!()
     };
     let mut output = match File::create(rt, file.as_str()) {
         Ok(created) => Output::new(created),

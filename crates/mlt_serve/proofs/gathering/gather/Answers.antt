@@ -23,6 +23,7 @@ loop-thread-preserved g c =
           IsPermutation-trans all (all_outcomes rest ++ (got ++ outcomes_of w)) (all_outcomes rest ++ after) (last_behind outcomes_of rest w all got popped)
           (IsPermutation-append_right (all_outcomes rest) (got ++ outcomes_of w) after (c.take_in.ensures.outcomes f));
       clients = λ f. c.take_in.ensures.clients f (l.invariant.clients (c.take_in.ensures.short f).0);
+      told = λ f. c.take_in.ensures.told f (l.invariant.told (c.take_in.ensures.short f).0);
       short = λ f have.
           let both = c.take_in.ensures.short f in
           l.invariant.short both.0 (subst AllHaveMemory (sym c.in-Some.ensures.items) (All-push HasMemory rest w have both.1));

@@ -1,4 +1,4 @@
-use Rattle.std.specs.Prelude.{Some}
+use Rattle.std.specs.Prelude.{true, Some}
 use Rattle.mlt_work_desk.specs.Makings.{making_of}
 use Rattle.mlt_serve_tests.proofs.lock_desks.talk_over_manager.Given as goal
 
@@ -6,4 +6,7 @@ abbrev pub ghosts-talk_over-L-Ledger : goal.ghosts-talk_over-L-Ledger
 ghosts-talk_over-L-Ledger g a = record { name = a.blank.name; parts = a.blank.parts }
 
 abbrev pub ghosts-talk_over-L-MadeWith : goal.ghosts-talk_over-L-MadeWith
-ghosts-talk_over-L-MadeWith g a = record { made_with = Some (making_of a.manager) }
+ghosts-talk_over-L-MadeWith g a = record {
+  made_with = Some (making_of a.manager);
+  hands_out = true;
+}

@@ -2,12 +2,13 @@ use Rattle.std.proofs.Common.{◌≡◌, ◌∙◌, ◌+◌, ◌-◌, ◌^◌, S
 use Rattle.mlt_work_desk.proofs.Counting.{one_event, same_making}
 use Rattle.mlt_work_desk.proofs.locked_state.LockedState.act.Goals as goal
 
-pub invariant_of-self : goal.invariant_of-self
-invariant_of-self g c =
+pub invariant_of-self-clause-counted : goal.invariant_of-self-clause-counted
+invariant_of-self-clause-counted g c =
     let counts : c.act-told.new.self.events ≡ min (c.args.self.now.manager.events + 1) (2 ^ 64 - 1) = one_event g.P.Pseudo.bits_of c.args.event c.act-told.result c.args.self.now.manager c.act-told.new.self c.act-told.ensures.meets in
     let before = c.args.self.now.counted in
     let total = c.add.ensures.total in
-    record {
-      counted = omega (arith, counts, before, total);
-      made = ap Some (same_making g.P.Pseudo.bits_of c.args.event c.act-told.result c.args.self.now.manager c.act-told.new.self c.act-told.ensures.meets) ∙ c.args.self.now.made;
-    }
+    omega (arith, counts, before, total)
+
+pub invariant_of-self-clause-made : goal.invariant_of-self-clause-made
+invariant_of-self-clause-made g c =
+    ap Some (same_making g.P.Pseudo.bits_of c.args.event c.act-told.result c.args.self.now.manager c.act-told.new.self c.act-told.ensures.meets) ∙ c.args.self.now.made
