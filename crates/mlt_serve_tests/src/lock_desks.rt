@@ -1,6 +1,6 @@
 //! Sessions over a manager.
 
-ghost use Rattle.std.specs.Prelude.{◌≡◌, Some};
+ghost use Rattle.std.specs.Prelude.{◌≡◌, Some, true};
 ghost use Rattle.mlt_work_desk.specs.Makings.{making_of};
 
 use crate::sessions::{LINES, OF_LINES};
@@ -71,6 +71,7 @@ fn talk_over<L: MadeWith<Mult>>(
     requires name { blank.name ≡ L.name }
     requires parts { blank.parts ≡ L.parts }
     requires made { Some (making_of manager) ≡ L.made_with }
+    requires history { L.hands_out ≡ true }
     requires two { blank.parts ≡ 2 }
 {
     let (book, mut all) = blank.open::<L>();
