@@ -4,26 +4,29 @@ from functools import partial
 from pathlib import Path
 
 from machine import LOCAL, listening
-from sessions import CLIENT_THREADS, SESSIONS, Load, figures_of, rate, transaction
+from sessions import Load, figures_of, transaction
 from works import Bench, Group, Limit, Sample, Side, Work
 
+# One session: a session thread that serves for the first time takes some 130,000 bytes more, and a client connects again now and then.
+SESSIONS = 1
 # How long a load may take at most.
 MOST_SECONDS = 600
-# Few conflicts, and all lines of a transaction in one write.
-SPREAD = Load(transaction("up 11 1", "up 12 1", "up 13 1"), SESSIONS, True, counters=50_000, threads=min(SESSIONS, CLIENT_THREADS))
+# How many transactions a client sends in one write.
+BATCH = 80
+SPREAD = Load(transaction("up ? 1") * BATCH, whole=True, counters=50_000)
 ENDLESS, LIMITED = ("--endless",), ("--limit", 1_000_000)
 
 
 def after(transactions: int, options: tuple[object, ...], has_trace: bool, bench: Bench, program: Path) -> Sample:
-    """So many transactions of 64 clients on one server, and what it holds at their end."""
+    """So many transactions on one server, how many a second, and what it holds at their end."""
     trace = bench.folder / "endless.trace"
     words = [program, "serve", f"{LOCAL}:0", "--sessions", SESSIONS, *options, *(["--trace", trace] if has_trace else [])]
-    limit = Limit(MOST_SECONDS, bench.pick(transactions, 1_000))
+    limit = Limit(MOST_SECONDS, bench.pick(transactions, 1_000) // BATCH)
     with listening(words) as server:
         told = figures_of(bench, server.port, SPREAD, limit)
         held = server.resident_bytes() / 1_048_576
     trace.unlink(missing_ok=True)
-    return rate(told, **{"MB at the end": held})
+    return Sample(told["transactions"] * BATCH / told["seconds"], more={"MB at the end": held})
 
 
 def endless_works() -> Iterator[Work]:
@@ -34,7 +37,7 @@ def endless_works() -> Iterator[Work]:
         ]
         if transactions == 1_000_000:
             sides.append(Side("with a limit", partial(after, transactions, LIMITED, False), ("load",)))
-        yield Work("endless", f"{what} transactions of 64 clients", "transactions/s", tuple(sides), most_runs=2)
+        yield Work("endless", f"{what} transactions, {BATCH} a write", "transactions/s", tuple(sides), most_runs=3)
 
 
 # By its name what the group measures, and its works.
