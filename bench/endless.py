@@ -7,7 +7,7 @@ from machine import LOCAL, listening
 from sessions import Load, figures_of, transaction
 from works import Bench, Group, Limit, Sample, Side, Work
 
-# One session: a session thread that serves for the first time takes some 130,000 bytes more, and a client connects again now and then.
+# One session: a session thread that serves for the first time takes some more memory, and a client connects again now and then.
 SESSIONS = 1
 # How long a load may take at most.
 MOST_SECONDS = 600

@@ -1,4 +1,4 @@
--- All that is in outcomes is what a manager told under the lock, where others come behind them.
+-- All that is in outcomes is what some manager tells, where others come behind them.
 use Rattle.std.proofs.Common.{◌≡◌, ◌++◌, List, [], All, ℕ, subst, sym}
 use Rattle.std.specs.Prelude.{IsPermutation}
 use Rattle.std.proofs.lemmas.Grind.{merely}

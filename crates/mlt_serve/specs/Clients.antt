@@ -7,7 +7,7 @@ use Rattle.mlt_serve.specs.Tellings.{AreTold}
 abbrev pub IsOf : ℕ → Outcome → Type 0
 IsOf client o = o.client ≡ client
 
--- to these outcomes others were added at the end, all of this client, and all told under the lock
+-- to these outcomes others were added at the end, all of this client, and all told by some manager
 pub record GrowsFor {P : Type 0} (bits_of : P → ℕ → ℕ) (client : ℕ) (before after : List Outcome)
     : Type 0 where
   pub more : List Outcome

@@ -1,4 +1,4 @@
--- Outcomes in which all is what a manager told under the lock.
+-- Outcomes in which all is what some manager tells.
 use Rattle.std.specs.Prelude.{ℕ, List, All}
 use Rattle.mlt_object_kinds.specs.declared.operation.ObjOp.{ObjOp}
 use Rattle.mlt_object_kinds.specs.declared.operation.ObjReply.{ObjReply}
@@ -20,8 +20,8 @@ module _ {P : Type 0} (bits_of : P → ℕ → ℕ) where
   IsEndTold tx (end.Committed number) = IsToldTo bits_of (event.Commit tx) (told.Committed number)
   IsEndTold tx other = Unit {0}
 
-  -- Events of a manager, each in a hold of the lock, were told all that is in the outcome: that the transaction has begun, each
-  -- of its replies, and its commit, if it has one.
+  -- Events were told all that is in the outcome, each by some manager: that the transaction has begun, each of its replies, and
+  -- its commit, if it has one.
   pub record ToldAll (o : Outcome) : Type 0 where
     pub begun : IsToldTo bits_of event.Begin (told.Begun o.tx)
     pub replies : All (IsReplyTold o.tx) o.done

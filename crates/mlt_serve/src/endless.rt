@@ -85,7 +85,7 @@ fn served_of<P: Pseudo + Drop>(
 /// trace, if there is a file for it, and then dropped. So what the server holds does not grow with what it has done.
 ///
 /// At the end as many transactions were told begun as the manager has begun, and as many told committed as it has committed; and each
-/// reply was told by an event in a hold of the lock. The outcomes of the tally are those of all sessions, as clauses see them.
+/// reply is one that an event of some manager is told: that it was this one's, no clause says. The outcomes of the tally are those of all sessions, as clauses see them.
 ///
 /// There are no more connections than the options say, which is at most 4,294,967,295, as a client's number has 32 bits.
 ///
@@ -115,7 +115,7 @@ where
     // as many were told committed as it has committed
     ensures commits { IfOk result
         (λ got. commits_told got.tally.told.outcomes ≡ got.manager.commits) }
-    // in each outcome, all that the client was told was told to an event, in a hold of the lock
+    // all that is in an outcome is what events of some manager are told
     ensures told { IfOk result (λ got. AreTold P.bits_of got.tally.told.outcomes) }
     // each outcome was that of one of the connections, which are no more than the options say
     ensures clients { IfOk result

@@ -13,7 +13,7 @@ use std::alloc::Global;
 use std::sync::Wait;
 use std::time::Clock;
 
-/// Talks over a socket by a session at the desk, which adds outcomes of this client alone, in which all was told under the lock. It answers why the session was cut, if it
+/// Talks over a socket by a session at the desk, which adds outcomes of this client alone, in which all is what some manager tells. It answers why the session was cut, if it
 /// was: `Memory` where it was refused a growth. Any other end of it is an end of this connection alone. While it waits for the client
 /// it is not at work, nor at the end.
 pub(crate) fn talk<P: Pseudo, L: MadeWith<P>, R: Wait + Clock, K: Receipts + Drop>(
