@@ -3,6 +3,7 @@ use Rattle.std.proofs.Common.{◌≡◌, ℕ, ◌≤◌, ◌++◌, List, [], max
 use Rattle.std.specs.Prelude.{IsPermutation}
 use Rattle.std.proofs.lemmas.List.Elements.{All-append, All-nil, All-weaker}
 use Rattle.std.proofs.lemmas.List.Sorted.{All-permutation}
+use Rattle.mlt_trace.specs.declared.item.TraceItem.{TraceItem}
 use Rattle.mlt_script_serial.specs.declared.outcome.Outcome.{Outcome}
 use Rattle.mlt_serve.specs.Clients.{AreOfClients, GrowsFor, IsOf, IsOfClient}
 
@@ -21,8 +22,8 @@ pub none_of : (limit : ℕ) (outcomes : List Outcome) → outcomes ≡ [] → Ar
 none_of limit outcomes none = subst (AreOfClients limit) (sym none) (All-nil (IsOfClient limit))
 
 -- after a session of a client
-pub grown : {P : Type 0} (bits_of : P → ℕ → ℕ) (client last : ℕ) (old new : List Outcome) → 1 ≤ client → AreOfClients last old → GrowsFor bits_of client old new → AreOfClients (max last client) new
-grown bits_of client last old new some are grows =
+pub grown : (items : List TraceItem) (client last : ℕ) (old new : List Outcome) → 1 ≤ client → AreOfClients last old → GrowsFor items client old new → AreOfClients (max last client) new
+grown items client last old new some are grows =
     subst (AreOfClients (max last client)) (sym grows.appended)
     (All-append (IsOfClient (max last client)) old grows.more (of_more last (max last client) old (omega arith) are)
     (one_of_more client (max last client) grows.more some (omega arith) grows.of_client))

@@ -1,53 +1,100 @@
--- All that is in outcomes is what some manager tells, where others come behind them.
-use Rattle.std.proofs.Common.{◌≡◌, ◌++◌, List, [], All, ℕ, subst, sym}
-use Rattle.std.specs.Prelude.{IsPermutation}
+-- A history tells all that is in outcomes, as it grows, and as others come behind them.
+use Rattle.std.proofs.Common.{◌≡◌, ◌++◌, List, [], ◌∷◌, All, ℕ, ap, subst, sym}
+use Rattle.std.specs.Prelude.{Contains, IsPermutation}
 use Rattle.std.proofs.lemmas.Grind.{merely}
-use Rattle.std.proofs.lemmas.List.Elements.{All-append, All-nil, All-weaker}
+use Rattle.std.proofs.lemmas.List.Elements.{All-append, All-nil, All-weaker, Contains-append_left, Contains-append_right}
 use Rattle.std.proofs.lemmas.List.Sorted.{All-permutation}
+use mathlib.Core.Logic.{∥∥₁_map}
 use Rattle.mlt_object_kinds.specs.declared.operation.ObjOp.{ObjOp}
 use Rattle.mlt_object_kinds.specs.declared.operation.ObjReply.{ObjReply}
+use Rattle.mlt_trace.specs.declared.item.TraceItem.{TraceItem}
+use Rattle.mlt_trace.specs.declared.item.TraceItem.TheVariants as trace
 use Rattle.mlt_script_serial.specs.declared.outcome.End.{End}
 use Rattle.mlt_script_serial.specs.declared.outcome.End.TheVariants as end
 use Rattle.mlt_script_serial.specs.declared.outcome.Outcome.{Outcome}
+use Rattle.mlt_script_cursor.specs.declared.call.DeskAnswer.{DeskAnswer}
+use Rattle.mlt_script_cursor.specs.declared.call.DeskCall.{DeskCall}
 use Rattle.mlt_script_cursor.specs.Calls.{Moves}
-use Rattle.mlt_serve_session.specs.Given.{GaveAll, GaveEnd, GaveReply}
-use Rattle.mlt_work_desk.specs.Holds.{MayAnswer}
+use Rattle.mlt_serve_session.specs.Desks.{Answers}
+use Rattle.mlt_serve_session.specs.Given.{Gave, GaveAll, GaveEnd, GaveReply}
+use Rattle.mlt_work_log.specs.Prefixes.{StartsWith}
+use Rattle.mlt_work_desk.specs.Holds as desk
+use Rattle.mlt_work_desk.proofs.Seeing.{more_than, no_more}
 use Rattle.mlt_serve.specs.Clients.{GrowsFor}
-use Rattle.mlt_serve.specs.Tellings.{AreTold, IsEndTold, IsReplyTold, IsTold}
+use Rattle.mlt_serve.specs.Tellings.{TellsAll, TellsEnd, TellsOutcome, TellsOutcomes, TellsReply}
 
-module _ {P : Type 0} (bits_of : P → ℕ → ℕ) where
-  -- how a desk over a lock moves
-  abbrev pub moves_of : {D : Type 0} → Moves D
-  moves_of old call answer new = MayAnswer bits_of call answer
+module _ {D P : Type 0} (bits_of : P → ℕ → ℕ) (seen : D → List TraceItem) where
+  -- how a desk over a lock moves, by what it has seen of the history
+  abbrev pub moves_of : Moves D
+  moves_of old call given new = desk.Answers bits_of (seen old) call given (seen new)
 
-  -- where there are none
-  pub none_told : (outcomes : List Outcome) → outcomes ≡ [] → AreTold bits_of outcomes
-  none_told outcomes none = subst (AreTold bits_of) (sym none) (All-nil (IsTold bits_of))
+  -- it has seen what it had seen
+  pub run_more : (old : D) (calls : List DeskCall) (answers : List DeskAnswer) (new : D) → Answers moves_of old calls answers new → StartsWith (seen new) (seen old)
+  run_more old [] [] new same = no_more (seen old) (seen new) (ap seen same)
+  run_more old (c ∷ calls) (a ∷ answers) new (mid, moved, rest) =
+      more_than (seen old) (seen mid) (seen new) (run_more mid calls answers new rest) (moved.1.1.more, moved.1.1.whole)
+  run_more old [] (a ∷ answers) new none = absurd none
+  run_more old (c ∷ calls) [] new none = absurd none
 
-  module _ (D : Type 0) where
-    reply_told : (tx : ℕ) (done : ObjOp × ObjReply) → GaveReply {D = D} moves_of tx done → IsReplyTold bits_of tx done
-    reply_told tx done gave = gave.moved
+  module _ (last : D) where
+    -- what it saw by an answer it has seen at last
+    contains_last : (c : DeskCall) (a : DeskAnswer) (gave : Gave moves_of last c a) (item : TraceItem) → Contains gave.moved.1.more item → Contains (seen last) item
+    contains_last c a gave item have =
+        let sees = gave.moved.1 in
+        let more = run_more gave.after gave.leads.calls gave.leads.answers last gave.leads.run in
+        let here = subst (λ xs. Contains xs item) (sym sees.whole) (Contains-append_right (seen gave.before) sees.more item have) in
+        subst (λ xs. Contains xs item) (sym more.1) (Contains-append_left (seen gave.after) more.0 item here)
 
-    end_told : (tx : ℕ) (e : End) → GaveEnd {D = D} moves_of tx e → IsEndTold bits_of tx e
-    end_told tx (end.Committed n) gave = gave.moved
+    reply_told : (tx : ℕ) (done : ObjOp × ObjReply) → GaveReply moves_of last tx done → TellsReply (seen last) tx done
+    reply_told tx done gave = contains_last _ _ gave (trace.Op tx done) gave.moved.1.have
+
+    end_told : (tx : ℕ) (e : End) → GaveEnd moves_of last tx e → TellsEnd (seen last) tx e
+    end_told tx (end.Committed n) gave = contains_last _ _ gave (trace.Commit tx n) gave.moved.1.have
     end_told tx end.Aborted gave = tt
     end_told tx (end.Refused r) gave = tt
 
-    outcome_told : (o : Outcome) → GaveAll {D = D} moves_of o → IsTold bits_of o
+    outcome_told : (o : Outcome) → GaveAll moves_of last o → TellsOutcome (seen last) o
     outcome_told o gave = merely (record {
-      begun = gave.begun.moved;
-      replies = All-weaker (GaveReply {D = D} moves_of o.tx) (IsReplyTold bits_of o.tx) (reply_told o.tx) o.done gave.replies;
+      begun = contains_last _ _ gave.begun (trace.Begin o.tx) gave.begun.moved.1.have;
+      replies = All-weaker (GaveReply moves_of last o.tx) (TellsReply (seen last) o.tx) (reply_told o.tx) o.done gave.replies;
       end = end_told o.tx o.end gave.end;
     })
 
-    -- what such a desk answered was told
-    pub all_told : (outcomes : List Outcome) → All (GaveAll {D = D} moves_of) outcomes → AreTold bits_of outcomes
-    all_told outcomes gave = All-weaker (GaveAll {D = D} moves_of) (IsTold bits_of) outcome_told outcomes gave
+    -- the history that such a desk has seen tells what it answered
+    pub all_told : (outcomes : List Outcome) → All (GaveAll moves_of last) outcomes → TellsOutcomes (seen last) outcomes
+    all_told outcomes gave = All-weaker (GaveAll moves_of last) (TellsOutcome (seen last)) outcome_told outcomes gave
 
-  -- after a session
-  pub grown_told : (client : ℕ) (old new : List Outcome) → AreTold bits_of old → GrowsFor bits_of client old new → AreTold bits_of new
-  grown_told client old new told grows = subst (AreTold bits_of) (sym grows.appended) (All-append (IsTold bits_of) old grows.more told grows.told)
+-- where there are none
+pub none_told : (items : List TraceItem) (outcomes : List Outcome) → outcomes ≡ [] → TellsOutcomes items outcomes
+none_told items outcomes none = subst (TellsOutcomes items) (sym none) (All-nil (TellsOutcome items))
 
-  -- after those of another thread were taken in
-  pub both_told : (old more new : List Outcome) → IsPermutation (old ++ more) new → AreTold bits_of old → AreTold bits_of more → AreTold bits_of new
-  both_told old more new same told more_told = All-permutation (IsTold bits_of) (old ++ more) new same (All-append (IsTold bits_of) old more told more_told)
+-- what the first items tell, all of them tell
+module _ (items first : List TraceItem) (more : StartsWith items first) where
+  still_contains : (item : TraceItem) → Contains first item → Contains items item
+  still_contains item have = subst (λ xs. Contains xs item) (sym more.1) (Contains-append_left first more.0 item have)
+
+  still_ended : (tx : ℕ) (e : End) → TellsEnd first tx e → TellsEnd items tx e
+  still_ended tx (end.Committed n) tells = still_contains (trace.Commit tx n) tells
+  still_ended tx end.Aborted tells = tt
+  still_ended tx (end.Refused r) tells = tt
+
+  still_tells : (o : Outcome) → TellsOutcome first o → TellsOutcome items o
+  still_tells o told = ∥∥₁_map told (λ (tells : TellsAll first o). record {
+    begun = still_contains (trace.Begin o.tx) tells.begun;
+    replies = All-weaker (TellsReply first o.tx) (TellsReply items o.tx) (λ done. still_contains (trace.Op o.tx done)) o.done tells.replies;
+    end = still_ended o.tx o.end tells.end;
+  })
+
+  pub still_told : (outcomes : List Outcome) → TellsOutcomes first outcomes → TellsOutcomes items outcomes
+  still_told outcomes told = All-weaker (TellsOutcome first) (TellsOutcome items) still_tells outcomes told
+
+-- after a session
+pub grown_told : (items first : List TraceItem) (client : ℕ) (old new : List Outcome) → StartsWith items first → TellsOutcomes first old → GrowsFor items client old new → TellsOutcomes items new
+grown_told items first client old new more told grows =
+    subst (TellsOutcomes items) (sym grows.appended) (All-append (TellsOutcome items) old grows.more (still_told items first more old told) grows.told)
+
+-- after those of another thread were taken in
+pub both_told : (items first : List TraceItem) (old more new : List Outcome) → StartsWith items first → IsPermutation (old ++ more) new → TellsOutcomes items old → TellsOutcomes first more
+    → TellsOutcomes items new
+both_told items first old more new longer same told more_told =
+    All-permutation (TellsOutcome items) (old ++ more) new same (All-append (TellsOutcome items) old more told (still_told items first longer more more_told))

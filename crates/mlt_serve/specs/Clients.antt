@@ -1,19 +1,20 @@
 -- Whose outcomes they are, what is in them, and how they stand.
 use Rattle.std.specs.Prelude.{◌≡◌, ◌⊎◌, ℕ, ◌<◌, ◌≤◌, ◌++◌, List, All, AllPairs}
 use Rattle.mlt_script_serial.specs.declared.outcome.Outcome.{Outcome}
-use Rattle.mlt_serve.specs.Tellings.{AreTold}
+use Rattle.mlt_trace.specs.declared.item.TraceItem.{TraceItem}
+use Rattle.mlt_serve.specs.Tellings.{TellsOutcomes}
 
 -- the outcome is that of this client
 abbrev pub IsOf : ℕ → Outcome → Type 0
 IsOf client o = o.client ≡ client
 
--- to these outcomes others were added at the end, all of this client, and all told by some manager
-pub record GrowsFor {P : Type 0} (bits_of : P → ℕ → ℕ) (client : ℕ) (before after : List Outcome)
+-- to these outcomes others were added at the end, all of this client, and the history tells all that is in them
+pub record GrowsFor (items : List TraceItem) (client : ℕ) (before after : List Outcome)
     : Type 0 where
   pub more : List Outcome
   pub appended : after ≡ before ++ more
   pub of_client : All (IsOf client) more
-  pub told : AreTold bits_of more
+  pub told : TellsOutcomes items more
 
 -- the outcome is that of one of the first connections, which have the numbers from 1 to the limit
 abbrev pub IsOfClient : ℕ → Outcome → Type 0

@@ -4,7 +4,7 @@ ghost use Rattle.std.specs.Prelude.{◌≡◌, ◌⊎◌, ◌<◌, ◌≤◌, If
 ghost use Rattle.mlt_manager.specs.Openings.{IsMadeWith};
 ghost use Rattle.mlt_serve_session.specs.Tallies.{commits_told};
 ghost use Rattle.mlt_serve.specs.Clients.{AreOfClients};
-ghost use Rattle.mlt_serve.specs.Tellings.{AreTold};
+ghost use Rattle.mlt_serve.specs.Tellings.{TellsOutcomes};
 
 use crate::operating::{EndSignal, Operating, TraceFile};
 use crate::options::ServeOptions;
@@ -13,13 +13,13 @@ use crate::tallying::tally_of;
 use mlt_manager::Manager;
 use mlt_serve_session::Tally;
 use mlt_types::{Pseudo, Refusal};
+use mlt_work_desk::BlankRecords;
 use std::alloc::Global;
 use std::io;
 use std::io::Write;
 use std::marker::Brand;
 use std::net::TcpListener;
 use std::sync::Wait;
-use std::sync::ledger::Blank;
 use std::thread::Threads;
 use std::time::Clock;
 
@@ -47,7 +47,8 @@ fn served_of<P: Pseudo + Drop>(
     requires clients { ended.gathered.is_short ≡ false
         → AreOfClients ended.gathered.last ended.gathered.outcomes.told.outcomes }
     requires told { ended.gathered.is_short ≡ false
-        → AreTold P.bits_of ended.gathered.outcomes.told.outcomes }
+        → TellsOutcomes ended.manager.commons.history.items
+        ended.gathered.outcomes.told.outcomes }
     ensures manager { IfOk result (λ got. got.manager ≡ ended.manager) }
     ensures begun { IfOk result
         (λ got. length got.tally.told.outcomes ≡ got.manager.begun) }
@@ -55,7 +56,8 @@ fn served_of<P: Pseudo + Drop>(
         (λ got. commits_told got.tally.told.outcomes ≡ got.manager.commits) }
     ensures clients { IfOk result
         (λ got. AreOfClients got.connections got.tally.told.outcomes) }
-    ensures told { IfOk result (λ got. AreTold P.bits_of got.tally.told.outcomes) }
+    ensures told { IfOk result
+        (λ got. TellsOutcomes got.manager.commons.history.items got.tally.told.outcomes) }
     ensures few { IfOk result (λ got. got.connections ≤ limit) }
     ensures refusal { IfErr result (λ refusal.
         (refusal ≡ Refusal.Io) ⊎ (refusal ≡ Refusal.OutOfMemory) ⊎ (refusal ≡ Refusal.Audit)) }
@@ -84,8 +86,9 @@ fn served_of<P: Pseudo + Drop>(
 /// it comes, and the history is taken out of the manager four times a second, or sooner where much is there, and is written into the
 /// trace, if there is a file for it, and then dropped. So what the server holds does not grow with what it has done.
 ///
-/// At the end as many transactions were told begun as the manager has begun, and as many told committed as it has committed; and each
-/// reply is one that an event of some manager is told: that it was this one's, no clause says. The outcomes of the tally are those of all sessions, as clauses see them.
+/// At the end as many transactions were told begun as the manager has begun, and as many told committed as it has committed; and all
+/// that clients were told of a transaction stands in the manager's history, which clauses know whole. The outcomes of the tally are those
+/// of all sessions, as clauses see them.
 ///
 /// There are no more connections than the options say, which is at most 4,294,967,295, as a client's number has 32 bits.
 ///
@@ -115,8 +118,10 @@ where
     // as many were told committed as it has committed
     ensures commits { IfOk result
         (λ got. commits_told got.tally.told.outcomes ≡ got.manager.commits) }
-    // all that is in an outcome is what events of some manager are told
-    ensures told { IfOk result (λ got. AreTold P.bits_of got.tally.told.outcomes) }
+    // the history of the manager tells all that is in an outcome: that the transaction has begun, each of its operations with its
+    // reply, and its commit
+    ensures told { IfOk result
+        (λ got. TellsOutcomes got.manager.commons.history.items got.tally.told.outcomes) }
     // each outcome was that of one of the connections, which are no more than the options say
     ensures clients { IfOk result
         (λ got. AreOfClients got.connections got.tally.told.outcomes) }
@@ -127,7 +132,7 @@ where
     let ended = serve_with::<P, Brand, Tally, R, N, T, S>(
         rt,
         alloc,
-        Blank::new(129),
+        BlankRecords::new(alloc, 129)?,
         listener,
         pseudo,
         options,

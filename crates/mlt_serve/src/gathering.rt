@@ -1,14 +1,16 @@
 //! What all session threads have served, put together.
 
 ghost use Rattle.std.specs.Prelude.{◌≡◌, ◌+◌, ◌-◌, ◌*◌, ◌^◌, ◌≤◌, ◌++◌, [], IfOk, IsPermutation, false, min, vec_len};
+ghost use Rattle.mlt_work_log.specs.Seats.{IsWriterOf, all_items, id_of};
 ghost use Rattle.mlt_serve.specs.Clients.{AreOfClients};
-ghost use Rattle.mlt_serve.specs.Tellings.{AreTold};
+ghost use Rattle.mlt_serve.specs.Tellings.{TellsOutcomes};
 ghost use Rattle.mlt_serve.specs.Threads.{AllHaveMemory, all_outcomes};
 
 use crate::session_thread::SessionThread;
 use mlt_serve_session::Receipts;
 use mlt_types::Pseudo;
-use mlt_work_desk::MadeWith;
+use mlt_work_desk::{MadeWith, Unlocked};
+use mlt_work_log::{HistoryLog, LogWriter};
 use std::alloc::{AllocError, Global};
 use std::sync::ledger::Share;
 
@@ -19,11 +21,17 @@ use std::sync::ledger::Share;
 pub(crate) fn new_threads<P: Pseudo, L: MadeWith<P>, K: Receipts + Drop>(
     alloc: Global,
     all: &mut Share<L>,
+    log: &HistoryLog,
+    writer: &mut LogWriter,
     sessions: usize,
 ) -> Result<Vec<SessionThread<P, L, K>>, AllocError>
     requires most { sessions ≤ 64 }
     requires parts { all.old.parts ≡ 129 }
     requires amount { all.old.amount ≡ 0 }
+    requires log { id_of log.now ≡ L.log_id }
+    requires writer { IsWriterOf L.log_id writer.old }
+    ensures writer { IsWriterOf L.log_id writer.new }
+    ensures items { all_items writer.new ≡ all_items writer.old }
     ensures len { IfOk result (λ threads. vec_len threads ≡ sessions) }
     ensures parts { IfOk result (λ _. all.new.parts + 2 * sessions ≡ 129) }
     ensures amount { IfOk result (λ _. all.new.amount ≡ 0) }
@@ -31,7 +39,8 @@ pub(crate) fn new_threads<P: Pseudo, L: MadeWith<P>, K: Receipts + Drop>(
     let mut threads = Vec::with_capacity(alloc, sessions)?;
     for _ in 0..sessions {
         let share = all.split_off(2, 0);
-        threads.push(SessionThread::new(alloc, share))?;
+        let snapshot = log.snapshot(writer);
+        threads.push(SessionThread::new(alloc, share, snapshot))?;
     }
     Ok(threads)
 }
@@ -67,12 +76,13 @@ impl<K: Receipts + Drop> Gathered<K> {
         }
     }
 
-    /// Takes in what one thread has served, and the whole its share.
-    #[tactic(auto, using(crate::proofs::Numbering::gathered, crate::proofs::Telling::both_told))]
+    /// Takes in what one thread has served, and the whole its share. The manager's history tells all that is in the outcomes.
+    #[tactic(auto, using(crate::proofs::Numbering::gathered))]
     fn take_in<P: Pseudo, L: MadeWith<P>>(
         &mut self,
         all: &mut Share<L>,
         thread: SessionThread<P, L, K>,
+        desks: &mut Unlocked<P, L>,
     )
         requires { self.old.events ≡ min all.old.amount (2 ^ 64 - 1) }
         ensures events { self.new.events ≡ min all.new.amount (2 ^ 64 - 1) }
@@ -83,9 +93,12 @@ impl<K: Receipts + Drop> Gathered<K> {
         ensures clients { self.new.is_short ≡ false
             → AreOfClients self.old.last (K.receipts self.old.outcomes)
             → AreOfClients self.new.last (K.receipts self.new.outcomes) }
+        ensures manager { desks.new.state.manager ≡ desks.old.state.manager }
         ensures told { self.new.is_short ≡ false
-            → AreTold P.bits_of (K.receipts self.old.outcomes)
-            → AreTold P.bits_of (K.receipts self.new.outcomes) }
+            → TellsOutcomes desks.old.state.manager.commons.history.items
+            (K.receipts self.old.outcomes)
+            → TellsOutcomes desks.old.state.manager.commons.history.items
+            (K.receipts self.new.outcomes) }
         ensures short { self.new.is_short ≡ false
             → (self.old.is_short ≡ false) × (thread.is_short ≡ false) }
     {
@@ -96,8 +109,10 @@ impl<K: Receipts + Drop> Gathered<K> {
             connections,
             last,
             is_short,
+            snapshot,
             pseudo: _,
         } = thread;
+        desks.compare(snapshot);
         all.merge(share);
         self.events = self.events.saturating_add(events);
         self.connections = self.connections.saturating_add(connections);
@@ -107,11 +122,13 @@ impl<K: Receipts + Drop> Gathered<K> {
     }
 }
 
-/// Takes in what all threads have served, and the whole their shares. Unless a growth was refused, no outcome is missing.
+/// Takes in what all threads have served, and the whole their shares. Unless a growth was refused, no outcome is missing. The manager's
+/// history tells all that is in the outcomes.
 pub(crate) fn gather<P: Pseudo, L: MadeWith<P>, K: Receipts + Drop>(
     alloc: Global,
     all: &mut Share<L>,
     threads: Vec<SessionThread<P, L, K>>,
+    desks: &mut Unlocked<P, L>,
 ) -> Gathered<K>
     requires parts { all.old.parts + 2 * vec_len threads ≡ 129 }
     requires amount { all.old.amount ≡ 0 }
@@ -121,13 +138,16 @@ pub(crate) fn gather<P: Pseudo, L: MadeWith<P>, K: Receipts + Drop>(
         → IsPermutation (all_outcomes threads.items) (K.receipts result.outcomes) }
     ensures clients { result.is_short ≡ false
         → AreOfClients result.last (K.receipts result.outcomes) }
-    ensures told { result.is_short ≡ false → AreTold P.bits_of (K.receipts result.outcomes) }
+    ensures manager { desks.new.state.manager ≡ desks.old.state.manager }
+    ensures told { result.is_short ≡ false
+        → TellsOutcomes desks.old.state.manager.commons.history.items
+        (K.receipts result.outcomes) }
     ensures short { result.is_short ≡ false → AllHaveMemory threads.items }
 {
     let mut rest = threads;
     let mut gathered = Gathered::new(alloc);
     while let Some(thread) = rest.pop() {
-        gathered.take_in(all, thread);
+        gathered.take_in(all, thread, desks);
     }
     gathered
 }

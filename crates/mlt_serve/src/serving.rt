@@ -2,10 +2,11 @@
 
 ghost use Rattle.std.specs.Prelude.{◌≡◌, ◌⊎◌, ◌<◌, ◌≤◌, IfErr, IfOk, IsOkUnless, Some, [], false, true};
 ghost use Rattle.mlt_manager.specs.Openings.{IsMadeWith};
+ghost use Rattle.mlt_work_log.specs.Seats.{id_of};
 ghost use Rattle.mlt_work_desk.specs.Makings.{making_by};
 ghost use Rattle.mlt_trace_audit.specs.Agreement.{Agrees};
 ghost use Rattle.mlt_serve.specs.Clients.{AreByClientAndNumber, AreOfClients};
-ghost use Rattle.mlt_serve.specs.Tellings.{AreTold};
+ghost use Rattle.mlt_serve.specs.Tellings.{TellsOutcomes};
 
 use crate::accepting::Accepting;
 use crate::door::Door;
@@ -23,7 +24,7 @@ use mlt_serve_seats::Seats;
 use mlt_serve_session::Receipts;
 use mlt_serve_socket::SpinPolicy;
 use mlt_types::{Pseudo, Refusal};
-use mlt_work_desk::{LockedState, MadeWith, Shared};
+use mlt_work_desk::{BlankRecords, LockedState, MadeWith, Shared};
 use std::alloc::Global;
 use std::io;
 use std::io::Write;
@@ -31,7 +32,6 @@ use std::marker::Brand;
 use std::net::TcpListener;
 use std::sync::Wait;
 use std::sync::atomic::AtomicU64;
-use std::sync::ledger::Blank;
 use std::thread::Threads;
 use std::time::Clock;
 
@@ -68,7 +68,7 @@ pub(crate) struct Ended<P: Pseudo, K: Receipts> {
 pub(crate) fn serve_with<P, L, K, R, N, T, S>(
     rt: &R,
     alloc: Global,
-    blank: Blank,
+    records: BlankRecords,
     listener: &TcpListener,
     pseudo: P,
     options: &ServeOptions,
@@ -83,11 +83,12 @@ where
     N: Write + Send + Drop + 'static,
     T: TraceFile + Send + Drop,
     S: EndSignal + Send + Drop,
-    requires name { blank.name ≡ L.name }
-    requires parts { blank.parts ≡ L.parts }
+    requires name { records.blank.name ≡ L.name }
+    requires parts { records.blank.parts ≡ L.parts }
+    requires log { id_of records.log ≡ L.log_id }
     requires made { Some (making_by options.now.limits pseudo) ≡ L.made_with }
     requires endless { is_endless ≡ true → L.hands_out ≡ true }
-    requires all { blank.parts ≡ 129 }
+    requires all { records.blank.parts ≡ 129 }
     requires some { 0 < options.now.sessions }
     requires most { options.now.sessions ≤ 64 }
     ensures made { IfOk result (λ ended. IsMadeWith ended.manager options.now.limits pseudo) }
@@ -97,14 +98,20 @@ where
     ensures clients { IfOk result (λ ended. ended.gathered.is_short ≡ false
         → AreOfClients ended.gathered.last (K.receipts ended.gathered.outcomes)) }
     ensures told { IfOk result (λ ended. ended.gathered.is_short ≡ false
-        → AreTold P.bits_of (K.receipts ended.gathered.outcomes)) }
+        → TellsOutcomes ended.manager.commons.history.items
+        (K.receipts ended.gathered.outcomes)) }
     ensures refusal { IsOkUnless result Refusal.OutOfMemory }
 {
+    let BlankRecords {
+        blank,
+        log,
+        mut writer,
+    } = records;
     let (book, mut all) = blank.open::<L>();
-    let mut threads = new_threads(alloc, &mut all, options.sessions)?;
+    let mut threads = new_threads(alloc, &mut all, &log, &mut writer, options.sessions)?;
     let (notes, outlet) = Notes::new(alloc)?;
     let manager = Manager::new(alloc, options.limits, pseudo)?;
-    let shared = Shared::new(LockedState::new(manager, book));
+    let shared = Shared::new(log, LockedState::new(manager, book, writer));
     let service = Service {
         shared: &shared,
         admission_queue: &AdmissionQueue::new(),
@@ -127,8 +134,9 @@ where
         threads.as_mut_slice(),
     );
     notes.end(rt);
-    let gathered = gather(alloc, &mut all, threads);
-    let manager = shared.close(&mut all);
+    let mut desks = shared.unlock();
+    let gathered = gather(alloc, &mut all, threads, &mut desks);
+    let manager = desks.close(&mut all);
     Ok(Ended {
         accepting: ran.accepting,
         gathered,
@@ -228,7 +236,7 @@ where
     let ended = serve_with::<P, Brand, Vec<Outcome>, R, N, T, S>(
         rt,
         alloc,
-        Blank::new(129),
+        BlankRecords::new(alloc, 129)?,
         listener,
         pseudo,
         options,

@@ -2,7 +2,9 @@
 
 ghost use Rattle.std.specs.Prelude.{◌≡◌, ◌≤◌, ◌+◌, ◌-◌, ◌^◌, [], false, min};
 ghost use Rattle.mlt_serve.specs.Clients.{AreOfClients, GrowsFor};
-ghost use Rattle.mlt_serve.specs.Tellings.{AreTold};
+ghost use Rattle.mlt_serve.specs.Tellings.{TellsOutcomes};
+ghost use Rattle.mlt_work_log.specs.Prefixes.{StartsWith};
+ghost use Rattle.mlt_work_log.specs.Seats.{IsOf, first_items};
 
 use crate::accepting::Connection;
 use crate::service::Service;
@@ -15,6 +17,7 @@ use mlt_serve_session::Receipts;
 use mlt_serve_socket::{Socket, lingering_close};
 use mlt_types::Pseudo;
 use mlt_work_desk::{LockDesk, MadeWith, Tries};
+use mlt_work_log::LogSnapshot;
 use std::alloc::{AllocError, Global};
 use std::marker::PhantomData;
 use std::net::TcpStream;
@@ -38,20 +41,28 @@ pub(crate) struct SessionThread<P: Pseudo, L: MadeWith<P>, K: Receipts> {
     pub(crate) last: u32,
     /// Whether a session was refused a growth.
     pub(crate) is_short: bool,
+    /// What the history was after the last hold of its desks.
+    pub(crate) snapshot: LogSnapshot,
     /// The manager's function from keys to pseudokeys, by its type.
     pub(crate) pseudo: PhantomData<P>,
     ghost two_parts: { share.parts ≡ 2 },
     ghost counted: { events ≡ min share.amount (2 ^ 64 - 1) },
     ghost of_clients: { AreOfClients last (K.receipts outcomes) },
-    ghost told: { AreTold P.bits_of (K.receipts outcomes) },
+    ghost of_log: { IsOf L.log_id snapshot },
+    ghost told: { TellsOutcomes (first_items snapshot) (K.receipts outcomes) },
 }
 
 impl<P: Pseudo, L: MadeWith<P>, K: Receipts + Drop> SessionThread<P, L, K> {
     /// Nothing was served yet.
     #[tactic(auto, using(crate::proofs::Numbering::none_of, crate::proofs::Telling::none_told))]
-    pub(crate) fn new(alloc: Global, share: Share<L>) -> SessionThread<P, L, K>
+    pub(crate) fn new(
+        alloc: Global,
+        share: Share<L>,
+        snapshot: LogSnapshot,
+    ) -> SessionThread<P, L, K>
         requires parts { share.parts ≡ 2 }
         requires amount { share.amount ≡ 0 }
+        requires of_log { IsOf L.log_id snapshot }
         ensures share { result.share ≡ share }
         ensures outcomes { K.receipts result.outcomes ≡ [] }
         ensures connections { result.connections ≡ 0 }
@@ -63,6 +74,7 @@ impl<P: Pseudo, L: MadeWith<P>, K: Receipts + Drop> SessionThread<P, L, K> {
             connections: 0,
             last: 0,
             is_short: false,
+            snapshot,
             pseudo: PhantomData,
         }
     }
@@ -79,8 +91,10 @@ impl<P: Pseudo, L: MadeWith<P>, K: Receipts + Drop> SessionThread<P, L, K> {
         stream: &TcpStream,
     ) -> Option<Cut>
         requires { 1 ≤ client }
-        ensures outcomes { GrowsFor P.bits_of client
+        ensures outcomes { GrowsFor (first_items self.new.snapshot) client
             (K.receipts self.old.outcomes) (K.receipts self.new.outcomes) }
+        ensures sees { StartsWith (first_items self.new.snapshot)
+            (first_items self.old.snapshot) }
         ensures connections { self.new.connections ≡ min (self.old.connections + 1) (2 ^ 64 - 1) }
         ensures short { self.new.is_short ≡ self.old.is_short }
     {
@@ -91,20 +105,23 @@ impl<P: Pseudo, L: MadeWith<P>, K: Receipts + Drop> SessionThread<P, L, K> {
             connections,
             last,
             is_short: _,
+            snapshot,
             pseudo: _,
         } = self;
         let mine = share.split_off(1, 0);
+        let seen = service.shared.copy_snapshot(snapshot);
         let restarts = Restarts::new(service.restart_queue);
         let sitting = Sitting::new(rt, seat, service.is_watched);
         let admission = Admission::new(rt, service.admission_queue, restarts, sitting);
         let tries = Tries::PerOperation(service.options.tries);
-        let mut desk = LockDesk::new(rt, service.shared, &admission, mine, tries);
+        let mut desk = LockDesk::after(rt, service.shared, &admission, mine, seen, tries);
         desk.serve(client);
         let socket = Socket::new(rt, stream, service.spin_policy, service.options.idle);
         let cut = talk(alloc, &socket, &admission, &mut desk, client, outcomes);
         socket.close();
-        let (mine, more) = desk.close();
+        let (mine, more, seen) = desk.close();
         share.merge(mine);
+        *snapshot = seen;
         *events = events.saturating_add(more);
         *connections = connections.saturating_add(1);
         *last = (*last).max(client);
@@ -120,7 +137,7 @@ impl<P: Pseudo, L: MadeWith<P>, K: Receipts + Drop> SessionThread<P, L, K> {
         seat: &Seat,
         connection: Connection,
     ) -> bool
-        ensures outcomes { GrowsFor P.bits_of connection.client
+        ensures outcomes { GrowsFor (first_items self.new.snapshot) connection.client
             (K.receipts self.old.outcomes) (K.receipts self.new.outcomes) }
         ensures connections { self.new.connections ≤ self.old.connections + 1 }
         ensures short { self.new.is_short ≡ false

@@ -3,7 +3,7 @@
 use crate::ending::Ending;
 use crate::operating::EndSignal;
 use crate::service::Service;
-use crate::tuning::{LOOK_MILLISECONDS, STOP_SECONDS};
+use crate::tuning::{LOOK_MILLISECONDS, LOOKS_FOR_THREADS, STOP_SECONDS};
 use mlt_serve_notes::{Cut, Note};
 use mlt_serve_seats::Patience;
 use mlt_types::Pseudo;
@@ -20,7 +20,8 @@ struct Supervisor<'a, 'b, 'c, P: Pseudo, L: MadeWith<P>, R: Wait + Clock> {
     patience: Patience,
     /// Since when the server is to stop, if it is, and the clock can say so.
     stops_since: Option<Instant>,
-    has_counted_threads: bool,
+    /// In how many more looks session threads may still begin.
+    looks_for_threads: u32,
     has_told_numbers: bool,
     has_told_pages: bool,
 }
@@ -40,7 +41,7 @@ pub(crate) fn supervise<P: Pseudo, L: MadeWith<P>, R: Wait + Clock, S: EndSignal
             open: service.options.open,
         },
         stops_since: None,
-        has_counted_threads: false,
+        looks_for_threads: LOOKS_FOR_THREADS,
         has_told_numbers: false,
         has_told_pages: false,
     };
@@ -94,15 +95,19 @@ impl<P: Pseudo, L: MadeWith<P>, R: Wait + Clock> Supervisor<'_, '_, '_, P, L, R>
         }
     }
 
-    /// Tells once where fewer threads run than were asked for.
+    /// Tells once where fewer threads run than were asked for, and none of them is only late.
     fn count_threads(&mut self) {
-        if self.has_counted_threads {
+        if self.looks_for_threads == 0 {
             return;
         }
-        self.has_counted_threads = true;
         let running = self.service.running.load(Ordering::SeqCst);
         let asked = self.service.options.sessions as u64;
-        if running < asked {
+        self.looks_for_threads = if running < asked {
+            self.looks_for_threads.saturating_sub(1)
+        } else {
+            0
+        };
+        if running < asked && self.looks_for_threads == 0 {
             self.tell(Note::FewThreads(running, asked));
         }
     }

@@ -1,6 +1,8 @@
 //! What is said over one connection.
 
 ghost use Rattle.std.specs.Prelude.{◌≡◌, Err, IsOk, None, Some};
+ghost use Rattle.mlt_work_log.specs.Prefixes.{StartsWith};
+ghost use Rattle.mlt_work_log.specs.Seats.{first_items};
 ghost use Rattle.mlt_serve.specs.Clients.{GrowsFor};
 
 use mlt_serve_admission::{Admission, Outside};
@@ -13,8 +15,8 @@ use std::alloc::Global;
 use std::sync::Wait;
 use std::time::Clock;
 
-/// Talks over a socket by a session at the desk, which adds outcomes of this client alone, in which all is what some manager tells. It answers why the session was cut, if it
-/// was: `Memory` where it was refused a growth. Any other end of it is an end of this connection alone. While it waits for the client
+/// Talks over a socket by a session at the desk, which adds outcomes of this client alone: the history that the desk has seen then tells
+/// all that is in them. It answers why the session was cut, if it was: `Memory` where it was refused a growth. Any other end of it is an end of this connection alone. While it waits for the client
 /// it is not at work, nor at the end.
 pub(crate) fn talk<P: Pseudo, L: MadeWith<P>, R: Wait + Clock, K: Receipts + Drop>(
     alloc: Global,
@@ -24,7 +26,9 @@ pub(crate) fn talk<P: Pseudo, L: MadeWith<P>, R: Wait + Clock, K: Receipts + Dro
     client: u32,
     outcomes: &mut K,
 ) -> Option<Cut>
-    ensures { GrowsFor P.bits_of client (K.receipts outcomes.old) (K.receipts outcomes.new) }
+    ensures outcomes { GrowsFor (first_items desk.new.snapshot) client
+        (K.receipts outcomes.old) (K.receipts outcomes.new) }
+    ensures sees { StartsWith (first_items desk.new.snapshot) (first_items desk.old.snapshot) }
 {
     let mut reader = Outside::new(socket, admission);
     let mut writer = Outside::new(socket, admission);

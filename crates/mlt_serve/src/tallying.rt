@@ -4,7 +4,7 @@ ghost use Rattle.std.specs.Prelude.{◌≡◌, ◌≤◌, ◌-◌, ◌^◌, ◌<
 ghost use Rattle.mlt_serve_session.specs.Tallies.{commits_told};
 ghost use Rattle.mlt_serve.specs.Clients.{AreOfClients};
 ghost use Rattle.mlt_serve.specs.Endings.{result_of_accepting};
-ghost use Rattle.mlt_serve.specs.Tellings.{AreTold};
+ghost use Rattle.mlt_serve.specs.Tellings.{TellsOutcomes};
 
 use crate::accepting::Accepting;
 use crate::gathering::Gathered;
@@ -27,14 +27,15 @@ pub(crate) fn tally_of<P: Pseudo>(
     requires clients { gathered.is_short ≡ false
         → AreOfClients gathered.last gathered.outcomes.told.outcomes }
     requires told { gathered.is_short ≡ false
-        → AreTold P.bits_of gathered.outcomes.told.outcomes }
+        → TellsOutcomes manager.now.commons.history.items gathered.outcomes.told.outcomes }
     ensures same { IfOk result (λ tally. tally ≡ gathered.outcomes) }
     ensures begun { IfOk result (λ tally. length tally.told.outcomes ≡ manager.now.begun) }
     ensures commits { IfOk result
         (λ tally. commits_told tally.told.outcomes ≡ manager.now.commits) }
     ensures clients { IfOk result
         (λ tally. AreOfClients accepting.connections tally.told.outcomes) }
-    ensures told { IfOk result (λ tally. AreTold P.bits_of tally.told.outcomes) }
+    ensures told { IfOk result
+        (λ tally. TellsOutcomes manager.now.commons.history.items tally.told.outcomes) }
     ensures few { IfOk result (λ _. accepting.connections ≤ limit) }
     ensures served { IfOk result (λ _. gathered.connections ≡ accepting.connections) }
     ensures early { IfErr (result_of_accepting accepting.end) (λ refusal. result ≡ Err refusal) }

@@ -7,6 +7,9 @@ pub(crate) const ACCEPT_PAUSE_MILLISECONDS: u64 = 100;
 /// How many milliseconds pass between two looks after sessions, and at most between two pieces of a trace. By `looked`.
 pub(crate) const LOOK_MILLISECONDS: u64 = 250;
 
+/// In how many looks session threads may still begin, some 3 seconds: a busy machine starts them late.
+pub(crate) const LOOKS_FOR_THREADS: u32 = 12;
+
 /// How many items of a history are copied in one hold of the lock, in a microsecond or two. By `looked`.
 pub(crate) const ITEMS_PER_HOLD: usize = 256;
 

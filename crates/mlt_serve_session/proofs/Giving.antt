@@ -1,8 +1,7 @@
 -- All that is in the outcomes of turns is what the desk answered.
-use Rattle.std.proofs.Common.{◌≡◌, ◌⊎◌, inl, inr, ℕ, ◌+◌, List, [], ◌∷◌, ◌++◌, All, Option, Some, None, refl, sym, ap, subst, ◌∙◌}
+use Rattle.std.proofs.Common.{◌≡◌, ◌⊎◌, inl, inr, ℕ, ◌+◌, List, [], ◌∷◌, All, Option, Some, None, refl, sym, ap, subst, ◌∙◌}
 use Rattle.std.proofs.lemmas.List.Elements.{All-append, All-nil, All-push}
 use Rattle.mlt_object_kinds.specs.declared.operation.ObjOp.{ObjOp}
-use Rattle.mlt_object_kinds.specs.declared.operation.ObjReply.{ObjReply}
 use Rattle.mlt_event_text.specs.declared.command.Command.TheVariants as command
 use Rattle.mlt_event_text.specs.declared.session_line.Line.{Line}
 use Rattle.mlt_event_text.specs.declared.session_line.Line.TheVariants.{Says, TooLong}
@@ -13,7 +12,7 @@ use Rattle.mlt_script_cursor.specs.declared.call.DeskAnswer.TheVariants.{Begun, 
 use Rattle.mlt_script_cursor.specs.declared.call.DeskCall.{DeskCall}
 use Rattle.mlt_script_cursor.specs.declared.call.DeskCall.TheVariants as call
 use Rattle.mlt_script_cursor.specs.Calls.{Moves, answer_to}
-use Rattle.mlt_serve_session.specs.Given.{Gave, GaveAll, GaveEnd, GaveReply}
+use Rattle.mlt_serve_session.specs.Given.{Gave, GaveAll, GaveEnd, GaveReply, LeadsTo}
 use Rattle.mlt_serve_session.specs.Outcomes.{all_done, before_next, begins_by, begun_in, call_of, done_in, end_in, ended_by, outcome_behind, outcome_if, outcomes_of, up_to}
 use Rattle.mlt_serve_session.specs.Talks.{Turn, call_for, open_after}
 use Rattle.mlt_serve_session.specs.Turns.{Asked, Goes, Place}
@@ -22,11 +21,11 @@ use Rattle.mlt_serve_session.specs.Turns.{Asked, Goes, Place}
 abbrev pub IsOpenOrNone : ℕ → Option ℕ → Type 0
 IsOpenOrNone tx open_tx = (open_tx ≡ Some tx) ⊎ (open_tx ≡ None)
 
-module _ {D : Type 0} (moves : Moves D) where
+module _ {D : Type 0} (moves : Moves D) (last : D) where
   -- the desk gave the answer to the call, if there was one
   abbrev pub GaveIf : Option DeskCall → Option DeskAnswer → Type 0
   GaveIf None None = Unit {0}
-  GaveIf (Some c) (Some a) = (answer_to c a ≡ a) × Gave moves c a
+  GaveIf (Some c) (Some a) = (answer_to c a ≡ a) × Gave moves last c a
   GaveIf None (Some a) = ⊥
   GaveIf (Some c) None = ⊥
 
@@ -35,66 +34,77 @@ module _ {D : Type 0} (moves : Moves D) where
   AreGiven before [] = Unit {0}
   AreGiven before (t ∷ ts) = (t.open_before ≡ before) × GaveIf (call_of t) t.answer × AreGiven (open_after t.open_before t.answer) ts
 
-  gave_asked : (client : ℕ) (p q : Place D) (c : Option DeskCall) (a : Option DeskAnswer) → Asked moves client p c a q → GaveIf c a
-  gave_asked client p q None None h = tt
-  gave_asked client p q None (Some a) h = absurd h
-  gave_asked client p q (Some c) None h = absurd h
-  gave_asked client p q (Some c) (Some a) h = (h.0.0, record { before = p.desk; after = q.desk; moved = h.0.1 })
+  -- from before the turns the desk came to its last state
+  one_leads : (client : ℕ) (p q : Place D) (c : Option DeskCall) (a : Option DeskAnswer) → Asked moves client p c a q → LeadsTo moves q.desk last → LeadsTo moves p.desk last
+  one_leads client p q None None h k = subst (λ d. LeadsTo moves d last) h.0 k
+  one_leads client p q None (Some a) h k = absurd h
+  one_leads client p q (Some c) None h k = absurd h
+  one_leads client p q (Some c) (Some a) h k = record { calls = c ∷ k.calls; answers = a ∷ k.answers; run = (q.desk, h.0, k.run) }
 
-  given_turns : (client : ℕ) (p q : Place D) (ts : List Turn) → Goes moves client p ts q → AreGiven p.progress.tx ts
-  given_turns client p q [] h = tt
-  given_turns client p q (t ∷ ts) h =
+  all_lead : (client : ℕ) (p q : Place D) (ts : List Turn) → Goes moves client p ts q → LeadsTo moves q.desk last → LeadsTo moves p.desk last
+  all_lead client p q [] h k = subst (λ r. LeadsTo moves r.desk last) h k
+  all_lead client p q (t ∷ ts) h k = one_leads client p h.0 (call_of t) t.answer h.1.asked (all_lead client h.0 q ts h.2 k)
+
+  gave_asked : (client : ℕ) (p q : Place D) (c : Option DeskCall) (a : Option DeskAnswer) → Asked moves client p c a q → LeadsTo moves q.desk last → GaveIf c a
+  gave_asked client p q None None h k = tt
+  gave_asked client p q None (Some a) h k = absurd h
+  gave_asked client p q (Some c) None h k = absurd h
+  gave_asked client p q (Some c) (Some a) h k = (h.0.0, record { before = p.desk; after = q.desk; moved = h.0.1; leads = k })
+
+  given_turns : (client : ℕ) (p q : Place D) (ts : List Turn) → Goes moves client p ts q → LeadsTo moves q.desk last → AreGiven p.progress.tx ts
+  given_turns client p q [] h k = tt
+  given_turns client p q (t ∷ ts) h k =
       let on : h.0.progress.tx ≡ open_after t.open_before t.answer = ap (λ r. r.tx) h.1.after ∙ ap (λ b. open_after b t.answer) (sym h.1.before) in (
         h.1.before,
-        gave_asked client p h.0 (call_of t) t.answer h.1.asked,
-        subst (λ b. AreGiven b ts) on (given_turns client h.0 q ts h.2),
+        gave_asked client p h.0 (call_of t) t.answer h.1.asked (all_lead client h.0 q ts h.2 k),
+        subst (λ b. AreGiven b ts) on (given_turns client h.0 q ts h.2 k),
       )
 
   -- what a turn adds to the transaction that is open, if one is, and whether it stays so
   record Turned (tx : ℕ) (before : Option ℕ) (c : Option DeskCall) (a : Option DeskAnswer) : Type 0 where
-    pub done : All (GaveReply moves tx) (done_in c a)
-    pub end : (e : End) → GaveEnd moves tx e → GaveEnd moves tx (end_in e c a)
+    pub done : All (GaveReply moves last tx) (done_in c a)
+    pub end : (e : End) → GaveEnd moves last tx e → GaveEnd moves last tx (end_in e c a)
     pub stays : begun_in c a ≡ None → IsOpenOrNone tx (open_after before a)
 
   asks_nothing : (tx : ℕ) (before : Option ℕ) (a : Option DeskAnswer) → IsOpenOrNone tx before → GaveIf None a → Turned tx before None a
-  asks_nothing tx before None o g = record { done = All-nil (GaveReply moves tx); end = λ e k. k; stays = λ _. o }
+  asks_nothing tx before None o g = record { done = All-nil (GaveReply moves last tx); end = λ e k. k; stays = λ _. o }
   asks_nothing tx before (Some a) o g = absurd g
 
   asks_begin : (tx : ℕ) (before : Option ℕ) (a : Option DeskAnswer) → IsOpenOrNone tx before → GaveIf (Some call.Begin) a → Turned tx before (Some call.Begin) a
   asks_begin tx before None o g = absurd g
-  asks_begin tx before (Some (Begun x)) o g = record { done = All-nil (GaveReply moves tx); end = λ e k. k; stays = λ none. absurd (cc none) }
-  asks_begin tx before (Some (Replied reply)) o g = record { done = All-nil (GaveReply moves tx); end = λ e k. k; stays = λ _. o }
-  asks_begin tx before (Some (Committed n)) o g = record { done = All-nil (GaveReply moves tx); end = λ e k. k; stays = λ _. inr refl }
-  asks_begin tx before (Some Aborted) o g = record { done = All-nil (GaveReply moves tx); end = λ e k. k; stays = λ _. inr refl }
-  asks_begin tx before (Some (Refused r)) o g = record { done = All-nil (GaveReply moves tx); end = λ e k. k; stays = λ _. o }
+  asks_begin tx before (Some (Begun x)) o g = record { done = All-nil (GaveReply moves last tx); end = λ e k. k; stays = λ none. absurd (cc none) }
+  asks_begin tx before (Some (Replied reply)) o g = record { done = All-nil (GaveReply moves last tx); end = λ e k. k; stays = λ _. o }
+  asks_begin tx before (Some (Committed n)) o g = record { done = All-nil (GaveReply moves last tx); end = λ e k. k; stays = λ _. inr refl }
+  asks_begin tx before (Some Aborted) o g = record { done = All-nil (GaveReply moves last tx); end = λ e k. k; stays = λ _. inr refl }
+  asks_begin tx before (Some (Refused r)) o g = record { done = All-nil (GaveReply moves last tx); end = λ e k. k; stays = λ _. o }
 
   asks_operation : (tx : ℕ) (op : ObjOp) (a : Option DeskAnswer) → GaveIf (Some (call.Operation tx op)) a → Turned tx (Some tx) (Some (call.Operation tx op)) a
   asks_operation tx op None g = absurd g
   asks_operation tx op (Some (Begun x)) g = absurd (cc (g.0))
   asks_operation tx op (Some (Replied reply)) g = record {
-    done = All-push (GaveReply moves tx) [] (op, reply) (All-nil (GaveReply moves tx)) g.1;
+    done = All-push (GaveReply moves last tx) [] (op, reply) (All-nil (GaveReply moves last tx)) g.1;
     end = λ e k. k;
     stays = λ _. inl refl;
   }
-  asks_operation tx op (Some (Committed n)) g = record { done = All-nil (GaveReply moves tx); end = λ e k. k; stays = λ _. inr refl }
-  asks_operation tx op (Some Aborted) g = record { done = All-nil (GaveReply moves tx); end = λ e k. k; stays = λ _. inr refl }
-  asks_operation tx op (Some (Refused r)) g = record { done = All-nil (GaveReply moves tx); end = λ e k. k; stays = λ _. inl refl }
+  asks_operation tx op (Some (Committed n)) g = record { done = All-nil (GaveReply moves last tx); end = λ e k. k; stays = λ _. inr refl }
+  asks_operation tx op (Some Aborted) g = record { done = All-nil (GaveReply moves last tx); end = λ e k. k; stays = λ _. inr refl }
+  asks_operation tx op (Some (Refused r)) g = record { done = All-nil (GaveReply moves last tx); end = λ e k. k; stays = λ _. inl refl }
 
   asks_commit : (tx : ℕ) (a : Option DeskAnswer) → GaveIf (Some (call.Commit tx)) a → Turned tx (Some tx) (Some (call.Commit tx)) a
   asks_commit tx None g = absurd g
   asks_commit tx (Some (Begun x)) g = absurd (cc (g.0))
-  asks_commit tx (Some (Replied reply)) g = record { done = All-nil (GaveReply moves tx); end = λ e k. k; stays = λ _. inl refl }
-  asks_commit tx (Some (Committed n)) g = record { done = All-nil (GaveReply moves tx); end = λ e k. g.1; stays = λ _. inr refl }
-  asks_commit tx (Some Aborted) g = record { done = All-nil (GaveReply moves tx); end = λ e k. k; stays = λ _. inr refl }
-  asks_commit tx (Some (Refused r)) g = record { done = All-nil (GaveReply moves tx); end = λ e k. k; stays = λ _. inl refl }
+  asks_commit tx (Some (Replied reply)) g = record { done = All-nil (GaveReply moves last tx); end = λ e k. k; stays = λ _. inl refl }
+  asks_commit tx (Some (Committed n)) g = record { done = All-nil (GaveReply moves last tx); end = λ e k. g.1; stays = λ _. inr refl }
+  asks_commit tx (Some Aborted) g = record { done = All-nil (GaveReply moves last tx); end = λ e k. k; stays = λ _. inr refl }
+  asks_commit tx (Some (Refused r)) g = record { done = All-nil (GaveReply moves last tx); end = λ e k. k; stays = λ _. inl refl }
 
   asks_abort : (tx : ℕ) (a : Option DeskAnswer) → GaveIf (Some (call.Abort tx)) a → Turned tx (Some tx) (Some (call.Abort tx)) a
   asks_abort tx None g = absurd g
   asks_abort tx (Some (Begun x)) g = absurd (cc (g.0))
-  asks_abort tx (Some (Replied reply)) g = record { done = All-nil (GaveReply moves tx); end = λ e k. k; stays = λ _. inl refl }
-  asks_abort tx (Some (Committed n)) g = record { done = All-nil (GaveReply moves tx); end = λ e k. k; stays = λ _. inr refl }
-  asks_abort tx (Some Aborted) g = record { done = All-nil (GaveReply moves tx); end = λ e k. k; stays = λ _. inr refl }
-  asks_abort tx (Some (Refused r)) g = record { done = All-nil (GaveReply moves tx); end = λ e k. k; stays = λ _. inl refl }
+  asks_abort tx (Some (Replied reply)) g = record { done = All-nil (GaveReply moves last tx); end = λ e k. k; stays = λ _. inl refl }
+  asks_abort tx (Some (Committed n)) g = record { done = All-nil (GaveReply moves last tx); end = λ e k. k; stays = λ _. inr refl }
+  asks_abort tx (Some Aborted) g = record { done = All-nil (GaveReply moves last tx); end = λ e k. k; stays = λ _. inr refl }
+  asks_abort tx (Some (Refused r)) g = record { done = All-nil (GaveReply moves last tx); end = λ e k. k; stays = λ _. inl refl }
 
   turned_within : (tx : ℕ) (line : Line) (a : Option DeskAnswer) → GaveIf (call_for (Some tx) line) a → Turned tx (Some tx) (call_for (Some tx) line) a
   turned_within tx (Says command.Begin) a g = asks_nothing tx (Some tx) a (inl refl) g
@@ -122,15 +132,15 @@ module _ {D : Type 0} (moves : Moves D) where
 
   -- what the turns up to the next begin make of the transaction that is open, if one is
   record Behind (tx : ℕ) (ts : List Turn) : Type 0 where
-    pub done : All (GaveReply moves tx) (all_done ts)
-    pub end : (e : End) → GaveEnd moves tx e → GaveEnd moves tx (ended_by e ts)
+    pub done : All (GaveReply moves last tx) (all_done ts)
+    pub end : (e : End) → GaveEnd moves last tx e → GaveEnd moves last tx (ended_by e ts)
 
   nothing_behind : (tx : ℕ) → Behind tx []
-  nothing_behind tx = record { done = All-nil (GaveReply moves tx); end = λ e k. k }
+  nothing_behind tx = record { done = All-nil (GaveReply moves last tx); end = λ e k. k }
 
   one_before : (tx : ℕ) (t : Turn) (rest : List Turn) → Turned tx t.open_before (call_of t) t.answer → Behind tx rest → Behind tx (t ∷ rest)
   one_before tx t rest one behind = record {
-    done = All-append (GaveReply moves tx) (done_in (call_of t) t.answer) (all_done rest) one.done behind.done;
+    done = All-append (GaveReply moves last tx) (done_in (call_of t) t.answer) (all_done rest) one.done behind.done;
     end = λ e k. behind.end (end_in e (call_of t) t.answer) (one.end e k);
   }
 
@@ -146,27 +156,27 @@ module _ {D : Type 0} (moves : Moves D) where
       up_to_next tx t (before_next ts) (begun_in (call_of t) t.answer) refl one (λ stays. behind tx (open_after t.open_before t.answer) ts stays h.2)
 
   begins : (client number : ℕ) (before : Option ℕ) (c : Option DeskCall) (a : Option DeskAnswer) (ts : List Turn) → GaveIf c a → AreGiven (open_after before a) ts
-      → All (GaveAll moves) (outcome_if client number (begun_in c a) ts)
-  begins client number before None a ts g h = All-nil (GaveAll moves)
-  begins client number before (Some call.Begin) None ts g h = All-nil (GaveAll moves)
+      → All (GaveAll moves last) (outcome_if client number (begun_in c a) ts)
+  begins client number before None a ts g h = All-nil (GaveAll moves last)
+  begins client number before (Some call.Begin) None ts g h = All-nil (GaveAll moves last)
   begins client number before (Some call.Begin) (Some (Begun tx)) ts g h =
       let rest = behind tx (Some tx) ts (inl refl) h in
-      All-push (GaveAll moves) [] (outcome_behind client number tx ts) (All-nil (GaveAll moves)) (record { begun = g.1; replies = rest.done; end = rest.end end.Aborted tt })
-  begins client number before (Some call.Begin) (Some (Replied reply)) ts g h = All-nil (GaveAll moves)
-  begins client number before (Some call.Begin) (Some (Committed n)) ts g h = All-nil (GaveAll moves)
-  begins client number before (Some call.Begin) (Some Aborted) ts g h = All-nil (GaveAll moves)
-  begins client number before (Some call.Begin) (Some (Refused r)) ts g h = All-nil (GaveAll moves)
-  begins client number before (Some (call.Operation tx op)) a ts g h = All-nil (GaveAll moves)
-  begins client number before (Some (call.Commit tx)) a ts g h = All-nil (GaveAll moves)
-  begins client number before (Some (call.Abort tx)) a ts g h = All-nil (GaveAll moves)
+      All-push (GaveAll moves last) [] (outcome_behind client number tx ts) (All-nil (GaveAll moves last)) (record { begun = g.1; replies = rest.done; end = rest.end end.Aborted tt })
+  begins client number before (Some call.Begin) (Some (Replied reply)) ts g h = All-nil (GaveAll moves last)
+  begins client number before (Some call.Begin) (Some (Committed n)) ts g h = All-nil (GaveAll moves last)
+  begins client number before (Some call.Begin) (Some Aborted) ts g h = All-nil (GaveAll moves last)
+  begins client number before (Some call.Begin) (Some (Refused r)) ts g h = All-nil (GaveAll moves last)
+  begins client number before (Some (call.Operation tx op)) a ts g h = All-nil (GaveAll moves last)
+  begins client number before (Some (call.Commit tx)) a ts g h = All-nil (GaveAll moves last)
+  begins client number before (Some (call.Abort tx)) a ts g h = All-nil (GaveAll moves last)
 
-  given_outcomes : (client begun : ℕ) (before : Option ℕ) (ts : List Turn) → AreGiven before ts → All (GaveAll moves) (outcomes_of client begun ts)
-  given_outcomes client begun before [] h = All-nil (GaveAll moves)
+  given_outcomes : (client begun : ℕ) (before : Option ℕ) (ts : List Turn) → AreGiven before ts → All (GaveAll moves last) (outcomes_of client begun ts)
+  given_outcomes client begun before [] h = All-nil (GaveAll moves last)
   given_outcomes client begun before (t ∷ ts) h =
-      All-append (GaveAll moves) (outcome_if client (begun + 1) (begun_in (call_of t) t.answer) ts) (outcomes_of client (begun + begins_by t.answer) ts)
+      All-append (GaveAll moves last) (outcome_if client (begun + 1) (begun_in (call_of t) t.answer) ts) (outcomes_of client (begun + begins_by t.answer) ts)
       (begins client (begun + 1) t.open_before (call_of t) t.answer ts h.1 h.2)
       (given_outcomes client (begun + begins_by t.answer) (open_after t.open_before t.answer) ts h.2)
 
   -- all that is in the outcomes of turns is what the desk answered
-  pub gave_all : (client begun : ℕ) (p q : Place D) (ts : List Turn) → Goes moves client p ts q → All (GaveAll moves) (outcomes_of client begun ts)
-  gave_all client begun p q ts h = given_outcomes client begun p.progress.tx ts (given_turns client p q ts h)
+  pub gave_all : (client begun : ℕ) (p q : Place D) (ts : List Turn) → Goes moves client p ts q → LeadsTo moves q.desk last → All (GaveAll moves last) (outcomes_of client begun ts)
+  gave_all client begun p q ts h k = given_outcomes client begun p.progress.tx ts (given_turns client p q ts h k)

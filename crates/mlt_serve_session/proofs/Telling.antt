@@ -198,7 +198,7 @@ speaks moves client p q desk a b w v rs ss i j n x z t k =
       asked = asked_closed moves client p q desk t.turns x t.goes k;
       wrote = t.wrote;
       noted = noted_turns moves client p q rs ss t.turns i j n x z t.goes;
-      gave = gave_all moves client 0 p q t.turns t.goes;
+      gave = gave_all moves desk client 0 p q t.turns t.goes (record { calls = closing q.progress.tx; answers = closing_answers q.progress.tx; run = k });
     }
 
 -- its counts
@@ -250,7 +250,7 @@ breaks_off moves client p q desk a b w v rs ss i j n x z t k =
       asked = asked_closed moves client p q desk t.turns x t.goes k;
       wrote = t.wrote;
       noted = noted_turns moves client p q rs ss t.turns i j n x z t.goes;
-      gave = gave_all moves client 0 p q t.turns t.goes;
+      gave = gave_all moves desk client 0 p q t.turns t.goes (record { calls = closing q.progress.tx; answers = closing_answers q.progress.tx; run = k });
     }
 
 -- a session that was broken off when it had heard all lines
@@ -281,5 +281,5 @@ nothing_said moves client desk a w rs =
       wrote = ([], [], refl, Appends-nil w);
       asked = refl;
       noted = sym (append-nil rs);
-      gave = All-nil (GaveAll moves);
+      gave = All-nil (GaveAll moves desk);
     }

@@ -1,5 +1,5 @@
 -- Outcomes in which all is what a desk answered.
-use Rattle.std.specs.Prelude.{ℕ, All}
+use Rattle.std.specs.Prelude.{ℕ, List, All}
 use Rattle.mlt_object_kinds.specs.declared.operation.ObjOp.{ObjOp}
 use Rattle.mlt_object_kinds.specs.declared.operation.ObjReply.{ObjReply}
 use Rattle.mlt_script_serial.specs.declared.outcome.End.{End}
@@ -10,25 +10,33 @@ use Rattle.mlt_script_cursor.specs.declared.call.DeskAnswer.TheVariants.{Begun, 
 use Rattle.mlt_script_cursor.specs.declared.call.DeskCall.{DeskCall}
 use Rattle.mlt_script_cursor.specs.declared.call.DeskCall.TheVariants as call
 use Rattle.mlt_script_cursor.specs.Calls.{Moves}
+use Rattle.mlt_serve_session.specs.Desks.{Answers}
 
--- a desk that moves so gave this answer to this call
-pub record Gave {D : Type 0} (moves : Moves D) (asked : DeskCall) (answer : DeskAnswer)
+-- a desk that moves so comes from the one state to the other by some calls
+pub record LeadsTo {D : Type 0} (moves : Moves D) (from to : D) : Type 0 where
+  pub calls : List DeskCall
+  pub answers : List DeskAnswer
+  pub run : Answers moves from calls answers to
+
+-- a desk that moves so gave this answer to this call, and came to its last state after that
+pub record Gave {D : Type 0} (moves : Moves D) (last : D) (asked : DeskCall) (answer : DeskAnswer)
     : Type 0 where
   pub before : D
   pub after : D
   pub moved : moves before asked answer after
+  pub leads : LeadsTo moves after last
 
 -- it gave the transaction this reply to this operation
-abbrev pub GaveReply : {D : Type 0} → Moves D → ℕ → ObjOp × ObjReply → Type 0
-GaveReply moves tx done = Gave moves (call.Operation tx done.0) (Replied done.1)
+abbrev pub GaveReply : {D : Type 0} → Moves D → D → ℕ → ObjOp × ObjReply → Type 0
+GaveReply moves last tx done = Gave moves last (call.Operation tx done.0) (Replied done.1)
 
 -- it gave the transaction its commit, if it has one
-abbrev pub GaveEnd : {D : Type 0} → Moves D → ℕ → End → Type 0
-GaveEnd moves tx (end.Committed number) = Gave moves (call.Commit tx) (Committed number)
-GaveEnd moves tx other = Unit {0}
+abbrev pub GaveEnd : {D : Type 0} → Moves D → D → ℕ → End → Type 0
+GaveEnd moves last tx (end.Committed number) = Gave moves last (call.Commit tx) (Committed number)
+GaveEnd moves last tx other = Unit {0}
 
 -- it began the transaction, and gave it each of its replies and its commit, if it has one
-pub record GaveAll {D : Type 0} (moves : Moves D) (o : Outcome) : Type 0 where
-  pub begun : Gave moves call.Begin (Begun o.tx)
-  pub replies : All (GaveReply moves o.tx) o.done
-  pub end : GaveEnd moves o.tx o.end
+pub record GaveAll {D : Type 0} (moves : Moves D) (last : D) (o : Outcome) : Type 0 where
+  pub begun : Gave moves last call.Begin (Begun o.tx)
+  pub replies : All (GaveReply moves last o.tx) o.done
+  pub end : GaveEnd moves last o.tx o.end

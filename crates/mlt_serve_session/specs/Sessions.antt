@@ -53,7 +53,7 @@ pub record Spoken {D : Type 0} (moves : Moves D) (client : ℕ) (old new : Scene
   -- an outcome was added for each transaction that began
   pub noted : new.outcomes ≡ old.outcomes ++ outcomes_of client 0 turns
   -- all that is in these is what the desk answered
-  pub gave : All (GaveAll moves) (outcomes_of client 0 turns)
+  pub gave : All (GaveAll moves new.desk) (outcomes_of client 0 turns)
 
 -- so many lines were answered, and so many of them committed
 pub record Summed {D : Type 0} (moves : Moves D) (client : ℕ) (old new : Scene D)
@@ -86,7 +86,7 @@ pub record BrokenOff {D : Type 0} (moves : Moves D) (client : ℕ) (old new : Sc
   -- an outcome was added for each transaction that began
   pub noted : new.outcomes ≡ old.outcomes ++ outcomes_of client 0 heard
   -- all that is in these is what the desk answered
-  pub gave : All (GaveAll moves) (outcomes_of client 0 heard)
+  pub gave : All (GaveAll moves new.desk) (outcomes_of client 0 heard)
 
 -- a session that a read, a write or the byte limit broke off: it has heard all lines of the bytes that
 -- it read up to the limit

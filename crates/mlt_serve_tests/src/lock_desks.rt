@@ -1,6 +1,7 @@
 //! Sessions over a manager.
 
 ghost use Rattle.std.specs.Prelude.{◌≡◌, Some, true};
+ghost use Rattle.mlt_work_log.specs.Seats.{id_of};
 ghost use Rattle.mlt_work_desk.specs.Makings.{making_of};
 
 use crate::sessions::{LINES, OF_LINES};
@@ -11,12 +12,11 @@ use mlt_script_serial::End;
 use mlt_test_tools::{FaultyReader, FaultyWriter, same};
 use mlt_trace_audit::audit;
 use mlt_types::{Limits, Mult, Refusal};
-use mlt_work_desk::{LockDesk, LockedState, MadeWith, NoGate, Shared, Tries};
+use mlt_work_desk::{BlankRecords, LockDesk, LockedState, MadeWith, NoGate, Shared, Tries};
 use std::alloc::Global;
 use std::io::ErrorKind;
 use std::marker::Brand;
 use std::sync::Wait;
-use std::sync::ledger::Blank;
 use std::test::Fail;
 
 /// A session over a manager, and what is wanted of it.
@@ -64,34 +64,40 @@ fn begins(manager: &mut Manager<Mult>, ops: &[ObjOp]) -> Result<(), Refusal> {
 fn talk_over<L: MadeWith<Mult>>(
     rt: &impl Wait,
     alloc: Global,
-    blank: Blank,
+    records: BlankRecords,
     manager: Manager<Mult>,
     reader: FaultyReader,
 ) -> (Talk, Manager<Mult>)
-    requires name { blank.name ≡ L.name }
-    requires parts { blank.parts ≡ L.parts }
+    requires name { records.blank.name ≡ L.name }
+    requires parts { records.blank.parts ≡ L.parts }
+    requires log { id_of records.log ≡ L.log_id }
     requires made { Some (making_of manager) ≡ L.made_with }
     requires history { L.hands_out ≡ true }
-    requires two { blank.parts ≡ 2 }
+    requires two { records.blank.parts ≡ 2 }
 {
+    let BlankRecords { blank, log, writer } = records;
     let (book, mut all) = blank.open::<L>();
     let share = all.split_off(1, 0);
-    let shared = Shared::new(LockedState::of(manager, book, &mut all));
+    let state = LockedState::of(manager, book, &mut all, &log, writer);
+    let shared = Shared::new(log, state);
     let mut desk = LockDesk::new(rt, &shared, &NoGate, share, Tries::PerOperation(3));
     let talk = talk_at(alloc, &mut desk, reader, FaultyWriter::new(alloc));
-    let (share, _events) = desk.close();
+    let (share, _events, _snapshot) = desk.close();
     all.merge(share);
     (talk, shared.close(&mut all))
 }
 
-// The same, with a new ledger.
+// The same, with blank records of any name.
 fn talk_over_manager(
     rt: &impl Wait,
     alloc: Global,
+    records: BlankRecords,
     manager: Manager<Mult>,
     reader: FaultyReader,
-) -> (Talk, Manager<Mult>) {
-    talk_over::<Brand>(rt, alloc, Blank::new(2), manager, reader)
+) -> (Talk, Manager<Mult>)
+    requires two { records.blank.parts ≡ 2 }
+{
+    talk_over::<Brand>(rt, alloc, records, manager, reader)
 }
 
 // The session is what is wanted, and where it was alone its outcomes are those of the manager's history.
@@ -110,10 +116,11 @@ fn are_over_managers(rt: &impl Wait, alloc: Global, sessions: &[Session]) -> Res
     for session in sessions {
         let (open, ids, pages, depth, ops) = session.bounds;
         let limits = Limits::checked(open, ids, pages, depth, ops)?;
+        let records = BlankRecords::new(alloc, 2)?;
         let manager = manager_of(alloc, limits, session.beside)?;
         let reader = FaultyReader::of_pieces(session.input, 7);
         let reader = reader.failing(session.reads, ErrorKind::Interrupted);
-        let (talk, manager) = talk_over_manager(rt, alloc, manager, reader);
+        let (talk, manager) = talk_over_manager(rt, alloc, records, manager, reader);
         let result = is(alloc, &talk, &manager, session);
         manager.close();
         result?;

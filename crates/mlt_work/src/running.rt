@@ -1,6 +1,7 @@
 //! The scripts of all clients, by several workers.
 
 ghost use Rattle.std.specs.Prelude.{◌≡◌, ◌≤◌, ◌<◌, ◌⊎◌, [], false, IfErr, IfOk, Some};
+ghost use Rattle.mlt_work_log.specs.Seats.{id_of};
 ghost use Rattle.mlt_work_desk.specs.Makings.{making_by};
 ghost use Rattle.mlt_work_clients.specs.Places.{scripts_of_clients};
 ghost use Rattle.mlt_work.specs.Runs.{HasRunAll};
@@ -14,11 +15,10 @@ use mlt_script_serial::Report;
 use mlt_script_tree::Script;
 use mlt_types::{Pseudo, Refusal};
 use mlt_work_clients::{Counter, collect, empty_slots, jobs_for};
-use mlt_work_desk::{Gate, LockedState, MadeWith, Shared};
+use mlt_work_desk::{BlankRecords, Gate, LockedState, MadeWith, Shared};
 use std::alloc::Global;
 use std::marker::Brand;
 use std::sync::Wait;
-use std::sync::ledger::Blank;
 use std::thread::Threads;
 
 fn run_with<
@@ -29,17 +29,18 @@ fn run_with<
 >(
     rt: &R,
     alloc: Global,
-    blank: Blank,
+    records: BlankRecords,
     pseudo: P,
     clients: &[Vec<Script>],
     options: &RunOptions,
     gate: &G,
 ) -> Result<(Report, Manager<P>), Refusal>
-    requires name { blank.name ≡ L.name }
-    requires parts { blank.parts ≡ L.parts }
+    requires name { records.blank.name ≡ L.name }
+    requires parts { records.blank.parts ≡ L.parts }
+    requires log { id_of records.log ≡ L.log_id }
     requires made { Some (making_by options.now.limits pseudo) ≡ L.made_with }
     requires stays { L.hands_out ≡ false }
-    requires nine { blank.parts ≡ 9 }
+    requires nine { records.blank.parts ≡ 9 }
     requires some { 0 < options.now.workers }
     requires most { options.now.workers ≤ 8 }
     ensures ran { IfOk result
@@ -48,6 +49,7 @@ fn run_with<
     ensures refusal { IfErr result
         (λ refusal. (refusal ≡ Refusal.OutOfMemory) ⊎ (refusal ≡ Refusal.Audit)) }
 {
+    let BlankRecords { blank, log, writer } = records;
     let (book, mut all) = blank.open::<L>();
     let (counter, mut first) = Counter::new(alloc, clients.len() as u64)?;
     let slots = empty_slots(alloc, clients.len())?;
@@ -60,7 +62,7 @@ fn run_with<
         options.workers,
     )?;
     let manager = Manager::new(alloc, options.limits, pseudo)?;
-    let shared = Shared::new(LockedState::new(manager, book));
+    let shared = Shared::new(log, LockedState::new(manager, book, writer));
     let context = RunContext {
         shared: &shared,
         gate,
@@ -121,5 +123,6 @@ pub fn run<P: Pseudo + Drop + Send, R: Threads + Wait + Sync, G: Gate + Sync>(
     ensures refusal { IfErr result
         (λ refusal. (refusal ≡ Refusal.OutOfMemory) ⊎ (refusal ≡ Refusal.Audit)) }
 {
-    run_with::<Brand, P, R, G>(rt, alloc, Blank::new(9), pseudo, clients, options, gate)
+    let records = BlankRecords::new(alloc, 9)?;
+    run_with::<Brand, P, R, G>(rt, alloc, records, pseudo, clients, options, gate)
 }

@@ -84,7 +84,7 @@ pub(crate) fn work<P: Pseudo, L: MadeWith<P>, R: Wait, G: Gate>(
         &mut drawer,
         &mut runs,
     );
-    let (share, events) = desk.close();
+    let (share, events, _) = desk.close();
     Worked {
         drawer,
         share,

@@ -2,7 +2,10 @@
 
 ghost use Rattle.std.specs.Prelude.{◌≡◌, ◌+◌, ◌-◌, ◌^◌, min, IfSome};
 ghost use Rattle.mlt_script_cursor.specs.Calls.{answer_by};
-ghost use Rattle.mlt_work_desk.specs.Holds.{IsToldTo, MayAnswerOperation};
+ghost use Rattle.mlt_work_log.specs.Prefixes.{StartsWith};
+ghost use Rattle.mlt_work_log.specs.Seats.{IsOf, first_items};
+ghost use Rattle.mlt_script_cursor.specs.declared.call.DeskCall.TheVariants as call;
+ghost use Rattle.mlt_work_desk.specs.Holds.{EndsWithOp, IsToldTo, MayAnswerOperation, SeesAnswer, SeesEvent};
 
 use crate::called::Called;
 use crate::gate::Gate;
@@ -17,9 +20,20 @@ use mlt_object_kinds::{ObjOp, ObjReply};
 use mlt_script_cursor::{Answering, DeskAnswer};
 use mlt_script_desk::Desk;
 use mlt_types::{Pseudo, Refusal, TxId};
+use mlt_work_log::LogSnapshot;
 use mlt_work_waits::Wakers;
 use std::sync::Wait;
 use std::sync::ledger::Share;
+
+/// What a hold of the lock has told.
+#[derive(Drop)]
+struct Held {
+    told: Told,
+    /// What the desk does next.
+    turn: Turn,
+    /// The operation that the last item of the history tells of, where the event was told that one is done.
+    done: Option<ObjOp>,
+}
 
 impl<'a, P: Pseudo, L: MadeWith<P>, R: Wait, G: Gate> LockDesk<'a, P, L, R, G> {
     /// A desk that has made no event yet.
@@ -32,6 +46,24 @@ impl<'a, P: Pseudo, L: MadeWith<P>, R: Wait, G: Gate> LockDesk<'a, P, L, R, G> {
     ) -> LockDesk<'a, P, L, R, G>
         requires part { share.parts ≡ 1 }
         requires amount { share.amount ≡ 0 }
+    {
+        let snapshot = shared.snapshot(rt);
+        LockDesk::after(rt, shared, gate, share, snapshot, tries)
+    }
+
+    /// A desk that has made no event yet, and comes after one that left this snapshot.
+    pub fn after(
+        rt: &'a R,
+        shared: &'a Shared<P, L>,
+        gate: &'a G,
+        share: Share<L>,
+        snapshot: LogSnapshot,
+        tries: Tries,
+    ) -> LockDesk<'a, P, L, R, G>
+        requires part { share.parts ≡ 1 }
+        requires amount { share.amount ≡ 0 }
+        requires of_log { IsOf L.log_id snapshot }
+        ensures snapshot { result.snapshot ≡ snapshot }
     {
         let waker = shared.lock(rt).desks.enter();
         LockDesk {
@@ -54,19 +86,23 @@ impl<'a, P: Pseudo, L: MadeWith<P>, R: Wait, G: Gate> LockDesk<'a, P, L, R, G> {
             timestamp: Timestamp::new(),
             share,
             events: 0,
+            snapshot,
         }
     }
 
     /// From now on it is at work for this client.
-    pub fn serve(&mut self, client: u32) {
+    pub fn serve(&mut self, client: u32)
+        ensures { self.new.snapshot ≡ self.old.snapshot }
+    {
         self.client = client;
         self.timestamp = Timestamp::new();
     }
 
-    /// Ends the desk, and gives its share and the number of its events.
-    pub fn close(self) -> (Share<L>, u64)
+    /// Ends the desk, and gives its share, the number of its events, and what the history was after the last of them.
+    pub fn close(self) -> (Share<L>, u64, LogSnapshot)
         ensures part { result.0.parts ≡ 1 }
         ensures counted { result.1 ≡ min result.0.amount (2 ^ 64 - 1) }
+        ensures snapshot { result.2 ≡ self.entry.snapshot }
     {
         let LockDesk {
             rt,
@@ -82,18 +118,22 @@ impl<'a, P: Pseudo, L: MadeWith<P>, R: Wait, G: Gate> LockDesk<'a, P, L, R, G> {
             timestamp: _,
             share,
             events,
+            snapshot,
         } = self;
         let mut wakers = Wakers::new();
         shared.lock(rt).desks.leave(sleeper.waker, &mut wakers);
         shared.wake(&wakers);
-        (share, events)
+        (share, events, snapshot)
     }
 
     /// One event, in one hold of the lock, which counts in the share. The desk may sleep before it; and where it is to wait it
     /// sleeps after it, if it may and the turn is so.
     #[inline(always)]
-    fn event(&mut self, event: Event, may_sleep: bool) -> (Told, Turn)
-        ensures told { IsToldTo P.bits_of event result.0 }
+    fn event(&mut self, event: Event, may_sleep: bool) -> Held
+        ensures told { IsToldTo P.bits_of event result.told }
+        ensures sees { SeesEvent (first_items self.old.snapshot) event result.told
+            (first_items self.new.snapshot) }
+        ensures done { IfSome result.done (λ op. EndsWithOp (first_items self.new.snapshot) op) }
         ensures one { self.new.share.amount ≡ self.old.share.amount + 1 }
     {
         let LockDesk {
@@ -103,33 +143,45 @@ impl<'a, P: Pseudo, L: MadeWith<P>, R: Wait, G: Gate> LockDesk<'a, P, L, R, G> {
             is_asleep,
             share,
             events,
+            snapshot,
             ..
         } = self;
         let mut wakers = Wakers::new();
         let is_call = matches!(event, Event::Call(..));
         let mut state = shared.enter(*rt, sleeper, *is_asleep, is_call);
-        let (told, turn) = state.act(event, share, may_sleep, sleeper, &mut wakers);
+        let log = &shared.log;
+        let (told, turn) = state.act(event, share, may_sleep, sleeper, log, snapshot, &mut wakers);
+        let done = if is_done(&told) {
+            state.last_op()
+        } else {
+            None
+        };
         shared.note_blocked(state.desks.blocked());
         drop(state);
         shared.wake(&wakers);
         *is_asleep = turn == Turn::Sleeps;
         *events = events.saturating_add(1);
-        (told, turn)
+        Held { told, turn, done }
     }
 
     /// One event, in one hold of the lock. The gate is told its answer, with the lock free.
     #[inline(always)]
-    fn hold(&mut self, event: Event, may_sleep: bool) -> (Told, Turn)
-        ensures told { IsToldTo P.bits_of event result.0 }
+    fn hold(&mut self, event: Event, may_sleep: bool) -> Held
+        ensures told { IsToldTo P.bits_of event result.told }
+        ensures sees { SeesEvent (first_items self.old.snapshot) event result.told
+            (first_items self.new.snapshot) }
+        ensures done { IfSome result.done (λ op. EndsWithOp (first_items self.new.snapshot) op) }
         ensures one { self.new.share.amount ≡ self.old.share.amount + 1 }
     {
-        let (told, turn) = self.event(event, may_sleep);
-        self.gate.pause(self.client, &told);
-        (told, turn)
+        let held = self.event(event, may_sleep);
+        self.gate.pause(self.client, &held.told);
+        held
     }
 
     /// From now on it sleeps as one of this transaction, which has not waited yet.
-    fn is_in(&mut self, tx: TxId) {
+    fn is_in(&mut self, tx: TxId)
+        ensures { self.new.snapshot ≡ self.old.snapshot }
+    {
         self.waited = 0;
         self.sleeper.tx = tx;
         self.sleeper.takes_precedence = false;
@@ -138,7 +190,9 @@ impl<'a, P: Pseudo, L: MadeWith<P>, R: Wait, G: Gate> LockDesk<'a, P, L, R, G> {
     /// The transaction is to call this operation. Where others are blocked in operations that may clash with it, the desk sleeps
     /// behind the last of them before its next event: unless the transaction may hold something there, for which they wait.
     #[inline(always)]
-    fn wait_for_turn(&mut self, op: &ObjOp) {
+    fn wait_for_turn(&mut self, op: &ObjOp)
+        ensures { self.new.snapshot ≡ self.old.snapshot }
+    {
         let is_new = self.called.add(op);
         if is_new && self.shared.has_blocked() {
             self.queue_behind(op);
@@ -147,7 +201,9 @@ impl<'a, P: Pseudo, L: MadeWith<P>, R: Wait, G: Gate> LockDesk<'a, P, L, R, G> {
 
     /// Where others are blocked in operations that may clash with this one, the desk sleeps behind the last of them before its
     /// next event. The gate is told so, with the lock free.
-    fn queue_behind(&mut self, op: &ObjOp) {
+    fn queue_behind(&mut self, op: &ObjOp)
+        ensures { self.new.snapshot ≡ self.old.snapshot }
+    {
         let mut state = self.shared.lock(self.rt);
         let queues = state.desks.queues(&self.sleeper, op);
         drop(state);
@@ -158,7 +214,9 @@ impl<'a, P: Pseudo, L: MadeWith<P>, R: Wait, G: Gate> LockDesk<'a, P, L, R, G> {
     }
 
     /// Spends a try. It answers whether others are left, and not all of them would be told the same.
-    fn tries_again(&mut self, turn: Turn) -> bool {
+    fn tries_again(&mut self, turn: Turn) -> bool
+        ensures { self.new.snapshot ≡ self.old.snapshot }
+    {
         self.left = self.left.saturating_sub(1);
         self.waited = self.waited.saturating_add(1);
         self.sleeper.takes_precedence = self.waited >= WAITS_BEFORE_PRECEDENCE;
@@ -166,7 +224,10 @@ impl<'a, P: Pseudo, L: MadeWith<P>, R: Wait, G: Gate> LockDesk<'a, P, L, R, G> {
     }
 
     /// The operation is cancelled. The next transaction keeps the timestamp of this one.
-    fn give_up(&mut self, tx: TxId, turn: Turn) {
+    #[tactic(auto, using(crate::proofs::Seeing::sees_more))]
+    fn give_up(&mut self, tx: TxId, turn: Turn)
+        ensures { StartsWith (first_items self.new.snapshot) (first_items self.old.snapshot) }
+    {
         if turn == Turn::Deadlock {
             self.gate.deadlock(self.client);
         }
@@ -174,16 +235,22 @@ impl<'a, P: Pseudo, L: MadeWith<P>, R: Wait, G: Gate> LockDesk<'a, P, L, R, G> {
         self.timestamp.give_up();
     }
 
-    /// One step of an operation that was called. Where it is to wait, a try is spent: with others left it goes on once it is
-    /// awake, else the operation is cancelled. So it is where the gate is out of patience. It answers the operation's answer, if it has one. A step that is told what comes
-    /// only where another desk acts for the same transaction is answered by `NoSuchTx`.
-    fn step(&mut self, tx: TxId) -> Option<Result<ObjReply, Refusal>>
-        ensures { IfSome result
+    /// One step of this operation, which was called. Where it is to wait, a try is spent: with others left it goes on once it is
+    /// awake, else the operation is cancelled. So it is where the gate is out of patience. It answers the operation's answer, if it has
+    /// one: a reply that the history has as one to this operation. A step that is told what comes only where another desk acts for the
+    /// same transaction is answered by `NoSuchTx`.
+    #[tactic(auto, using(crate::proofs::Seeing::more_than, crate::proofs::Seeing::no_more, crate::proofs::Seeing::sees_more, crate::proofs::Seeing::sees_refused, crate::proofs::Seeing::sees_replied))]
+    fn step(&mut self, tx: TxId, op: &ObjOp) -> Option<Result<ObjReply, Refusal>>
+        ensures told { IfSome result
             (λ reply. MayAnswerOperation P.bits_of tx (answer_by DeskAnswer.Replied reply)) }
+        ensures sees { IfSome result (λ reply. SeesAnswer (first_items self.old.snapshot)
+            (call.Operation tx op.now) (answer_by DeskAnswer.Replied reply)
+            (first_items self.new.snapshot)) }
+        ensures more { StartsWith (first_items self.new.snapshot) (first_items self.old.snapshot) }
     {
         // With its last try it does not wait, nor where the gate is out of patience.
         let may_sleep = self.left > 1 && self.gate.is_patient(self.client);
-        let (told, turn) = self.hold(Event::Step(tx), may_sleep);
+        let Held { told, turn, done } = self.hold(Event::Step(tx), may_sleep);
         if is_to_wait(&told) {
             if self.tries_again(turn) && may_sleep {
                 return None;
@@ -193,19 +260,22 @@ impl<'a, P: Pseudo, L: MadeWith<P>, R: Wait, G: Gate> LockDesk<'a, P, L, R, G> {
         }
         match told {
             Told::Answered(Answer::Going) => None,
-            Told::Answered(Answer::Done(reply)) => Some(Ok(reply)),
+            Told::Answered(Answer::Done(reply)) if done == Some(*op) => Some(Ok(reply)),
             Told::Answered(Answer::Refused(refusal)) => Some(Err(refusal)),
             _ => Some(Err(Refusal::NoSuchTx)),
         }
     }
 
-    /// Steps of an operation that was called, up to its reply.
-    fn steps(&mut self, tx: TxId) -> Result<ObjReply, Refusal>
-        ensures { MayAnswerOperation P.bits_of tx (answer_by DeskAnswer.Replied result) }
+    /// Steps of this operation, which was called, up to its reply.
+    #[tactic(auto, using(crate::proofs::Seeing::more_than, crate::proofs::Seeing::no_more, crate::proofs::Seeing::sees_later))]
+    fn steps(&mut self, tx: TxId, op: &ObjOp) -> Result<ObjReply, Refusal>
+        ensures told { MayAnswerOperation P.bits_of tx (answer_by DeskAnswer.Replied result) }
+        ensures sees { SeesAnswer (first_items self.old.snapshot) (call.Operation tx op.now)
+            (answer_by DeskAnswer.Replied result) (first_items self.new.snapshot) }
     {
         let rt = self.rt;
         for _ in rt.forever() {
-            if let Some(answer) = self.step(tx) {
+            if let Some(answer) = self.step(tx, op) {
                 return answer;
             }
         }
@@ -214,13 +284,19 @@ impl<'a, P: Pseudo, L: MadeWith<P>, R: Wait, G: Gate> LockDesk<'a, P, L, R, G> {
 
     /// One step of an abort. Where it is to wait it goes on once it is awake, and spends no try. It answers whether more are to
     /// come.
-    fn undo_step(&mut self, tx: TxId) -> bool {
-        let (told, _) = self.hold(Event::Step(tx), true);
+    #[tactic(auto, using(crate::proofs::Seeing::sees_more))]
+    fn undo_step(&mut self, tx: TxId) -> bool
+        ensures { StartsWith (first_items self.new.snapshot) (first_items self.old.snapshot) }
+    {
+        let Held { told, .. } = self.hold(Event::Step(tx), true);
         is_to_wait(&told) || matches!(told, Told::Answered(Answer::Going | Answer::Undone))
     }
 
     /// Steps of an abort, up to its end.
-    fn undo(&mut self, tx: TxId) {
+    #[tactic(auto, using(crate::proofs::Seeing::more_than, crate::proofs::Seeing::no_more))]
+    fn undo(&mut self, tx: TxId)
+        ensures { StartsWith (first_items self.new.snapshot) (first_items self.old.snapshot) }
+    {
         let rt = self.rt;
         for _ in rt.forever() {
             if !self.undo_step(tx) {
@@ -231,10 +307,13 @@ impl<'a, P: Pseudo, L: MadeWith<P>, R: Wait, G: Gate> LockDesk<'a, P, L, R, G> {
 }
 
 impl<'a, P: Pseudo, L: MadeWith<P>, R: Wait, G: Gate> Answering for LockDesk<'a, P, L, R, G> {
-    ghost use Rattle.mlt_work_desk.specs.Holds.{MayAnswer};
+    ghost use Rattle.mlt_work_log.specs.Seats.{first_items};
+    ghost use Rattle.mlt_work_desk.specs.Holds.{Answers};
 
-    ghost moves = { λ _ call answer _. MayAnswer P.bits_of call answer };
+    ghost moves = { λ old call answer new. Answers P.bits_of (first_items old.snapshot) call answer
+        (first_items new.snapshot) };
 
+    #[tactic(auto, using(crate::proofs::Seeing::sees_later, crate::proofs::Seeing::sees_more, crate::proofs::Seeing::sees_refused))]
     fn operation(&mut self, tx: TxId, op: ObjOp) -> Result<ObjReply, Refusal> {
         if let Tries::PerOperation(tries) = self.tries {
             self.left = tries;
@@ -243,9 +322,9 @@ impl<'a, P: Pseudo, L: MadeWith<P>, R: Wait, G: Gate> Answering for LockDesk<'a,
         self.sleeper.op = op;
         self.gate.call(self.client, &op);
         self.wait_for_turn(&op);
-        let (told, _) = self.hold(Event::Call(tx, op), false);
+        let Held { told, .. } = self.hold(Event::Call(tx, op), false);
         match told {
-            Told::Called => self.steps(tx),
+            Told::Called => self.steps(tx, &op),
             Told::Refused(refusal) => Err(refusal),
             _ => unreachable!(),
         }
@@ -253,12 +332,13 @@ impl<'a, P: Pseudo, L: MadeWith<P>, R: Wait, G: Gate> Answering for LockDesk<'a,
 }
 
 impl<'a, P: Pseudo, L: MadeWith<P>, R: Wait, G: Gate> Desk for LockDesk<'a, P, L, R, G> {
+    #[tactic(auto, using(crate::proofs::Seeing::sees_begun, crate::proofs::Seeing::sees_more, crate::proofs::Seeing::sees_refused))]
     fn begin(&mut self) -> Result<TxId, Refusal> {
         if let Tries::PerScript(tries) = self.tries {
             self.left = tries;
         }
         self.gate.begin(self.client);
-        let (told, _) = self.hold(Event::Begin, false);
+        let Held { told, .. } = self.hold(Event::Begin, false);
         match told {
             Told::Begun(tx) => {
                 self.timestamp.begin(tx);
@@ -271,8 +351,9 @@ impl<'a, P: Pseudo, L: MadeWith<P>, R: Wait, G: Gate> Desk for LockDesk<'a, P, L
         }
     }
 
+    #[tactic(auto, using(crate::proofs::Seeing::sees_committed, crate::proofs::Seeing::sees_more, crate::proofs::Seeing::sees_refused))]
     fn commit(&mut self, tx: TxId) -> Result<u64, Refusal> {
-        let (told, _) = self.hold(Event::Commit(tx), false);
+        let Held { told, .. } = self.hold(Event::Commit(tx), false);
         match told {
             Told::Committed(number) => {
                 self.timestamp.commit();
@@ -283,11 +364,17 @@ impl<'a, P: Pseudo, L: MadeWith<P>, R: Wait, G: Gate> Desk for LockDesk<'a, P, L
         }
     }
 
+    #[tactic(auto, using(crate::proofs::Seeing::more_than, crate::proofs::Seeing::sees_more, crate::proofs::Seeing::sees_aborted))]
     fn abort(&mut self, tx: TxId) {
-        let (told, _) = self.hold(Event::Abort(tx), false);
+        let Held { told, .. } = self.hold(Event::Abort(tx), false);
         if told == Told::Aborting(false) {
             self.is_in(tx);
             self.undo(tx);
         }
     }
+}
+
+/// Whether an operation is done, by what its step was told.
+fn is_done(told: &Told) -> bool {
+    matches!(told, Told::Answered(Answer::Done(_)))
 }

@@ -1,10 +1,13 @@
 //! What a desk does while it holds the lock.
 
-ghost use Rattle.std.specs.Prelude.{◌≡◌, ◌++◌, ◌+◌, ◌-◌, ◌<◌, ◌^◌, [], false, List, Some, min};
+ghost use Rattle.std.specs.Prelude.{◌≡◌, ◌++◌, ◌+◌, ◌-◌, ◌<◌, ◌^◌, [], false, IfSome, List, Some, min};
 ghost use Rattle.mlt_manager.specs.Answers.{counted};
 ghost use Rattle.mlt_manager.specs.Events.{Meets};
 ghost use Rattle.mlt_manager.specs.Managers.{IsManager};
 ghost use Rattle.mlt_work_waits.specs.declared.wait.Waker.{Waker};
+ghost use Rattle.mlt_work_log.specs.Prefixes.{StartsWith};
+ghost use Rattle.mlt_work_log.specs.Seats.{IsOf, IsWriterOf, all_items, first_items, id_of};
+ghost use Rattle.mlt_work_desk.specs.Holds.{EndsWithOp, SeesEvent};
 ghost use Rattle.mlt_work_desk.specs.Makings.{making_of};
 ghost use Rattle.mlt_work_desk.specs.Waits.{given_back_by, precedence_after, precedence_if, queue_after, queue_if, TurnsIfWaits, wait_if, waits_after, woken_by};
 
@@ -14,27 +17,43 @@ use crate::made_with::MadeWith;
 use crate::turn::{Sleeper, Turn, given_back};
 use mlt_event::{Event, Told};
 use mlt_manager::Manager;
+use mlt_object_kinds::ObjOp;
+use mlt_trace::TraceItem;
 use mlt_types::Pseudo;
+use mlt_work_log::{Growth, HistoryLog, LogSnapshot, LogWriter};
 use mlt_work_waits::Wakers;
+use std::marker::Brand;
 use std::sync::ledger::{Book, Share};
 
 impl<P: Pseudo, L: MadeWith<P>> LockedState<P, L> {
     /// No desk, over a manager that has had no event.
-    pub fn new(manager: Manager<P>, book: Book<L>) -> LockedState<P, L>
+    pub fn new(manager: Manager<P>, book: Book<L>, writer: LogWriter) -> LockedState<P, L>
         requires events { manager.events ≡ 0 }
         requires made { Some (making_of manager) ≡ L.made_with }
         requires history { L.hands_out ≡ false → manager.commons.history.handed ≡ [] }
         requires total { book.total ≡ 0 }
+        requires of_log { IsWriterOf L.log_id writer }
+        requires logged { all_items writer ≡ manager.commons.history.items }
     {
         LockedState {
             manager,
             book,
             desks: Desks::new(),
+            writer,
         }
     }
 
     /// No desk, over a manager whose events so far count in the share.
-    pub fn of(manager: Manager<P>, book: Book<L>, share: &mut Share<L>) -> LockedState<P, L>
+    pub fn of(
+        manager: Manager<P>,
+        book: Book<L>,
+        share: &mut Share<L>,
+        log: &HistoryLog,
+        writer: LogWriter,
+    ) -> LockedState<P, L>
+        requires log { id_of log.now ≡ L.log_id }
+        requires of_log { IsWriterOf L.log_id writer }
+        requires none { all_items writer ≡ [] }
         requires made { Some (making_of manager) ≡ L.made_with }
         requires history { L.hands_out ≡ false → manager.commons.history.handed ≡ [] }
         requires total { book.total ≡ 0 }
@@ -43,16 +62,21 @@ impl<P: Pseudo, L: MadeWith<P>> LockedState<P, L> {
         ensures parts { share.new.parts ≡ share.old.parts }
     {
         let mut book = book;
+        let mut writer = writer;
         book.add(share, manager.events());
+        let mut snapshot = log.snapshot(&mut writer);
+        see_history::<Brand, P>(log, &mut writer, &mut snapshot, &manager);
         LockedState {
             manager,
             book,
             desks: Desks::new(),
+            writer,
         }
     }
 
     /// One event of a desk, which counts in the share. Where it is to wait, and may sleep, it does so as this sleeper. Whoever waits
-    /// for what it gave back is awake then, and its waker is added. It answers what was told, and what the desk does next.
+    /// for what it gave back is awake then, and its waker is added. The snapshot is one of the history after it then. It answers what was
+    /// told, and what the desk does next.
     #[inline(always)]
     pub(crate) fn act(
         &mut self,
@@ -60,10 +84,18 @@ impl<P: Pseudo, L: MadeWith<P>> LockedState<P, L> {
         share: &mut Share<L>,
         may_sleep: bool,
         sleeper: &Sleeper,
+        log: &HistoryLog,
+        snapshot: &mut LogSnapshot,
         wakers: &mut Wakers,
     ) -> (Told, Turn)
         requires part { 0 < share.old.parts }
         requires none { wakers.old.items ≡ [] }
+        requires log { id_of log.now ≡ L.log_id }
+        requires of_log { IsOf L.log_id snapshot.old }
+        ensures of_log { IsOf L.log_id snapshot.new }
+        ensures seen { first_items snapshot.new ≡ self.new.manager.commons.history.items }
+        ensures sees { SeesEvent (first_items snapshot.old) event result.0
+            (first_items snapshot.new) }
         ensures before { IsManager P.bits_of self.old.manager }
         ensures after { IsManager P.bits_of self.new.manager }
         ensures meets { Meets P.bits_of event result.0
@@ -86,19 +118,53 @@ impl<P: Pseudo, L: MadeWith<P>> LockedState<P, L> {
             manager,
             book,
             desks,
+            writer,
         } = self;
         book.add(share, 1);
         manager.keeps_its_invariant();
         let told = manager.act(event);
         manager.keeps_its_invariant();
+        see_history::<Brand, P>(log, writer, snapshot, manager);
         desks.give_back(given_back(&event, &told), wakers);
         let turn = desks.take_turn(&told, may_sleep, sleeper, wakers);
         (told, turn)
     }
 
+    /// The operation that the last item of the history tells of, if it tells of one.
+    pub(crate) fn last_op(&self) -> Option<ObjOp>
+        ensures { IfSome result (λ op. EndsWithOp self.now.manager.commons.history.items op) }
+    {
+        let (last, _) = self.manager.kept_history().split_last()?;
+        match last.get() {
+            TraceItem::Op(_, done) => Some(done.op()),
+            _ => None,
+        }
+    }
+
+    /// A snapshot of the history.
+    pub(crate) fn snapshot(&mut self, log: &HistoryLog) -> LogSnapshot
+        requires { id_of log.now ≡ L.log_id }
+        ensures of_log { IsOf L.log_id result }
+        ensures desks { self.new.desks ≡ self.old.desks }
+    {
+        log.snapshot(&mut self.writer)
+    }
+
+    /// A snapshot had the first items of the history.
+    pub(crate) fn compare(&mut self, log: &HistoryLog, snapshot: LogSnapshot)
+        requires log { id_of log.now ≡ L.log_id }
+        requires of_log { IsOf L.log_id snapshot }
+        ensures same { self.new.manager ≡ self.old.manager }
+        ensures first { StartsWith self.old.manager.commons.history.items (first_items snapshot) }
+    {
+        let mut snapshot = snapshot;
+        see_history::<Brand, P>(log, &mut self.writer, &mut snapshot, &self.manager);
+    }
+
     /// The manager, whose events are the amount of the whole share.
     pub(crate) fn close(self, all: &mut Share<L>) -> Manager<P>
         requires { all.old.parts ≡ L.parts }
+        ensures same { result ≡ self.manager }
         ensures events { result.events ≡ min all.old.amount (2 ^ 64 - 1) }
         ensures made { Some (making_of result) ≡ L.made_with }
         ensures history { L.hands_out ≡ false → result.commons.history.handed ≡ [] }
@@ -109,6 +175,7 @@ impl<P: Pseudo, L: MadeWith<P>> LockedState<P, L> {
             manager,
             mut book,
             desks: _,
+            writer: _,
         } = self;
         book.audit(all);
         manager
@@ -122,7 +189,30 @@ impl<P: Pseudo, L: MadeWith<P>> LockedState<P, L> {
             manager,
             book: _,
             desks: _,
+            writer: _,
         } = self;
         manager
     }
+}
+
+/// The log has the history of the manager from now on, and the snapshot is one of all of it. What that had are the first items of what
+/// the log had before.
+#[inline(always)]
+fn see_history<G: Growth, P: Pseudo>(
+    log: &HistoryLog,
+    writer: &mut LogWriter,
+    snapshot: &mut LogSnapshot,
+    manager: &Manager<P>,
+)
+    requires picked { G.items ≡ manager.now.commons.history.items }
+    requires writer { IsWriterOf (id_of log.now) writer.old }
+    requires of_log { IsOf (id_of log.now) snapshot.old }
+    requires grows { StartsWith manager.now.commons.history.items (all_items writer.old) }
+    ensures writer { IsWriterOf (id_of log.now) writer.new }
+    ensures of_log { IsOf (id_of log.now) snapshot.new }
+    ensures logged { all_items writer.new ≡ manager.now.commons.history.items }
+    ensures seen { first_items snapshot.new ≡ manager.now.commons.history.items }
+    ensures first { StartsWith (all_items writer.old) (first_items snapshot.old) }
+{
+    log.see::<G>(writer, snapshot)
 }

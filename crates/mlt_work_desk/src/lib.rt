@@ -1,6 +1,7 @@
 //! Desks over one manager that threads share under a lock.
 #![tactic(auto)]
 
+mod blank_records;
 mod called;
 mod calls;
 mod desks;
@@ -14,7 +15,9 @@ mod shared;
 mod timestamp;
 mod tuning;
 mod turn;
+mod unlocked;
 
+pub use blank_records::BlankRecords;
 pub use gate::{Gate, NoGate};
 pub use lock_desk::{LockDesk, Tries};
 pub use locked_state::LockedState;
@@ -22,3 +25,4 @@ pub use look::Look;
 pub use made_with::MadeWith;
 pub use shared::Shared;
 pub use turn::is_to_wait;
+pub use unlocked::Unlocked;

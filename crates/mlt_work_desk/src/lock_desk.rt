@@ -1,6 +1,7 @@
 //! The form of a desk over a shared manager.
 
 ghost use Rattle.std.specs.Prelude.{◌≡◌, ◌-◌, ◌^◌, min};
+ghost use Rattle.mlt_work_log.specs.Seats.{IsOf};
 
 use crate::called::Called;
 use crate::gate::Gate;
@@ -9,6 +10,7 @@ use crate::shared::Shared;
 use crate::timestamp::Timestamp;
 use crate::turn::Sleeper;
 use mlt_types::Pseudo;
+use mlt_work_log::LogSnapshot;
 use std::sync::Wait;
 use std::sync::ledger::Share;
 
@@ -43,6 +45,9 @@ pub struct LockDesk<'a, P: Pseudo, L: MadeWith<P>, R: Wait, G: Gate> {
     pub(crate) timestamp: Timestamp,
     pub(crate) share: Share<L>,
     pub(crate) events: u64,
+    /// What the history was after its last hold.
+    pub(crate) snapshot: LogSnapshot,
     ghost part: { share.parts ≡ 1 },
+    ghost of_log: { IsOf L.log_id snapshot },
     ghost counted: { events ≡ min share.amount (2 ^ 64 - 1) },
 }

@@ -2,19 +2,25 @@
 
 ghost use Rattle.std.specs.Prelude.{◌≡◌, ◌-◌, ◌^◌, [], false, Some, min};
 ghost use Rattle.mlt_work_desk.specs.Makings.{making_of};
+ghost use Rattle.mlt_work_log.specs.Seats.{IsWriterOf, all_items};
 
 use crate::desks::Desks;
 use crate::made_with::MadeWith;
 use mlt_manager::Manager;
 use mlt_types::Pseudo;
+use mlt_work_log::LogWriter;
 use std::sync::ledger::Book;
 
-/// The manager, a book whose total is the number of its events, and the desks, of which not all wait.
+/// The manager, a book whose total is the number of its events, the desks, of which not all wait, and the writer of the log that has
+/// its history.
 pub struct LockedState<P: Pseudo, L: MadeWith<P>> {
     pub(crate) manager: Manager<P>,
     pub(crate) book: Book<L>,
     pub(crate) desks: Desks,
+    pub(crate) writer: LogWriter,
     ghost counted: { manager.events ≡ min book.total (2 ^ 64 - 1) },
     ghost made: { Some (making_of manager) ≡ L.made_with },
+    ghost of_log: { IsWriterOf L.log_id writer },
+    ghost logged: { all_items writer ≡ manager.commons.history.items },
     ghost history: { L.hands_out ≡ false → manager.commons.history.handed ≡ [] },
 }

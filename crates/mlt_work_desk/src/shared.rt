@@ -1,6 +1,7 @@
 //! The manager under its lock.
 
 ghost use Rattle.std.specs.Prelude.{◌≡◌, ◌-◌, ◌^◌, [], false, true, Some, min};
+ghost use Rattle.mlt_work_log.specs.Seats.{IsOf, first_items, id_of};
 ghost use Rattle.mlt_work_desk.specs.Makings.{making_of};
 
 use crate::locked_state::LockedState;
@@ -8,9 +9,11 @@ use crate::look::Look;
 use crate::made_with::MadeWith;
 use crate::tuning::{FIRST_LOCK_SPINS, LOCK_SPINS, PAUSES_PER_LOCK_SPIN};
 use crate::turn::Sleeper;
+use crate::unlocked::Unlocked;
 use mlt_manager::Manager;
 use mlt_trace::KeptItem;
 use mlt_types::{Pseudo, Refusal, TxId};
+use mlt_work_log::{HistoryLog, LogSnapshot};
 use mlt_work_waits::{Waker, Wakers};
 use std::alloc::AllocError;
 use std::array;
@@ -26,16 +29,22 @@ pub struct Shared<P: Pseudo, L: MadeWith<P>> {
     condvars: [Condvar; 256],
     /// How many were blocked at the end of the last hold, for who is to call an operation.
     blocked: AtomicU64,
+    /// The log of the manager's history.
+    pub(crate) log: HistoryLog,
+    ghost of_log: { id_of log ≡ L.log_id },
 }
 
 impl<P: Pseudo, L: MadeWith<P>> Shared<P, L> {
-    /// The state under a lock.
-    pub fn new(state: LockedState<P, L>) -> Shared<P, L> {
+    /// The state under a lock, whose history this log has.
+    pub fn new(log: HistoryLog, state: LockedState<P, L>) -> Shared<P, L>
+        requires { id_of log ≡ L.log_id }
+    {
         Shared {
             state: Mutex::new(state),
             queue: Mutex::new(()),
             condvars: array::from_fn(|_| Condvar::new()),
             blocked: AtomicU64::new(0),
+            log,
         }
     }
 
@@ -156,6 +165,25 @@ impl<P: Pseudo, L: MadeWith<P>> Shared<P, L> {
         state.take_items(items)
     }
 
+    /// A snapshot of the history. It takes the lock once, and is no event.
+    pub(crate) fn snapshot<R: Wait>(&self, rt: &R) -> LogSnapshot
+        ensures { IsOf L.log_id result }
+    {
+        let mut state = self.lock(rt);
+        state.snapshot(&self.log)
+    }
+
+    /// A snapshot once more. It takes no lock.
+    pub fn copy_snapshot(&self, snapshot: &mut LogSnapshot) -> LogSnapshot
+        requires { IsOf L.log_id snapshot.old }
+        ensures of_log { IsOf L.log_id snapshot.new }
+        ensures same { first_items snapshot.new ≡ first_items snapshot.old }
+        ensures copy { IsOf L.log_id result }
+        ensures items { first_items result ≡ first_items snapshot.old }
+    {
+        self.log.copy(snapshot)
+    }
+
     /// Wakes the sleepers, with the lock free.
     pub(crate) fn wake(&self, wakers: &Wakers) {
         for waker in wakers {
@@ -177,26 +205,29 @@ impl<P: Pseudo, L: MadeWith<P>> Shared<P, L> {
         ensures amount { all.new.amount ≡ all.old.amount }
         ensures parts { all.new.parts ≡ all.old.parts }
     {
+        self.unlock().close(all)
+    }
+
+    /// What lies under the lock, which no desk has any more.
+    pub fn unlock(self) -> Unlocked<P, L> {
         let Shared {
             state,
             queue: _,
             condvars: _,
             blocked: _,
+            log,
         } = self;
-        state.into_inner().close(all)
+        Unlocked {
+            state: state.into_inner(),
+            log,
+        }
     }
 
     /// The manager, where the shares are not at hand.
     pub fn into_manager(self) -> Manager<P>
         ensures made { Some (making_of result) ≡ L.made_with }
     {
-        let Shared {
-            state,
-            queue: _,
-            condvars: _,
-            blocked: _,
-        } = self;
-        state.into_inner().into_manager()
+        self.unlock().into_manager()
     }
 }
 

@@ -1,12 +1,14 @@
 use Rattle.std.specs.Prelude.{true, Some}
+use Rattle.mlt_work_log.specs.Seats.{id_of}
 use Rattle.mlt_work_desk.specs.Makings.{making_by}
 use Rattle.mlt_serve.proofs.endless.serve_endless.Given as goal
 
 abbrev pub ghosts-serve_with-L-Ledger : goal.ghosts-serve_with-L-Ledger
-ghosts-serve_with-L-Ledger g a = record { name = a.blank.name; parts = a.blank.parts }
+ghosts-serve_with-L-Ledger g a = record { name = a.records.blank.name; parts = a.records.blank.parts }
 
 abbrev pub ghosts-serve_with-L-MadeWith : goal.ghosts-serve_with-L-MadeWith
 ghosts-serve_with-L-MadeWith g a = record {
   made_with = Some (making_by a.options.now.limits a.pseudo);
   hands_out = true;
+  log_id = id_of a.records.log;
 }

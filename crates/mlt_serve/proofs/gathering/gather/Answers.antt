@@ -1,7 +1,8 @@
-use Rattle.std.proofs.Common.{◌++◌, arith, subst, sym}
+use Rattle.std.proofs.Common.{◌++◌, ◌∙◌, arith, subst, sym}
 use Rattle.std.specs.Prelude.{IsPermutation}
 use Rattle.std.proofs.lemmas.List.Elements.{All-push}
 use Rattle.std.proofs.lemmas.List.Sorted.{IsPermutation-append_right, IsPermutation-trans}
+use Rattle.mlt_serve.specs.Tellings.{TellsOutcomes}
 use Rattle.mlt_serve.specs.Threads.{AllHaveMemory, HasMemory, all_outcomes, outcomes_of}
 use Rattle.mlt_serve.proofs.Merging.{last_behind}
 use Rattle.mlt_serve.proofs.gathering.gather.Goals as goal
@@ -23,7 +24,8 @@ loop-thread-preserved g c =
           IsPermutation-trans all (all_outcomes rest ++ (got ++ outcomes_of w)) (all_outcomes rest ++ after) (last_behind outcomes_of rest w all got popped)
           (IsPermutation-append_right (all_outcomes rest) (got ++ outcomes_of w) after (c.take_in.ensures.outcomes f));
       clients = λ f. c.take_in.ensures.clients f (l.invariant.clients (c.take_in.ensures.short f).0);
-      told = λ f. c.take_in.ensures.told f (l.invariant.told (c.take_in.ensures.short f).0);
+      manager = c.take_in.ensures.manager ∙ l.invariant.manager;
+      told = λ f. subst (λ (m : _). TellsOutcomes m.commons.history.items got → TellsOutcomes m.commons.history.items after) l.invariant.manager (c.take_in.ensures.told f) (l.invariant.told (c.take_in.ensures.short f).0);
       short = λ f have.
           let both = c.take_in.ensures.short f in
           l.invariant.short both.0 (subst AllHaveMemory (sym c.in-Some.ensures.items) (All-push HasMemory rest w have both.1));

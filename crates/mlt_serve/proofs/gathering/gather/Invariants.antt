@@ -1,7 +1,7 @@
 use Rattle.std.proofs.Common.{◌≡◌, ◌+◌, ◌-◌, ◌*◌, ◌^◌, ◌++◌, vec_len, min}
 use Rattle.std.specs.Prelude.{IsPermutation, false}
 use Rattle.mlt_serve.specs.Clients.{AreOfClients}
-use Rattle.mlt_serve.specs.Tellings.{AreTold}
+use Rattle.mlt_serve.specs.Tellings.{TellsOutcomes}
 use Rattle.mlt_serve.specs.Threads.{AllHaveMemory, all_outcomes}
 use Rattle.mlt_serve.proofs.gathering.gather.Given as goal
 
@@ -11,7 +11,8 @@ invariant-loop-thread g l = record {
   events : l.gathered.events ≡ min l.all.amount (2 ^ 64 - 1);
   outcomes : l.gathered.is_short ≡ false → IsPermutation (all_outcomes l.fn.threads.items) (all_outcomes l.rest.items ++ g.K.Receipts.receipts l.gathered.outcomes);
   clients : l.gathered.is_short ≡ false → AreOfClients l.gathered.last (g.K.Receipts.receipts l.gathered.outcomes);
-  told : l.gathered.is_short ≡ false → AreTold g.P.Pseudo.bits_of (g.K.Receipts.receipts l.gathered.outcomes);
+  manager : l.desks.state.manager ≡ l.initial.desks.state.manager;
+  told : l.gathered.is_short ≡ false → TellsOutcomes l.initial.desks.state.manager.commons.history.items (g.K.Receipts.receipts l.gathered.outcomes);
   short : l.gathered.is_short ≡ false → AllHaveMemory l.rest.items → AllHaveMemory l.fn.threads.items;
 }
 

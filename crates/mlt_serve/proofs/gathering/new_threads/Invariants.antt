@@ -1,4 +1,5 @@
 use Rattle.std.proofs.Common.{◌≡◌, ◌+◌, ◌*◌, vec_len}
+use Rattle.mlt_work_log.specs.Seats.{IsWriterOf, all_items}
 use Rattle.mlt_serve.proofs.gathering.new_threads.Given as goal
 
 abbrev pub invariant-loop : goal.invariant-loop
@@ -6,4 +7,6 @@ invariant-loop g l = record {
   len : vec_len l.threads ≡ l.counter;
   parts : l.all.parts + 2 * l.counter ≡ 129;
   amount : l.all.amount ≡ 0;
+  writer : IsWriterOf g.L.MadeWith.log_id l.writer;
+  items : all_items l.writer ≡ all_items l.initial.writer;
 }

@@ -1,12 +1,14 @@
 use Rattle.std.specs.Prelude.{true, Some}
+use Rattle.mlt_work_log.specs.Seats.{id_of}
 use Rattle.mlt_work_desk.specs.Makings.{making_of}
 use Rattle.mlt_serve_tests.proofs.lock_desks.talk_over_manager.Given as goal
 
 abbrev pub ghosts-talk_over-L-Ledger : goal.ghosts-talk_over-L-Ledger
-ghosts-talk_over-L-Ledger g a = record { name = a.blank.name; parts = a.blank.parts }
+ghosts-talk_over-L-Ledger g a = record { name = a.records.blank.name; parts = a.records.blank.parts }
 
 abbrev pub ghosts-talk_over-L-MadeWith : goal.ghosts-talk_over-L-MadeWith
 ghosts-talk_over-L-MadeWith g a = record {
   made_with = Some (making_of a.manager);
   hands_out = true;
+  log_id = id_of a.records.log;
 }

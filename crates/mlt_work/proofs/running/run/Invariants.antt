@@ -1,12 +1,14 @@
 use Rattle.std.specs.Prelude.{false, Some}
+use Rattle.mlt_work_log.specs.Seats.{id_of}
 use Rattle.mlt_work_desk.specs.Makings.{making_by}
 use Rattle.mlt_work.proofs.running.run.Given as goal
 
 abbrev pub ghosts-run_with-L-Ledger : goal.ghosts-run_with-L-Ledger
-ghosts-run_with-L-Ledger g a = record { name = a.blank.name; parts = a.blank.parts }
+ghosts-run_with-L-Ledger g a = record { name = a.records.blank.name; parts = a.records.blank.parts }
 
 abbrev pub ghosts-run_with-L-MadeWith : goal.ghosts-run_with-L-MadeWith
 ghosts-run_with-L-MadeWith g a = record {
   made_with = Some (making_by a.options.now.limits a.pseudo);
   hands_out = false;
+  log_id = id_of a.records.log;
 }

@@ -1,5 +1,8 @@
-use Rattle.std.proofs.Common.{subst, sym}
+use Rattle.std.proofs.Common.{rules, ◌≡◌, subst, sym}
+use Rattle.mlt_work_log.specs.Prefixes.{StartsWith}
+use Rattle.mlt_work_log.specs.Seats.{first_items}
 use Rattle.mlt_serve.specs.Clients.{AreOfClients}
+use Rattle.mlt_serve.specs.Tellings.{TellsOutcomes}
 use Rattle.mlt_serve.proofs.Numbering.{grown}
 use Rattle.mlt_serve.proofs.Telling.{grown_told}
 use Rattle.mlt_serve.proofs.session_thread.SessionThread.serve.Goals as goal
@@ -8,10 +11,15 @@ pub invariant_of-self-clause-of_clients : goal.invariant_of-self-clause-of_clien
 invariant_of-self-clause-of_clients g c =
     let old = g.K.Receipts.receipts c.args.self.now.outcomes in
     let new = g.K.Receipts.receipts c.talk-cut.new.outcomes in
-    subst (λ n. AreOfClients n new) (sym c.max.ensures) (grown g.P.Pseudo.bits_of c.args.client c.args.self.now.last old new c.requires c.args.self.now.of_clients c.talk-cut.ensures)
+    subst (λ n. AreOfClients n new) (sym c.max.ensures) (grown (first_items c.talk-cut.new.desk.snapshot) c.args.client c.args.self.now.last old new c.requires c.args.self.now.of_clients c.talk-cut.ensures.outcomes)
 
 pub invariant_of-self-clause-told : goal.invariant_of-self-clause-told
 invariant_of-self-clause-told g c =
     let old = g.K.Receipts.receipts c.args.self.now.outcomes in
     let new = g.K.Receipts.receipts c.talk-cut.new.outcomes in
-    grown_told g.P.Pseudo.bits_of c.args.client old new c.args.self.now.told c.talk-cut.ensures
+    let first = first_items c.args.self.now.snapshot in
+    let last = first_items c.talk-cut.new.desk.snapshot in
+    let began : first_items c.serve.new.self.snapshot ≡ first = search rules in
+    let ended : first_items c.close-mine.result.2 ≡ last = search rules in
+    subst (λ items. TellsOutcomes items new) (sym ended)
+    (grown_told last first c.args.client old new (subst (StartsWith last) began c.talk-cut.ensures.sees) c.args.self.now.told c.talk-cut.ensures.outcomes)

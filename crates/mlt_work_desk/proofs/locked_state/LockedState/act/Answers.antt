@@ -1,4 +1,5 @@
-use Rattle.std.proofs.Common.{◌≡◌, ◌∙◌, ◌+◌, ◌-◌, ◌^◌, Some, ap, min, arith}
+use Rattle.std.proofs.Common.{◌≡◌, ◌∙◌, ◌+◌, ◌-◌, ◌^◌, ◌++◌, Some, ap, min, arith, sym}
+use Rattle.mlt_work_desk.proofs.Adding.{event_adds}
 use Rattle.mlt_work_desk.proofs.Counting.{one_event, same_making}
 use Rattle.mlt_work_desk.proofs.locked_state.LockedState.act.Goals as goal
 
@@ -12,3 +13,20 @@ invariant_of-self-clause-counted g c =
 pub invariant_of-self-clause-made : goal.invariant_of-self-clause-made
 invariant_of-self-clause-made g c =
     ap Some (same_making g.P.Pseudo.bits_of c.args.event c.act-told.result c.args.self.now.manager c.act-told.new.self c.act-told.ensures.meets) ∙ c.args.self.now.made
+
+pub see_history-requires-clause-grows : goal.see_history-requires-clause-grows
+see_history-requires-clause-grows g c =
+    let adds = event_adds g.P.Pseudo.bits_of c.args.event c.act-told.result c.args.self.now.manager c.act-told.new.self c.act-told.ensures.meets in
+    (adds.0, adds.2 ∙ ap (λ xs. xs ++ adds.0) (sym c.args.self.now.logged))
+
+pub returns-clause-sees : goal.returns-clause-sees
+returns-clause-sees g c =
+    let adds = event_adds g.P.Pseudo.bits_of c.args.event c.act-told.result c.args.self.now.manager c.act-told.new.self c.act-told.ensures.meets in
+    let first = c.see_history.ensures.first in
+    record {
+      between = first.0;
+      here = adds.0;
+      called = adds.1;
+      whole = c.see_history.ensures.seen ∙ adds.2 ∙ ap (λ xs. xs ++ adds.0) (sym c.args.self.now.logged ∙ first.1);
+      adds = adds.3;
+    }

@@ -1,0 +1,15 @@
+use Rattle.std.proofs.Common.{rules, ◌++◌}
+use Rattle.std.specs.Prelude.{IsPermutation}
+use Rattle.mlt_work_log.specs.Seats.{first_items}
+use Rattle.mlt_serve.proofs.Telling.{both_told}
+use Rattle.mlt_serve.proofs.gathering.Gathered.take_in.Goals as goal
+
+pub returns-clause-told : goal.returns-clause-told
+returns-clause-told g c =
+    let items = c.args.desks.now.state.manager.commons.history.items in
+    let old = g.K.Receipts.receipts c.args.self.now.outcomes in
+    let more = g.K.Receipts.receipts c.args.thread.outcomes in
+    let new = g.K.Receipts.receipts c.take_in.new.self in
+    λ have told.
+    let same : IsPermutation (old ++ more) new = search rules in
+    both_told items (first_items c.args.thread.snapshot) old more new c.compare.ensures.first same told c.args.thread.told

@@ -1,0 +1,38 @@
+//! What contracts know of desks, before it is known of which.
+
+ghost use Rattle.std.specs.Prelude.{◌≡◌, [], IfOk};
+ghost use Rattle.mlt_work_log.specs.Seats.{IsWriterOf, all_items, id_of};
+
+use mlt_work_log::{HistoryLog, LogWriter};
+use std::alloc::{AllocError, Global};
+use std::sync::ledger::Blank;
+
+/// A ledger in which no event counts yet, and the log of a history that has no item yet, with its writer.
+#[derive(Drop)]
+pub struct BlankRecords {
+    /// The ledger of the events.
+    pub blank: Blank,
+    /// The log of the history.
+    pub log: HistoryLog,
+    /// The writer of the log.
+    pub writer: LogWriter,
+    ghost of_log: { IsWriterOf (id_of log) writer },
+    ghost none: { all_items writer ≡ [] },
+}
+
+impl BlankRecords {
+    /// With so many parts of the ledger.
+    ///
+    /// # Errors
+    /// Where a growth is refused.
+    pub fn new(alloc: Global, parts: u64) -> Result<BlankRecords, AllocError>
+        ensures { IfOk result (λ records. records.blank.parts ≡ parts) }
+    {
+        let (log, writer) = HistoryLog::new(alloc)?;
+        Ok(BlankRecords {
+            blank: Blank::new(parts),
+            log,
+            writer,
+        })
+    }
+}

@@ -1,0 +1,92 @@
+-- Each kind of step keeps the rule.
+use Rattle.std.proofs.Common.{◌≡◌, ◌≢◌, ℕ, zero, suc, List, [], ◌∷◌, ◌++◌, set, true, refl, sym, ap, ◌∙◌, subst, ⊎_elim}
+use Rattle.std.proofs.lemmas.Bool.{false≢true}
+use Rattle.std.proofs.lemmas.List.{append_assoc, append-nil}
+use mathlib.Core.Option.{some, some-injective, some-ne-none}
+use lib.ListN.{get_elem?}
+use Rattle.atomic_table.specs.Table.{State, Me, Allows, Splits, Joins}
+use Rattle.atomic_table.specs.Table.Act.{keeps}
+use Rattle.atomic_table.proofs.Lists.{at_set, at_snoc, set_else}
+use Rattle.mlt_trace.specs.declared.item.TraceItem.{TraceItem}
+use Rattle.mlt_work_log.specs.declared.view.View.{View}
+use Rattle.mlt_work_log.specs.Prefixes.{AreKept, HasGrown, Knows, StartsWith, after_join, first_view, snapshot_view, spent_view, writer_view}
+
+pub starts_with_itself : (items : List TraceItem) → StartsWith items items
+starts_with_itself items = ([], sym (append-nil items))
+
+pub starts_with_none : (items : List TraceItem) → StartsWith items []
+starts_with_none items = (items, refl)
+
+pub starts_with_first : (items between first : List TraceItem) → StartsWith items between → StartsWith between first → StartsWith items first
+starts_with_first items between first (more, is) (rest, was) = (rest ++ more, (is ∙ ap (λ xs. xs ++ more) was ∙ append_assoc first rest more))
+
+-- what each seat knows, after a change of one
+each_set : (items : List TraceItem) (writer : ℕ) (views : List View) (seat : ℕ) (w : View) → Knows items writer seat w
+    → ((j : ℕ) (u : View) → j ≢ seat → get_elem? views j ≡ some u → Knows items writer j u)
+    → (j : ℕ) (u : View) → get_elem? (set views seat w) j ≡ some u → Knows items writer j u
+each_set items writer views seat w mine others j u e =
+    ⊎_elim (λ (x : (j ≡ seat) × (w ≡ u)). subst (Knows items writer j) x.1 (subst (λ k. Knows items writer k w) (sym x.0) mine))
+    (λ (x : (j ≢ seat) × (get_elem? views j ≡ some u)). others j u x.0 x.1) (at_set views seat j w u e)
+
+knows_none : (items : List TraceItem) (writer seat : ℕ) → Knows items writer seat spent_view
+knows_none items writer seat = record { first = starts_with_none items; taken = starts_with_none items; all = λ writes. absurd (false≢true writes) }
+
+-- the history grows
+pub grows : (items : List TraceItem) (slots seat : ℕ) (me : Me (Unit {0}) View) → me.0.writes ≡ true → StartsWith items me.0.items
+    → Allows (λ (s : State (Unit {0}) View). AreKept s.views) slots seat me 0 (λ n. n) (λ n after. HasGrown items me.0 after.0 × (after.1 ≡ me.1))
+grows items slots seat me writes more s (all, writer, each) homes at small =
+    let mine = each seat me.0 at in
+    let mine_all = mine.all writes in
+    let longer : StartsWith items all = subst (StartsWith items) mine_all.1 more in (
+      writer_view items,
+      keeps,
+      tt,
+      (
+        items,
+        writer,
+        each_set items writer s.views seat (writer_view items) (record { first = starts_with_itself items; taken = starts_with_none items; all = λ _. (mine_all.0, refl) })
+            (λ j u other there.
+            let was = each j u there in
+            record {
+              first = starts_with_first items all u.items longer was.first;
+              taken = starts_with_first items all u.taken longer was.taken;
+              all = λ writes. absurd (other ((was.all writes).0 ∙ sym mine_all.0));
+            }),
+      ),
+      ((refl, subst (λ xs. StartsWith xs me.0.taken) (sym mine_all.1) mine.taken), refl),
+    )
+
+-- a snapshot is made of what a seat knows
+pub splits : (seat : ℕ) (v : View) → Splits (λ (s : State (Unit {0}) View). AreKept s.views) seat v v (snapshot_view v.items)
+splits seat v s (all, writer, each) at =
+    let mine = each seat v at in (
+      all,
+      writer,
+      λ j u e.
+          ⊎_elim (λ there. each_set all writer s.views seat v mine (λ k w _ is. each k w is) j u there)
+          (λ (is : snapshot_view v.items ≡ u). subst (Knows all writer j) is (record { first = mine.first; taken = starts_with_none all; all = λ writes. absurd (false≢true writes) }))
+          (at_snoc (set s.views seat v) (snapshot_view v.items) u j e),
+    )
+
+-- a snapshot is taken in
+pub joins : (seat other : ℕ) (v w : View) → Joins (λ (s : State (Unit {0}) View). AreKept s.views) seat v other w (after_join v w) spent_view
+joins seat other v w s (all, writer, each) at apart at_other =
+    let mine = each seat v at in
+    let theirs = each other w (sym (set_else s.views seat other (after_join v w) apart) ∙ at_other) in (
+      all,
+      writer,
+      each_set all writer (set s.views seat (after_join v w)) other spent_view (knows_none all writer other)
+          (λ j u _ there.
+          each_set all writer s.views seat (after_join v w) (record { first = mine.first; taken = theirs.first; all = mine.all }) (λ k x _ is. each k x is) j u there),
+    )
+
+-- the first seat is the writer's, of no items
+first_is : (u : View) → some first_view ≡ some u → first_view ≡ u
+first_is u is = some-injective first_view u is
+
+first_knows : (j : ℕ) (u : View) → get_elem? (first_view ∷ []) j ≡ some u → Knows [] 0 j u
+first_knows zero u is = subst (Knows [] 0 0) (first_is u is) (record { first = starts_with_none []; taken = starts_with_none []; all = λ _. (refl, refl) })
+first_knows (suc j) u is = absurd (some-ne-none u (sym is))
+
+pub begins : AreKept (first_view ∷ [])
+begins = ([], 0, first_knows)

@@ -1,0 +1,43 @@
+-- Seats of a log.
+use Rattle.std.specs.Prelude.{◌≡◌, List, []}
+use Rattle.atomic_table.specs.Seated.{TableId}
+use Rattle.mlt_trace.specs.declared.item.TraceItem.{TraceItem}
+use Rattle.mlt_work_log.specs.declared.seats.HistoryLog.{HistoryLog}
+use Rattle.mlt_work_log.specs.declared.seats.LogSnapshot.{LogSnapshot}
+use Rattle.mlt_work_log.specs.declared.seats.LogWriter.{LogWriter}
+
+-- what tells a log from others
+abbrev pub LogId : Type 0
+LogId = TableId
+
+-- no log has this
+abbrev pub no_log : LogId
+no_log = record {
+  words = 0;
+  slots = 0;
+  views_name = 0;
+  atom = 0;
+  block = 0;
+  offset = 0;
+  slot_names = [];
+}
+
+-- which log it is
+abbrev pub id_of : HistoryLog → LogId
+id_of log = log.table.shared.table_id
+
+-- it is the writer of this log
+abbrev pub IsWriterOf : LogId → LogWriter → Type 0
+IsWriterOf id writer = writer.seat.table_id ≡ id
+
+-- it is a snapshot of this log
+abbrev pub IsOf : LogId → LogSnapshot → Type 0
+IsOf id snapshot = snapshot.seat.table_id ≡ id
+
+-- all items of the history
+abbrev pub all_items : LogWriter → List TraceItem
+all_items writer = writer.seat.me.0.items
+
+-- the first items of the history, those that it had when it was seen
+abbrev pub first_items : LogSnapshot → List TraceItem
+first_items snapshot = snapshot.seat.me.0.items

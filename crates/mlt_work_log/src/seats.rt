@@ -1,0 +1,32 @@
+//! The log, and the seats of who adds to the history and of who has seen it.
+
+ghost use Rattle.std.specs.Prelude.{◌≡◌, []};
+ghost use Rattle.mlt_work_log.specs.Prefixes.{snapshot_view, writer_view};
+
+use crate::rule::Prefixes;
+use crate::view::View;
+use atomic_table::{Seat, Table};
+use std::alloc::Global;
+
+/// The log of a history: a word that nobody writes. Contracts see which log it is.
+#[derive(Drop)]
+pub struct HistoryLog {
+    pub(crate) table: Table<(), View, (), Prefixes, Global>,
+    ghost one_word: { table.shared.table_id.words ≡ 1 },
+}
+
+/// The right to add to the history. It takes no bytes. Contracts see all items of the history.
+#[derive(Drop)]
+pub struct LogWriter {
+    pub(crate) seat: Seat<(), View>,
+    ghost holds_nothing: { seat.me.1 ≡ [] },
+    ghost knows_all: { seat.me.0 ≡ writer_view seat.me.0.items },
+}
+
+/// What the history was at some time. It takes no bytes. Contracts see its items then.
+#[derive(Drop)]
+pub struct LogSnapshot {
+    pub(crate) seat: Seat<(), View>,
+    ghost holds_nothing: { seat.me.1 ≡ [] },
+    ghost knows_first: { seat.me.0 ≡ snapshot_view seat.me.0.items },
+}
