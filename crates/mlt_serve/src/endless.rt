@@ -86,9 +86,9 @@ fn served_of<P: Pseudo + Drop>(
 /// it comes, and the history is taken out of the manager four times a second, or sooner where much is there, and is written into the
 /// trace, if there is a file for it, and then dropped. So what the server holds does not grow with what it has done.
 ///
-/// At the end as many transactions were told begun as the manager has begun, and as many told committed as it has committed; and all
-/// that clients were told of a transaction stands in the manager's history, which clauses know whole. The outcomes of the tally are those
-/// of all sessions, as clauses see them.
+/// At the end as many transactions were told begun as the manager has begun, and as many told committed as it has committed; and the
+/// manager's history, which clauses know whole, has each begin, each operation with its reply and each commit that clients were told.
+/// The outcomes of the tally are those of all sessions, as clauses see them.
 ///
 /// There are no more connections than the options say, which is at most 4,294,967,295, as a client's number has 32 bits.
 ///

@@ -1,6 +1,6 @@
 //! The calls of a desk over a shared manager.
 
-ghost use Rattle.std.specs.Prelude.{◌≡◌, ◌+◌, ◌-◌, ◌^◌, min, IfSome};
+ghost use Rattle.std.specs.Prelude.{◌≡◌, ◌+◌, ◌-◌, ◌^◌, min, true, IfSome};
 ghost use Rattle.mlt_script_cursor.specs.Calls.{answer_by};
 ghost use Rattle.mlt_work_log.specs.Prefixes.{StartsWith};
 ghost use Rattle.mlt_work_log.specs.Seats.{IsOf, first_items};
@@ -24,16 +24,6 @@ use mlt_work_log::LogSnapshot;
 use mlt_work_waits::Wakers;
 use std::sync::Wait;
 use std::sync::ledger::Share;
-
-/// What a hold of the lock has told.
-#[derive(Drop)]
-struct Held {
-    told: Told,
-    /// What the desk does next.
-    turn: Turn,
-    /// The operation that the last item of the history tells of, where the event was told that one is done.
-    done: Option<ObjOp>,
-}
 
 impl<'a, P: Pseudo, L: MadeWith<P>, R: Wait, G: Gate> LockDesk<'a, P, L, R, G> {
     /// A desk that has made no event yet.
@@ -82,6 +72,7 @@ impl<'a, P: Pseudo, L: MadeWith<P>, R: Wait, G: Gate> LockDesk<'a, P, L, R, G> {
                 op: ObjOp::Size(0),
             },
             is_asleep: false,
+            is_reply: false,
             called: Called::none(),
             timestamp: Timestamp::new(),
             share,
@@ -114,6 +105,7 @@ impl<'a, P: Pseudo, L: MadeWith<P>, R: Wait, G: Gate> LockDesk<'a, P, L, R, G> {
             waited: _,
             sleeper,
             is_asleep: _,
+            is_reply: _,
             called: _,
             timestamp: _,
             share,
@@ -127,13 +119,14 @@ impl<'a, P: Pseudo, L: MadeWith<P>, R: Wait, G: Gate> LockDesk<'a, P, L, R, G> {
     }
 
     /// One event, in one hold of the lock, which counts in the share. The desk may sleep before it; and where it is to wait it
-    /// sleeps after it, if it may and the turn is so.
+    /// sleeps after it, if it may and the turn is so. Where an operation is asked for, it looks whether a reply is to that one.
     #[inline(always)]
-    fn event(&mut self, event: Event, may_sleep: bool) -> Held
-        ensures told { IsToldTo P.bits_of event result.told }
-        ensures sees { SeesEvent (first_items self.old.snapshot) event result.told
+    fn event(&mut self, event: Event, may_sleep: bool, asked: Option<&ObjOp>) -> (Told, Turn)
+        ensures told { IsToldTo P.bits_of event result.0 }
+        ensures sees { SeesEvent (first_items self.old.snapshot) event result.0
             (first_items self.new.snapshot) }
-        ensures done { IfSome result.done (λ op. EndsWithOp (first_items self.new.snapshot) op) }
+        ensures reply { self.new.is_reply ≡ true
+            → IfSome asked.entry (λ op. EndsWithOp (first_items self.new.snapshot) op.now) }
         ensures one { self.new.share.amount ≡ self.old.share.amount + 1 }
     {
         let LockDesk {
@@ -141,6 +134,7 @@ impl<'a, P: Pseudo, L: MadeWith<P>, R: Wait, G: Gate> LockDesk<'a, P, L, R, G> {
             shared,
             sleeper,
             is_asleep,
+            is_reply,
             share,
             events,
             snapshot,
@@ -151,31 +145,31 @@ impl<'a, P: Pseudo, L: MadeWith<P>, R: Wait, G: Gate> LockDesk<'a, P, L, R, G> {
         let mut state = shared.enter(*rt, sleeper, *is_asleep, is_call);
         let log = &shared.log;
         let (told, turn) = state.act(event, share, may_sleep, sleeper, log, snapshot, &mut wakers);
-        let done = if is_done(&told) {
-            state.last_op()
-        } else {
-            None
+        *is_reply = match asked {
+            Some(op) => is_done(&told) && state.ends_with(op),
+            None => false,
         };
         shared.note_blocked(state.desks.blocked());
         drop(state);
         shared.wake(&wakers);
         *is_asleep = turn == Turn::Sleeps;
         *events = events.saturating_add(1);
-        Held { told, turn, done }
+        (told, turn)
     }
 
     /// One event, in one hold of the lock. The gate is told its answer, with the lock free.
     #[inline(always)]
-    fn hold(&mut self, event: Event, may_sleep: bool) -> Held
-        ensures told { IsToldTo P.bits_of event result.told }
-        ensures sees { SeesEvent (first_items self.old.snapshot) event result.told
+    fn hold(&mut self, event: Event, may_sleep: bool, asked: Option<&ObjOp>) -> (Told, Turn)
+        ensures told { IsToldTo P.bits_of event result.0 }
+        ensures sees { SeesEvent (first_items self.old.snapshot) event result.0
             (first_items self.new.snapshot) }
-        ensures done { IfSome result.done (λ op. EndsWithOp (first_items self.new.snapshot) op) }
+        ensures reply { self.new.is_reply ≡ true
+            → IfSome asked.entry (λ op. EndsWithOp (first_items self.new.snapshot) op.now) }
         ensures one { self.new.share.amount ≡ self.old.share.amount + 1 }
     {
-        let held = self.event(event, may_sleep);
-        self.gate.pause(self.client, &held.told);
-        held
+        let (told, turn) = self.event(event, may_sleep, asked);
+        self.gate.pause(self.client, &told);
+        (told, turn)
     }
 
     /// From now on it sleeps as one of this transaction, which has not waited yet.
@@ -231,7 +225,7 @@ impl<'a, P: Pseudo, L: MadeWith<P>, R: Wait, G: Gate> LockDesk<'a, P, L, R, G> {
         if turn == Turn::Deadlock {
             self.gate.deadlock(self.client);
         }
-        self.hold(Event::Cancel(tx), false);
+        self.hold(Event::Cancel(tx), false, None);
         self.timestamp.give_up();
     }
 
@@ -250,7 +244,7 @@ impl<'a, P: Pseudo, L: MadeWith<P>, R: Wait, G: Gate> LockDesk<'a, P, L, R, G> {
     {
         // With its last try it does not wait, nor where the gate is out of patience.
         let may_sleep = self.left > 1 && self.gate.is_patient(self.client);
-        let Held { told, turn, done } = self.hold(Event::Step(tx), may_sleep);
+        let (told, turn) = self.hold(Event::Step(tx), may_sleep, Some(op));
         if is_to_wait(&told) {
             if self.tries_again(turn) && may_sleep {
                 return None;
@@ -260,7 +254,7 @@ impl<'a, P: Pseudo, L: MadeWith<P>, R: Wait, G: Gate> LockDesk<'a, P, L, R, G> {
         }
         match told {
             Told::Answered(Answer::Going) => None,
-            Told::Answered(Answer::Done(reply)) if done == Some(*op) => Some(Ok(reply)),
+            Told::Answered(Answer::Done(reply)) if self.is_reply => Some(Ok(reply)),
             Told::Answered(Answer::Refused(refusal)) => Some(Err(refusal)),
             _ => Some(Err(Refusal::NoSuchTx)),
         }
@@ -288,7 +282,7 @@ impl<'a, P: Pseudo, L: MadeWith<P>, R: Wait, G: Gate> LockDesk<'a, P, L, R, G> {
     fn undo_step(&mut self, tx: TxId) -> bool
         ensures { StartsWith (first_items self.new.snapshot) (first_items self.old.snapshot) }
     {
-        let Held { told, .. } = self.hold(Event::Step(tx), true);
+        let (told, _) = self.hold(Event::Step(tx), true, None);
         is_to_wait(&told) || matches!(told, Told::Answered(Answer::Going | Answer::Undone))
     }
 
@@ -322,7 +316,7 @@ impl<'a, P: Pseudo, L: MadeWith<P>, R: Wait, G: Gate> Answering for LockDesk<'a,
         self.sleeper.op = op;
         self.gate.call(self.client, &op);
         self.wait_for_turn(&op);
-        let Held { told, .. } = self.hold(Event::Call(tx, op), false);
+        let (told, _) = self.hold(Event::Call(tx, op), false, None);
         match told {
             Told::Called => self.steps(tx, &op),
             Told::Refused(refusal) => Err(refusal),
@@ -338,7 +332,7 @@ impl<'a, P: Pseudo, L: MadeWith<P>, R: Wait, G: Gate> Desk for LockDesk<'a, P, L
             self.left = tries;
         }
         self.gate.begin(self.client);
-        let Held { told, .. } = self.hold(Event::Begin, false);
+        let (told, _) = self.hold(Event::Begin, false, None);
         match told {
             Told::Begun(tx) => {
                 self.timestamp.begin(tx);
@@ -353,7 +347,7 @@ impl<'a, P: Pseudo, L: MadeWith<P>, R: Wait, G: Gate> Desk for LockDesk<'a, P, L
 
     #[tactic(auto, using(crate::proofs::Seeing::sees_committed, crate::proofs::Seeing::sees_more, crate::proofs::Seeing::sees_refused))]
     fn commit(&mut self, tx: TxId) -> Result<u64, Refusal> {
-        let Held { told, .. } = self.hold(Event::Commit(tx), false);
+        let (told, _) = self.hold(Event::Commit(tx), false, None);
         match told {
             Told::Committed(number) => {
                 self.timestamp.commit();
@@ -366,7 +360,7 @@ impl<'a, P: Pseudo, L: MadeWith<P>, R: Wait, G: Gate> Desk for LockDesk<'a, P, L
 
     #[tactic(auto, using(crate::proofs::Seeing::more_than, crate::proofs::Seeing::sees_more, crate::proofs::Seeing::sees_aborted))]
     fn abort(&mut self, tx: TxId) {
-        let Held { told, .. } = self.hold(Event::Abort(tx), false);
+        let (told, _) = self.hold(Event::Abort(tx), false, None);
         if told == Told::Aborting(false) {
             self.is_in(tx);
             self.undo(tx);

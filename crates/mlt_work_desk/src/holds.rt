@@ -1,6 +1,6 @@
 //! What a desk does while it holds the lock.
 
-ghost use Rattle.std.specs.Prelude.{◌≡◌, ◌++◌, ◌+◌, ◌-◌, ◌<◌, ◌^◌, [], false, IfSome, List, Some, min};
+ghost use Rattle.std.specs.Prelude.{◌≡◌, ◌++◌, ◌+◌, ◌-◌, ◌<◌, ◌^◌, [], false, true, List, Some, min};
 ghost use Rattle.mlt_manager.specs.Answers.{counted};
 ghost use Rattle.mlt_manager.specs.Events.{Meets};
 ghost use Rattle.mlt_manager.specs.Managers.{IsManager};
@@ -130,14 +130,17 @@ impl<P: Pseudo, L: MadeWith<P>> LockedState<P, L> {
         (told, turn)
     }
 
-    /// The operation that the last item of the history tells of, if it tells of one.
-    pub(crate) fn last_op(&self) -> Option<ObjOp>
-        ensures { IfSome result (λ op. EndsWithOp self.now.manager.commons.history.items op) }
+    /// Whether the last item of the history tells of this operation.
+    #[inline(always)]
+    pub(crate) fn ends_with(&self, op: &ObjOp) -> bool
+        ensures { result ≡ true → EndsWithOp self.now.manager.commons.history.items op.now }
     {
-        let (last, _) = self.manager.kept_history().split_last()?;
+        let Some((last, _)) = self.manager.kept_history().split_last() else {
+            return false;
+        };
         match last.get() {
-            TraceItem::Op(_, done) => Some(done.op()),
-            _ => None,
+            TraceItem::Op(_, done) => done.op() == *op,
+            _ => false,
         }
     }
 
