@@ -2,6 +2,7 @@
 where the server is killed, and goes on without what can't be written."""
 import errno
 import random
+import re
 import signal
 import subprocess
 import threading
@@ -95,6 +96,28 @@ def trace_has_whole_lines_at_each_moment(mltx):
     are_fronts = all(whole.startswith(text) and text[-1:] in (b"", b"\n") for text in seen)
     holds(are_fronts, "a trace that was read is no front of whole lines")
     holds(len({len(text) for text in seen}) >= 3, f"the trace had {sorted({len(text) for text in seen})} bytes")
+
+
+BLOCK = 4_096
+
+
+@test(seconds=2)
+def lines_of_a_trace_end_with_their_blocks(mltx):
+    """Under load: no line goes over the end of a block, where a write of a killed process may be cut. Spaces stand before such an end
+    alone, and the trace is right."""
+    trace = mltx.folder / "trace"
+    with mltx.serve("--trace", trace, "--sessions", 4, limit=4) as server:
+        with under_load(server, clients=4):
+            time.sleep(2)
+        expect(server.end(), out="served 4\n")
+    text = trace.read_bytes()
+    holds(len(text) > 10 * BLOCK, f"the trace has {len(text)} bytes alone")
+    over = [end for end in range(BLOCK, len(text), BLOCK) if text[end - 1 : end] != b"\n"]
+    same(over, [], "the ends of blocks at which no line ends")
+    inside = [found.end() for found in re.finditer(rb" \n", text) if found.end() % BLOCK != 0]
+    same(inside, [], "the ends of lines with spaces inside of blocks")
+    checked = mltx.check(trace)
+    same((checked.status, checked.err), (0, b""), "the check of the trace")
 
 
 @test(seconds=2)

@@ -1,17 +1,15 @@
 //! A trace that is written as the server goes.
 
-ghost use Rattle.std.specs.Prelude.{◌≡◌, true, OnOk};
-ghost use Rattle.std.specs.Io.KnownBytes.{Appends};
-ghost use Rattle.mlt_trace.specs.Items.{trace_text};
+ghost use Rattle.std.specs.Prelude.{◌≡◌, ◌≤◌, ◌<◌, true, IfOk, length, take};
+ghost use Rattle.mlt_trace_live.specs.Lines.{AddsLines};
 
 use crate::ending::Ending;
 use crate::operating::TraceFile;
 use crate::service::Service;
-use crate::tuning::{
-    ITEMS_PER_HOLD, ITEMS_PER_WRITE, LEAST_PAUSE_MILLISECONDS, LOOK_MILLISECONDS, MANY_ITEMS,
-};
+use crate::tuning::{ITEMS_PER_HOLD, LEAST_PAUSE_MILLISECONDS, LOOK_MILLISECONDS, MANY_ITEMS};
 use mlt_serve_notes::{Note, Notes};
-use mlt_trace::{KeptItem, write_trace};
+use mlt_trace::KeptItem;
+use mlt_trace_live::write_block;
 use mlt_types::{Pseudo, Refusal};
 use mlt_work_desk::{MadeWith, Shared};
 use std::alloc::{AllocError, Global};
@@ -187,7 +185,7 @@ impl<'a, P: Pseudo, L: MadeWith<P>, T: TraceFile + Drop> TraceKeeper<'a, P, L, T
         let Some(file) = &mut self.file else {
             return;
         };
-        if self.is_over || write_pieces(file, self.next.as_slice()).is_ok() {
+        if self.is_over || write_lines(file, self.next.as_slice()).is_ok() {
             return;
         }
         self.is_over = true;
@@ -230,22 +228,30 @@ fn pause_after(pause: u64, taken: usize) -> u64 {
     }
 }
 
-/// Writes the text of these items in pieces. Where that fails the file keeps whole lines, as far as it can be cut.
-fn write_pieces<T: TraceFile>(file: &mut Counting<T>, items: &[KeptItem]) -> Result<(), Refusal> {
-    for piece in items.chunks(ITEMS_PER_WRITE) {
-        write_piece(file, piece)?;
+/// Writes lines of these items, block by block. Where that fails the file keeps whole lines, as far as it can be cut.
+fn write_lines<T: TraceFile>(file: &mut Counting<T>, items: &[KeptItem]) -> Result<(), Refusal> {
+    let mut rest = items;
+    while !rest.is_empty() {
+        let count = write_next_block(file, rest)?;
+        rest = rest.get(count..).unwrap_or(&[]);
     }
     Ok(())
 }
 
-/// Writes the text of these items. Where that fails the file keeps what it had, as far as it can be cut.
-fn write_piece<T: TraceFile>(file: &mut Counting<T>, items: &[KeptItem]) -> Result<(), Refusal>
-    ensures ok { OnOk result
-        (Appends (T.contents file.old.file) (T.contents file.new.file) (trace_text items.now)) }
+/// Writes lines of the first of these items, up to the end of a block, and answers of how many. Where that fails the file keeps what it
+/// had, as far as it can be cut.
+fn write_next_block<T: TraceFile>(
+    file: &mut Counting<T>,
+    items: &[KeptItem],
+) -> Result<usize, Refusal>
+    ensures count { IfOk result (λ count. count ≤ length items.now) }
+    ensures some { IfOk result (λ count. 0 < length items.now → 0 < count) }
+    ensures lines { IfOk result (λ count. AddsLines file.old.bytes (take count items.now)
+        (T.contents file.old.file) (T.contents file.new.file)) }
 {
     let before = file.bytes;
-    match write_trace(items, file) {
-        Ok(()) => Ok(()),
+    match write_block(items, before, file) {
+        Ok(count) => Ok(count),
         Err(refusal) => {
             // It can't be cut where it is no file on a disk.
             let _ = file.file.keep(before);

@@ -19,8 +19,5 @@ pub(crate) const MANY_ITEMS: usize = 8_192;
 /// How many milliseconds pass at least between two pieces that are taken out of the manager. By `endless`.
 pub(crate) const LEAST_PAUSE_MILLISECONDS: u64 = 10;
 
-/// How many items a write of a trace has at most: some 2,000 bytes.
-pub(crate) const ITEMS_PER_WRITE: usize = 64;
-
 /// How many seconds sessions have to end by themselves once the server is to stop. Then they are cut.
 pub(crate) const STOP_SECONDS: u64 = 3;
