@@ -17,6 +17,7 @@ from concurrent.futures import ThreadPoolExecutor
 from unittest import mock
 
 from harness import BY_OPERATOR, PATIENCE, ROOT, cut_for, each, expect, free_address, holds, lines, same, test
+from serving import comes_to_be
 
 FOLDER = ROOT / "clients/python"
 sys.path.insert(0, str(FOLDER))
@@ -682,6 +683,7 @@ def operator_sees_and_ends(mltx):
     """What a server tells is told; a session is ended, of which its client hears; and the server ends."""
     with mltx.serve(limit=9, admin=free_address()) as server, connected(server) as holder, connected(server) as waiter:
         operator = Operator(*server.admin)
+        comes_to_be(lambda: len(operator.sessions()) == 2, "two sessions are served")
         same(seen_by(operator), ([], [(1, None), (2, None)]), "without transactions")
         held = holder.begin()
         held.up(7, 5)
@@ -689,9 +691,7 @@ def operator_sees_and_ends(mltx):
         tx.add(4, 9)
         with ThreadPoolExecutor(1) as threads:
             reading = threads.submit(tx.read, 7)
-            until = time.monotonic() + PATIENCE
-            while not operator.waits():
-                holds(time.monotonic() < until, "nobody waits")
+            comes_to_be(operator.waits, "somebody waits")
             rows = [(1, (1, 1, ("up 7 5 done",), None)), (2, (2, 1, ("add 4 9 added",), "read 7"))]
             same(seen_by(operator), ([(2, 2, 1, "object", "read 7")], rows), "what is seen")
             rows = operator.sessions()

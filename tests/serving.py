@@ -625,7 +625,8 @@ def input_ends_beside_a_client_that_never_reads(mltx):
         says(deaf, "begin", "begun 1", "up 1 1", "done")
         sending = threading.Thread(target=send_and_hear_nothing, args=(deaf, "foo\n" * 2_000_000))
         sending.start()
-        time.sleep(0.5)
+        # So long that its session is in a write that nobody takes.
+        time.sleep(2)
         began = time.monotonic()
         end_input(server)
         ended = server.end()
