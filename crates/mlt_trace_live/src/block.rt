@@ -1,6 +1,7 @@
 //! Lines up to the end of a block of a file.
 
-ghost use Rattle.std.specs.Prelude.{◌≡◌, ◌≤◌, ◌<◌, ◌++◌, [], ℕ, IfOk, IsOkUnless, OnOk, length, replicate, take};
+ghost use Rattle.std.specs.Prelude.{◌≡◌, ◌≤◌, ◌<◌, ◌++◌, [], ℕ, List, IfOk, IsOkUnless, OnErr, OnOk, length, replicate, take};
+ghost use Rattle.mlt_text.specs.Texts.{AppendsFront};
 ghost use Rattle.mlt_trace.specs.Items.{item_text};
 ghost use Rattle.mlt_trace_live.specs.Lines.{AddsLines, AreLinesOf, KeepsToBlock, spaced_line};
 
@@ -22,7 +23,7 @@ const LINE: usize = 96;
 /// of a block, which is where a write of a killed process may be cut.
 ///
 /// # Errors
-/// `Io`, where a write failed.
+/// `Io`, where a write failed; then a front of such lines was written, or nothing.
 pub fn write_block<W: Write>(
     items: &[KeptItem],
     bytes: u64,
@@ -32,6 +33,8 @@ pub fn write_block<W: Write>(
     ensures some { IfOk result (λ count. 0 < length items.now → 0 < count) }
     ensures lines { IfOk result (λ count. AddsLines bytes (take count items.now)
         (W.contents writer.old) (W.contents writer.new)) }
+    ensures err { OnErr result ((text : List ℕ) × (count : ℕ) × AreLinesOf (take count items.now) text
+        × AppendsFront (W.contents writer.old) (W.contents writer.new) text) }
     ensures refusal { IsOkUnless result Refusal.Io }
 {
     let mut piece = ArrayString::<BLOCK>::new();
