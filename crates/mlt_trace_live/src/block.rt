@@ -33,7 +33,8 @@ pub fn write_block<W: Write>(
     ensures some { IfOk result (λ count. 0 < length items.now → 0 < count) }
     ensures lines { IfOk result (λ count. AddsLines bytes (take count items.now)
         (W.contents writer.old) (W.contents writer.new)) }
-    ensures err { OnErr result ((text : List ℕ) × (count : ℕ) × AreLinesOf (take count items.now) text
+    ensures err { OnErr result ((text : List ℕ) × (count : ℕ)
+        × AreLinesOf (take count items.now) text
         × AppendsFront (W.contents writer.old) (W.contents writer.new) text) }
     ensures refusal { IsOkUnless result Refusal.Io }
 {
