@@ -1,5 +1,5 @@
 -- What the finite map that a list of entries makes has at a key, and how it changes with the list.
-use Rattle.std.proofs.Common.{◌≡◌, ℕ, ◌-◌, ◌≤◌, Bool, true, false, List, [], ◌∷◌, ◌||◌, Option, None, Some, is_some, cond, length, zero, suc, refl, arith, sym, ◌∙◌, ap}
+use Rattle.std.proofs.Common.{◌≡◌, ℕ, ◌-◌, Bool, true, false, List, [], ◌∷◌, ◌||◌, Option, None, Some, is_some, cond, length, zero, suc, refl, arith, sym, ◌∙◌, ap}
 use Rattle.std.specs.Ordering.{nat_cmp}
 use Rattle.std.specs.declared.cmp.Ordering.{Ordering}
 use Rattle.std.specs.Cmp.{IsTotalOrder, nat_cmp_total}
@@ -54,6 +54,11 @@ module _ {K X : Type 0} {R : K → K → Ordering} (o : IsTotalOrder R) where
       finmap.entries-insert o (finmap.from_entries entries) e.0 e.1
       ∙ ap (put R e.0 e.1) (entries_that_rise entries rise.1)
       ∙ put_first e entries rise
+
+-- what is changed and then taken out is taken out
+pub changed_and_gone : (b : Bool) (changed : ℕ) (other : Option ℕ) → cond b None (cond b (Some changed) other) ≡ cond b None other
+changed_and_gone true changed other = refl
+changed_and_gone false changed other = refl
 
 -- ---- accounts
 
@@ -140,9 +145,9 @@ counter_map_updated old new k v h =
     found_value new q ∙ ap lessened (h q) ∙ lessened_kept (is_at (nat_cmp k) q) v (lookup (is_at (nat_cmp q)) old)
     ∙ ap (cond (is_at (nat_cmp k) q) (counter_entry v)) (sym (found_value old q)))
 
-pub kept_more : (v : ℕ) → 1 ≤ v → kept v ≡ Some v
-kept_more zero h = absurd (omega arith)
-kept_more (suc v) h = refl
+pub kept_not_zero : (v : ℕ) → (v ≡ 0 → ⊥) → kept v ≡ Some v
+kept_not_zero zero h = absurd (h refl)
+kept_not_zero (suc v) h = refl
 
 pub counter_absent : (entries : List (ℕ × ℕ)) (k : ℕ) → lookup (is_at (nat_cmp k)) entries ≡ None → finmap.get (finmap.from_entries {R = nat_cmp} (less_one entries)) k ≡ None
 counter_absent entries k h = number_in_map (less_one entries) k ∙ found_value entries k ∙ ap lessened h

@@ -1,16 +1,22 @@
 -- Which operations take memory.
 use Rattle.std.specs.Prelude.{◌≡◌, ◌≢◌, None, false}
 use Rattle.mlt_object_kinds.specs.declared.account.AccountOp.TheVariants.{Open}
+use Rattle.mlt_object_kinds.specs.declared.counter.CounterOp.{CounterOp}
 use Rattle.mlt_object_kinds.specs.declared.counter.CounterOp.TheVariants.{Up, Down}
 use Rattle.mlt_object_kinds.specs.declared.element.ElementOp.TheVariants.{Add}
 use Rattle.mlt_object_kinds.specs.declared.operation.ObjOp.{ObjOp}
 use Rattle.mlt_object_kinds.specs.declared.operation.ObjOp.TheVariants.{Account, Element, Counter}
 use Rattle.mlt_object_kinds.specs.Bases.{Base, account_at, counter_at, element_at}
 
+-- the operation takes a counter away from 0
+abbrev pub LeavesZero : CounterOp → Type 0
+LeavesZero (Up n) = n ≢ 0
+LeavesZero (Down n) = n ≢ 0
+LeavesZero _ = ⊥
+
 -- the operation makes an account or an element that the base does not have, or takes a counter away from 0
 abbrev pub MakesObject : Base → ObjOp → Type 0
 MakesObject base (Account account Open) = account_at base account ≡ None
 MakesObject base (Element set element Add) = element_at base set element ≡ false
-MakesObject base (Counter counter (Up n)) = (counter_at base counter ≡ 0) × (n ≢ 0)
-MakesObject base (Counter counter (Down n)) = (counter_at base counter ≡ 0) × (n ≢ 0)
+MakesObject base (Counter counter op) = (counter_at base counter ≡ 0) × LeavesZero op
 MakesObject base _ = ⊥

@@ -6,9 +6,11 @@ use Rattle.std.specs.Map.{lookup}
 use Rattle.std.specs.BTreeMap.{is_at}
 use Rattle.mlt_types.specs.Maps.{with_entry}
 use Rattle.mlt_object_kinds.specs.declared.account.AccountOp.{AccountOp}
+use Rattle.mlt_object_kinds.specs.declared.counter.CounterOp.{CounterOp}
 use Rattle.mlt_object_kinds.specs.declared.operation.ObjReply.{ObjReply}
 use Rattle.mlt_object_kinds.specs.Accounts.{AccountStep, IsAccount}
-use Rattle.mlt_object_kinds.specs.Bases.{Base, element_cmp, size_at}
+use Rattle.mlt_object_kinds.specs.Bases.{Base, counter_entry, counter_value, element_cmp, size_at}
+use Rattle.mlt_object_kinds.specs.Counters.{CounterStep}
 
 -- the base of these accounts, elements and counters
 abbrev pub base_of
@@ -27,6 +29,13 @@ abbrev pub DoesAt
 DoesAt old account op reply new =
     (after : Option ℕ) × AccountStep (finmap.get old account) op reply after
     × (new ≡ with_entry old account after)
+
+-- from some counters to others: the operation on this counter is told the reply, and no other counter changes
+abbrev pub CountsAt
+    : finmap.FinMap nat_cmp ℕ → ℕ → CounterOp → ObjReply → finmap.FinMap nat_cmp ℕ → Type 0
+CountsAt old counter op reply new =
+    (after : ℕ) × CounterStep (counter_value (finmap.get old counter)) op reply after
+    × (new ≡ with_entry old counter (counter_entry after))
 
 -- nothing, or a number other than 0
 abbrev pub IsNotZero : Option ℕ → Type 0

@@ -10,7 +10,7 @@ ghost use Rattle.mlt_object_kinds.specs.Bases.{account_at, counter_at, element_a
 use crate::accounts::Accounts;
 use crate::counters::Counters;
 use crate::elements::Elements;
-use mlt_object_kinds::{AccountOp, Counter, CounterOp, Element, ElementOp, Kind, ObjOp, ObjReply};
+use mlt_object_kinds::{AccountOp, CounterOp, Element, ElementOp, Kind, ObjOp, ObjReply};
 use mlt_types::Refusal;
 use std::alloc::Global;
 use std::marker::Model;
@@ -132,11 +132,7 @@ impl Base {
         ensures growth { OnErr result (MakesObject self.old (ObjOp.Counter counter op)) }
         ensures refusal { IsOkUnless result Refusal.OutOfMemory }
     {
-        let before = self.counters.value(counter);
-        let (after, reply) = Counter::apply(&before, &op);
-        if after != before {
-            self.counters.set(counter, after)?;
-        }
+        let reply = self.counters.apply(counter, &op)?;
         Ok(reply)
     }
 

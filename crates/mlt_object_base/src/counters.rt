@@ -1,13 +1,15 @@
 //! The counters of a base that are not 0, in an ordered map.
 
-ghost use Rattle.std.specs.Prelude.{◌≡◌, ◌≢◌, ◌++◌, None, IsOkUnless, IfOk, OnErr, OnOk};
+ghost use Rattle.std.specs.Prelude.{◌≡◌, ◌++◌, None, IsOkUnless, IfOk, OnErr, OnOk};
 ghost use Rattle.std.specs.FinMap as map;
 ghost use Rattle.std.specs.String.{string_bytes};
-ghost use Rattle.mlt_types.specs.Maps.{with_entry};
 ghost use Rattle.mlt_object_base.specs.BaseText.{counter_lines};
-ghost use Rattle.mlt_object_kinds.specs.Bases.{counter_entry, counter_value};
+ghost use Rattle.mlt_object_base.specs.Growth.{LeavesZero};
+ghost use Rattle.mlt_object_base.specs.Kept.{CountsAt};
+ghost use Rattle.mlt_object_kinds.specs.Bases.{counter_value};
 
 use crate::text::push_counters;
+use mlt_object_kinds::{Counter, CounterOp, Kind, ObjReply};
 use mlt_types::Refusal;
 use std::alloc::Global;
 use std::collections::BTreeMap;
@@ -51,19 +53,39 @@ impl Counters {
         self.values.get(&counter).copied().unwrap_or(0)
     }
 
-    // The counter has the value from now on.
-    pub(crate) fn set(&mut self, counter: u32, value: u64) -> Result<(), Refusal>
-        ensures set { OnOk result (self.new ≡ with_entry self.old counter (counter_entry value)) }
+    // Does an operation on a counter at 0, and answers what it is told.
+    fn start(&mut self, counter: u32, op: &CounterOp) -> Result<ObjReply, Refusal>
+        requires { map.get self.old counter ≡ None }
+        ensures done { IfOk result (λ reply. CountsAt self.old counter op.now reply self.new) }
         ensures err { OnErr result (self.new ≡ self.old) }
-        ensures growth { OnErr result ((map.get self.old counter ≡ None) × (value ≢ 0)) }
+        ensures growth { OnErr result (LeavesZero op.now) }
         ensures refusal { IsOkUnless result Refusal.OutOfMemory }
     {
-        if value == 0 {
-            self.values.remove(&counter);
-        } else {
-            self.values.insert(counter, value)?;
+        let (after, reply) = Counter::apply(&0, op);
+        if after != 0 {
+            self.values.insert(counter, after)?;
         }
-        Ok(())
+        Ok(reply)
+    }
+
+    // Does an operation, and answers what it is told. A counter that is not 0 is searched for once, but where it comes to 0.
+    pub(crate) fn apply(&mut self, counter: u32, op: &CounterOp) -> Result<ObjReply, Refusal>
+        ensures done { IfOk result (λ reply. CountsAt self.old counter op.now reply self.new) }
+        ensures err { OnErr result (self.new ≡ self.old) }
+        ensures growth { OnErr result ((map.get self.old counter ≡ None) × LeavesZero op.now) }
+        ensures refusal { IsOkUnless result Refusal.OutOfMemory }
+    {
+        let Some(value) = self.values.get_mut(&counter) else {
+            return self.start(counter, op);
+        };
+        let before = *value;
+        let (after, reply) = Counter::apply(&before, op);
+        if after != 0 {
+            *value = after;
+            return Ok(reply);
+        }
+        self.values.remove(&counter);
+        Ok(reply)
     }
 
     // Appends a line `counter C v` for each counter that is not 0, by rising number.

@@ -1,4 +1,4 @@
-use Rattle.std.proofs.Common.{◌≡◌, ◌∙◌, ℕ, Bool, true, false, None, Some, Option, IsSome, cond, ap, refl, subst, sym}
+use Rattle.std.proofs.Common.{◌≡◌, ◌∙◌, None, Some, IsSome, cond, ap, refl, subst, sym}
 use Rattle.std.specs.BTreeMap.{get_by, is_at}
 use Rattle.std.specs.FinMap as map
 use Rattle.std.specs.Map.{lookup}
@@ -7,13 +7,8 @@ use Rattle.std.specs.Ordering.{nat_cmp}
 use Rattle.mlt_types.specs.Maps.{with_entry}
 use Rattle.mlt_object_kinds.specs.declared.operation.ObjReply.TheVariants.{Closed}
 use Rattle.mlt_object_kinds.specs.Accounts.{AccountStep}
-use Rattle.mlt_object_base.proofs.Maps.{number_in_map, number_map_updated}
+use Rattle.mlt_object_base.proofs.Maps.{changed_and_gone, number_in_map, number_map_updated}
 use Rattle.mlt_object_base.proofs.accounts.Accounts.apply.Goals as goal
-
--- what is changed and then taken out is taken out
-gone : (b : Bool) (changed : ℕ) (other : Option ℕ) → cond b None (cond b (Some changed) other) ≡ cond b None other
-gone true changed other = refl
-gone false changed other = refl
 
 pub returns-in-Some-change-clause-done : goal.returns-in-Some-change-clause-done
 returns-in-Some-change-clause-done c =
@@ -39,6 +34,6 @@ returns-clause-done c =
       None,
       subst (λ s. AccountStep s c.args.op.now Closed None) (sym before) c.in_default-change.ensures.none,
       number_map_updated old.entries c.remove.new.self.entries a None (λ q.
-          c.remove.ensures.updates.0 q ∙ ap (cond (is_at (nat_cmp a) q) None) (updates.0 q) ∙ gone (is_at (nat_cmp a) q) after (lookup (is_at (nat_cmp q)) old.entries))
+          c.remove.ensures.updates.0 q ∙ ap (cond (is_at (nat_cmp a) q) None) (updates.0 q) ∙ changed_and_gone (is_at (nat_cmp a) q) after (lookup (is_at (nat_cmp q)) old.entries))
           ∙ ap (λ m. with_entry m a None) c.self.view_is,
     )

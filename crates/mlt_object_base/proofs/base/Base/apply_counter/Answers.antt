@@ -1,6 +1,8 @@
+use Rattle.std.proofs.Common.{refl}
 use Rattle.mlt_object_base.proofs.Steps.{step_to_counter}
 use Rattle.mlt_object_base.proofs.base.Base.apply_counter.Goals as goal
 
-pub returns-in_ok-set-clause-step : goal.returns-in_ok-set-clause-step
-returns-in_ok-set-clause-step c =
-    step_to_counter c.self.inside.accounts c.self.inside.elements c.self.inside.counters c.set.new.self c.args.self.now c.args.counter c.args.op c.apply-after.result.1 c.value-before.result c.apply-after.result.0 c.self.view_is c.in_ok-set.ensures.set c.value-before.ensures c.apply-after.ensures
+pub returns-clause-step : goal.returns-clause-step
+returns-clause-step c =
+    let done = c.in_ok-reply.ensures.done in
+    step_to_counter c.self.inside.accounts c.self.inside.elements c.self.inside.counters c.apply.new.self c.args.self.now c.args.counter c.args.op c.in_ok-reply.reply _ done.0 c.self.view_is done.2 refl done.1
