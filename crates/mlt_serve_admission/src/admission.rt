@@ -113,6 +113,11 @@ impl<R: Wait + Clock> Gate for Admission<'_, R> {
         self.sitting.deadlock();
     }
 
+    fn give_up(&self, _client: u32) {
+        self.sitting.give_up();
+        self.restarts.give_up();
+    }
+
     fn pause(&self, _client: u32, told: &Told) {
         self.sitting.note(told);
         self.restarts.note(told);
@@ -130,7 +135,7 @@ impl<R: Wait + Clock> Gate for Admission<'_, R> {
 
 // Whether one that was told this, and is not to wait, is in no operation, so that nobody waits for its pages.
 fn holds_no_page(told: &Told) -> bool {
-    !matches!(told, Told::Called | Told::Answered(Answer::Going))
+    !matches!(told, Told::Answered(Answer::Going))
 }
 
 /// A connection whose reads and writes wait outside.

@@ -43,7 +43,7 @@ impl Latch {
     }
 }
 
-/// Holds client 1 after its first Going until client 2 was told Committed.
+/// Holds client 1 after its first operation until client 2 was told Committed.
 #[derive(Drop)]
 pub struct SecondCommits {
     pub commit: Latch,
@@ -53,7 +53,7 @@ impl Gate for SecondCommits {
     fn pause(&self, client: u32, told: &Told) {
         match told {
             Told::Committed(_) if client == 2 => self.commit.open(),
-            Told::Answered(Answer::Going) if client == 1 => self.commit.hold(),
+            Told::Answered(Answer::Done(_)) if client == 1 => self.commit.hold(),
             _ => (),
         }
     }

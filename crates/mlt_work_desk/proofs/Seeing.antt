@@ -1,7 +1,7 @@
 -- What desks see of the history.
-use Rattle.std.proofs.Common.{◌≡◌, ◌∙◌, ℕ, List, [], ◌∷◌, ◌++◌, length, sym, ap, subst, refl, arith}
+use Rattle.std.proofs.Common.{◌≡◌, ◌∙◌, ℕ, List, [], ◌∷◌, ◌++◌, sym, ap, subst, refl, arith}
 use Rattle.std.specs.Prelude.{Contains}
-use Rattle.std.proofs.lemmas.List.{append_assoc, append-nil, length-append}
+use Rattle.std.proofs.lemmas.List.{append_assoc, append-nil}
 use Rattle.std.proofs.lemmas.List.Elements.{Contains-append_right}
 use Rattle.mlt_types.specs.declared.refusal.Refusal.{Refusal}
 use Rattle.mlt_object_kinds.specs.declared.operation.ObjOp.{ObjOp}
@@ -18,14 +18,7 @@ use Rattle.mlt_script_cursor.specs.declared.call.DeskAnswer.TheVariants.{Begun, 
 use Rattle.mlt_script_cursor.specs.declared.call.DeskCall.{DeskCall}
 use Rattle.mlt_script_cursor.specs.declared.call.DeskCall.TheVariants as call
 use Rattle.mlt_work_log.specs.Prefixes.{StartsWith}
-use Rattle.mlt_work_desk.specs.Holds.{EndsWithOp, HaveAnswer, SeesAnswer, SeesEvent}
-
--- the last ones of two lists that are the same
-same_last : {X : Type 0} (xs ys : List X) (x y : X) → xs ++ x ∷ [] ≡ ys ++ y ∷ [] → x ≡ y
-same_last [] [] x y is = cc
-same_last [] (b ∷ ys) x y is = let long = ap length is in absurd (omega (arith, length-append ys (y ∷ [])))
-same_last (a ∷ xs) [] x y is = let long = ap length is in absurd (omega (arith, length-append xs (x ∷ [])))
-same_last (a ∷ xs) (b ∷ ys) x y is = same_last xs ys x y cc
+use Rattle.mlt_work_desk.specs.Holds.{HaveAnswer, SeesAnswer, SeesEvent}
 
 last_of : (items : List TraceItem) (item : TraceItem) → Contains (items ++ item ∷ []) item
 last_of items item = Contains-append_right items (item ∷ []) item (0, omega arith, refl)
@@ -49,23 +42,9 @@ pub sees_committed : (before : List TraceItem) (tx number : ℕ) (after : List T
     → SeesAnswer before (call.Commit tx) (Committed number) after
 sees_committed before tx number after sees = let one = with_item before _ _ after sees (trace.Commit tx number) sees.adds in record { more = one.0; whole = one.1; have = one.2 }
 
-op_of : TraceItem → ObjOp → ObjOp
-op_of (trace.Op tx done) other = done.0
-op_of item other = other
-
-op_is : (tx last : ℕ) (op asked : ObjOp) (reply given : ObjReply) → trace.Op tx (op, reply) ≡ trace.Op last (asked, given) → op ≡ asked
-unfolding op_of
-op_is tx last op asked reply given is = ap (λ item. op_of item asked) is
-
-pub sees_replied : (before : List TraceItem) (tx : ℕ) (asked : ObjOp) (reply : ObjReply) (after : List TraceItem) → EndsWithOp after asked
-    → SeesEvent before (event.Step tx) (told.Answered (answer.Done reply)) after → SeesAnswer before (call.Operation tx asked) (Replied reply) after
-sees_replied before tx asked reply after ends sees =
-    let op = sees.adds.0 in
-    let here : after ≡ (before ++ sees.between) ++ trace.Op tx (op, reply) ∷ [] = sees.whole ∙ ap (λ xs. (before ++ sees.between) ++ xs) sees.adds.2 in
-    let last = same_last (before ++ sees.between) ends.front (trace.Op tx (op, reply)) (trace.Op ends.tx (asked, ends.reply)) (sym here ∙ ends.whole) in
-    let same : op ≡ asked = op_is tx ends.tx op asked reply ends.reply last in
-    let one = with_item before _ _ after sees (trace.Op tx (asked, reply)) (sees.adds.2 ∙ ap (λ o. trace.Op tx (o, reply) ∷ []) same) in
-    record { more = one.0; whole = one.1; have = one.2 }
+pub sees_whole : (before : List TraceItem) (tx : ℕ) (op : ObjOp) (reply : ObjReply) (after : List TraceItem) → SeesEvent before (event.Whole tx op) (told.Answered (answer.Done reply)) after
+    → SeesAnswer before (call.Operation tx op) (Replied reply) after
+sees_whole before tx op reply after sees = let one = with_item before _ _ after sees (trace.Op tx (op, reply)) sees.adds in record { more = one.0; whole = one.1; have = one.2 }
 
 -- a refusal stands nowhere
 have_refusal : (items : List TraceItem) (c : DeskCall) (refusal : Refusal) → HaveAnswer items c (Refused refusal)

@@ -1,7 +1,6 @@
 -- What a hold of the lock tells, and what a desk sees of the history by it.
-use Rattle.std.specs.Prelude.{ℕ, ◌≡◌, List, [], ◌∷◌, ◌++◌, Contains}
+use Rattle.std.specs.Prelude.{ℕ, ◌≡◌, List, ◌++◌, Contains}
 use Rattle.mlt_object_kinds.specs.declared.operation.ObjOp.{ObjOp}
-use Rattle.mlt_object_kinds.specs.declared.operation.ObjReply.{ObjReply}
 use Rattle.mlt_script_cursor.specs.declared.call.DeskAnswer.{DeskAnswer}
 use Rattle.mlt_script_cursor.specs.declared.call.DeskAnswer.TheVariants.{Begun, Replied, Committed, Aborted, Refused}
 use Rattle.mlt_script_cursor.specs.declared.call.DeskCall.{DeskCall}
@@ -28,18 +27,18 @@ pub record IsToldTo {P : Type 0} (bits_of : P → ℕ → ℕ) (event : Event) (
   pub sound_after : IsManager bits_of after
   pub meets : Meets bits_of event told (counted before) after
 
--- what an operation may answer: a reply that a step was told, or one of its refusals
-abbrev pub MayAnswerOperation : {P : Type 0} → (P → ℕ → ℕ) → ℕ → DeskAnswer → Type 0
-MayAnswerOperation bits_of tx (Replied reply) =
-    IsToldTo bits_of (event.Step tx) (told.Answered (answer.Done reply))
-MayAnswerOperation bits_of tx (Refused refusal) = IsOfOperation refusal
-MayAnswerOperation bits_of tx other = ⊥
+-- what an operation may answer: a reply that all of it was told in one event, or one of its refusals
+abbrev pub MayAnswerOperation : {P : Type 0} → (P → ℕ → ℕ) → ℕ → ObjOp → DeskAnswer → Type 0
+MayAnswerOperation bits_of tx op (Replied reply) =
+    IsToldTo bits_of (event.Whole tx op) (told.Answered (answer.Done reply))
+MayAnswerOperation bits_of tx op (Refused refusal) = IsOfOperation refusal
+MayAnswerOperation bits_of tx op other = ⊥
 
 -- what a call may be answered: a number or a reply that was told, or one of its refusals
 abbrev pub MayAnswer : {P : Type 0} → (P → ℕ → ℕ) → DeskCall → DeskAnswer → Type 0
 MayAnswer bits_of call.Begin (Begun tx) = IsToldTo bits_of event.Begin (told.Begun tx)
 MayAnswer bits_of call.Begin (Refused refusal) = IsOfBegin refusal
-MayAnswer bits_of (call.Operation tx op) given = MayAnswerOperation bits_of tx given
+MayAnswer bits_of (call.Operation tx op) given = MayAnswerOperation bits_of tx op given
 MayAnswer bits_of (call.Commit tx) (Committed number) =
     IsToldTo bits_of (event.Commit tx) (told.Committed number)
 MayAnswer bits_of (call.Commit tx) (Refused refusal) = IsOfCommit refusal
@@ -55,13 +54,6 @@ pub record SeesEvent (before : List TraceItem) (event : Event) (told : Told)
   pub called : CalledOps
   pub whole : after ≡ (before ++ between) ++ here
   pub adds : AddsItems event told called here
-
--- the last item tells that some transaction did this operation
-pub record EndsWithOp (items : List TraceItem) (op : ObjOp) : Type 0 where
-  pub front : List TraceItem
-  pub tx : ℕ
-  pub reply : ObjReply
-  pub whole : items ≡ front ++ trace.Op tx (op, reply) ∷ []
 
 -- these items have what a call was answered: that the transaction has begun, or has committed under this number, or did the operation
 -- with this reply

@@ -1,11 +1,11 @@
 //! The calls of a desk over a shared manager.
 
-ghost use Rattle.std.specs.Prelude.{◌≡◌, ◌+◌, ◌-◌, ◌^◌, min, true, IfSome};
+ghost use Rattle.std.specs.Prelude.{◌≡◌, ◌+◌, ◌-◌, ◌^◌, min, IfSome};
 ghost use Rattle.mlt_script_cursor.specs.Calls.{answer_by};
 ghost use Rattle.mlt_work_log.specs.Prefixes.{StartsWith};
 ghost use Rattle.mlt_work_log.specs.Seats.{IsOf, first_items};
 ghost use Rattle.mlt_script_cursor.specs.declared.call.DeskCall.TheVariants as call;
-ghost use Rattle.mlt_work_desk.specs.Holds.{EndsWithOp, IsToldTo, MayAnswerOperation, SeesAnswer, SeesEvent};
+ghost use Rattle.mlt_work_desk.specs.Holds.{IsToldTo, MayAnswerOperation, SeesAnswer, SeesEvent};
 
 use crate::called::Called;
 use crate::gate::Gate;
@@ -72,7 +72,6 @@ impl<'a, P: Pseudo, L: MadeWith<P>, R: Wait, G: Gate> LockDesk<'a, P, L, R, G> {
                 op: ObjOp::Size(0),
             },
             is_asleep: false,
-            is_reply: false,
             called: Called::none(),
             timestamp: Timestamp::new(),
             share,
@@ -105,7 +104,6 @@ impl<'a, P: Pseudo, L: MadeWith<P>, R: Wait, G: Gate> LockDesk<'a, P, L, R, G> {
             waited: _,
             sleeper,
             is_asleep: _,
-            is_reply: _,
             called: _,
             timestamp: _,
             share,
@@ -119,36 +117,30 @@ impl<'a, P: Pseudo, L: MadeWith<P>, R: Wait, G: Gate> LockDesk<'a, P, L, R, G> {
     }
 
     /// One event, in one hold of the lock, which counts in the share. The desk may sleep before it; and where it is to wait it
-    /// sleeps after it, if it may and the turn is so. Where an operation is asked for, it looks whether a reply is to that one.
+    /// sleeps after it, if it may and the turn is so.
     #[inline(always)]
-    fn event(&mut self, event: Event, may_sleep: bool, asked: Option<&ObjOp>) -> (Told, Turn)
+    fn event(&mut self, event: Event, may_sleep: bool) -> (Told, Turn)
         ensures told { IsToldTo P.bits_of event result.0 }
         ensures sees { SeesEvent (first_items self.old.snapshot) event result.0
             (first_items self.new.snapshot) }
-        ensures reply { self.new.is_reply ≡ true
-            → IfSome asked.entry (λ op. EndsWithOp (first_items self.new.snapshot) op.now) }
         ensures one { self.new.share.amount ≡ self.old.share.amount + 1 }
     {
         let LockDesk {
             rt,
             shared,
+            waited,
             sleeper,
             is_asleep,
-            is_reply,
             share,
             events,
             snapshot,
             ..
         } = self;
         let mut wakers = Wakers::new();
-        let is_call = matches!(event, Event::Call(..));
-        let mut state = shared.enter(*rt, sleeper, *is_asleep, is_call);
+        let is_first_try = matches!(event, Event::Whole(..)) && *waited == 0;
+        let mut state = shared.enter(*rt, sleeper, *is_asleep, is_first_try);
         let log = &shared.log;
         let (told, turn) = state.act(event, share, may_sleep, sleeper, log, snapshot, &mut wakers);
-        *is_reply = match asked {
-            Some(op) => is_done(&told) && state.ends_with(op),
-            None => false,
-        };
         shared.note_blocked(state.desks.blocked());
         drop(state);
         shared.wake(&wakers);
@@ -159,15 +151,13 @@ impl<'a, P: Pseudo, L: MadeWith<P>, R: Wait, G: Gate> LockDesk<'a, P, L, R, G> {
 
     /// One event, in one hold of the lock. The gate is told its answer, with the lock free.
     #[inline(always)]
-    fn hold(&mut self, event: Event, may_sleep: bool, asked: Option<&ObjOp>) -> (Told, Turn)
+    fn hold(&mut self, event: Event, may_sleep: bool) -> (Told, Turn)
         ensures told { IsToldTo P.bits_of event result.0 }
         ensures sees { SeesEvent (first_items self.old.snapshot) event result.0
             (first_items self.new.snapshot) }
-        ensures reply { self.new.is_reply ≡ true
-            → IfSome asked.entry (λ op. EndsWithOp (first_items self.new.snapshot) op.now) }
         ensures one { self.new.share.amount ≡ self.old.share.amount + 1 }
     {
-        let (told, turn) = self.event(event, may_sleep, asked);
+        let (told, turn) = self.event(event, may_sleep);
         self.gate.pause(self.client, &told);
         (told, turn)
     }
@@ -217,26 +207,25 @@ impl<'a, P: Pseudo, L: MadeWith<P>, R: Wait, G: Gate> LockDesk<'a, P, L, R, G> {
         self.left > 0 && turn != Turn::Deadlock
     }
 
-    /// The operation is cancelled. The next transaction keeps the timestamp of this one.
-    #[tactic(auto, using(crate::proofs::Seeing::sees_more))]
+    /// The operation is given up: it is in the queue no longer. The next transaction keeps the timestamp of this one.
     fn give_up(&mut self, tx: TxId, turn: Turn)
-        ensures { StartsWith (first_items self.new.snapshot) (first_items self.old.snapshot) }
+        ensures { self.new.snapshot ≡ self.old.snapshot }
     {
         if turn == Turn::Deadlock {
             self.gate.deadlock(self.client);
         }
-        self.hold(Event::Cancel(tx), false, None);
+        self.shared.give_up(self.rt, tx);
         self.timestamp.give_up();
+        self.gate.give_up(self.client);
     }
 
-    /// One step of this operation, which was called. Where it is to wait, a try is spent: with others left it goes on once it is
-    /// awake, else the operation is cancelled. So it is where the gate is out of patience. It answers the operation's answer, if it has
-    /// one: a reply that the history has as one to this operation. A step that is told what comes only where another desk acts for the
-    /// same transaction is answered by `NoSuchTx`.
-    #[tactic(auto, using(crate::proofs::Seeing::more_than, crate::proofs::Seeing::no_more, crate::proofs::Seeing::sees_more, crate::proofs::Seeing::sees_refused, crate::proofs::Seeing::sees_replied))]
-    fn step(&mut self, tx: TxId, op: &ObjOp) -> Option<Result<ObjReply, Refusal>>
+    /// One try of this operation: all of it in one event. Where it is to wait nothing is left of it, and the try is spent: with
+    /// others left it is tried again once the desk is awake, else it is given up. So it is where the gate is out of patience. It
+    /// answers the operation's answer, if it has one.
+    #[tactic(auto, using(crate::proofs::Seeing::more_than, crate::proofs::Seeing::no_more, crate::proofs::Seeing::sees_more, crate::proofs::Seeing::sees_refused, crate::proofs::Seeing::sees_whole))]
+    fn try_once(&mut self, tx: TxId, op: &ObjOp) -> Option<Result<ObjReply, Refusal>>
         ensures told { IfSome result
-            (λ reply. MayAnswerOperation P.bits_of tx (answer_by DeskAnswer.Replied reply)) }
+            (λ reply. MayAnswerOperation P.bits_of tx op.now (answer_by DeskAnswer.Replied reply)) }
         ensures sees { IfSome result (λ reply. SeesAnswer (first_items self.old.snapshot)
             (call.Operation tx op.now) (answer_by DeskAnswer.Replied reply)
             (first_items self.new.snapshot)) }
@@ -244,7 +233,7 @@ impl<'a, P: Pseudo, L: MadeWith<P>, R: Wait, G: Gate> LockDesk<'a, P, L, R, G> {
     {
         // With its last try it does not wait, nor where the gate is out of patience.
         let may_sleep = self.left > 1 && self.gate.is_patient(self.client);
-        let (told, turn) = self.hold(Event::Step(tx), may_sleep, Some(op));
+        let (told, turn) = self.hold(Event::Whole(tx, *op), may_sleep);
         if is_to_wait(&told) {
             if self.tries_again(turn) && may_sleep {
                 return None;
@@ -253,23 +242,22 @@ impl<'a, P: Pseudo, L: MadeWith<P>, R: Wait, G: Gate> LockDesk<'a, P, L, R, G> {
             return Some(Err(Refusal::GaveUp));
         }
         match told {
-            Told::Answered(Answer::Going) => None,
-            Told::Answered(Answer::Done(reply)) if self.is_reply => Some(Ok(reply)),
-            Told::Answered(Answer::Refused(refusal)) => Some(Err(refusal)),
-            _ => Some(Err(Refusal::NoSuchTx)),
+            Told::Answered(Answer::Done(reply)) => Some(Ok(reply)),
+            Told::Answered(Answer::Refused(refusal)) | Told::Refused(refusal) => Some(Err(refusal)),
+            _ => unreachable!(),
         }
     }
 
-    /// Steps of this operation, which was called, up to its reply.
+    /// Tries of this operation, up to its answer.
     #[tactic(auto, using(crate::proofs::Seeing::more_than, crate::proofs::Seeing::no_more, crate::proofs::Seeing::sees_later))]
-    fn steps(&mut self, tx: TxId, op: &ObjOp) -> Result<ObjReply, Refusal>
-        ensures told { MayAnswerOperation P.bits_of tx (answer_by DeskAnswer.Replied result) }
+    fn try_on(&mut self, tx: TxId, op: &ObjOp) -> Result<ObjReply, Refusal>
+        ensures told { MayAnswerOperation P.bits_of tx op.now (answer_by DeskAnswer.Replied result) }
         ensures sees { SeesAnswer (first_items self.old.snapshot) (call.Operation tx op.now)
             (answer_by DeskAnswer.Replied result) (first_items self.new.snapshot) }
     {
         let rt = self.rt;
         for _ in rt.forever() {
-            if let Some(answer) = self.step(tx, op) {
+            if let Some(answer) = self.try_once(tx, op) {
                 return answer;
             }
         }
@@ -282,7 +270,7 @@ impl<'a, P: Pseudo, L: MadeWith<P>, R: Wait, G: Gate> LockDesk<'a, P, L, R, G> {
     fn undo_step(&mut self, tx: TxId) -> bool
         ensures { StartsWith (first_items self.new.snapshot) (first_items self.old.snapshot) }
     {
-        let (told, _) = self.hold(Event::Step(tx), true, None);
+        let (told, _) = self.hold(Event::Step(tx), true);
         is_to_wait(&told) || matches!(told, Told::Answered(Answer::Going | Answer::Undone))
     }
 
@@ -307,7 +295,6 @@ impl<'a, P: Pseudo, L: MadeWith<P>, R: Wait, G: Gate> Answering for LockDesk<'a,
     ghost moves = { λ old call answer new. Answers P.bits_of (first_items old.snapshot) call answer
         (first_items new.snapshot) };
 
-    #[tactic(auto, using(crate::proofs::Seeing::sees_later, crate::proofs::Seeing::sees_more, crate::proofs::Seeing::sees_refused))]
     fn operation(&mut self, tx: TxId, op: ObjOp) -> Result<ObjReply, Refusal> {
         if let Tries::PerOperation(tries) = self.tries {
             self.left = tries;
@@ -316,12 +303,7 @@ impl<'a, P: Pseudo, L: MadeWith<P>, R: Wait, G: Gate> Answering for LockDesk<'a,
         self.sleeper.op = op;
         self.gate.call(self.client, &op);
         self.wait_for_turn(&op);
-        let (told, _) = self.hold(Event::Call(tx, op), false, None);
-        match told {
-            Told::Called => self.steps(tx, &op),
-            Told::Refused(refusal) => Err(refusal),
-            _ => unreachable!(),
-        }
+        self.try_on(tx, &op)
     }
 }
 
@@ -332,7 +314,7 @@ impl<'a, P: Pseudo, L: MadeWith<P>, R: Wait, G: Gate> Desk for LockDesk<'a, P, L
             self.left = tries;
         }
         self.gate.begin(self.client);
-        let (told, _) = self.hold(Event::Begin, false, None);
+        let (told, _) = self.hold(Event::Begin, false);
         match told {
             Told::Begun(tx) => {
                 self.timestamp.begin(tx);
@@ -347,7 +329,7 @@ impl<'a, P: Pseudo, L: MadeWith<P>, R: Wait, G: Gate> Desk for LockDesk<'a, P, L
 
     #[tactic(auto, using(crate::proofs::Seeing::sees_committed, crate::proofs::Seeing::sees_more, crate::proofs::Seeing::sees_refused))]
     fn commit(&mut self, tx: TxId) -> Result<u64, Refusal> {
-        let (told, _) = self.hold(Event::Commit(tx), false, None);
+        let (told, _) = self.hold(Event::Commit(tx), false);
         match told {
             Told::Committed(number) => {
                 self.timestamp.commit();
@@ -360,15 +342,10 @@ impl<'a, P: Pseudo, L: MadeWith<P>, R: Wait, G: Gate> Desk for LockDesk<'a, P, L
 
     #[tactic(auto, using(crate::proofs::Seeing::more_than, crate::proofs::Seeing::sees_more, crate::proofs::Seeing::sees_aborted))]
     fn abort(&mut self, tx: TxId) {
-        let (told, _) = self.hold(Event::Abort(tx), false, None);
+        let (told, _) = self.hold(Event::Abort(tx), false);
         if told == Told::Aborting(false) {
             self.is_in(tx);
             self.undo(tx);
         }
     }
-}
-
-/// Whether an operation is done, by what its step was told.
-fn is_done(told: &Told) -> bool {
-    matches!(told, Told::Answered(Answer::Done(_)))
 }

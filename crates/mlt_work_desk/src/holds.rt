@@ -7,7 +7,7 @@ ghost use Rattle.mlt_manager.specs.Managers.{IsManager};
 ghost use Rattle.mlt_work_waits.specs.declared.wait.Waker.{Waker};
 ghost use Rattle.mlt_work_log.specs.Prefixes.{StartsWith};
 ghost use Rattle.mlt_work_log.specs.Seats.{IsOf, IsWriterOf, all_items, first_items, id_of};
-ghost use Rattle.mlt_work_desk.specs.Holds.{EndsWithOp, SeesEvent};
+ghost use Rattle.mlt_work_desk.specs.Holds.{SeesEvent};
 ghost use Rattle.mlt_work_desk.specs.Makings.{making_of};
 ghost use Rattle.mlt_work_desk.specs.Waits.{given_back_by, precedence_after, precedence_if, queue_after, queue_if, TurnsIfWaits, wait_if, waits_after, woken_by};
 
@@ -17,8 +17,6 @@ use crate::made_with::MadeWith;
 use crate::turn::{Sleeper, Turn, given_back};
 use mlt_event::{Event, Told};
 use mlt_manager::Manager;
-use mlt_object_kinds::ObjOp;
-use mlt_trace::TraceItem;
 use mlt_types::Pseudo;
 use mlt_work_log::{Growth, HistoryLog, LogSnapshot, LogWriter};
 use mlt_work_waits::Wakers;
@@ -128,20 +126,6 @@ impl<P: Pseudo, L: MadeWith<P>> LockedState<P, L> {
         desks.give_back(given_back(&event, &told), wakers);
         let turn = desks.take_turn(&told, may_sleep, sleeper, wakers);
         (told, turn)
-    }
-
-    /// Whether the last item of the history tells of this operation.
-    #[inline(always)]
-    pub(crate) fn ends_with(&self, op: &ObjOp) -> bool
-        ensures { result ≡ true → EndsWithOp self.now.manager.commons.history.items op.now }
-    {
-        let Some((last, _)) = self.manager.kept_history().split_last() else {
-            return false;
-        };
-        match last.get() {
-            TraceItem::Op(_, done) => done.op() == *op,
-            _ => false,
-        }
     }
 
     /// A snapshot of the history.

@@ -39,8 +39,6 @@ pub struct LockDesk<'a, P: Pseudo, L: MadeWith<P>, R: Wait, G: Gate> {
     pub(crate) sleeper: Sleeper,
     /// Whether it sleeps before its next event.
     pub(crate) is_asleep: bool,
-    /// Whether its last event told a reply to the operation that was asked for.
-    pub(crate) is_reply: bool,
     /// What the open transaction has called.
     pub(crate) called: Called,
     /// That of the transaction.

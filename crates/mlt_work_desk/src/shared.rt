@@ -8,7 +8,7 @@ use crate::locked_state::LockedState;
 use crate::look::Look;
 use crate::made_with::MadeWith;
 use crate::tuning::{FIRST_LOCK_SPINS, LOCK_SPINS, PAUSES_PER_LOCK_SPIN};
-use crate::turn::Sleeper;
+use crate::turn::{GivenBack, Sleeper};
 use crate::unlocked::Unlocked;
 use mlt_manager::Manager;
 use mlt_trace::KeptItem;
@@ -76,21 +76,21 @@ impl<P: Pseudo, L: MadeWith<P>> Shared<P, L> {
         None
     }
 
-    /// The state for a desk's next event, once nobody else has it and the desk is awake, if it sleeps. One that is to call an
-    /// operation then yields where another has precedence.
+    /// The state for a desk's next event, once nobody else has it and the desk is awake, if it sleeps. One that tries an operation
+    /// for the first time then yields where another has precedence.
     #[inline(always)]
     pub(crate) fn enter<R: Wait>(
         &self,
         rt: &R,
         sleeper: &Sleeper,
         is_asleep: bool,
-        is_call: bool,
+        is_first_try: bool,
     ) -> MutexGuard<'_, LockedState<P, L>> {
         let mut state = self.lock(rt);
         if is_asleep {
             state = self.sleep(rt, state, sleeper);
         }
-        if is_call && state.desks.yields(sleeper) {
+        if is_first_try && state.desks.yields(sleeper) {
             return self.sleep(rt, state, sleeper);
         }
         state
@@ -127,6 +127,17 @@ impl<P: Pseudo, L: MadeWith<P>> Shared<P, L> {
         let mut wakers = Wakers::new();
         let mut state = self.lock(rt);
         state.desks.rouse(tx, &mut wakers);
+        drop(state);
+        self.wake(&wakers);
+    }
+
+    /// The operation of a transaction is given up: it is in the queue no longer, and who waits for its turn behind it is awake. It
+    /// takes the lock once, and is no event.
+    pub(crate) fn give_up<R: Wait>(&self, rt: &R, tx: TxId) {
+        let mut wakers = Wakers::new();
+        let mut state = self.lock(rt);
+        state.desks.give_back(GivenBack::Operation(tx), &mut wakers);
+        self.note_blocked(state.desks.blocked());
         drop(state);
         self.wake(&wakers);
     }

@@ -1,7 +1,7 @@
 //! What a desk does that would wait, and what wakes it.
 
 ghost use Rattle.std.specs.Prelude.{◌≡◌};
-ghost use Rattle.mlt_work_desk.specs.Waits.{given_back_by, given_back_by_step, is_to_wait, wait_for, wait_of};
+ghost use Rattle.mlt_work_desk.specs.Waits.{given_back_by, given_back_by_answer, is_to_wait, wait_for, wait_of};
 
 use mlt_event::{Answer, Event, Told};
 use mlt_object_kinds::ObjOp;
@@ -50,15 +50,17 @@ pub(crate) fn given_back(event: &Event, told: &Told) -> GivenBack
     match (event, told) {
         (Event::Commit(tx), Told::Committed(_)) => GivenBack::All(*tx),
         (Event::Abort(tx), Told::Aborting(true)) => GivenBack::All(*tx),
-        (Event::Step(tx), Told::Answered(answer)) => given_back_by_step(*tx, answer),
-        (Event::Cancel(tx), Told::Cancelled) => GivenBack::Operation(*tx),
+        (Event::Whole(tx, _) | Event::Step(tx), Told::Answered(answer)) => {
+            given_back_by_answer(*tx, answer)
+        }
+        (Event::Whole(tx, _), Told::Refused(_)) => GivenBack::Operation(*tx),
         _ => GivenBack::Nothing,
     }
 }
 
-/// Whose locks a step of a transaction has given back that was answered so.
-fn given_back_by_step(tx: TxId, answer: &Answer) -> GivenBack
-    ensures { result ≡ given_back_by_step tx answer.now }
+/// Whose locks a step of a transaction, or all of its operation, has given back that was answered so.
+fn given_back_by_answer(tx: TxId, answer: &Answer) -> GivenBack
+    ensures { result ≡ given_back_by_answer tx answer.now }
 {
     match answer {
         Answer::Aborted => GivenBack::All(tx),
