@@ -50,7 +50,7 @@ impl<P: Pseudo, L: MadeWith<P>> Shared<P, L> {
 
     /// The state, once nobody else has it.
     ///
-    /// A hold takes less than a millionth part of a second, and to put a thread to sleep and wake it takes many. So a lock that is
+    /// A hold takes about a microsecond, and to put a thread to sleep and wake it takes many. So a lock that is
     /// taken is looked at again a few times, each time after a wait in which its holder may take it for its next events: then what
     /// it works on stays in its processor. After that a thread queues, and of the queue the first alone goes on looking (Dice,
     /// Malthusian Locks, EuroSys 2017, section 3). Who holds the lock may not be running, so that one too sleeps in the end.

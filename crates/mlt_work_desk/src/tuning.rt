@@ -11,6 +11,6 @@ pub(crate) const LOCK_SPINS: u32 = 4;
 pub(crate) const FIRST_LOCK_SPINS: u32 = 20;
 
 /// How many pauses of the processor follow each look at the lock. They take 3 to 14 microseconds, as processors differ, in which
-/// who has the lock takes it for its next ten events or more. Measured by `connections`: with a sixteenth of it and 16 times as
+/// who has the lock takes it for its next events. Measured by `connections`: with a sixteenth of it and 16 times as
 /// many looks, 8 sessions did 5 to 16 in 100 less.
 pub(crate) const PAUSES_PER_LOCK_SPIN: u32 = 256;
