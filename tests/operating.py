@@ -15,7 +15,7 @@ from harness import BY_OPERATOR, PATIENCE, STOPS, cut_for, each, expect, free_ad
 from live_traces import under_load
 from pages import browsers
 from sessions import says_nothing, send_and_hear_nothing
-from serving import SLACK, STOPPING, refuses, says
+from serving import SLACK, STOPPING, refuses, says, takes_no_more
 
 JSON, TEXT = "application/json", "text/plain; charset=utf-8"
 MARK = {"X-Mltx": "1"}
@@ -487,14 +487,14 @@ def operator_stops_the_server(mltx):
     same(items[1], ["begin 2", "op 2 up 2 1 done", "commit 2 1"], "what the trace has of the second")
 
 
-@test(seconds=9)
+@test(seconds=12)
 def operator_sees_that_the_server_stops(mltx):
     """As long as a client that never reads keeps it from its end."""
     with operated(mltx) as server, server.connect() as deaf:
         same(counts(server, "stopping"), {"stopping": 0}, "before")
         sending = threading.Thread(target=send_and_hear_nothing, args=(deaf, "foo\n" * 2_000_000))
         sending.start()
-        time.sleep(0.5)
+        takes_no_more(deaf)
         began = time.monotonic()
         same(posted(server, "/stop"), (200, {"stopping": True}), "the command")
         same(counts(server, "stopping", "sessions"), {"stopping": 1, "sessions": 1}, "while it stops")

@@ -1,11 +1,14 @@
 """A server that stays up: what it notes, when it takes no more connections, how it ends, and what becomes of its trace."""
 import errno
+import fcntl
 import os
 import re
 import resource
 import select
 import socket
 import subprocess
+import sys
+import termios
 import threading
 import time
 from contextlib import contextmanager
@@ -440,6 +443,22 @@ def comes_to_be(is_so, what):
         time.sleep(0.02)
 
 
+def unsent(peer):
+    """How many bytes that a peer has sent the server's host has not taken."""
+    return int.from_bytes(fcntl.ioctl(peer.socket, termios.TIOCOUTQ, bytes(4)), sys.byteorder)
+
+
+def takes_no_more(peer):
+    """Waits until the server takes nothing more of what a peer sends, for a second: its session is in a write that nobody reads."""
+    seen = []
+
+    def stands_still():
+        seen.append(unsent(peer))
+        return len(seen) > 50 and seen[-1] > 0 and len(set(seen[-50:])) == 1
+
+    comes_to_be(stands_still, "the server takes no more")
+
+
 def answering(peers):
     """Those of the peers that have an answer, once no more come."""
     readable, before = [], None
@@ -618,15 +637,14 @@ def works_until_its_end(peer, told):
                     return
 
 
-@test(seconds=9)
+@test(seconds=12)
 def input_ends_beside_a_client_that_never_reads(mltx):
     """The server waits for nobody's reading: after some eight seconds all is over."""
     with until_eof(mltx) as server, server.connect() as deaf:
         says(deaf, "begin", "begun 1", "up 1 1", "done")
         sending = threading.Thread(target=send_and_hear_nothing, args=(deaf, "foo\n" * 2_000_000))
         sending.start()
-        # So long that its session is in a write that nobody takes.
-        time.sleep(2)
+        takes_no_more(deaf)
         began = time.monotonic()
         end_input(server)
         ended = server.end()
