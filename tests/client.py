@@ -544,8 +544,10 @@ def first_answer_alone_has_its_timeout(mltx):
     with mltx.serve(limit=2) as server, connected(server) as holder, holder.begin() as held:
         held.up(7, 1)
         with Client(*server.address, session_timeout=2) as client, client.begin() as tx:
-            threading.Timer(3, held.commit).start()
+            committing = threading.Timer(3, held.commit)
+            committing.start()
             same(tx.read(7), 1, "what it is told once the other one has committed")
+            committing.join()
 
 
 @test
