@@ -58,6 +58,11 @@ reply_text Yes = codes "yes"
 reply_text No = codes "no"
 reply_text (Is v) = with_number (codes "is") v
 
+-- the reply is a word alone, with no value
+abbrev pub IsWord : ObjReply → Type 0
+IsWord (Is _) = ⊥
+IsWord _ = Unit {0}
+
 -- an operation and then its reply
 abbrev pub done_text : ObjOp × ObjReply → List ℕ
 done_text d = op_text d.0 ++ 32 ∷ reply_text d.1

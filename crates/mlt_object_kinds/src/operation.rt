@@ -1,7 +1,8 @@
 //! Operations with the cells that they are on, replies, and the texts of both.
 
-ghost use Rattle.std.specs.Prelude.{◌≡◌};
+ghost use Rattle.std.specs.Prelude.{◌≡◌, ◌↔◌, ◌++◌, ◌∷◌, [], IfSome, IsSome};
 ghost use Rattle.mlt_object_kinds.specs.Operations.{cell_of};
+ghost use Rattle.mlt_object_kinds.specs.Texts.{IsWord, reply_text};
 
 use crate::account::AccountOp;
 use crate::counter::CounterOp;
@@ -67,6 +68,33 @@ impl ObjOp {
             ObjOp::Element(set, element, _) => Cell::Element(set, element),
             ObjOp::Counter(counter, _) => Cell::Counter(counter),
             ObjOp::Size(set) => Cell::Size(set),
+        }
+    }
+}
+
+impl ObjReply {
+    /// The line of the reply, where that is a word alone, with no value.
+    #[inline(always)]
+    pub fn word_line(&self) -> Option<&'static str>
+        ensures line { IfSome result (λ line. line.now ≡ reply_text self.now ++ 10 ∷ []) }
+        ensures word { IsSome result ↔ IsWord self.now }
+    {
+        match *self {
+            ObjReply::Opened => Some("opened\n"),
+            ObjReply::Exists => Some("exists\n"),
+            ObjReply::Closed => Some("closed\n"),
+            ObjReply::NotEmpty => Some("notempty\n"),
+            ObjReply::Done => Some("done\n"),
+            ObjReply::Over => Some("over\n"),
+            ObjReply::Short => Some("short\n"),
+            ObjReply::Missing => Some("missing\n"),
+            ObjReply::Added => Some("added\n"),
+            ObjReply::Present => Some("present\n"),
+            ObjReply::Removed => Some("removed\n"),
+            ObjReply::Absent => Some("absent\n"),
+            ObjReply::Yes => Some("yes\n"),
+            ObjReply::No => Some("no\n"),
+            ObjReply::Is(_) => None,
         }
     }
 }

@@ -1,6 +1,6 @@
 //! Operations with their replies, packed.
 
-ghost use Rattle.std.specs.Prelude.{◌≡◌};
+ghost use Rattle.std.specs.Prelude.{◌≡◌, ◌↔◌, IsTrue};
 ghost use Rattle.mlt_object_kinds.specs.Operations.{cell_of};
 ghost use Rattle.mlt_object_kinds.specs.Packing.{amount_of, number_of, op_in, op_kind, parts_of, reply_in, reply_kind, set_of, told_of};
 
@@ -139,6 +139,45 @@ impl Packed {
             OpKind::Down => ObjOp::Counter(self.number, CounterOp::Down(self.amount)),
             OpKind::Read => ObjOp::Counter(self.number, CounterOp::Read),
             OpKind::Size => ObjOp::Size(self.set),
+        }
+    }
+
+    /// Whether the operation is this one. It looks at those parts alone that this one has.
+    #[inline(always)]
+    pub fn is_op(&self, op: &ObjOp) -> bool
+        ensures { IsTrue result ↔ (op_in self.now ≡ op.now) }
+    {
+        match *op {
+            ObjOp::Account(number, op) => {
+                self.number == number
+                    && match op {
+                        AccountOp::Open => self.op == OpKind::Open,
+                        AccountOp::Close => self.op == OpKind::Close,
+                        AccountOp::Deposit(amount) => self.op == OpKind::Deposit
+                            && self.amount == amount,
+                        AccountOp::Withdraw(amount) => self.op == OpKind::Withdraw
+                            && self.amount == amount,
+                        AccountOp::Balance => self.op == OpKind::Balance,
+                    }
+            },
+            ObjOp::Element(set, number, op) => {
+                self.set == set
+                    && self.number == number
+                    && match op {
+                        ElementOp::Add => self.op == OpKind::Add,
+                        ElementOp::Remove => self.op == OpKind::Remove,
+                        ElementOp::Has => self.op == OpKind::Has,
+                    }
+            },
+            ObjOp::Counter(number, op) => {
+                self.number == number
+                    && match op {
+                        CounterOp::Up(amount) => self.op == OpKind::Up && self.amount == amount,
+                        CounterOp::Down(amount) => self.op == OpKind::Down && self.amount == amount,
+                        CounterOp::Read => self.op == OpKind::Read,
+                    }
+            },
+            ObjOp::Size(set) => self.op == OpKind::Size && self.set == set,
         }
     }
 

@@ -34,8 +34,11 @@ module _ {S : Type 0} (cells : IndexMap ℕ (List Holder) S) (reserved : List (�
       (h.2.0, (holds.0, holds.1, hindered_clash holds.0 requested (is.in_range number holds.0 holds.1) range (h.0, holds.2, h.1) bit.0 holds.3 bit.2))
 
   -- so the lowest there is the lowest of all
-  pub lowest_of_all : (lowest : Option ℕ) → IsLowestOf Here lowest → IsLowestOf (HoldsClash held tx requested) lowest
-  lowest_of_all lowest h = same_lowest Here (HoldsClash held tx requested) clash_held clash_here lowest h
+  pub lowest_of_all : (places : List ℕ) (seen : List Held) → places ≡ looked_at requested.0 → held ≡ seen → (lowest : Option ℕ)
+      → IsLowestOf (StandsAtOne cells places tx requested) lowest → IsLowestOf (HoldsClash seen tx requested) lowest
+  lowest_of_all places seen looked same lowest h =
+      subst (λ held. IsLowestOf (HoldsClash held tx requested) lowest) same
+      (same_lowest Here (HoldsClash held tx requested) clash_held clash_here lowest (subst (λ places. IsLowestOf (StandsAtOne cells places tx requested) lowest) looked h))
 
 -- who stands against it at one place more
 module _ {S : Type 0} (cells : IndexMap ℕ (List Holder) S) (places : List ℕ) (place tx : ℕ) (requested : ObjOp × ObjReply) where

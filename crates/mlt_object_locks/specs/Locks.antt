@@ -1,5 +1,5 @@
 -- What is held and reserved, and who stands in the way of whom.
-use Rattle.std.specs.Prelude.{Bool, not, nat_eq, nat_lt, ◌≡◌, ◌≢◌, ℕ, ◌≤◌, List, [], ◌∷◌, Option, None, Some, IsTrue, Contains, if◌then◌else◌, ◌==◌}
+use Rattle.std.specs.Prelude.{Bool, not, nat_eq, nat_lt, ◌≡◌, ◌≢◌, ℕ, ◌≤◌, List, [], ◌∷◌, ◌++◌, Option, None, Some, Result, OnOk, OnErr, IfErr, IsTrue, Contains, if◌then◌else◌, ◌==◌}
 use Rattle.mlt_types.specs.declared.cell.Cell.{Cell}
 use Rattle.mlt_object_kinds.specs.declared.operation.ObjOp.{ObjOp}
 use Rattle.mlt_object_kinds.specs.declared.operation.ObjReply.{ObjReply}
@@ -51,3 +51,20 @@ lower_of (Some other) holder = if nat_lt other holder then other else holder
 -- the entry is not of the transaction of this number
 abbrev pub is_of_other : {X : Type 0} → ℕ → ℕ × X → Bool
 is_of_other tx entry = not (nat_eq entry.0 tx)
+
+-- the transaction reserved the cell, in place of the one that it had reserved before, or nothing changed
+pub record Reserves {E : Type 0} (old new : Locks) (tx : ℕ) (cell : Cell) (result : Result (Unit {0}) E) : Type 0 where
+  pub held : new.held ≡ old.held
+  pub reserved : OnOk result (reservation_of new.reserved tx ≡ Some cell)
+  pub others : SameReservations old.reserved new.reserved tx
+  pub err : OnErr result (new ≡ old)
+
+-- The transaction was granted the operation, with which none of another transaction clashes, and has no reservation; or the
+-- lowest of those that hold one that does was answered, and nothing changed.
+pub record IsAnswered (old new : Locks) (tx : ℕ) (done : ObjOp × ObjReply) (result : Result (Unit {0}) ℕ) : Type 0 where
+  pub free : OnOk result ((holder : ℕ) → HoldsClash old.held tx done holder → ⊥)
+  pub granted : OnOk result (new.held ≡ old.held ++ (tx, done) ∷ [])
+  pub used : OnOk result (reservation_of new.reserved tx ≡ None)
+  pub others : SameReservations old.reserved new.reserved tx
+  pub lowest : IfErr result (λ holder. IsLowestClash old.held tx done holder)
+  pub err : OnErr result (new ≡ old)

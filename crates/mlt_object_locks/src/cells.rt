@@ -1,11 +1,11 @@
 //! The holders at all places, by the numbers of the places.
 
-ghost use Rattle.std.specs.Prelude.{◌≡◌, ◌<◌, ◌≤◌, ◌+◌, ℕ, None, Some, OnOk, OnErr, IsOkUnless, IfNone, IfSome, [], false, nat_eq, length, slice_get};
-ghost use Rattle.std.specs.List.{filter, list_any};
+ghost use Rattle.std.specs.Prelude.{◌≡◌, ◌<◌, ◌≤◌, ◌+◌, ℕ, None, Some, OnOk, OnErr, IsOkUnless, IfNone, IfSome, [], false, true, nat_eq, length, slice_get};
+ghost use Rattle.std.specs.List.{filter, list_all, list_any};
 ghost use Rattle.indexmap.specs.IndexMap.{IsUnique, get};
 ghost use Rattle.mlt_object_locks.specs.Locks.{IsLowestOf};
 ghost use Rattle.mlt_object_locks.specs.Classes.{bit_of_item};
-ghost use Rattle.mlt_object_locks.specs.Holders.{IsHere, HasBit, Joins, Grants, StandsAgainst, is_not_of, is_not_idle_of};
+ghost use Rattle.mlt_object_locks.specs.Holders.{IsHere, HasBit, Joins, Grants, StandsAgainst, is_of, is_not_of, is_not_idle_of};
 ghost use Rattle.mlt_object_locks.specs.Cells.{list_at, AreBitsNoted, ChangesAt, GivesUp, GrantsAt, HasHolderIfThere, IsHereAt, JoinsAt, ReleasesAt, StandsAtOne};
 ghost use Rattle.mlt_object_locks.specs.Places.{places_if_any};
 ghost use Rattle.mlt_object_locks.specs.Noted.{noted_of, NotesAtMost, NotesEach, SameNoted};
@@ -22,6 +22,7 @@ use mlt_types::{Cell, Refusal, TxId};
 pub(crate) type Cells = IndexMap<u64, Holders>;
 
 // Where a place is in the map. It is looked for first at an index at which it mostly is, since to look it up takes longer.
+#[inline(always)]
 fn place_of(cells: &Cells, key: u64, likely: usize) -> Option<usize>
     ensures found { IfSome result (λ at.
         slice_get cells.now.entries at ≡ Some (key, list_at cells.now key)) }
@@ -34,6 +35,7 @@ fn place_of(cells: &Cells, key: u64, likely: usize) -> Option<usize>
 }
 
 // The same without a guess.
+#[inline(never)]
 fn look_up(cells: &Cells, key: u64) -> Option<usize>
     ensures found { IfSome result (λ at.
         slice_get cells.now.entries at ≡ Some (key, list_at cells.now key)) }
@@ -45,11 +47,27 @@ fn look_up(cells: &Cells, key: u64) -> Option<usize>
     }
 }
 
+/// Where a place is in the map, if it is there, with no holder but the transaction.
+#[inline(always)]
+pub(crate) fn alone_at(cells: &Cells, key: u64, likely: usize, tx: TxId) -> Option<usize>
+    ensures found { IfSome result (λ at.
+        slice_get cells.now.entries at ≡ Some (key, list_at cells.now key)) }
+    ensures alone { IfSome result (λ at. list_all (is_of tx) (list_at cells.now key) ≡ true) }
+{
+    let at = place_of(cells, key, likely)?;
+    if cells[at].is_alone(tx) {
+        Some(at)
+    } else {
+        None
+    }
+}
+
 /// Adds the transaction to the holders at these places, where it is not there. Answers where the first of them is in the map,
 /// which is that of a cell itself.
 ///
 /// # Errors
 /// `OutOfMemory`, where a growth was refused; the transaction may have come at some of the places.
+#[inline(always)]
 pub(crate) fn join_each(cells: &mut Cells, places: &[u64], tx: TxId) -> Result<usize, Refusal>
     requires { IsUnique nat_eq cells.old }
     ensures joins { JoinsAt cells.old cells.new places.now tx }
@@ -65,6 +83,7 @@ pub(crate) fn join_each(cells: &mut Cells, places: &[u64], tx: TxId) -> Result<u
 }
 
 // Adds the transaction to the holders at a place, if it is not there. Answers where the place is in the map.
+#[inline(always)]
 fn join(cells: &mut Cells, key: u64, tx: TxId) -> Result<usize, Refusal>
     ensures others { ChangesAt cells.old cells.new key }
     ensures joins { OnOk result (Joins (list_at cells.old key) (list_at cells.new key) tx) }
@@ -132,13 +151,25 @@ pub(crate) fn grant_each(
     ensures notes { NotesEach (noted_of noted.old tx).keys (noted_of noted.new tx).keys places.now }
 {
     for place in places {
-        grant(cells, noted, *place, likely, tx, done);
+        let Some(at) = place_of(cells, *place, likely) else {
+            unreachable!();
+        };
+        grant(cells, noted, *place, at, tx, done);
     }
 }
 
-// The transaction, which is one of the holders at a place, holds one operation more there. The place is noted, where it
-// was idle.
-fn grant(cells: &mut Cells, noted: &mut Noted, key: u64, likely: usize, tx: TxId, done: &Done)
+/// The transaction, which is one of the holders at a place, holds one operation more there. The place, which is at this index of
+/// the map, is noted, where it was idle. It takes no memory.
+#[inline(always)]
+pub(crate) fn grant(
+    cells: &mut Cells,
+    noted: &mut Noted,
+    key: u64,
+    at: usize,
+    tx: TxId,
+    done: &Done,
+)
+    requires found { slice_get cells.old.entries at ≡ Some (key, list_at cells.old key) }
     requires here { IsHere (list_at cells.old key) tx }
     requires room { 0 < (noted_of noted.old tx).room }
     requires noted { AreBitsNoted cells.old noted.old }
@@ -149,23 +180,22 @@ fn grant(cells: &mut Cells, noted: &mut Noted, key: u64, likely: usize, tx: TxId
     ensures room { (noted_of noted.old tx).room ≤ (noted_of noted.new tx).room + 1 }
     ensures notes { NotesAtMost (noted_of noted.old tx).keys (noted_of noted.new tx).keys key }
 {
-    if grant_at(cells, key, likely, tx, done) {
+    if grant_at(cells, key, at, tx, done) {
         noted.note(tx, key);
     }
 }
 
-// The transaction holds one operation more at a place. Whether it was idle there.
-fn grant_at(cells: &mut Cells, key: u64, likely: usize, tx: TxId, done: &Done) -> bool
-    requires { IsHere (list_at cells.old key) tx }
+// The transaction holds one operation more at a place, which is at this index. Whether it was idle there.
+#[inline(always)]
+fn grant_at(cells: &mut Cells, key: u64, at: usize, tx: TxId, done: &Done) -> bool
+    requires found { slice_get cells.old.entries at ≡ Some (key, list_at cells.old key) }
+    requires here { IsHere (list_at cells.old key) tx }
     ensures others { ChangesAt cells.old cells.new key }
     ensures grants { let bit = bit_of_item done.now in
         Grants (list_at cells.old key) (list_at cells.new key) tx bit }
     ensures idle { result ≡ false → (bit : ℕ) × HasBit (list_at cells.old key) tx bit }
 {
-    match place_of(cells, key, likely) {
-        Some(at) => cells.pair_mut(at).1.grant(tx, done),
-        None => unreachable!(),
-    }
+    cells.pair_mut(at).1.grant(tx, done)
 }
 
 /// Takes the transaction away at the first places that are none of those to keep, where it is idle.
@@ -181,6 +211,7 @@ pub(crate) fn give_up_each(cells: &mut Cells, places: &[u64], kept: &[u64], tx: 
 }
 
 /// The same at the places of a cell, if there is one.
+#[inline(always)]
 pub(crate) fn give_up_cell(cells: &mut Cells, cell: Option<Cell>, kept: &[u64], tx: TxId)
     requires { IsUnique nat_eq cells.old }
     ensures { GivesUp cells.old cells.new (places_if_any cell) kept.now tx }

@@ -85,6 +85,7 @@ impl Holders {
     }
 
     /// Whether nobody else is there.
+    #[inline(always)]
     pub fn is_alone(&self, tx: TxId) -> bool
         ensures { result ≡ list_all (is_of tx) self.now }
     {
@@ -103,6 +104,7 @@ impl Holders {
     }
 
     /// The transaction holds one operation more. Whether it was idle.
+    #[inline(always)]
     pub fn grant(&mut self, tx: TxId, done: &Done) -> bool
         requires { IsHere self.old tx }
         ensures grants { Grants self.old self.new tx (bit_of_item done.now) }

@@ -3,15 +3,17 @@
 ghost use Rattle.std.specs.Prelude.{◌≡◌, ℕ, [], ◌∷◌, ◌++◌, Some, None, OnOk, OnErr, IfErr, IsOkUnless};
 ghost use Rattle.std.specs.List.{filter};
 ghost use Rattle.mlt_object_kinds.specs.Operations.{cell_of};
-ghost use Rattle.mlt_object_locks.specs.Locks.{no_locks, HoldsClash, IsLowestClash, is_of_other, reservation_of, SameReservations};
+ghost use Rattle.mlt_types.specs.Cells.{IsInRange};
+ghost use Rattle.mlt_object_locks.specs.Locks.{no_locks, HoldsClash, IsAnswered, IsLowestClash, is_of_other, reservation_of, Reserves, SameReservations};
+ghost use Rattle.mlt_object_locks.specs.Places.{places_of};
 
 use crate::cells::{
-    Cells, give_up_cell, give_up_each, grant_each, join_each, lowest_clash, release_each,
-    release_noted,
+    Cells, alone_at, give_up_cell, give_up_each, grant, grant_each, join_each, lowest_clash,
+    release_each, release_noted,
 };
 use crate::held::HeldList;
 use crate::noted::Noted;
-use crate::places::{looked_at, places_if_any, places_of};
+use crate::places::{looked_at, only_place, places_if_any, places_of};
 use crate::reserved::Reserved;
 use indexmap::IndexMap;
 use mlt_object_kinds::Done;
@@ -64,6 +66,7 @@ impl ObjectLocks {
     ///
     /// # Errors
     /// `OutOfMemory`, where a growth was refused; what is held and reserved is then as before.
+    #[inline(always)]
     pub fn reserve(&mut self, tx: TxId, cell: &Cell) -> Result<(), Refusal>
         ensures held { self.new.held ≡ self.old.held }
         ensures reserved { OnOk result (reservation_of self.new.reserved tx ≡ Some cell.now) }
@@ -71,20 +74,42 @@ impl ObjectLocks {
         ensures err { OnErr result (self.new ≡ self.old) }
         ensures refusal { IsOkUnless result Refusal.OutOfMemory }
     {
-        let places = places_of(cell);
+        match only_place(cell) {
+            Some(place) => self.reserve_at(tx, cell, &[place]),
+            None => self.reserve_anywhere(tx, cell),
+        }
+    }
+
+    // The same at these places, which are those of the cell.
+    #[inline(always)]
+    fn reserve_at(&mut self, tx: TxId, cell: &Cell, places: &[u64]) -> Result<(), Refusal>
+        requires { places.now ≡ places_of cell.now }
+        ensures reserves { Reserves self.old self.new tx cell.now result }
+        ensures refusal { IsOkUnless result Refusal.OutOfMemory }
+    {
         self.reserved.make_room()?;
         self.noted.make_room(tx)?;
-        match join_each(&mut self.cells, places.as_slice(), tx) {
+        match join_each(&mut self.cells, places, tx) {
             Ok(latest) => self.latest = latest,
             Err(refusal) => {
                 let kept = places_if_any(self.reserved.cell_of(tx));
-                give_up_each(&mut self.cells, places.as_slice(), kept.as_slice(), tx);
+                give_up_each(&mut self.cells, places, kept.as_slice(), tx);
                 return Err(refusal);
             },
         }
         let before = self.reserved.put(tx, *cell);
-        give_up_cell(&mut self.cells, before, places.as_slice(), tx);
+        give_up_cell(&mut self.cells, before, places, tx);
         Ok(())
+    }
+
+    // The same, wherever the operation stands.
+    #[inline(never)]
+    fn reserve_anywhere(&mut self, tx: TxId, cell: &Cell) -> Result<(), Refusal>
+        ensures reserves { Reserves self.old self.new tx cell.now result }
+        ensures refusal { IsOkUnless result Refusal.OutOfMemory }
+    {
+        let places = places_of(cell);
+        self.reserve_at(tx, cell, places.as_slice())
     }
 
     /// Grants the transaction an operation with its reply, on the cell that it reserved, and uses up the
@@ -93,6 +118,7 @@ impl ObjectLocks {
     /// # Errors
     /// The lowest number of another transaction that holds an operation with which this one, requested
     /// later, conflicts. What is held and reserved is then as before.
+    #[inline(always)]
     pub fn ask(&mut self, tx: TxId, done: &Done) -> Result<(), TxId>
         requires { reservation_of self.old.reserved tx ≡ Some (cell_of done.now.0) }
         ensures free { OnOk result
@@ -105,12 +131,30 @@ impl ObjectLocks {
     {
         let cell = done.cell();
         cell.is_in_range();
+        if let Some(place) = only_place(&cell) {
+            if let Some(at) = alone_at(&self.cells, place, self.latest, tx) {
+                grant(&mut self.cells, &mut self.noted, place, at, tx, done);
+                self.reserved.take(tx);
+                self.held = self.held.and(&tx, done);
+                return Ok(());
+            }
+        }
+        self.ask_anywhere(tx, done)
+    }
+
+    // The same, wherever the operation looks and stands, and whoever else does.
+    #[inline(never)]
+    fn ask_anywhere(&mut self, tx: TxId, done: &Done) -> Result<(), TxId>
+        requires reserved { reservation_of self.old.reserved tx ≡ Some (cell_of done.now.0) }
+        requires range { IsInRange (cell_of done.now.0) }
+        ensures { IsAnswered self.old self.new tx done.now result }
+    {
         let looked = looked_at(&done.op());
         if let Some(holder) = lowest_clash(&self.cells, looked.as_slice(), self.latest, tx, done) {
             return Err(holder);
         }
         self.reserved.take(tx);
-        let places = places_of(&cell);
+        let places = places_of(&done.cell());
         grant_each(
             &mut self.cells,
             &mut self.noted,

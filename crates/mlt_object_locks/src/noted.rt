@@ -123,6 +123,7 @@ impl Noted {
     ///
     /// # Errors
     /// `OutOfMemory`, where a growth was refused; there is then as much room as before.
+    #[inline(always)]
     pub fn make_room(&mut self, tx: TxId) -> Result<(), Refusal>
         ensures others { SameNoted self.old self.new tx }
         ensures keys { (noted_of self.new tx).keys ≡ (noted_of self.old tx).keys }

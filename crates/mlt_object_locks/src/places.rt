@@ -4,8 +4,10 @@
 //! looks whoever asks for the set's size. Those that asked for the size stand at the key of the size's cell, and there
 //! looks, beside its own cell, an operation on an element. So neither goes over its like, with which it never clashes.
 
-ghost use Rattle.std.specs.Prelude.{◌≡◌};
+ghost use Rattle.std.specs.Prelude.{◌≡◌, [], ◌∷◌, IfSome};
 ghost use Rattle.mlt_types.specs.Cells.{key_number};
+ghost use Rattle.mlt_object_kinds.specs.Operations.{cell_of};
+ghost use Rattle.mlt_object_kinds.specs.declared.operation.ObjOp.{ObjOp};
 ghost use Rattle.mlt_object_locks.specs.Places.{looked_at, place_of_set, places_if_any, places_of};
 
 use arrayvec::ArrayVec;
@@ -27,6 +29,19 @@ pub(crate) fn places_of(cell: &Cell) -> Places
         places.push(place_of_set(set));
     }
     places
+}
+
+/// Where an operation on the cell stands and looks, if that is one place for both.
+#[inline(always)]
+pub(crate) fn only_place(cell: &Cell) -> Option<u64>
+    ensures stands { IfSome result (λ place. places_of cell.now ≡ place ∷ []) }
+    ensures looks { IfSome result
+        (λ place. (op : ObjOp) → cell_of op ≡ cell.now → looked_at op ≡ place ∷ []) }
+{
+    match *cell {
+        Cell::Account(_) | Cell::Counter(_) => Some(number_of(cell)),
+        Cell::Element(..) | Cell::Size(_) => None,
+    }
 }
 
 /// The same of a cell, if there is one.

@@ -47,7 +47,22 @@ impl Reserved {
     ///
     /// # Errors
     /// `OutOfMemory`, where a growth was refused.
+    #[inline(always)]
     pub fn make_room(&mut self) -> Result<(), Refusal>
+        ensures items { self.new.items ≡ self.old.items }
+        ensures room { OnOk result (0 < self.new.room) }
+        ensures refusal { IsOkUnless result Refusal.OutOfMemory }
+    {
+        if self.entries.len() < self.entries.capacity() {
+            return Ok(());
+        }
+        self.grow()
+    }
+
+    // The same by a growth.
+    #[cold]
+    #[inline(never)]
+    fn grow(&mut self) -> Result<(), Refusal>
         ensures items { self.new.items ≡ self.old.items }
         ensures room { OnOk result (0 < self.new.room) }
         ensures refusal { IsOkUnless result Refusal.OutOfMemory }

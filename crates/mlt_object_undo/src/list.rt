@@ -41,7 +41,23 @@ impl UndoList {
     ///
     /// # Errors
     /// `OutOfMemory`, where there was no room and a growth was refused; the list is then as before.
+    #[inline(always)]
     pub fn reserve(&mut self) -> Result<(), Refusal>
+        ensures entries { self.new.entries ≡ self.old.entries }
+        ensures room { OnOk result (1 ≤ self.new.spare) }
+        ensures err { OnErr result ((self.new ≡ self.old) × (self.old.spare ≡ 0)) }
+        ensures refusal { IsOkUnless result Refusal.OutOfMemory }
+    {
+        if self.done.len() < self.done.capacity() {
+            return Ok(());
+        }
+        self.grow()
+    }
+
+    // The same by a growth.
+    #[cold]
+    #[inline(never)]
+    fn grow(&mut self) -> Result<(), Refusal>
         ensures entries { self.new.entries ≡ self.old.entries }
         ensures room { OnOk result (1 ≤ self.new.spare) }
         ensures err { OnErr result ((self.new ≡ self.old) × (self.old.spare ≡ 0)) }

@@ -1,6 +1,8 @@
 -- The texts of the items of a history: the lines of a trace.
-use Rattle.std.specs.Prelude.{ℕ, List, [], ◌∷◌, ◌++◌, codes}
+use Rattle.std.specs.Prelude.{◌≡◌, ℕ, List, [], ◌∷◌, ◌++◌, codes}
 use Rattle.std.specs.List.{flat_map}
+use Rattle.mlt_object_kinds.specs.declared.operation.ObjOp.{ObjOp}
+use Rattle.mlt_object_kinds.specs.declared.operation.ObjReply.{ObjReply}
 use Rattle.mlt_object_kinds.specs.Texts.{with_number, done_text}
 use Rattle.mlt_trace.specs.declared.item.TraceItem.{TraceItem}
 use Rattle.mlt_trace.specs.declared.item.TraceItem.TheVariants.{Begin, Op, Back, Commit, Abort}
@@ -12,6 +14,10 @@ item_text (Op tx done) = with_number (codes "op") tx ++ 32 ∷ done_text done
 item_text (Back tx) = with_number (codes "back") tx
 item_text (Commit tx n) = with_number (with_number (codes "commit") tx) n
 item_text (Abort tx) = with_number (codes "abort") tx
+
+-- the item tells that a transaction did this operation
+abbrev pub TellsOf : TraceItem → ObjOp → Type 0
+TellsOf item op = (tx : ℕ) × (reply : ObjReply) × (item ≡ Op tx (op, reply))
 
 -- the text of the item and the end of its line
 abbrev pub item_line : TraceItem → List ℕ

@@ -1,6 +1,7 @@
 //! A history, with room.
 
 ghost use Rattle.std.specs.Prelude.{◌≡◌, ◌≢◌, ◌≤◌, ◌+◌, [], ◌∷◌, ◌++◌, OnOk, OnErr, IfNone, IfSome, IsOkUnless};
+ghost use Rattle.std.specs.Vec.{vec_capacity, vec_len};
 ghost use Rattle.mlt_trace.specs.Ranges.{AllFit};
 
 use crate::handed_out::{HandedOut, KeptItems};
@@ -65,6 +66,7 @@ impl History {
     ///
     /// # Errors
     /// `OutOfMemory`, where a growth was refused; the history and its room are then as before.
+    #[inline(always)]
     pub fn reserve(&mut self, count: usize) -> Result<(), Refusal>
         ensures items { self.new.items ≡ self.old.items }
         ensures handed { self.new.handed ≡ self.old.handed }
@@ -75,7 +77,9 @@ impl History {
         let Some(room) = self.room.checked_add(count) else {
             return Err(Refusal::OutOfMemory);
         };
-        self.kept.items.reserve(room)?;
+        if self.kept.items.capacity() - self.kept.items.len() < room {
+            grow(&mut self.kept.items, room)?;
+        }
         self.room = room;
         Ok(())
     }
@@ -149,4 +153,18 @@ impl History {
         // What is always true of a history is known where it is read.
         let _kept = &self.kept;
     }
+}
+
+// Makes room for so many more items by a growth.
+#[cold]
+#[inline(never)]
+fn grow(items: &mut Vec<KeptItem>, room: usize) -> Result<(), Refusal>
+    ensures items { items.new.items ≡ items.old.items }
+    ensures len { vec_len items.new ≡ vec_len items.old }
+    ensures capacity { vec_capacity items.old ≤ vec_capacity items.new }
+    ensures room { OnOk result (vec_len items.new + room ≤ vec_capacity items.new) }
+    ensures refusal { IsOkUnless result Refusal.OutOfMemory }
+{
+    items.reserve(room)?;
+    Ok(())
 }

@@ -1,11 +1,12 @@
 //! Items as a history keeps them.
 
-ghost use Rattle.std.specs.Prelude.{◌≡◌, ℕ};
+ghost use Rattle.std.specs.Prelude.{◌≡◌, ◌↔◌, ℕ, IsTrue};
 ghost use Rattle.mlt_object_kinds.specs.Packing.{op_in, reply_in};
+ghost use Rattle.mlt_trace.specs.Items.{TellsOf};
 ghost use Rattle.mlt_trace.specs.Keeping.{item_in};
 
 use crate::item::TraceItem;
-use mlt_object_kinds::{Done, OpKind, Packed, ReplyKind};
+use mlt_object_kinds::{Done, ObjOp, OpKind, Packed, ReplyKind};
 use mlt_types::TxId;
 use std::fmt;
 use std::marker::Model;
@@ -68,6 +69,38 @@ impl KeptItem {
                 tx,
                 form: Form::Abort,
             },
+        }
+    }
+
+    /// Whether it tells of this operation.
+    #[inline(always)]
+    pub fn is_op(&self, op: &ObjOp) -> bool
+        ensures { IsTrue result ↔ TellsOf self.now op.now }
+    {
+        match self.form {
+            Form::Op(kind, reply, number, amount, told) => {
+                let parts = Packed {
+                    op: kind,
+                    reply,
+                    set: 0,
+                    number,
+                    amount,
+                    told,
+                };
+                parts.is_op(op)
+            },
+            Form::OfSet(kind, reply, set, number, told) => {
+                let parts = Packed {
+                    op: kind,
+                    reply,
+                    set,
+                    number,
+                    amount: 0,
+                    told,
+                };
+                parts.is_op(op)
+            },
+            Form::Begin | Form::Back | Form::Commit(_) | Form::Abort => false,
         }
     }
 

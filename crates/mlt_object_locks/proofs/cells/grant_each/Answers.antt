@@ -1,11 +1,25 @@
-use Rattle.std.proofs.Common.{take, sym, subst, ◌∙◌, arith}
+use Rattle.std.proofs.Common.{[], take, ap, sym, subst, ◌∙◌, arith}
+use Rattle.std.specs.Prelude.{unwrap_or}
 use Rattle.std.proofs.lemmas.List.{take_more}
+use Rattle.std.proofs.lemmas.List.Elements.{Contains-get_or}
 use Rattle.mlt_object_locks.specs.Classes.{bit_of_item}
+use Rattle.mlt_object_locks.specs.Holders.{IsHere, holder_of}
 use Rattle.mlt_object_locks.specs.Cells.{GrantsAt}
 use Rattle.mlt_object_locks.specs.Noted.{NotesEach, noted_of}
 use Rattle.mlt_object_locks.proofs.Changes.{bits_noted_more, granted_more}
+use Rattle.mlt_object_locks.proofs.Membership.{none_in_empty}
 use Rattle.mlt_object_locks.proofs.Notes.{notes_more}
 use Rattle.mlt_object_locks.proofs.cells.grant_each.Goals as goal
+
+pub unreachable-requires : goal.unreachable-requires
+unreachable-requires c =
+    let here = c.loop-place.invariant.grants.stays _ c.args.tx (c.requires.here _ (Contains-get_or c.args.places.now c.loop-place.place-index 0 c.loop-place-test.true)) in
+    let nobody = subst (λ holders. IsHere holders c.args.tx) (ap (λ o. unwrap_or o []) c.in_default.ensures.none) here in
+    none_in_empty (holder_of c.args.tx nobody.0) nobody.1
+
+pub grant-requires-clause-here : goal.grant-requires-clause-here
+grant-requires-clause-here c =
+    c.loop-place.invariant.grants.stays _ c.args.tx (c.requires.here _ (Contains-get_or c.args.places.now c.loop-place.place-index 0 c.loop-place-test.true))
 
 pub grant-requires-clause-noted : goal.grant-requires-clause-noted
 grant-requires-clause-noted c =
