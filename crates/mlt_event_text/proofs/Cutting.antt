@@ -1,16 +1,19 @@
 -- The next line of a text.
-use Rattle.std.proofs.Common.{◌≡◌, ℕ, suc, zero, ◌+◌, ◌<◌, ◌≤◌, List, [], ◌∷◌, ◌++◌, length, take, drop, get_or, true, false, Some, None, refl, sym, ap, ◌∙◌, arith, append-nil, length-take, take-append-drop, add-one}
-use Rattle.std.specs.List.{position, flat_map}
+use Rattle.std.proofs.Common.{◌≡◌, ℕ, suc, zero, ◌+◌, ◌-◌, ◌<◌, ◌≤◌, List, [], ◌∷◌, ◌++◌, length, take, drop, get_or, true, false, Some, None, refl, sym, ap, ◌∙◌, arith, append-nil, length-take, length-append, append_assoc, take-append-drop, add-one}
+use Rattle.std.specs.List.{list_all, position, flat_map}
 use Rattle.std.proofs.lemmas.List.Concat.{flat_map-cons}
 use Rattle.std.proofs.lemmas.List.Quantifiers.{position-Some}
+use Rattle.std.proofs.Math.Seq.{take-append_seam}
 use Rattle.std.proofs.lemmas.Bool.{lt-ltb, le-ltb}
-use Rattle.mlt_event_text.specs.Inputs.{heard, lines_of, Splits, NextLine}
+use Rattle.mlt_event_text.specs.Inputs.{IsNext, NextLine, Splits, heard, lines_of}
 use Rattle.mlt_event_text.specs.Commands.{command_of}
 use Rattle.mlt_event_text.specs.declared.session_line.Line.{Line}
 use Rattle.mlt_event_text.specs.declared.session_line.Line.TheVariants.{Says, TooLong}
 use Rattle.mlt_event_text.specs.declared.command.Command.{Command}
+use Rattle.mlt_text_words.specs.Fronts.{is_printable}
 use Rattle.mlt_text_words.specs.Lines.{Raw, lines, onto, is_lf, without_cr}
-use Rattle.mlt_text_words.proofs.Cutting.{at_lf, at_other, not_found}
+use Rattle.mlt_text_words.proofs.Allowed.{all_allowed, no_cr}
+use Rattle.mlt_text_words.proofs.Cutting.{at_lf, at_other, line_cut, not_found}
 
 up_to : (text more : List ℕ) (i : ℕ) → i < length text → is_lf (get_or text i 0) ≡ true → ((k : ℕ) → k < i → is_lf (get_or text k 0) ≡ false)
     → lines (take (suc i) text ++ more) ≡ record { bytes = take i text; ended = true } ∷ lines more
@@ -37,32 +40,47 @@ heard_cut bytes l = rw (le-ltb 200 (length bytes) l) refl
 first_of : (raw : Raw) (rest : List Raw) (ls : List Line) → heard raw ≡ ls → flat_map heard (raw ∷ rest) ≡ ls ++ flat_map heard rest
 first_of raw rest ls h = flat_map-cons heard raw rest ∙ ap (λ (l : List Line). l ++ flat_map heard rest) h
 
--- a short line, whatever stands behind it
-short : (text more : List ℕ) (i : ℕ) → position is_lf text ≡ Some i → i ≤ 200 → lines_of (take (i + 1) text ++ more) ≡ Says (command_of (without_cr (take i text))) ∷ lines_of more
-unfolding lines_of
-short text more i e l =
-    let h = position-Some is_lf text i 0 e in
-    let n : length (take i text) ≤ 200 = omega (arith, length-take i text) in
-    ap (flat_map heard) (found text more i e) ∙ first_of (record { bytes = take i text; ended = true }) (lines more) _ (heard_short (take i text) n)
-
 -- no byte has no line
 pub empty : lines_of [] ≡ []
 unfolding lines_of lines
 empty = refl
 
-alone : (text : List ℕ) (i : ℕ) → position is_lf text ≡ Some i → i ≤ 200 → lines_of (take (i + 1) text) ≡ Says (command_of (without_cr (take i text))) ∷ []
-alone text i e l =
-    ap lines_of (sym (append-nil (take (i + 1) text))) ∙ short text [] i e l ∙ ap (λ (rest : List Line). Says (command_of (without_cr (take i text))) ∷ rest) empty
+-- a prefix that is one short line, whatever stands behind it
+module _ (prefix bytes : List ℕ) (line : (more : List ℕ) → lines (prefix ++ more) ≡ record { bytes = bytes; ended = true } ∷ lines more) (l : length bytes ≤ 200) where
+  short : (more : List ℕ) → lines_of (prefix ++ more) ≡ Says (command_of (without_cr bytes)) ∷ lines_of more
+  unfolding lines_of
+  short more = ap (flat_map heard) (line more) ∙ first_of (record { bytes = bytes; ended = true }) (lines more) _ (heard_short bytes l)
 
-splits : (text : List ℕ) (i : ℕ) → position is_lf text ≡ Some i → i ≤ 200 → Splits (take (i + 1) text)
-splits text i e l more = short text more i e l ∙ ap (λ (ls : List Line). ls ++ lines_of more) (sym (alone text i e l))
+  alone : lines_of prefix ≡ Says (command_of (without_cr bytes)) ∷ []
+  alone = ap lines_of (sym (append-nil prefix)) ∙ short [] ∙ ap (λ (rest : List Line). Says (command_of (without_cr bytes)) ∷ rest) empty
+
+  splits : Splits prefix
+  splits more = short more ∙ ap (λ (ls : List Line). ls ++ lines_of more) (sym alone)
+
+  is_next : (text : List ℕ) (count : ℕ) (r : Command) → take count text ≡ prefix → r ≡ command_of (without_cr bytes) → IsNext text (Says r) count
+  is_next text count r e q = rw (e, q) (alone, splits)
 
 pub next_found : (text : List ℕ) (i : ℕ) (r : Command) → position is_lf text ≡ Some i → i ≤ 200 → r ≡ command_of (without_cr (take i text)) → NextLine text (Some (Says r, i + 1))
 next_found text i r e l q =
-    let h = position-Some is_lf text i 0 e in (
+    let h = position-Some is_lf text i 0 e in
+    let n : length (take i text) ≤ 200 = omega (arith, length-take i text) in (
       omega arith,
       (let k = h.0 in omega arith),
-      (alone text i e l ∙ ap (λ (s : Command). Says s ∷ []) (sym q), splits text i e l),
+      is_next (take (i + 1) text) (take i text) (λ more. found text more i e) n text (i + 1) r refl q,
+    )
+
+-- a line of the plain form, by the length of what stands behind it
+pub next_plain : (text t rest : List ℕ) (r : Command) → text ≡ t ++ 10 ∷ rest → list_all is_printable t ≡ true → length t ≤ 200 → r ≡ command_of t
+    → NextLine text (Some (Says r, length text - length rest))
+next_plain text t rest r e h l q =
+    let n : length text - length rest ≡ length (t ++ 10 ∷ []) = let k = ap length e in omega (arith, k, length-append t (10 ∷ rest), length-append t (10 ∷ [])) in
+    let f : take (length text - length rest) text ≡ t ++ 10 ∷ [] =
+    ap (λ (c : ℕ). take c text) n ∙ ap (take (length (t ++ 10 ∷ []))) (e ∙ sym (append_assoc t (10 ∷ []) rest)) ∙ take-append_seam (t ++ 10 ∷ []) rest in
+    let m = length-append t (10 ∷ rest) in
+    let k = ap length e in (
+      omega (arith, k, m),
+      omega arith,
+      is_next (t ++ 10 ∷ []) t (λ more. ap lines (append_assoc t (10 ∷ []) more) ∙ line_cut t more h) l text (length text - length rest) r f (q ∙ ap command_of (sym (no_cr t (all_allowed t h)))),
     )
 
 pub next_long : (text : List ℕ) (i : ℕ) → position is_lf text ≡ Some i → 200 < i → NextLine text (Some (TooLong, length text))

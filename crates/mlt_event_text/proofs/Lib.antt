@@ -2,3 +2,4 @@ pub mod Going
 pub mod Deciding
 pub mod Cutting
 pub mod Splitting
+pub mod PlainLines

@@ -7,7 +7,8 @@ ghost use Rattle.mlt_event_text.specs.Commands.{command_of};
 ghost use Rattle.mlt_text_words.specs.Lines.{is_lf, without_cr};
 
 use crate::command::{Command, read_command};
-use mlt_text_words::trimmed;
+use mlt_script::op_line;
+use mlt_text_words::{after, trimmed};
 
 // How many bytes a line has at most before its LF, a CR among them.
 const MOST_BYTES: usize = 200;
@@ -38,6 +39,23 @@ fn command_in(bytes: &[u8]) -> Command
 /// too long, so of such a line the number says nothing. `None` where the line goes on behind the text, which then has
 /// at most 200 bytes and no LF. Takes no memory.
 pub fn next_line(text: &[u8]) -> Option<(Line, usize)>
+    ensures { NextLine text.now result }
+{
+    if let Some((op, rest)) = op_line(text) {
+        return Some((Line::Says(Command::Op(op)), text.len() - rest.len()));
+    }
+    if let Some(rest) = after(text, b"commit\n") {
+        return Some((Line::Says(Command::Commit), text.len() - rest.len()));
+    }
+    if let Some(rest) = after(text, b"begin\n") {
+        return Some((Line::Says(Command::Begin), text.len() - rest.len()));
+    }
+    line_of_any_form(text)
+}
+
+// The next line of a text, whatever form it has. Nearly all are of those that are told before it is asked.
+#[inline(never)]
+fn line_of_any_form(text: &[u8]) -> Option<(Line, usize)>
     ensures { NextLine text.now result }
 {
     match find_lf(text) {

@@ -66,10 +66,10 @@ op_first k text middle rest op e (words, (t, is, h), f) = (
   λ more. rw (f more) refl,
 )
 
-pub op_found : (k : Keyword) (text behind middle : List ℕ) (found : Option (ObjOp × Bor (List ℕ))) → text ≡ spelling k ++ behind → behind ≡ 32 ∷ middle
-    → IfSome found (λ x. GoesOnWithOp k middle x.0 x.1.now) → IfSome found (λ x. BeginsWithOp text x.0 x.1.now)
-op_found k text behind middle None e f h = tt
-op_found k text behind middle (Some x) e f h = op_first k text middle x.1.now x.0 (e ∙ ap (λ (xs : List ℕ). spelling k ++ xs) f) h
+pub op_found : (k : Keyword) (text middle : List ℕ) (found : Option (ObjOp × Bor (List ℕ))) → text ≡ spelling k ++ 32 ∷ middle → IfSome found (λ x. GoesOnWithOp k middle x.0 x.1.now)
+    → IfSome found (λ x. BeginsWithOp text x.0 x.1.now)
+op_found k text middle None e h = tt
+op_found k text middle (Some x) e h = op_first k text middle x.1.now x.0 e h
 
 -- the first line of a text, by its words
 pub first_line : (text t rest : List ℕ) (w : Word) (ws : List Word) (form : LineForm) → text ≡ t ++ 10 ∷ rest → TextIs t (w ∷ ws) 200 → is_comment t ≡ false
@@ -122,11 +122,11 @@ ask_form_of words op h = by_key (key_at words) h where
   by_key None h = cc
   by_key (Some k) h = ask_key k.0 k.1 op (asked (asking_at k.0 k.1) op h)
 
-pub asking_line : (text middle rest : List ℕ) (op : ObjOp) → BeginsWithOp text op middle → middle ≡ 10 ∷ rest → BeginsWithForm text (Says (line.Plain (Ask (Fixed op)))) rest
+pub asking_line : (text rest : List ℕ) (op : ObjOp) → BeginsWithOp text op (10 ∷ rest) → BeginsWithForm text (Says (line.Plain (Ask (Fixed op)))) rest
 unfolding op_at key_at
-asking_line text middle rest op (t, [], e, h, c, f) l = let n : op_at [] ≡ Some (op, []) = f [] in cc
-asking_line text middle rest op (t, (w ∷ ws), e, h, c, f) l =
-    first_line text t rest w ws _ (e ∙ ap (λ (xs : List ℕ). t ++ xs) l) (at_most t (w ∷ ws) 60 200 (omega arith) h) c
+asking_line text rest op (t, [], e, h, c, f) = let n : op_at [] ≡ Some (op, []) = f [] in cc
+asking_line text rest op (t, (w ∷ ws), e, h, c, f) =
+    first_line text t rest w ws _ e (at_most t (w ∷ ws) 60 200 (omega arith) h) c
     (ask_form_of (w ∷ ws) op (ap op_at (ap (λ (xs : List Word). w ∷ xs) (sym (append-nil ws))) ∙ f []))
 
 -- ---- replies

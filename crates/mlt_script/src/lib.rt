@@ -11,4 +11,4 @@ mod plain;
 
 pub use operations::{read_op, read_reply};
 pub use parser::parse;
-pub use plain::{front_op, front_reply};
+pub use plain::{front_op, front_reply, op_line};

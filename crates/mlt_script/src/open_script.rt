@@ -30,6 +30,15 @@ fn make_room(lines: &mut Vec<Line>) -> Result<(), AllocError>
     Ok(())
 }
 
+/// Gives back the room of lines that end, where more than a third of it is free: less is not worth moving the lines.
+pub fn give_back(lines: &mut Vec<Line>)
+    ensures { lines.new.items ≡ lines.old.items }
+{
+    if lines.capacity() - lines.len() > lines.len() / 2 {
+        lines.shrink_to_fit();
+    }
+}
+
 /// A script that is read up to somewhere: its lines so far, the operations on the longest path to here, and the ifs
 /// that are open, the innermost last.
 #[derive(Drop)]

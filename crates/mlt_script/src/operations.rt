@@ -84,6 +84,7 @@ fn amount(op: AmountOp, text: &[u8]) -> Option<(Asking, &[u8])>
 
 /// The operation of a keyword and one number.
 #[tactic(auto, unfolding(crate::specs::Forms::op_of_one))]
+#[inline(always)]
 pub fn op_of_one(keyword: Keyword, number: u64) -> Option<ObjOp>
     ensures { result ≡ op_of_one keyword number }
 {
@@ -99,6 +100,7 @@ pub fn op_of_one(keyword: Keyword, number: u64) -> Option<ObjOp>
 
 /// The operation of a keyword, a number and an amount, without the amount.
 #[tactic(auto, unfolding(crate::specs::Forms::op_of_amount))]
+#[inline(always)]
 pub fn op_of_amount(keyword: Keyword, number: u64) -> Option<AmountOp>
     ensures { result ≡ op_of_amount keyword number }
 {
@@ -125,6 +127,7 @@ fn element_op(keyword: Keyword) -> Option<ElementOp>
 
 /// The operation of a keyword, a set and an element.
 #[tactic(auto, unfolding(crate::specs::Forms::op_of_element))]
+#[inline(always)]
 pub fn op_of_element(keyword: Keyword, set: u64, element: u64) -> Option<ObjOp>
     ensures { result ≡ op_of_element keyword set element }
 {

@@ -11,7 +11,7 @@ ghost use Rattle.mlt_script_tree.specs.Scripts.{ScriptForm, open_of};
 
 use crate::forms::LineForm;
 use crate::line::{Reading, read_first};
-use crate::open_script::OpenScript;
+use crate::open_script::{OpenScript, give_back};
 use crate::plain::op_line;
 use mlt_script_tree::{Asking, Ending, Line, Script, Statement};
 use mlt_types::{Refusal, ScriptCause};
@@ -75,7 +75,7 @@ impl Parser {
             count: _,
             ifs: _,
         } = script;
-        lines.shrink_to_fit();
+        give_back(&mut lines);
         self.scripts.push(Script::new(client, lines, ending))?;
         self.begun = None;
         Ok(())

@@ -1,25 +1,55 @@
 //! Operations, replies and lines of a plain form, which has one space between words and nothing else, read in one pass.
 //! Nearly all input is of it. What is not is read in the general way, with the same answer.
 
-ghost use Rattle.std.specs.Prelude.{◌∷◌, [], IfSome};
+ghost use Rattle.std.specs.Prelude.{◌≡◌, ◌∷◌, ◌++◌, [], IfSome};
 ghost use Rattle.mlt_script.specs.Plain.{BeginsWithForm, BeginsWithOp, BeginsWithReply, GoesOnWithOp};
 ghost use Rattle.mlt_text_words.specs.Fronts.{BeginsWithWords};
+ghost use Rattle.mlt_text_words.specs.Words.{spelling};
 
 use crate::forms::LineForm;
 use crate::operations::{op_of_amount, op_of_element, op_of_one, reply};
 use mlt_object_kinds::{ObjOp, ObjReply};
-use mlt_script_tree::{Asking, Ending, Line, Statement};
+use mlt_script_tree::Ending;
 use mlt_text_words::{Keyword, Word, after, front_keyword, front_number};
 
 // A number below 2^64, and the text behind it.
 #[tactic(auto, using(mlt_text_words::proofs::Fronts::number_words))]
+#[inline(always)]
 fn number_64(text: &[u8]) -> Option<(u64, &[u8])>
     ensures { IfSome result (λ x. BeginsWithWords text.now (Word.Number x.0 ∷ []) 20 x.1.now) }
 {
     front_number(text)
 }
 
+// The keyword of an operation that a text begins with, and the text behind it and a space. At most two keywords begin with
+// one letter, so it is compared with two at most.
+#[inline(always)]
+fn op_word(text: &[u8]) -> Option<(Keyword, &[u8])>
+    ensures { IfSome result (λ x. text.now ≡ spelling x.0 ++ 32 ∷ x.1.now) }
+{
+    match *text.first()? {
+        b'a' => Some((Keyword::Add, after(text, b"add ")?)),
+        b'b' => Some((Keyword::Balance, after(text, b"balance ")?)),
+        b'c' => Some((Keyword::Close, after(text, b"close ")?)),
+        b'd' => match after(text, b"deposit ") {
+            Some(rest) => Some((Keyword::Deposit, rest)),
+            None => Some((Keyword::Down, after(text, b"down ")?)),
+        },
+        b'h' => Some((Keyword::Has, after(text, b"has ")?)),
+        b'o' => Some((Keyword::Open, after(text, b"open ")?)),
+        b'r' => match after(text, b"read ") {
+            Some(rest) => Some((Keyword::Read, rest)),
+            None => Some((Keyword::Remove, after(text, b"remove ")?)),
+        },
+        b's' => Some((Keyword::Size, after(text, b"size ")?)),
+        b'u' => Some((Keyword::Up, after(text, b"up ")?)),
+        b'w' => Some((Keyword::Withdraw, after(text, b"withdraw ")?)),
+        _ => None,
+    }
+}
+
 // What stands behind the keyword of an operation and a space, and the text behind it.
+#[inline(always)]
 fn op_after(keyword: Keyword, text: &[u8]) -> Option<(ObjOp, &[u8])>
     ensures { IfSome result (λ x. GoesOnWithOp keyword text.now x.0 x.1.now) }
 {
@@ -38,11 +68,12 @@ fn op_after(keyword: Keyword, text: &[u8]) -> Option<(ObjOp, &[u8])>
 /// The operation that a text begins with, its amount a number, and the text behind it, which may go on with any byte:
 /// where that is a space, a tab or the end of the line, `read_op` reads the same. `None` also where other than one space
 /// stands between its words, though `read_op` may read it. Of more than 19 digits of a number the first 19 are taken.
+#[inline(always)]
 pub fn front_op(text: &[u8]) -> Option<(ObjOp, &[u8])>
     ensures { IfSome result (λ x. BeginsWithOp text.now x.0 x.1.now) }
 {
-    let (keyword, rest) = front_keyword(text)?;
-    op_after(keyword, after(rest, b" ")?)
+    let (keyword, rest) = op_word(text)?;
+    op_after(keyword, rest)
 }
 
 /// The reply that a text begins with, a word or `is v` with one space, and the text behind it, which may go on with any
@@ -63,9 +94,9 @@ pub fn front_reply(text: &[u8]) -> Option<(ObjReply, &[u8])>
 
 /// The operation of the first line of a text, where one space stands between words and an LF directly behind, and the text
 /// after it. `None` also where the line has another form: then it is read in the general way.
+#[inline(always)]
 pub fn op_line(text: &[u8]) -> Option<(ObjOp, &[u8])>
-    ensures { IfSome result (λ x. BeginsWithForm text.now
-        (LineForm.Says (Line.Plain (Statement.Ask (Asking.Fixed x.0)))) x.1.now) }
+    ensures { IfSome result (λ x. BeginsWithOp text.now x.0 (10 ∷ x.1.now)) }
 {
     let (op, rest) = front_op(text)?;
     let rest = after(rest, b"\n")?;

@@ -156,6 +156,7 @@ impl<'a> Cursor<'a> {
     }
 
     /// What the script does next.
+    #[inline(always)]
     pub fn next(&self) -> Next
         ensures next { IsNext result (questions_of self.now) }
         ensures asking { (op : OpForm) → result ≡ Next.Op op → IsAsking (questions_of self.now) }
@@ -170,6 +171,7 @@ impl<'a> Cursor<'a> {
     }
 
     /// Goes on with the reply to the operation that `next` told.
+    #[inline(always)]
     pub fn tell(&mut self, reply: ObjReply)
         requires { IsAsking (questions_of self.old) }
         ensures questions { questions_of self.new ≡ answered (questions_of self.old) reply }

@@ -1,15 +1,16 @@
 //! The report of what became of scripts, and its text.
 
-ghost use Rattle.std.specs.Prelude.{◌≡◌, ◌⊎◌, ◌++◌, IfErr, IsOkUnless, IfOk, IsErrOf, OnOk};
+ghost use Rattle.std.specs.Prelude.{◌≡◌, ◌⊎◌, ◌++◌, IfErr, IsOkUnless, IfOk, IsErrOf, OnErr, OnOk};
 ghost use Rattle.std.specs.Io.KnownBytes.{Appends, Keeps};
 ghost use Rattle.std.specs.List.{flat_map};
-ghost use Rattle.std.specs.String.{string_bytes};
 ghost use Rattle.mlt_text.specs.Texts.{AppendsFront};
-ghost use Rattle.mlt_script_serial.specs.Texts.{end_text, outcome_text, report_text, script_line};
+ghost use Rattle.mlt_object_kinds.specs.Texts.{reply_text};
+ghost use Rattle.mlt_script_serial.specs.Texts.{end_text, line, outcome_text, report_text, script_line};
 
 use crate::outcome::{End, Outcome, Outcomes};
 use mlt_object_base::{Base, write_base};
-use mlt_text::write_text;
+use mlt_object_kinds::ObjReply;
+use mlt_text::{push_numbered, write_text};
 use mlt_types::Refusal;
 use std::alloc::{AllocError, Global};
 use std::io::Write;
@@ -34,56 +35,65 @@ pub enum Form {
     Run,
 }
 
-fn push_end(text: &mut String, end: End) -> Result<(), AllocError>
-    ensures { OnOk result (string_bytes text.new ≡ string_bytes text.old ++ end_text end) }
+/// Adds the line of a reply. That of a word alone is there as a whole.
+#[inline(always)]
+pub fn push_reply(text: &mut Vec<u8>, reply: ObjReply) -> Result<(), AllocError>
+    ensures ok { OnOk result (text.new.items ≡ text.old.items ++ line (reply_text reply)) }
+    ensures err { OnErr result (text.new.items ≡ text.old.items) }
+{
+    match reply {
+        ObjReply::Is(value) => push_numbered(text, b"is ", value, b'\n'),
+        word => text.extend_from_slice(word.word_line().unwrap_or("").as_bytes()),
+    }
+}
+
+fn push_end(text: &mut Vec<u8>, end: End) -> Result<(), AllocError>
+    ensures { OnOk result (text.new.items ≡ text.old.items ++ end_text end) }
 {
     match end {
-        End::Committed(number) => writeln!(text, "committed {number}"),
-        End::Aborted => writeln!(text, "aborted"),
+        End::Committed(number) => push_numbered(text, b"committed ", number, b'\n'),
+        End::Aborted => text.extend_from_slice(b"aborted\n"),
         End::Refused(refusal) => {
-            let number = refusal.number();
-            let name = refusal.name();
-            writeln!(text, "refused {number} {name}")?;
-            writeln!(text, "aborted")
+            push_numbered(text, b"refused ", u64::from(refusal.number()), b' ')?;
+            text.extend_from_slice(refusal.name().as_bytes())?;
+            text.extend_from_slice(b"\naborted\n")
         }
     }
 }
 
-fn push_outcome(text: &mut String, outcome: &Outcome) -> Result<(), AllocError>
+fn push_outcome(text: &mut Vec<u8>, outcome: &Outcome) -> Result<(), AllocError>
     ensures { OnOk result
-        (string_bytes text.new ≡ string_bytes text.old ++ outcome_text outcome.now) }
+        (text.new.items ≡ text.old.items ++ outcome_text outcome.now) }
 {
     for done in outcome.done.as_slice() {
-        let reply = done.reply();
-        writeln!(text, "{reply}")?;
+        push_reply(text, done.reply())?;
     }
     push_end(text, outcome.end)
 }
 
-fn push_script(text: &mut String, outcome: &Outcome) -> Result<(), AllocError>
+fn push_script(text: &mut Vec<u8>, outcome: &Outcome) -> Result<(), AllocError>
     ensures { OnOk result
-        (string_bytes text.new ≡ string_bytes text.old ++ script_line outcome.now) }
+        (text.new.items ≡ text.old.items ++ script_line outcome.now) }
 {
-    let client = outcome.client;
-    let number = outcome.number;
-    writeln!(text, "client {client} script {number}")
+    push_numbered(text, b"client ", u64::from(outcome.client), b' ')?;
+    push_numbered(text, b"script ", u64::from(outcome.number), b'\n')
 }
 
-fn solo_text(alloc: Global, outcomes: &[Outcome]) -> Result<String, AllocError>
-    ensures { IfOk result (λ text. string_bytes text ≡ flat_map outcome_text outcomes.now) }
+fn solo_text(alloc: Global, outcomes: &[Outcome]) -> Result<Vec<u8>, AllocError>
+    ensures { IfOk result (λ text. text.items ≡ flat_map outcome_text outcomes.now) }
 {
-    let mut text = String::new(alloc);
+    let mut text = Vec::new(alloc);
     for outcome in outcomes {
         push_outcome(&mut text, outcome)?;
     }
     Ok(text)
 }
 
-fn run_text(alloc: Global, outcomes: &[Outcome]) -> Result<String, AllocError>
+fn run_text(alloc: Global, outcomes: &[Outcome]) -> Result<Vec<u8>, AllocError>
     ensures { IfOk result
-        (λ text. string_bytes text ≡ flat_map (λ o. script_line o ++ outcome_text o) outcomes.now) }
+        (λ text. text.items ≡ flat_map (λ o. script_line o ++ outcome_text o) outcomes.now) }
 {
-    let mut text = String::new(alloc);
+    let mut text = Vec::new(alloc);
     for outcome in outcomes {
         push_script(&mut text, outcome)?;
         push_outcome(&mut text, outcome)?;
@@ -98,9 +108,9 @@ fn text_of(alloc: Global, report: &Report, form: Form) -> Result<Vec<u8>, Refusa
 {
     let outcomes = report.outcomes.as_slice();
     match form {
-        Form::Solo => Ok(solo_text(alloc, outcomes)?.into_bytes()),
+        Form::Solo => Ok(solo_text(alloc, outcomes)?),
         Form::Run => {
-            let mut text = run_text(alloc, outcomes)?.into_bytes();
+            let mut text = run_text(alloc, outcomes)?;
             // A vector fails to take bytes only where a growth was refused.
             write_base(&report.base, &mut text).map_err(|_| Refusal::OutOfMemory)?;
             Ok(text)
@@ -156,5 +166,5 @@ pub fn write_outcomes<W: Write>(
         (λ refusal. (refusal ≡ Refusal.OutOfMemory) ⊎ (refusal ≡ Refusal.Io)) }
 {
     let text = solo_text(alloc, outcomes.as_slice())?;
-    write_text(writer, text.as_bytes())
+    write_text(writer, text.as_slice())
 }

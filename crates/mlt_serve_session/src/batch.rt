@@ -1,7 +1,6 @@
 //! All complete lines of what was read.
 
 ghost use Rattle.std.specs.Prelude.{◌≡◌, ◌<◌, ◌≤◌, ◌+◌, ◌^◌, false, length, IfOk, OnErr, OnOk};
-ghost use Rattle.std.specs.String.{string_bytes};
 ghost use Rattle.mlt_serve_session.specs.Batches.{Answered, BrokeOff, front};
 ghost use Rattle.mlt_serve_session.specs.Turns.{IsSmall, place};
 
@@ -22,7 +21,7 @@ pub fn answer_lines<D: Desk, K: Receipts>(
     notes: &mut Notes<K>,
     desk: &mut D,
     client: u32,
-    out: &mut String,
+    out: &mut Vec<u8>,
     text: &[u8],
 ) -> Result<usize, AllocError>
     requires going { notes.old.progress.over ≡ false }
@@ -30,7 +29,7 @@ pub fn answer_lines<D: Desk, K: Receipts>(
     requires few { notes.old.progress.lines + length text.now < 2 ^ 62 }
     ensures ok { IfOk result
         (λ at. Answered D.moves client (place client notes.old desk.old) (front text.now at)
-        (string_bytes out.old) (string_bytes out.new) (place client notes.new desk.new)) }
+        out.old.items out.new.items (place client notes.new desk.new)) }
     ensures lines { IfOk result
         (λ at. notes.new.progress.lines ≤ notes.old.progress.lines + at) }
     ensures commits { OnOk result (notes.new.progress.commits ≤ notes.new.progress.lines) }

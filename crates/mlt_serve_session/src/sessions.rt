@@ -61,7 +61,7 @@ fn reply<W: Write, D: Desk, K: Receipts>(
     notes: &mut Notes<K>,
     desk: &mut D,
     client: u32,
-    out: &mut String,
+    out: &mut Vec<u8>,
     text: &[u8],
 ) -> Result<usize, Refusal>
     requires going { notes.old.progress.over ≡ false }
@@ -85,7 +85,7 @@ fn reply<W: Write, D: Desk, K: Receipts>(
 {
     out.clear();
     let at = answer_lines(notes, desk, client, out, text)?;
-    write_text(writer, out.as_bytes())?;
+    write_text(writer, out.as_slice())?;
     Ok(at)
 }
 
@@ -98,7 +98,7 @@ fn listen<R: Read, W: Write, D: Desk, K: Receipts>(
     desk: &mut D,
     client: u32,
     buffer: &mut [u8],
-    out: &mut String,
+    out: &mut Vec<u8>,
 ) -> Result<(), Refusal>
     requires fresh { notes.old.progress ≡ start }
     requires room { (200 < length buffer.old) × (length buffer.old < 2 ^ 32) }
@@ -177,7 +177,7 @@ fn converse<R: Read, W: Write, D: Desk, K: Receipts + Drop>(
     ensures refusal { IfErr result (λ refusal. (refusal ≡ Refusal.LineTooLong)
         ⊎ (refusal ≡ Refusal.OutOfMemory) ⊎ (refusal ≡ Refusal.Io)) }
 {
-    let mut out = String::new(alloc);
+    let mut out = Vec::new(alloc);
     let mut notes = Notes::new(alloc, mem::replace(outcomes, K::none(alloc)));
     let listened = listen(reader, writer, &mut notes, desk, client, buffer, &mut out);
     let progress = notes.progress;

@@ -9,16 +9,27 @@ ghost use Rattle.mlt_text_words.specs.Words.{keyword_of, spelling};
 
 use crate::keyword::{Keyword, find_keyword};
 
-/// The text behind these bytes, where it begins with them. `None` exactly where it does not.
+/// The text behind these bytes, where it begins with them. `None` exactly where it does not. It is in line, so that bytes
+/// which are written out at a call are compared one by one, without a loop.
+#[inline(always)]
 pub fn after<'a>(text: &'a [u8], bytes: &[u8]) -> Option<&'a [u8]>
     ensures some { IfSome result (λ rest. text.now ≡ bytes.now ++ rest.now) }
     ensures none { IfNone result ((rest : List ℕ) → text.now ≢ bytes.now ++ rest) }
 {
-    text.strip_prefix(bytes)
+    if text.len() < bytes.len() {
+        return None;
+    }
+    for (at, byte) in bytes.iter().enumerate() {
+        if text[at] != *byte {
+            return None;
+        }
+    }
+    Some(&text[bytes.len()..])
 }
 
 // The number that the digits at the front of a text write, and how many these are. The text has 19 bytes at most, so that
 // no number of it is too great.
+#[inline(always)]
 fn digits_of_few(text: &[u8]) -> (u64, usize)
     requires { length text.now ≤ 19 }
     ensures length { result.1 ≤ length text.now }
@@ -40,6 +51,7 @@ fn digits_of_few(text: &[u8]) -> (u64, usize)
 }
 
 // The number that the digits at the front of a text write, all of them or the first 19, and how many these are.
+#[inline(always)]
 fn few_digits(text: &[u8]) -> (u64, usize)
     ensures length { result.1 ≤ length text.now }
     ensures few { result.1 ≤ 19 }
@@ -53,6 +65,7 @@ fn few_digits(text: &[u8]) -> (u64, usize)
 
 /// The number that the digits at the front of a text write, below 10^19, and the text behind them. Of more than 19
 /// digits the first 19 are taken. `None` exactly where no digit stands there.
+#[inline(always)]
 pub fn front_number(text: &[u8]) -> Option<(u64, &[u8])>
     ensures some { IfSome result (λ x. BeginsWithNumber text.now x.0 x.1.now) }
     ensures none { IfNone result (begins_with_digit text.now ≡ false) }

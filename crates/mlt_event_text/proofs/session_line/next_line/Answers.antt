@@ -1,15 +1,11 @@
-use Rattle.std.proofs.Common.{sym}
-use Rattle.mlt_event_text.proofs.Cutting.{next_found, next_long, next_endless, next_none}
+use Rattle.mlt_event_text.proofs.PlainLines.{next_begin, next_commit, next_op}
 use Rattle.mlt_event_text.proofs.session_line.next_line.Goals as goal
 
 pub returns-in-Some : goal.returns-in-Some
-returns-in-Some c = next_long c.args.text.now c.in-Some.end (sym c.in-Some.ensures) c.if-end-gt-MOST_BYTES.true
+returns-in-Some c = next_op c.args.text.now c.in-Some.rest.now c.in-Some.op c.in-Some.ensures
 
-pub returns-in-Some-2 : goal.returns-in-Some-2
-returns-in-Some-2 c = next_found c.args.text.now c.in-Some.end c.command_in.result (sym c.in-Some.ensures) c.if-end-gt-MOST_BYTES.false c.command_in.ensures
+pub returns-in-Some-after : goal.returns-in-Some-after
+returns-in-Some-after c = next_commit c.args.text.now c.in-Some-after.rest.now c.in-Some-after.ensures.some
 
-pub returns-in-None : goal.returns-in-None
-returns-in-None c = next_endless c.args.text.now (sym c.in-None.ensures) c.if-text-gt-MOST_BYTES.true
-
-pub returns-in-None-2 : goal.returns-in-None-2
-returns-in-None-2 c = next_none c.args.text.now (sym c.in-None.ensures) c.if-text-gt-MOST_BYTES.false
+pub returns-in-Some-after-2 : goal.returns-in-Some-after-2
+returns-in-Some-after-2 c = next_begin c.args.text.now c.in-Some-after-2.rest.now c.in-Some-after-2.ensures.some

@@ -6,6 +6,7 @@ use Rattle.mlt_script.specs.Readings.{IsReading}
 use Rattle.mlt_script.specs.Scan.{scan, advance, Advances, Gives}
 use Rattle.mlt_script.specs.Scan.State.{Outside}
 use Rattle.mlt_script.proofs.Forming.{readings}
+use Rattle.mlt_script.proofs.PlainForms.{asking_line}
 use Rattle.mlt_script.proofs.Scanning.{goes_on, exits, ends}
 use Rattle.mlt_script.proofs.parser.read_lines.Goals as goal
 
@@ -18,7 +19,7 @@ pub returns-in_err-ask : goal.returns-in_err-ask
 returns-in_err-ask c =
     let p = err_from_is_err_and c.from_residual.result c.from_residual.ensures.1 in
     let l = c.loop-rest in
-    let f = c.in-Some.ensures in
+    let f = asking_line l.rest.now c.in-Some.after.now c.in-Some.op c.in-Some.ensures in
     let told = subst (λ x. Advances (Err c.in_err-ask.field-0.0) (l.line + 1) (advance (state_of l.parser) x) (state_of c.ask.new.self)) f.2 c.in_err-ask.ensures in
     rw (p.1, p.2) (exits c.in_err-ask.field-0.0 (state_of l.parser) (state_of c.ask.new.self) l.line l.rest.now c.in-Some.after.now f.0
     (scan (Outside []) 0 (lines c.args.text.now)) f.1 told l.invariant.same)
@@ -35,7 +36,7 @@ returns-in_err-read c =
 pub loop-rest-preserved-in-Some : goal.loop-rest-preserved-in-Some
 loop-rest-preserved-in-Some c =
     let l = c.loop-rest in
-    let f = c.in-Some.ensures in
+    let f = asking_line l.rest.now c.in-Some.after.now c.in-Some.op c.in-Some.ensures in
     record {
       counted = let b = l.invariant.counted in let s = f.3 in omega (arith, b, s);
       same = goes_on (state_of l.parser) (state_of c.ask.new.self) l.line l.rest.now c.in-Some.after.now f.0

@@ -1,8 +1,7 @@
 use Rattle.std.proofs.Common.{◌≡◌, ◌++◌, take}
 use Rattle.std.specs.List.{flat_map}
-use Rattle.std.specs.String.{string_bytes}
 use Rattle.mlt_script_serial.specs.Texts.{reply_line}
 use Rattle.mlt_script_serial.proofs.report.push_outcome.Given as goal
 
 abbrev pub invariant-loop-done : goal.invariant-loop-done
-invariant-loop-done l = string_bytes l.text ≡ string_bytes l.fn.text ++ flat_map reply_line (take l.done-index l.done-items)
+invariant-loop-done l = l.text.items ≡ l.fn.text.items ++ flat_map reply_line (take l.done-index l.done-items)

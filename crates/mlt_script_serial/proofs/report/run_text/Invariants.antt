@@ -1,8 +1,7 @@
 use Rattle.std.proofs.Common.{◌≡◌, ◌++◌, take}
 use Rattle.std.specs.List.{flat_map}
-use Rattle.std.specs.String.{string_bytes}
 use Rattle.mlt_script_serial.specs.Texts.{outcome_text, script_line}
 use Rattle.mlt_script_serial.proofs.report.run_text.Given as goal
 
 abbrev pub invariant-loop-outcome : goal.invariant-loop-outcome
-invariant-loop-outcome l = string_bytes l.text ≡ flat_map (λ o. script_line o ++ outcome_text o) (take l.outcome-index l.outcomes)
+invariant-loop-outcome l = l.text.items ≡ flat_map (λ o. script_line o ++ outcome_text o) (take l.outcome-index l.outcomes)

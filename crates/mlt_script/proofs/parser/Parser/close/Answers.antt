@@ -17,7 +17,7 @@ unfolding tree_of
 new-requires-clause-lines c =
     let s = c.args.script in
     let z : length s.ifs.items ≡ 0 = search rules in
-    rw c.shrink_to_fit.ensures.items
+    rw c.give_back.ensures
     (at_top (open_of s.lines.items) s.lines.items s.count (s.kept, s.counted, s.framed ∙ is_none s.ifs.items z, s.wide, s.deep)).1
 
 pub new-requires-clause-longest : goal.new-requires-clause-longest
@@ -25,7 +25,7 @@ unfolding tree_of
 new-requires-clause-longest c =
     let s = c.args.script in
     let z : length s.ifs.items ≡ 0 = search rules in
-    rw c.shrink_to_fit.ensures.items
+    rw c.give_back.ensures
     (at_top (open_of s.lines.items) s.lines.items s.count (s.kept, s.counted, s.framed ∙ is_none s.ifs.items z, s.wide, s.deep)).2
 
 pub new-requires-clause-nesting : goal.new-requires-clause-nesting
@@ -33,7 +33,7 @@ unfolding tree_of
 new-requires-clause-nesting c =
     let s = c.args.script in
     let z : length s.ifs.items ≡ 0 = search rules in
-    rw c.shrink_to_fit.ensures.items
+    rw c.give_back.ensures
     (at_top (open_of s.lines.items) s.lines.items s.count (s.kept, s.counted, s.framed ∙ is_none s.ifs.items z, s.wide, s.deep)).3
 
 pub returns : goal.returns
@@ -45,5 +45,5 @@ returns c =
     let scripts = c.args.self.now.scripts.items in
     let more : c.push.new.self.items ≡ scripts ++ record { client = s.client; block = whole (open_of s.lines.items); ending = c.args.ending } ∷ [] =
     c.in_ok-push.ensures.items ∙ ap (λ (x : ScriptForm). scripts ++ x ∷ []) (c.new.ensures
-    ∙ ap (λ (lines : List Line). record { client = s.client; block = tree_of lines; ending = c.args.ending }) c.shrink_to_fit.ensures.items) in
+    ∙ ap (λ (lines : List Line). record { client = s.client; block = tree_of lines; ending = c.args.ending }) c.give_back.ensures) in
     ap (λ (o : Open). ended scripts s.client o c.args.ending) top.0 ∙ ap (λ (xs : List ScriptForm). Ok (Outside xs)) (sym more)
