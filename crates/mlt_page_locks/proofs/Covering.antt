@@ -1,20 +1,21 @@
 -- What the marks cover: where none is, there is nothing; a list that is changed; and the first place of a list.
 use Prim.Native.Nat.{zero}
-use Rattle.std.proofs.Common.{suc, ◌+◌, ◌≡◌, ◌≢◌, ◌⊎◌, ℕ, ◌<◌, ◌≤◌, List, [], ◌∷◌, Bool, true, false, Option, Some, None, is_some, length, get_or, set, length-set, replicate, take, sym, ap, subst, ◌∙◌, refl, true≢false, inl, inr, arith}
+use Rattle.std.proofs.Common.{suc, ◌+◌, ◌≡◌, ◌≢◌, ◌⊎◌, ℕ, ◌<◌, ◌≤◌, List, [], ◌∷◌, Bool, true, false, Option, Some, None, is_some, length, get_or, set, length-set, replicate, take, take_all, sym, ap, subst, ◌∙◌, refl, true≢false, inl, inr, arith}
 use Rattle.std.specs.Prelude.{position}
 use Rattle.std.specs.List.{position_or_len}
 use Rattle.std.specs.Int.{bit_at}
 use Rattle.std.specs.Ordering.{nat_cmp}
+use Rattle.std.proofs.lemmas.Nat.Bits.{bit_at-zero}
 use Rattle.std.specs.FinMap as map
 use Rattle.std.proofs.lemmas.Bool.{cases_eq, cases_lt, cases_Bool}
 use Rattle.std.proofs.lemmas.Bool.Decides.{nat_tests}
 use Rattle.std.proofs.lemmas.List.{get_or-set_same, get_or-set_other, length-replicate, take_more}
 use Rattle.mlt_types.specs.declared.mode.Mode.{Mode}
-use Rattle.mlt_page_locks.specs.Requests.{stronger, with_page}
-use Rattle.mlt_page_locks.specs.LockLists.{HeldPages, is_list_of}
-use Rattle.mlt_page_locks.specs.Marks.{mask_of, IsMarked, IsUnmarked, KeepsOthers, InMask, Covers, AddsAt, has_page}
+use Rattle.mlt_page_locks.specs.Requests.{stronger, with_page, conflicts, IsNobody}
+use Rattle.mlt_page_locks.specs.LockLists.{HeldPages, is_list_of, lock_table}
+use Rattle.mlt_page_locks.specs.Marks.{mask_of, IsMarked, IsUnmarked, KeepsOthers, InMask, IsMaskOf, Covers, has_page}
 use Rattle.mlt_page_locks.proofs.Maps.{get_inserted}
-use Rattle.mlt_page_locks.proofs.Conflicts.{in_way, in_way_of, nothing_more}
+use Rattle.mlt_page_locks.proofs.Conflicts.{in_way, in_way_of, in_way-conflicts, nothing_more}
 
 module _ {X : Type 0} (p : X → Bool) where
   first_is : (xs : List X) (i : ℕ) (d : X) → i < length xs → p (get_or xs i d) ≡ true → ((k : ℕ) → k < i → p (get_or xs k d) ≡ false) → position_or_len p xs ≡ i
@@ -81,6 +82,12 @@ passed_over tx q mode lists mask start is end from within none u = by end from w
         rest ∙ nothing_more tx q mode (take end lists) (get_or lists end free) u clear
         ∙ ap (λ l. in_way_of tx q mode l u) (sym (take_more lists end free (omega arith)) ∙ ap (λ n. take n lists) (sym next))
 
+-- where no place is marked, nobody stands in the way
+pub nobody_marked : (tx q : ℕ) (mode : Mode) (lists : List HeldPages) (mask : ℕ) → IsMaskOf lists q mask → mask ≡ 0 → IsNobody (conflicts (lock_table lists) tx q mode)
+nobody_marked tx q mode lists mask is none u =
+    sym (in_way-conflicts tx q mode lists (record { as_many = is.sound.one_list_each }) u) ∙ ap (λ l. in_way_of tx q mode l u) (sym (take_all (length lists) lists (omega arith)))
+    ∙ sym (passed_over tx q mode lists mask 0 is.marked (length lists) (omega arith) (omega arith) (λ p from below. ap (λ m. bit_at m p) none ∙ bit_at-zero p) u)
+
 module _ (lists : List HeldPages) (place : ℕ) (new : HeldPages) (within : place < length lists) where
   -- a list is changed: what it has is marked, and the marks of the others are kept
   in_mask : (passes : HeldPages → Bool) (mask after : ℕ) → InMask lists passes mask → (passes new ≡ true → bit_at after place ≡ 1) → ((p : ℕ) → p < length lists → p ≢ place → bit_at mask p ≡ 1 → bit_at after p ≡ 1) → InMask (set lists place new) passes after
@@ -103,6 +110,12 @@ added_page modes q r mode h = by (cases_eq r q)
 
 pub owner_of : (u : ℕ) (pages : HeldPages) → is_list_of u pages ≡ true → pages.tx ≡ u
 owner_of u pages h = grind (arith, nat_tests)
+
+-- tx got page q in the list at this place
+pub record AddsAt (old new : List HeldPages) (tx q : ℕ) (mode : Mode) (place : ℕ) : Type 0 where
+  pub d : HeldPages
+  pub within : place < length old
+  pub is : new ≡ set old place (record { tx = tx; modes = with_page (get_or old place d).modes q mode })
 
 -- a page that is added is covered once it is marked
 pub covers_added : (lists after : List HeldPages) (pages holders pages' holders' : List ℕ) (tx q : ℕ) (mode : Mode) (place : ℕ) → Covers lists pages holders → AddsAt lists after tx q mode place

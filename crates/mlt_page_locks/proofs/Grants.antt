@@ -33,43 +33,43 @@ not_free modes tx q mode = grind (arith, nat_tests, map.len-insert nat_cmp_total
         let empty : modes ≡ map.empty = map.empty_of_len modes none in
         grind (arith, map.get-empty {X = Mode} nat_cmp q)
 
--- a free list has what tx, which has none, holds: nothing
-pub blank : (lists looked : List HeldPages) (tx i : ℕ) (d : HeldPages) → looked ≡ lists → map.get (table_of lists) tx ≡ None → Some i ≡ position is_free looked → (get_or lists i d).modes ≡ pages_of (lock_table lists) tx
-blank lists looked tx i d look none at =
-    let free = (position-Some is_free lists i d (ap (position is_free) (sym look) ∙ sym at)).1 in
-    map.empty_of_len (get_or lists i d).modes (no_pages (get_or lists i d) free) ∙ sym (ap (λ o. unwrap_or o map.empty) none)
+-- a free list has no page
+pub blank : (lists : List HeldPages) (i : ℕ) (d : HeldPages) → Some i ≡ position is_free lists → (get_or lists i d).modes ≡ map.empty
+blank lists i d at = no_pages (get_or lists i d) (position-Some is_free lists i d (sym at)).1
   where
-    no_pages : (pages : HeldPages) → is_free pages ≡ true → map.len pages.modes ≡ 0
-    no_pages pages h = grind (arith, nat_tests)
+    no_pages : (pages : HeldPages) → is_free pages ≡ true → pages.modes ≡ map.empty
+    no_pages pages h = map.empty_of_len pages.modes (grind (arith, nat_tests))
 
--- and a list of tx what tx holds
-pub theirs : (lists looked : List HeldPages) (tx i : ℕ) (d : HeldPages) → looked ≡ lists → Some i ≡ position (is_list_of tx) looked → (get_or lists i d).modes ≡ pages_of (lock_table lists) tx
-theirs lists looked tx i d look at = sym (ap (λ o. unwrap_or o map.empty) (get-table_of_place lists tx i d (ap (position (is_list_of tx)) (sym look) ∙ sym at)))
+-- who has no list holds none
+pub none_held : (lists : List HeldPages) (tx : ℕ) → map.get (table_of lists) tx ≡ None → pages_of (lock_table lists) tx ≡ map.empty
+none_held lists tx none = ap (λ o. unwrap_or o map.empty) none
+
+-- and a list of tx has what tx holds
+pub theirs : (lists : List HeldPages) (tx i : ℕ) (d : HeldPages) → Some i ≡ position (is_list_of tx) lists → (get_or lists i d).modes ≡ pages_of (lock_table lists) tx
+theirs lists tx i d at = sym (ap (λ o. unwrap_or o map.empty) (get-table_of_place lists tx i d (sym at)))
 
 -- tx has a list already
-pub grown : (lists looked : List HeldPages) (tx q i : ℕ) (mode : Mode) (d new : HeldPages) → IsSound lists → looked ≡ lists → Some i ≡ position (is_list_of tx) looked
+pub grown : (lists : List HeldPages) (tx q i : ℕ) (mode : Mode) (d new : HeldPages) → IsSound lists → Some i ≡ position (is_list_of tx) lists
     → new ≡ record { tx = (get_or lists i d).tx; modes = with_page (get_or lists i d).modes q mode } → AreCompatible (granted (lock_table lists) tx q mode) → Makes (set lists i new) (granted (lock_table lists) tx q mode)
-grown lists looked tx q i mode d new sound look at is ok =
+grown lists tx q i mode d new sound at is ok =
     let old = get_or lists i d in
-    let place : position (is_list_of tx) lists ≡ Some i = ap (position (is_list_of tx)) (sym look) ∙ sym at in
-    let theirs : old.tx ≡ tx = owner tx old (position-Some (is_list_of tx) lists i d place).1 in
-    let pages : old.modes ≡ pages_of (lock_table lists) tx = sym (ap (λ o. unwrap_or o map.empty) (get-table_of_place lists tx i d place)) in
-    let mine : new.tx ≡ tx = ap (λ (p : HeldPages). p.tx) is ∙ theirs in
+    let pages : old.modes ≡ pages_of (lock_table lists) tx = theirs lists tx i d at in
+    let mine : new.tx ≡ tx = ap (λ (p : HeldPages). p.tx) is ∙ owner tx old (position-Some (is_list_of tx) lists i d (sym at)).1 in
     let used : is_free new ≡ false = ap is_free is ∙ not_free old.modes old.tx q mode in
-    makes lists (set lists i new) (map.insert (table_of lists) tx new.modes) (granted (lock_table lists) tx q mode) (own_list lists looked tx i d new sound.one_list_each look at mine used)
+    makes lists (set lists i new) (map.insert (table_of lists) tx new.modes) (granted (lock_table lists) tx q mode) (own_list lists tx i d new sound.one_list_each at mine used)
     (ap (λ modes. record { held = map.insert (table_of lists) tx modes; max_open = length lists }) (ap (λ (p : HeldPages). p.modes) is ∙ ap (λ m. with_page m q mode) pages)) ok
   where
     owner : (tx : ℕ) (pages : HeldPages) → is_list_of tx pages ≡ true → pages.tx ≡ tx
     owner tx pages h = grind (arith, nat_tests)
 
 -- tx takes a list that is nobody's
-pub started : (lists looked : List HeldPages) (tx q i : ℕ) (mode : Mode) (d new : HeldPages) → IsSound lists → looked ≡ lists → map.get (table_of lists) tx ≡ None → Some i ≡ position is_free looked
+pub started : (lists : List HeldPages) (tx q i : ℕ) (mode : Mode) (d new : HeldPages) → IsSound lists → map.get (table_of lists) tx ≡ None → Some i ≡ position is_free lists
     → new ≡ record { tx = tx; modes = with_page (get_or lists i d).modes q mode } → AreCompatible (granted (lock_table lists) tx q mode) → Makes (set lists i new) (granted (lock_table lists) tx q mode)
-started lists looked tx q i mode d new sound look none at is ok =
+started lists tx q i mode d new sound none at is ok =
     let old = get_or lists i d in
-    let pages : old.modes ≡ pages_of (lock_table lists) tx = blank lists looked tx i d look none at in
+    let pages : old.modes ≡ pages_of (lock_table lists) tx = blank lists i d at ∙ sym (none_held lists tx none) in
     let used : is_free new ≡ false = ap is_free is ∙ not_free old.modes tx q mode in
-    makes lists (set lists i new) (map.insert (table_of lists) tx new.modes) (granted (lock_table lists) tx q mode) (new_list lists looked tx i d new sound.one_list_each look none at (ap (λ (p : HeldPages). p.tx) is) used)
+    makes lists (set lists i new) (map.insert (table_of lists) tx new.modes) (granted (lock_table lists) tx q mode) (new_list lists tx i d new sound.one_list_each none at (ap (λ (p : HeldPages). p.tx) is) used)
     (ap (λ modes. record { held = map.insert (table_of lists) tx modes; max_open = length lists }) (ap (λ (p : HeldPages). p.modes) is ∙ ap (λ m. with_page m q mode) pages)) ok
 
 -- tx gives its locks back
@@ -88,7 +88,7 @@ room_in_list lists tx q mode modes room same =
     grind (arith, ap map.len pages, map.len-insert nat_cmp_total modes q mode, map.len-insert nat_cmp_total modes q (stronger (map.get modes q) mode))
 
 -- and for a transaction that has no list, a list is nobody's
-pub list_left : (lists looked : List HeldPages) (tx q : ℕ) (mode : Mode) → IsSound lists → HasRoom (granted (lock_table lists) tx q mode) → map.get (table_of lists) tx ≡ None → looked ≡ lists → None ≡ position is_free looked → false ≡ true
-list_left lists looked tx q mode sound room none look full =
-    let used : lists_in_use lists ≡ length lists = some_list_is_free lists (ap (position is_free) (sym look) ∙ sym full) in
+pub list_left : (lists : List HeldPages) (tx q : ℕ) (mode : Mode) → IsSound lists → HasRoom (granted (lock_table lists) tx q mode) → map.get (table_of lists) tx ≡ None → None ≡ position is_free lists → false ≡ true
+list_left lists tx q mode sound room none full =
+    let used : lists_in_use lists ≡ length lists = some_list_is_free lists (sym full) in
     grind (arith, room.holders, sound.one_list_each, map.len-insert nat_cmp_total (table_of lists) tx (with_page (pages_of (lock_table lists) tx) q mode))

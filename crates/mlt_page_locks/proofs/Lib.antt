@@ -7,3 +7,4 @@ pub mod Conflicts
 pub mod Grants
 pub mod Covering
 pub mod Sharing
+pub mod Places

@@ -1,6 +1,6 @@
 -- The pages of a list of locks, by rising numbers.
 use Prim.Native.Nat.{zero}
-use Rattle.std.proofs.Common.{◌≡◌, ◌⊎◌, ℕ, suc, ◌≤◌, ◌<◌, ◌+◌, ◌-◌, eqb, Bool, true, false, cond, Some, None, is_some, true≢false, Result, Ok, Err, List, [], ◌∷◌, length, get_or, set, sym, ap, subst, inl, inr, ◌∙◌, length-set, arith}
+use Rattle.std.proofs.Common.{◌≡◌, ◌⊎◌, ℕ, suc, ◌≤◌, ◌<◌, ◌+◌, ◌-◌, eqb, Bool, true, false, cond, Some, None, is_some, true≢false, Result, Ok, Err, List, [], ◌∷◌, ◌++◌, length, get_or, set, refl, sym, ap, subst, inl, inr, ◌∙◌, length-set, arith}
 use Rattle.std.specs.Prelude.{MatchResult}
 use Rattle.std.specs.List.{insert}
 use Rattle.std.specs.List.Sorted.{IsSearchInRange, IsBinarySearchResult}
@@ -9,8 +9,8 @@ use Rattle.std.specs.Cmp.{nat_cmp_total, ranks}
 use Rattle.std.specs.FinMap as map
 use Rattle.std.proofs.lemmas.Bool.Decides.{nat_tests}
 use Rattle.std.proofs.lemmas.Bool.{cases_eq, cases_lt, cases_Bool}
-use Rattle.std.proofs.lemmas.List.{get_or-set_same, get_or-set_other}
-use Rattle.std.proofs.lemmas.List.Edits.{get_or-insert_at, get_or-insert_below, get_or-insert_above}
+use Rattle.std.proofs.lemmas.List.{get_or-set_same, get_or-set_other, get_or_default}
+use Rattle.std.proofs.lemmas.List.Edits.{get_or-insert_at, get_or-insert_below, get_or-insert_above, insert_end}
 use Rattle.arrayvec.specs.ArrayVec.{ArrayVec, with_items}
 use Rattle.arrayvec.proofs.ArrayVecLemmas.{items-with_items}
 use Rattle.mlt_types.specs.declared.mode.Mode.{Mode}
@@ -207,6 +207,30 @@ added locks looked new q i mode order look at is =
       };
     })
 
+-- and one behind all others is put at the end
+pub added_behind : (locks looked new : List PageLock) (q : ℕ) (mode : Mode) → IsInOrder locks → looked ≡ locks → IsBetween looked q (length looked) → new ≡ locks ++ record { page = q; mode = mode } ∷ [] → Strengthened locks q mode new
+added_behind locks looked new q mode order look at is =
+    added locks looked new q (length looked) mode order look at
+    (is ∙ sym (insert_end locks (record { page = q; mode = mode })) ∙ ap (λ l. insert locks (length l) (record { page = q; mode = mode })) (sym look))
+
+moved_last : (locks : List PageLock) (lock d : PageLock) → length locks ≡ 2 → set locks 1 lock ++ get_or locks 1 d ∷ [] ≡ insert locks 1 lock
+moved_last [] lock d two = absurd (omega arith)
+moved_last (a ∷ []) lock d two = absurd (omega arith)
+moved_last (a ∷ b ∷ []) lock d two = refl
+moved_last (a ∷ b ∷ e ∷ locks) lock d two = absurd (omega arith)
+
+-- and one between two takes the place of the second, which is put behind it
+pub added_between : (locks : ArrayVec PageLock) (looked read written new : List PageLock) (q : ℕ) (mode : Mode) (last : PageLock)
+    → IsInOrder locks.items → looked ≡ locks.items → read ≡ locks.items → written ≡ locks.items → (length looked ≡ 2) × IsBetween looked q 1 → last ≡ get_or read 1 last
+    → new ≡ (with_items locks (set written 1 (record { page = q; mode = mode }))).items ++ last ∷ [] → Strengthened locks.items q mode new
+added_between locks looked read written new q mode last order look reads write at last_is is =
+    let lock : PageLock = record { page = q; mode = mode } in
+    let two : length locks.items ≡ 2 = ap length (sym look) ∙ at.0 in
+    let items : (with_items locks (set written 1 lock)).items ≡ set locks.items 1 lock =
+    items-with_items locks (set written 1 lock) (length-set {A = PageLock} written 1 lock ∙ ap length write) ∙ ap (λ xs. set xs 1 lock) write in
+    added locks.items looked new q 1 mode order look at.1
+    (is ∙ ap (λ xs. xs ++ last ∷ []) items ∙ ap (λ x. set locks.items 1 lock ++ x ∷ []) (last_is ∙ ap (λ xs. get_or xs 1 last) reads) ∙ moved_last locks.items lock last two)
+
 -- a further page has room where the map with it has
 pub room_for : (locks looked : List PageLock) (modes : Modes) (q i : ℕ) (mode : Mode)
     → IsInOrder locks → looked ≡ locks → IsBetween looked q i → modes_of locks ≡ modes → map.len (map.insert modes q mode) ≤ 300 → (i ≤ length locks) × (length locks < 300)
@@ -226,6 +250,17 @@ not_falling locks rising i j d le within = by (cases_eq i j)
     by : (i ≡ j) ⊎ (i ≡ j → ⊥) → (get_or locks i d).page ≤ (get_or locks j d).page
     by (inl e) = let same = ap (λ n. (get_or locks n d).page) e in omega arith
     by (inr ne) = let lt = rising i j d (omega arith) within in omega arith
+
+-- where the last lock is on a lower page, all are
+pub all_lower : (locks : List PageLock) (q : ℕ) (last : PageLock) → IsRising locks → 0 < length locks → last ≡ get_or locks (length locks - 1) last → last.page < q → IsBetween locks q (length locks)
+all_lower locks q last rising some is lower = record {
+  within = omega arith;
+  below = λ k d h.
+      let up = not_falling locks rising k (length locks - 1) d (omega arith) (omega arith) in
+      let same = ap (λ (l : PageLock). l.page) (get_or_default locks (length locks - 1) d last (omega arith) ∙ sym is) in
+      omega arith;
+  above = λ k d le lt. absurd (omega arith);
+}
 
 higher : (q a b : ℕ) → a ≤ b → ordering_index (nat_cmp a q) ≤ ordering_index (nat_cmp b q)
 higher q a b le = grind (arith, nat_tests)

@@ -122,10 +122,10 @@ used_list : (tx : ℕ) (pages : HeldPages) → is_list_of tx pages ≡ true → 
 used_list tx pages h = grind arith
 
 -- tx, which has a list, gets pages in it
-pub own_list : (lists looked : List HeldPages) (tx i : ℕ) (d new : HeldPages) → map.len (table_of lists) ≡ lists_in_use lists → looked ≡ lists → Some i ≡ position (is_list_of tx) looked → new.tx ≡ tx → is_free new ≡ false
+pub own_list : (lists : List HeldPages) (tx i : ℕ) (d new : HeldPages) → map.len (table_of lists) ≡ lists_in_use lists → Some i ≡ position (is_list_of tx) lists → new.tx ≡ tx → is_free new ≡ false
     → Changed lists (set lists i new) (map.insert (table_of lists) tx new.modes)
-own_list lists looked tx i d new one look at mine used =
-    let place : position (is_list_of tx) lists ≡ Some i = ap (position (is_list_of tx)) (sym look) ∙ sym at in
+own_list lists tx i d new one at mine used =
+    let place : position (is_list_of tx) lists ≡ Some i = sym at in
     let p = position-Some (is_list_of tx) lists i d place in
     let there : map.get (table_of lists) tx ≡ Some (get_or lists i d).modes = get-table_of_place lists tx i d place in
     let table : table_of (set lists i new) ≡ map.insert (table_of lists) tx new.modes =
@@ -137,10 +137,10 @@ own_list lists looked tx i d new one look at mine used =
     }
 
 -- tx, which has none, gets pages in a list that is nobody's
-pub new_list : (lists looked : List HeldPages) (tx i : ℕ) (d new : HeldPages) → map.len (table_of lists) ≡ lists_in_use lists → looked ≡ lists → map.get (table_of lists) tx ≡ None → Some i ≡ position is_free looked → new.tx ≡ tx → is_free new ≡ false
+pub new_list : (lists : List HeldPages) (tx i : ℕ) (d new : HeldPages) → map.len (table_of lists) ≡ lists_in_use lists → map.get (table_of lists) tx ≡ None → Some i ≡ position is_free lists → new.tx ≡ tx → is_free new ≡ false
     → Changed lists (set lists i new) (map.insert (table_of lists) tx new.modes)
-new_list lists looked tx i d new one look none at mine used =
-    let p = position-Some is_free lists i d (ap (position is_free) (sym look) ∙ sym at) in
+new_list lists tx i d new one none at mine used =
+    let p = position-Some is_free lists i d (sym at) in
     let table : table_of (set lists i new) ≡ map.insert (table_of lists) tx new.modes =
     same_entries _ _ (λ u. taken lists tx i d new p.0 p.1 none mine used u ∙ sym (get_inserted (table_of lists) tx new.modes u)) in
     record {

@@ -4,7 +4,9 @@ use Rattle.std.specs.Ordering.{nat_cmp}
 use Rattle.std.specs.Coded.{Coded, code_by, coded×, coded_ℕ}
 use Rattle.std.specs.FinMap as map
 use Rattle.mlt_page_locks.specs.declared.lock_list.PageLock.{PageLock}
+use Rattle.mlt_types.specs.declared.mode.Mode.{Mode}
 use Rattle.mlt_page_locks.specs.LockTables.{Modes, LockTable, AreCompatible, coded_modes}
+use Rattle.mlt_page_locks.specs.Requests.{with_page}
 
 -- the pages of a list of locks, each with the mode of its first lock
 abbrev pub modes_of : List PageLock → Modes
@@ -40,6 +42,14 @@ abbrev pub coded_pages : Coded HeldPages
 coded_pages =
     code_by (ℕ × Modes) (coded× coded_ℕ coded_modes)
     (λ p. (p.tx, p.modes)) (λ p. record { tx = p.0; modes = p.1 }) (λ _. refl)
+
+-- the list with page q in the stronger mode
+abbrev pub with_lock : HeldPages → ℕ → Mode → HeldPages
+with_lock pages q mode = record { tx = pages.tx; modes = with_page pages.modes q mode }
+
+-- there is room for a lock on page q
+abbrev pub HasRoomFor : HeldPages → ℕ → Mode → Type 0
+HasRoomFor pages q mode = map.len (map.insert pages.modes q mode) ≤ 300
 
 -- a list with no lock is nobody's
 abbrev pub is_free : HeldPages → Bool

@@ -1,11 +1,12 @@
 -- Places that are marked by numbers, and what the marks cover.
-use Rattle.std.specs.Prelude.{◌≡◌, ◌≢◌, ℕ, ◌<◌, ◌≤◌, ◌-◌, Bool, true, is_some, List, length, slice_index, slice_index_or, slice_set}
+use Rattle.std.specs.Prelude.{◌≡◌, ◌≢◌, ℕ, ◌<◌, ◌≤◌, ◌-◌, ◌⊎◌, Bool, true, false, Option, Some, None, IsSome, MatchOption, is_some, position, List, length, slice_index, slice_index_or, slice_set}
 use Rattle.std.specs.Int.{bit_at}
 use Rattle.std.specs.Int.Bits.{bit_and}
 use Rattle.std.specs.FinMap as map
 use Rattle.mlt_types.specs.declared.mode.Mode.{Mode}
-use Rattle.mlt_page_locks.specs.Requests.{with_page}
-use Rattle.mlt_page_locks.specs.LockLists.{HeldPages, is_list_of, IsSound}
+use Rattle.mlt_page_locks.specs.LockTables.{LockTable}
+use Rattle.mlt_page_locks.specs.Requests.{conflicts, IsLowest, IsNobody}
+use Rattle.mlt_page_locks.specs.LockLists.{HeldPages, is_free, is_list_of, IsSound}
 
 -- The row of a number, where there are so many: its lowest bits, where their number is a power of two. Else some rows
 -- are nobody's.
@@ -54,8 +55,31 @@ pub record IsCovered (lists : List HeldPages) (pages holders : List ℕ) : Type 
   pub sound : IsSound lists
   pub covers : Covers lists pages holders
 
--- a transaction got a page in the list at this place
-pub record AddsAt (old new : List HeldPages) (tx q : ℕ) (mode : Mode) (place : ℕ) : Type 0 where
-  pub d : HeldPages
-  pub within : place < length old
-  pub is : new ≡ slice_set old place (record { tx = tx; modes = with_page (slice_index_or old place d).modes q mode })
+-- what a search for those who have page q is given: the lists, and their places
+pub record IsMaskOf (lists : List HeldPages) (q mask : ℕ) : Type 0 where
+  pub few : length lists ≤ 64
+  pub sound : IsSound lists
+  pub marked : InMask lists (has_page q) mask
+
+-- the lowest of those whose lock on page q does not go with one of tx, if there is one
+abbrev pub IsLowestConflict : LockTable → ℕ → ℕ → Mode → Option ℕ → Type 0
+IsLowestConflict table tx q mode lowest =
+    MatchOption lowest (IsNobody (conflicts table tx q mode)) (IsLowest (conflicts table tx q mode))
+
+-- no list before this place passes
+abbrev pub IsNoneBefore : ℕ → (HeldPages → Bool) → List HeldPages → Type 0
+IsNoneBefore start passes lists = (k : ℕ) (d : HeldPages) → k < start → passes (slice_index_or lists k d) ≡ false
+
+-- where tx has no list, one is nobody's
+abbrev pub HasPlaceFor : List HeldPages → ℕ → Type 0
+HasPlaceFor lists tx = position (is_list_of tx) lists ≡ None → IsSome (position is_free lists)
+
+-- the first list that is nobody's is that of tx from now on
+pub record TakesFree (old new : List HeldPages) (tx place : ℕ) : Type 0 where
+  pub first : Some place ≡ position is_free old
+  pub is : new ≡ slice_set old place (record { tx = tx; modes = map.empty })
+
+-- tx has a list at this place, or has taken one that was nobody's
+abbrev pub IsPlaceFor : List HeldPages → List HeldPages → ℕ → ℕ → Type 0
+IsPlaceFor old new tx place =
+    ((Some place ≡ position (is_list_of tx) old) × (new ≡ old)) ⊎ ((position (is_list_of tx) old ≡ None) × TakesFree old new tx place)

@@ -1,11 +1,11 @@
 //! The locks of one transaction, by rising page numbers.
 
-ghost use Rattle.std.specs.Prelude.{◌≡◌, ◌==◌, ◌≤◌, ◌&&◌, false, not, MatchResult};
+ghost use Rattle.std.specs.Prelude.{◌≡◌, ◌==◌, ◌&&◌, ◌↔◌, false, not, length, IsTrue, MatchResult};
 ghost use Rattle.std.specs.Option.{option_map_or};
 ghost use Rattle.std.specs.FinMap as map;
-ghost use Rattle.mlt_page_locks.specs.Requests.{stronger, with_page, is_against};
+ghost use Rattle.mlt_page_locks.specs.Requests.{stronger, is_against};
 ghost use Rattle.mlt_page_locks.specs.LockTables.{goes_with};
-ghost use Rattle.mlt_page_locks.specs.LockLists.{is_free, is_list_of, modes_of, IsRising, IsAt, IsBetween};
+ghost use Rattle.mlt_page_locks.specs.LockLists.{is_free, is_list_of, modes_of, with_lock, IsRising, IsAt, IsBetween, HasRoomFor};
 
 use arrayvec::ArrayVec;
 use mlt_types::{Mode, PageNo, TxId};
@@ -122,11 +122,29 @@ impl LockList {
         self.tx = tx;
     }
 
-    /// Adds a lock, or makes one that is there stronger.
+    /// Adds a lock, or makes one that is there stronger. It searches for the page only where that is neither behind all
+    /// others nor between the two that are there.
+    #[inline(always)]
     pub fn add(&mut self, page: PageNo, mode: Mode)
-        requires { map.len (map.insert self.old.modes page mode) ≤ 300 }
-        ensures { let modes = with_page self.old.modes page mode in
-            self.new ≡ record { tx = self.old.tx; modes = modes } }
+        requires { HasRoomFor self.old page mode }
+        ensures { self.new ≡ with_lock self.old page mode }
+    {
+        if is_behind(&self.locks, page) {
+            self.locks.push(PageLock { page, mode });
+        } else if is_between_two(&self.locks, page) {
+            let last = self.locks[1];
+            self.locks[1] = PageLock { page, mode };
+            self.locks.push(last);
+        } else {
+            self.add_anywhere(page, mode);
+        }
+    }
+
+    // The same by a search for the page.
+    #[inline(never)]
+    fn add_anywhere(&mut self, page: PageNo, mode: Mode)
+        requires { HasRoomFor self.old page mode }
+        ensures { self.new ≡ with_lock self.old page mode }
     {
         match place_of(&self.locks, page) {
             Ok(place) => {
@@ -142,6 +160,29 @@ impl LockList {
         ensures { self.new ≡ record { tx = self.old.tx; modes = map.empty } }
     {
         self.locks.clear();
+    }
+}
+
+// Whether all of these locks are on lower pages.
+#[inline(always)]
+fn is_behind(locks: &[PageLock], page: PageNo) -> bool
+    requires { IsRising locks.now }
+    ensures { IsTrue result ↔ IsBetween locks.now page (length locks.now) }
+{
+    match locks.last() {
+        Some(last) => last.page.0 < page.0,
+        None => true,
+    }
+}
+
+// Whether there are two locks, one on a lower page and one on a higher.
+#[inline(always)]
+fn is_between_two(locks: &[PageLock], page: PageNo) -> bool
+    ensures { IsTrue result ↔ (length locks.now ≡ 2) × IsBetween locks.now page 1 }
+{
+    match locks {
+        [first, last] => first.page.0 < page.0 && page.0 < last.page.0,
+        _ => false,
     }
 }
 

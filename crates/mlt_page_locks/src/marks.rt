@@ -75,6 +75,7 @@ fn row(masks: &[u64], number: u64) -> usize
 }
 
 /// The first place in a mask from `start` on and below `end`, if there is one.
+#[inline(always)]
 pub(crate) fn next_place(mask: u64, start: usize, end: usize) -> Option<usize>
     requires { end ≤ 64 }
     ensures { let unmarked = IsUnmarked mask start end in

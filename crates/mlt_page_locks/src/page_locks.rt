@@ -1,11 +1,10 @@
 //! Page locks of all transactions.
 
-ghost use Rattle.std.specs.Prelude.{◌≡◌, ◌==◌, ◌≤◌, ◌<◌, ◌&&◌, ℕ, not, true, length, IfOk, IsOkUnless, MatchOption, min, unwrap_or, position};
-ghost use Rattle.std.specs.FinMap as map;
+ghost use Rattle.std.specs.Prelude.{◌≡◌, ◌≤◌, ◌<◌, ℕ, true, length, IfOk, IsOkUnless, IsSome, min, unwrap_or, position};
 ghost use Rattle.mlt_page_locks.specs.LockTables.{no_locks, mode_held, AreCompatible, HasRoom};
-ghost use Rattle.mlt_page_locks.specs.Requests.{granted, released, conflicts, with_page, is_against, Answers, IsLowest, IsNobody};
-ghost use Rattle.mlt_page_locks.specs.Marks.{IsMarked, InMask, AddsAt, KeepsOthers, has_page};
-ghost use Rattle.mlt_page_locks.specs.LockLists.{is_free, is_list_of, table_of, lock_table, IsSound};
+ghost use Rattle.mlt_page_locks.specs.Requests.{granted, released, Answers};
+ghost use Rattle.mlt_page_locks.specs.Marks.{mask_of, has_page, IsMarked, InMask, IsMaskOf, KeepsOthers, IsNoneBefore, IsLowestConflict, HasPlaceFor, IsPlaceFor, TakesFree};
+ghost use Rattle.mlt_page_locks.specs.LockLists.{is_free, is_list_of, lock_table};
 
 use crate::lock_list::LockList;
 use crate::marks::{Marks, next_place};
@@ -78,22 +77,20 @@ impl PageLocks {
     /// Asks for a lock of `tx` on a page. It is held exactly where all other holders of the page go with it; else
     /// the lowest that does not is told, and nothing changes. A transaction never waits for itself, and one that
     /// holds the page exclusively keeps it so.
+    #[inline(always)]
     pub fn ask(&mut self, tx: TxId, page: PageNo, mode: Mode) -> Grant
         requires { HasRoom (granted self.old tx page mode) }
         ensures answer { Answers self.old tx page mode result self.new }
         ensures compatible { AreCompatible self.new }
     {
         let marked = self.pages.mask(u64::from(page.0));
-        match lowest_conflict(&self.lists, marked, tx, page, mode) {
-            Some(by) => Grant::Waiting(by),
-            None => {
-                let own = self.holders.mask(tx.0);
-                let place = add_lock(&mut self.lists, own, tx, page, mode);
-                self.pages.mark(u64::from(page.0), place);
-                self.holders.mark(tx.0, place);
-                Grant::Held
-            }
+        if let Some(by) = lowest_conflict(&self.lists, marked, tx, page, mode) {
+            return Grant::Waiting(by);
         }
+        let place = place_for(&mut self.lists, &mut self.holders, tx);
+        self.lists[place].add(page, mode);
+        self.pages.mark(u64::from(page.0), place);
+        Grant::Held
     }
 
     /// The mode in which `tx` holds a page, the strongest that it was granted.
@@ -106,6 +103,7 @@ impl PageLocks {
     }
 
     /// Takes all locks of one transaction away, and no others.
+    #[inline(always)]
     pub fn release_all(&mut self, tx: TxId)
         ensures released { self.new ≡ released self.old tx }
         ensures compatible { AreCompatible self.new }
@@ -129,13 +127,29 @@ fn unmark_pages(pages: &mut Marks, list: &LockList, place: usize)
     }
 }
 
-// The place of the list of `tx`, which is in the mask.
+// The place of the list of `tx`, which is in the mask: mostly the first place there.
+#[inline(always)]
 fn list_of(lists: &[LockList], mask: u64, tx: TxId) -> Option<usize>
     requires few { length lists.now ≤ 64 }
     requires marked { InMask lists.now (is_list_of tx) mask }
     ensures { result ≡ position (is_list_of tx) lists.now }
 {
-    let mut start = 0;
+    let first = next_place(mask, 0, lists.len())?;
+    if lists[first].is_of(tx) {
+        Some(first)
+    } else {
+        list_from(first + 1, lists, mask, tx)
+    }
+}
+
+// The same where it is at no place before `start`.
+#[inline(never)]
+fn list_from(mut start: usize, lists: &[LockList], mask: u64, tx: TxId) -> Option<usize>
+    requires few { length lists.now ≤ 64 }
+    requires marked { InMask lists.now (is_list_of tx) mask }
+    requires none_before { IsNoneBefore start (is_list_of tx) lists.now }
+    ensures { result ≡ position (is_list_of tx) lists.now }
+{
     while let Some(place) = next_place(mask, start, lists.len()) {
         if lists[place].is_of(tx) {
             return Some(place);
@@ -152,50 +166,43 @@ fn free_list(lists: &[LockList]) -> Option<usize>
     lists.iter().position(|list| list.is_free())
 }
 
-// Gives `tx` the page in the stronger mode, in the list that it has, or in one that is nobody's.
-fn add_lock(lists: &mut Vec<LockList>, mask: u64, tx: TxId, page: PageNo, mode: Mode) -> usize
+// The place of the list of `tx`: the one that it has, or else one that is nobody's, which is its own from now on.
+#[inline(always)]
+fn place_for(lists: &mut Vec<LockList>, holders: &mut Marks, tx: TxId) -> usize
     requires few { length lists.old.items ≤ 64 }
-    requires marked { InMask lists.old.items (is_list_of tx) mask }
-    requires sound { IsSound lists.old.items }
-    requires room { HasRoom (granted (lock_table lists.old.items) tx page mode) }
-    requires compatible { AreCompatible (granted (lock_table lists.old.items) tx page mode) }
-    ensures granted { lock_table lists.new.items
-        ≡ granted (lock_table lists.old.items) tx page mode }
-    ensures sound { IsSound lists.new.items }
-    ensures place { AddsAt lists.old.items lists.new.items tx page mode result }
+    requires marked { InMask lists.old.items (is_list_of tx) (mask_of holders.old tx) }
+    requires left { HasPlaceFor lists.old.items tx }
+    ensures place { IsPlaceFor lists.old.items lists.new.items tx result }
+    ensures marked { IsMarked holders.new tx result }
+    ensures kept { (n p : ℕ) → IsMarked holders.old n p → IsMarked holders.new n p }
 {
-    match list_of(lists, mask, tx) {
-        Some(place) => {
-            lists[place].add(page, mode);
-            place
-        }
-        None => start_list(lists, tx, page, mode),
+    match list_of(lists, holders.mask(tx.0), tx) {
+        Some(place) => place,
+        None => start_list(lists, holders, tx),
     }
 }
 
-fn start_list(lists: &mut Vec<LockList>, tx: TxId, page: PageNo, mode: Mode) -> usize
-    requires sound { IsSound lists.old.items }
-    requires none { map.get (table_of lists.old.items) tx ≡ None }
-    requires room { HasRoom (granted (lock_table lists.old.items) tx page mode) }
-    requires compatible { AreCompatible (granted (lock_table lists.old.items) tx page mode) }
-    ensures granted { lock_table lists.new.items
-        ≡ granted (lock_table lists.old.items) tx page mode }
-    ensures sound { IsSound lists.new.items }
-    ensures place { AddsAt lists.old.items lists.new.items tx page mode result }
+// Gives `tx` a list that is nobody's.
+fn start_list(lists: &mut Vec<LockList>, holders: &mut Marks, tx: TxId) -> usize
+    requires few { length lists.old.items ≤ 64 }
+    requires left { IsSome (position is_free lists.old.items) }
+    ensures place { TakesFree lists.old.items lists.new.items tx result }
+    ensures marked { IsMarked holders.new tx result }
+    ensures kept { (n p : ℕ) → IsMarked holders.old n p → IsMarked holders.new n p }
 {
     match free_list(lists) {
         Some(place) => {
-            let list = &mut lists[place];
-            list.give_to(tx);
-            list.add(page, mode);
+            lists[place].give_to(tx);
+            holders.mark(tx.0, place);
             place
         }
         None => unreachable!(),
     }
 }
 
-// The lowest other transaction whose lock on the page does not go with one of `tx` in this mode. Of those who share a page
-// one is enough for a lock that is shared too: where there is one, nobody has the page exclusively.
+// The lowest other transaction whose lock on the page does not go with one of `tx` in this mode. Mostly nobody has a lock
+// on the page.
+#[inline(always)]
 fn lowest_conflict(
     lists: &[LockList],
     mask: u64,
@@ -203,11 +210,26 @@ fn lowest_conflict(
     page: PageNo,
     mode: Mode,
 ) -> Option<TxId>
-    requires few { length lists.now ≤ 64 }
-    requires sound { IsSound lists.now }
-    requires marked { InMask lists.now (has_page page) mask }
-    ensures { let others = conflicts (lock_table lists.now) tx page mode in
-        MatchOption result (IsNobody others) (IsLowest others) }
+    requires { IsMaskOf lists.now page mask }
+    ensures { IsLowestConflict (lock_table lists.now) tx page mode result }
+{
+    if mask == 0 {
+        return None;
+    }
+    lowest_of_marked(lists, mask, tx, page, mode)
+}
+
+// The same, at the places in the mask. Of those who share a page one is enough for a lock that is shared too: where there is
+// one, nobody has the page exclusively.
+fn lowest_of_marked(
+    lists: &[LockList],
+    mask: u64,
+    tx: TxId,
+    page: PageNo,
+    mode: Mode,
+) -> Option<TxId>
+    requires { IsMaskOf lists.now page mask }
+    ensures { IsLowestConflict (lock_table lists.now) tx page mode result }
 {
     let mut lowest = None;
     let mut start = 0;

@@ -192,12 +192,13 @@ impl Subtx {
     }
 
     /// Keeps what was written and releases all locks. The subtransaction is then as one that has just started.
+    #[inline(always)]
     pub fn end(&mut self, locks: &mut PageLocks)
         ensures locks { locks.new ≡ released locks.old self.old.tx }
         ensures images { self.new ≡ started self.old.tx }
     {
         self.near.clear();
-        self.far.clear();
+        clear_far(&mut self.far);
         locks.release_all(self.tx);
     }
 
@@ -249,6 +250,16 @@ impl Subtx {
             self.near.push(page, first);
         }
         Ok(())
+    }
+}
+
+// Takes all images out; mostly there are none.
+#[inline(always)]
+fn clear_far(far: &mut FarImages)
+    ensures { far.new.entries ≡ [] }
+{
+    if !far.is_empty() {
+        far.clear();
     }
 }
 

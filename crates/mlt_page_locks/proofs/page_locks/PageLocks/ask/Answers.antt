@@ -1,23 +1,49 @@
-use Rattle.std.proofs.Common.{subst, List, ◌∙◌}
-use Rattle.mlt_page_locks.specs.Requests.{conflicts, IsNobody}
-use Rattle.mlt_page_locks.proofs.LockLaws.{compatible_granted}
+use Rattle.std.proofs.Common.{sym, ap, subst, set, List, ◌∙◌}
+use Rattle.mlt_page_locks.specs.LockTables.{LockTable, HasRoom}
+use Rattle.mlt_page_locks.specs.Requests.{granted, conflicts, IsNobody}
 use Rattle.mlt_page_locks.specs.LockLists.{HeldPages, lock_table}
 use Rattle.mlt_page_locks.specs.Marks.{IsMarked}
+use Rattle.mlt_page_locks.proofs.LockLaws.{compatible_granted}
 use Rattle.mlt_page_locks.proofs.Covering.{covers_added}
+use Rattle.mlt_page_locks.proofs.Places.{GrantedAt, granted_at, has_place, room_at}
 use Rattle.mlt_page_locks.proofs.page_locks.PageLocks.ask.Goals as goal
+use Rattle.mlt_page_locks.proofs.page_locks.PageLocks.ask.Goals.{After-mark}
 
-pub add_lock-place-requires-clause-compatible : goal.add_lock-place-requires-clause-compatible
-add_lock-place-requires-clause-compatible c =
-    compatible_granted (lock_table c.self.inside.lists.items) c.args.tx c.args.page c.args.mode c.self.invariant.sound.compatible
-    (subst (λ (lists : List HeldPages). IsNobody (conflicts (lock_table lists) c.args.tx c.args.page c.args.mode)) c.deref.ensures.value c.in-None.ensures)
+nobody : (c : After-mark) → IsNobody (conflicts (lock_table c.self.inside.lists.items) c.args.tx c.args.page c.args.mode)
+nobody c = subst (λ (lists : List HeldPages). IsNobody (conflicts (lock_table lists) c.args.tx c.args.page c.args.mode)) c.deref.ensures.value c.in_default.ensures
+
+made : (c : After-mark) → GrantedAt c.self.inside.lists.items c.place_for-place.new.lists.items c.args.tx c.place_for-place.result c.args.page c.args.mode c.index_mut.result.now c.index_mut.ensures.value c.place_for-place.ensures.place
+    (set c.place_for-place.new.lists.items c.place_for-place.result c.add.new.self)
+made c =
+    granted_at c.self.inside.lists.items c.place_for-place.new.lists.items c.args.tx c.place_for-place.result c.args.page c.args.mode c.index_mut.result.now c.index_mut.ensures.value c.place_for-place.ensures.place
+    c.add.new.self c.self.invariant.sound (compatible_granted (lock_table c.self.inside.lists.items) c.args.tx c.args.page c.args.mode c.self.invariant.sound.compatible (nobody c)) c.add.ensures
+
+pub place_for-place-requires-clause-left : goal.place_for-place-requires-clause-left
+place_for-place-requires-clause-left c =
+    has_place c.self.inside.lists.items c.args.tx c.args.page c.args.mode c.self.invariant.sound
+    (subst (λ (t : LockTable). HasRoom (granted t c.args.tx c.args.page c.args.mode)) (sym c.self.view_is) c.requires)
+
+pub add-requires : goal.add-requires
+add-requires c =
+    room_at c.self.inside.lists.items c.place_for-place.new.lists.items c.args.tx c.place_for-place.result c.args.page c.args.mode c.index_mut.result.now c.index_mut.ensures.value c.place_for-place.ensures.place
+    (subst (λ (t : LockTable). HasRoom (granted t c.args.tx c.args.page c.args.mode)) (sym c.self.view_is) c.requires)
 
 pub invariant_of-self : goal.invariant_of-self
 invariant_of-self c =
     let old = c.self.inside in
-    let place = c.add_lock-place.result in
+    let place = c.place_for-place in
     record {
-      sound = c.add_lock-place.ensures.sound;
-      covers = covers_added old.lists.items c.add_lock-place.new.lists.items old.pages old.holders c.mark.new.self c.mark-in-None.new.self c.args.tx c.args.page c.args.mode place c.self.invariant.covers c.add_lock-place.ensures.place
-          (subst (λ n. IsMarked c.mark.new.self n place) (c.from-in-None.ensures ∙ c.page-in-None.view_is) c.mark.ensures.marked) c.mark.ensures.kept
-          (subst (λ n. IsMarked c.mark-in-None.new.self n place) c.tx-in-None.view_is c.mark-in-None.ensures.marked) c.mark-in-None.ensures.kept;
+      sound = (made c).makes.sound;
+      covers = covers_added old.lists.items (set place.new.lists.items place.result c.add.new.self) old.pages old.holders c.mark.new.self place.new.holders c.args.tx c.args.page c.args.mode place.result c.self.invariant.covers (made c).adds
+          (subst (λ n. IsMarked c.mark.new.self n place.result) (c.from-2.ensures ∙ c.page-2.view_is) c.mark.ensures.marked) c.mark.ensures.kept
+          place.ensures.marked place.ensures.kept;
     }
+
+pub returns-clause-answer : goal.returns-clause-answer
+returns-clause-answer c = (
+  subst (λ (t : LockTable). IsNobody (conflicts t c.args.tx c.args.page c.args.mode)) c.self.view_is (nobody c),
+  (made c).makes.makes_it ∙ ap (λ (t : LockTable). granted t c.args.tx c.args.page c.args.mode) c.self.view_is,
+)
+
+pub returns-clause-compatible : goal.returns-clause-compatible
+returns-clause-compatible c = (made c).makes.sound.compatible

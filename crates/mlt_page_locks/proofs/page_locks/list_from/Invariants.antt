@@ -1,6 +1,6 @@
 use Rattle.std.proofs.Common.{◌≡◌, ◌<◌, ◌-◌, ℕ, false, get_or, length}
 use Rattle.mlt_page_locks.specs.LockLists.{HeldPages, is_list_of}
-use Rattle.mlt_page_locks.proofs.page_locks.list_of.Given as goal
+use Rattle.mlt_page_locks.proofs.page_locks.list_from.Given as goal
 
 -- none so far is that of the transaction
 abbrev pub invariant-loop-place : goal.invariant-loop-place

@@ -1,6 +1,6 @@
 use Rattle.std.proofs.Common.{◌≤◌, ◌-◌, take, length}
 use Rattle.mlt_page_locks.proofs.Conflicts.{in_way_of, IsLowestIfAny}
-use Rattle.mlt_page_locks.proofs.page_locks.lowest_conflict.Given as goal
+use Rattle.mlt_page_locks.proofs.page_locks.lowest_of_marked.Given as goal
 
 abbrev pub invariant-loop-place : goal.invariant-loop-place
 invariant-loop-place l = record {
