@@ -16,6 +16,7 @@ use mlt_page_subtx::Subtx;
 use mlt_types::{PageNo, Pseudo};
 
 /// Locks the header and reads where the key's directory page is.
+#[inline(always)]
 pub(crate) fn read_header<P: Pseudo>(
     walk: &mut Walk,
     root: &Root<P>,
@@ -48,6 +49,7 @@ pub(crate) fn read_header<P: Pseudo>(
 }
 
 /// Locks the directory page and reads the key's entry.
+#[inline(always)]
 pub(crate) fn read_directory<P: Pseudo>(
     walk: &mut Walk,
     number: PageNo,
@@ -78,6 +80,7 @@ pub(crate) fn read_directory<P: Pseudo>(
 }
 
 /// Locks the bucket and reads what it has of the key.
+#[inline(always)]
 pub(crate) fn read_bucket<P: Pseudo>(
     walk: &mut Walk,
     number: PageNo,

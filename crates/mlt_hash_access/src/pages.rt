@@ -22,6 +22,7 @@ use mlt_types::{Mode, PageNo, Refusal, TxId};
 ///
 /// # Errors
 /// The lowest other transaction that holds the page in a mode that does not go with this one. Then nothing has changed.
+#[inline(always)]
 pub fn lock(subtx: &Subtx, pages: &mut LockedStore, number: PageNo, mode: Mode) -> Result<(), TxId>
     requires may { MayStep (moment subtx.now pages.old) }
     requires few { page_count pages.old.locks subtx.now.tx < 300 }
@@ -43,6 +44,7 @@ pub fn lock(subtx: &Subtx, pages: &mut LockedStore, number: PageNo, mode: Mode) 
 }
 
 /// Reads a page that is held.
+#[inline(always)]
 pub fn read_held<'a>(subtx: &Subtx, pages: &'a LockedStore, number: PageNo) -> &'a Page
     requires may { MayStep (moment subtx.now pages.now) }
     requires held { can_read pages.now.locks subtx.now.tx number ≡ true }
@@ -128,6 +130,7 @@ pub fn write_held(
 /// # Errors
 /// `OutOfMemory`, where the page is at least the third that is written and a growth was refused. Then nothing has
 /// changed.
+#[inline(always)]
 pub fn write_slot(
     subtx: &mut Subtx,
     pages: &mut LockedStore,

@@ -1,12 +1,10 @@
 -- A whole operation whose steps are taken at once
-use Rattle.std.proofs.Common.{◌≡◌, ℕ, ◌≤◌, ◌+◌, List, [], ◌∷◌, false, true, Err, None, Option, Some, is_some, refl, sym, ap, subst, ◌∙◌, inl, inr, arith}
+use Rattle.std.proofs.Common.{◌≡◌, ℕ, ◌≤◌, ◌+◌, List, [], ◌∷◌, true, None, Option, Some, is_some, refl, sym, ap, subst, ◌∙◌, inl, inr, arith}
 use Rattle.std.specs.Ordering.{nat_cmp}
 use Rattle.std.specs.FinMap as map
 use Rattle.std.proofs.lemmas.Bool.{cases_eq, false≢true}
 use Rattle.std.proofs.lemmas.Bool.Decides.{nat_tests}
 use Rattle.mlt_types.specs.declared.cell.Cell.{Cell}
-use Rattle.mlt_types.specs.declared.refusal.Refusal.{Refusal}
-use Rattle.mlt_types.specs.declared.refusal.Refusal.TheVariants as refusal
 use Rattle.mlt_object_kinds.specs.declared.operation.ObjOp.{ObjOp}
 use Rattle.mlt_object_kinds.specs.declared.operation.ObjReply.{ObjReply}
 use Rattle.mlt_object_kinds.specs.Operations.{cell_of}
@@ -17,29 +15,28 @@ use Rattle.mlt_page_locks.proofs.Maps.{get_removed}
 use Rattle.mlt_page_subtx.proofs.ImageLaws.{not_true}
 use Rattle.mlt_hash_subtx_laws.specs.Running.{HoldsNothing}
 use Rattle.mlt_hash_access.specs.Moments.{moment}
-use Rattle.mlt_hash.specs.Walks.{Basis, basis_by}
+use Rattle.mlt_hash.specs.Walks.{basis_by}
 use Rattle.mlt_tx_operation.specs.Operating.{MayOperate, started_for}
 use Rattle.mlt_tx_operation.specs.AtOnce.{NobodyHolds}
 use Rattle.mlt_tx_meaning.specs.Presences.{IsOpInRange}
-use Rattle.mlt_event.specs.declared.answer.Answer.{Answer}
 use Rattle.mlt_event.specs.declared.answer.Answer.TheVariants as answer
 use Rattle.mlt_tx.specs.AtOnce.{MayCallAtOnce}
-use Rattle.mlt_tx.specs.Transactions.{MayStepAt, TellsAt}
+use Rattle.mlt_tx.specs.Transactions.{MayStepAt}
 use Rattle.mlt_tx.specs.declared.commons.Commons.{Commons}
 use Rattle.mlt_tx.specs.declared.transaction.At.{At}
 use Rattle.mlt_tx.specs.declared.transaction.At.TheVariants as at
 use Rattle.mlt_tx.specs.declared.transaction.Transaction.{Transaction}
-use Rattle.mlt_tx_open.specs.Tables.{CallsOneAtOnce, DoesOneAtOnce, StepsOne, StepsOneAtOnce, Table}
+use Rattle.mlt_tx_open.specs.Tables.{CallsOneAtOnce, DoesOneAtOnce, StepsOneAtOnce, Table}
 use Rattle.mlt_manager_invariant.proofs.MaySteps.{may_step}
 use Rattle.mlt_manager_invariant.proofs.Tables.{inserted_here}
 use Rattle.mlt_manager_invariant.specs.Sound.{FitsAt}
 use Rattle.mlt_manager_invariant.specs.States.{all_of, images_kept}
-use Rattle.mlt_manager.specs.Answers.{AnswersCall, HasCalled, HasStepped, IsBusy, IsCauseAtCall, IsOpenAt, MayCall}
+use Rattle.mlt_manager.specs.Answers.{HasCalled, IsBusy, MayCall}
 use Rattle.mlt_manager.specs.Managers.{IsManager, ManagerFields, state_of}
 use Rattle.mlt_manager.specs.Wholes.{HasRun, StepsOnUpTo}
 use Rattle.mlt_manager.proofs.Called.{called_keeps}
 use Rattle.mlt_manager.proofs.Keeping.{len_removed, nobody}
-use Rattle.mlt_manager.proofs.Stepping.{stepped_on}
+use Rattle.mlt_manager.proofs.Stepping.{stepped}
 
 -- ---- who is open alone
 
@@ -147,23 +144,6 @@ module _ {P : Type 0} (bits_of : P → ℕ → ℕ) (m : ManagerFields P) (tx : 
 
 -- ---- what its steps come to
 
-busy_by : (a : At) (basis : Basis) (t u : Transaction) (old new : Commons) (told : Answer) → TellsAt a basis t u old new told → IsBusy a
-busy_by at.Idle basis t u old new told none = absurd none
-busy_by (at.Pending o) basis t u old new told tells = tt
-busy_by (at.Undoing inverting) basis t u old new told tells = tt
-
--- a step in the table of open transactions is one of the manager
-one_step : {P : Type 0} (bits_of : P → ℕ → ℕ) (m : ManagerFields P) (tx : ℕ) (txs : Table) (commons : Commons) (told : Answer) → (told ≡ answer.Aborted → ⊥)
-    → StepsOne (basis_by bits_of m.root m.opens) tx m.txs txs m.commons commons told → HasStepped bits_of m (record m { commons = commons; txs = txs }) tx told
-one_step bits_of m tx txs commons told not steps =
-    let before = steps.changes.before in
-    let busy : IsOpenAt m.txs tx IsBusy = record {
-      one = before;
-      there = steps.changes.was;
-      is_at = busy_by before.at (basis_by bits_of m.root m.opens before.subtx.tx) before steps.changes.after m.commons commons told steps.tells;
-    } in
-    stepped_on bits_of m tx commons txs busy told not steps
-
 -- **Steps at once are steps one after another, up to the end.**
 pub at_once_up_to : {P : Type 0} (bits_of : P → ℕ → ℕ) (m : ManagerFields P) (tx : ℕ) (txs : Table) (commons : Commons) (reply : ObjReply)
     → StepsOneAtOnce (basis_by bits_of m.root m.opens) tx m.txs txs m.commons commons reply → StepsOnUpTo bits_of m (record m { commons = commons; txs = txs }) tx (answer.Done reply)
@@ -175,15 +155,15 @@ at_once_up_to bits_of m tx txs commons reply steps =
       steps = (headed, answer.Going) ∷ (placed, answer.Going) ∷ (told, answer.Going) ∷ [];
       before = told;
       goes = (
-        one_step bits_of m tx steps.headed steps.with_header answer.Going (λ is. absurd cc) steps.first,
+        stepped bits_of m tx steps.with_header steps.headed _ _ answer.Going steps.first refl refl,
         tt,
         (
-          one_step bits_of headed tx steps.placed steps.with_directory answer.Going (λ is. absurd cc) steps.second,
+          stepped bits_of headed tx steps.with_directory steps.placed _ _ answer.Going steps.second refl refl,
           tt,
-          (one_step bits_of placed tx steps.told steps.with_bucket answer.Going (λ is. absurd cc) steps.third, tt, refl),
+          (stepped bits_of placed tx steps.with_bucket steps.told _ _ answer.Going steps.third refl refl, tt, refl),
         ),
       );
-      ends = one_step bits_of told tx txs commons (answer.Done reply) (λ is. absurd cc) steps.ends;
+      ends = stepped bits_of told tx commons txs _ _ (answer.Done reply) steps.ends refl refl;
       stops = tt;
     }
 
@@ -207,8 +187,3 @@ pub called_at_once : {P : Type 0} (bits_of : P → ℕ → ℕ) (m : ManagerFiel
     → CallsOneAtOnce told (basis_by bits_of m.root m.opens) tx op m.txs txs m.commons commons → HasCalled m (record m { commons = commons; txs = txs }) tx op
 called_at_once bits_of m tx op txs commons None is may range calls = record { may = may; in_range = range; calls = calls; rest = refl }
 called_at_once bits_of m tx op txs commons (Some reply) is may range calls = absurd cc
-
--- why a call is refused that does not come to its own
-pub refused_at_call : {P : Type 0} (reason : Refusal) (m m' : ManagerFields P) (tx : ℕ) (op : ObjOp) → m' ≡ m → IsCauseAtCall reason m tx → AnswersCall m m' tx op (Err reason)
-refused_at_call refusal.OutOfMemory m m' tx op same why = absurd why
-refused_at_call other m m' tx op same why = (why, same)

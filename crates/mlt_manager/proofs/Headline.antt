@@ -1,6 +1,6 @@
 -- Every manager keeps the main promise. What it says is what the invariant says, in other words
 use Prim.Native.Nat.{zero}
-use Rattle.std.proofs.Common.{suc, ◌≡◌, ◌<◌, ℕ, ◌^◌, ◌==◌, Bool, true, false, cond, List, [], ◌∷◌, length, get_or, Option, None, Some, Contains, fold, is_some, unwrap_or, ◌↔◌, refl, sym, ap, subst, ◌∙◌, arith}
+use Rattle.std.proofs.Common.{suc, ◌≡◌, ◌<◌, ℕ, Bool, false, List, [], ◌∷◌, length, get_or, Option, None, Some, Contains, fold, unwrap_or, ◌↔◌, refl, sym, ap, subst, ◌∙◌, arith}
 use Rattle.std.proofs.lemmas.Bool.{false≢true}
 use Rattle.std.specs.Ordering.{nat_cmp}
 use Rattle.std.specs.FinMap as map
@@ -8,18 +8,17 @@ use Rattle.mlt_types.specs.declared.cell.Cell.{Cell}
 use Rattle.mlt_types.specs.declared.cell.Cell.TheVariants.{Account, Element, Counter, Size}
 use Rattle.mlt_types.specs.Cells.{IsInRange, key_number}
 use Rattle.mlt_order.specs.Histories.{Entry, Lists, after_entries, after_entry, lists_of, no_lists}
-use Rattle.mlt_object_kinds.specs.Bases.{Base, account_at, counter_at, element_at, size_at, state_at}
+use Rattle.mlt_object_kinds.specs.Bases.{Base, element_at, size_at, state_at}
 use Rattle.mlt_object_kinds.specs.Cells.{CellState}
-use Rattle.mlt_object_kinds.specs.Cells.CellState.{AccountState, ElementState, CounterState, NoState}
+use Rattle.mlt_object_kinds.specs.Cells.CellState.{AccountState, ElementState, CounterState}
 use Rattle.mlt_object_kinds.specs.declared.operation.ObjOp.{ObjOp}
 use Rattle.mlt_object_kinds.specs.declared.operation.ObjReply.{ObjReply}
 use Rattle.mlt_object_kinds.proofs.Sizes.{size_below}
 use Rattle.mlt_object_base.specs.Meaning.{Means}
 use Rattle.mlt_object_base.specs.Records.{IsRecord, counter_of_record, state_of_record}
-use Rattle.mlt_trace.specs.Entries.{entries_of, entry_of}
+use Rattle.mlt_trace.specs.Entries.{entries_of}
 use Rattle.mlt_trace.specs.declared.item.TraceItem.{TraceItem}
 use Rattle.mlt_trace.specs.declared.item.TraceItem.TheVariants.{Begin, Op, Back, Commit, Abort}
-use Rattle.mlt_page.specs.Values.{BucketFields}
 use Rattle.mlt_page.specs.declared.page.Page.{Page}
 use Rattle.mlt_page.specs.declared.page.Page.TheVariants as page
 use Rattle.mlt_page.specs.declared.slot.Slot.{Slot}

@@ -1,11 +1,11 @@
 -- Events that are refused
-use Rattle.std.proofs.Common.{◌≡◌, ℕ, Result, Ok, Err, OnOk, OnErr, IfErr, refl, subst, sym}
+use Rattle.std.proofs.Common.{◌≡◌, ℕ, Result, Ok, Err, OnOk, refl, ◌∙◌}
 use Rattle.mlt_types.specs.declared.refusal.Refusal.{Refusal}
 use Rattle.mlt_types.specs.declared.refusal.Refusal.TheVariants as refusal
 use Rattle.mlt_object_kinds.specs.declared.operation.ObjOp.{ObjOp}
 use Rattle.mlt_tx_meaning.specs.Presences.{IsOpInRange}
-use Rattle.mlt_tx_open.specs.Tables.{CallsNone, CallsOne}
-use Rattle.mlt_manager.specs.Answers.{AnswersCall, ChangesOpen, IsNotIdle, MayCall}
+use Rattle.mlt_tx_open.specs.OpenAt.{TriesCall}
+use Rattle.mlt_manager.specs.Answers.{AnswersCall, ChangesOpen, IsNotIdle}
 use Rattle.mlt_manager.specs.Managers.{ManagerFields}
 
 -- what is so on Ok, where there is no error
@@ -19,10 +19,8 @@ not_called refusal.OutOfMemory m m' tx op same why = absurd why
 not_called refusal.LogFull m m' tx op same why = absurd why
 not_called other m m' tx op same why = (why, same)
 
--- one that is idle and may have one more operation is called, or there is no memory
-pub call_answers : {P : Type 0} (m m' : ManagerFields P) (tx : ℕ) (op : ObjOp) (r : Result (Unit {0}) Refusal) → MayCall m tx → IsOpInRange op
-    → OnOk r (CallsOne tx op m.txs m'.txs m.commons m'.commons) → OnErr r (CallsNone tx m.txs m'.txs m.commons m'.commons)
-    → IfErr r (λ reason. reason ≡ refusal.OutOfMemory) → ChangesOpen m m' → AnswersCall m m' tx op r
-call_answers m m' tx op (Ok done) may range calls none memory rest = record { may = may; in_range = range; calls = calls; rest = rest }
-call_answers m m' tx op (Err reason) may range calls none memory rest =
-    subst (λ r. AnswersCall m m' tx op (Err r)) (sym memory) (may, none, rest)
+-- what a try to call one answers is what the manager does
+pub call_answers : {P : Type 0} (m m' : ManagerFields P) (tx : ℕ) (op : ObjOp) (r : Result (Unit {0}) Refusal) → IsOpInRange op → TriesCall tx op m.max_ops m.txs m'.txs m.commons m'.commons r → ChangesOpen m m' → AnswersCall m m' tx op r
+call_answers m m' tx op (Ok done) range tried rest = record { may = tried.0; in_range = range; calls = tried.1; rest = rest }
+call_answers m m' tx op (Err refusal.OutOfMemory) range tried rest = (tried.0, tried.1, rest)
+call_answers m m' tx op (Err other) range tried rest = (tried.0, rest ∙ (λ i. record m { commons = tried.2 i; txs = tried.1 i }))

@@ -1,7 +1,6 @@
 -- A step keeps what is always true of a manager
 use Rattle.std.proofs.Common.{◌≡◌, ℕ, List, [], ◌∷◌, ◌++◌, Option, None, Some, refl, sym, ap, subst, ◌∙◌, arith}
 use Rattle.std.specs.FinMap as map
-use Rattle.std.specs.Ordering.{nat_cmp}
 use Rattle.mlt_page.specs.declared.page.Page.{Page}
 use Rattle.mlt_object_kinds.specs.Bases.{Base, Step}
 use Rattle.mlt_object_kinds.specs.declared.operation.ObjOp.{ObjOp}

@@ -18,6 +18,7 @@ use Rattle.mlt_tx.specs.declared.transaction.At.TheVariants as at
 use Rattle.mlt_tx.specs.declared.transaction.Transaction.{Transaction}
 use Rattle.mlt_tx.specs.Transactions.{IsPending}
 use Rattle.mlt_hash.specs.Walks.{basis_by}
+pub use Rattle.mlt_tx_open.specs.OpenAt.{IsBusy, IsCauseAtCallOf, IsCauseAtStep, IsIdle, IsIdleWith, IsNotIdle, IsNotOpen, IsOpenAt, IsUndoing, MayCallOne}
 use Rattle.mlt_tx_open.specs.Tables.{CallsNone, CallsOne, CancelsOne, PutsOneAt, StepsOne, Table}
 use Rattle.mlt_tx_meaning.specs.Presences.{IsOpInRange}
 use Rattle.mlt_manager.specs.Managers.{ManagerFields}
@@ -30,41 +31,11 @@ next_count events = min (events + 1) (2 ^ 64 - 1)
 abbrev pub counted : {P : Type 0} → ManagerFields P → ManagerFields P
 counted m = record m { events = next_count m.events }
 
--- what a transaction may be at
-abbrev pub IsIdle : At → Type 0
-IsIdle at.Idle = Unit {0}
-IsIdle other = ⊥
-
-abbrev pub IsUndoing : At → Type 0
-IsUndoing (at.Undoing inverting) = Unit {0}
-IsUndoing other = ⊥
-
-abbrev pub IsBusy : At → Type 0
-IsBusy at.Idle = ⊥
-IsBusy other = Unit {0}
-
 -- an operation or an inverse of it runs, and holds what pages it has locked
 abbrev pub IsRunning : At → Type 0
 IsRunning (at.Pending o) = Unit {0}
 IsRunning (at.Undoing (Some o)) = Unit {0}
 IsRunning other = ⊥
-
--- the transaction of this number is open, and this is so of what it is at
-pub record IsOpenAt (txs : Table) (tx : ℕ) (Is : At → Type 0) : Type 0 where
-  pub one : Transaction
-  pub there : map.get txs tx ≡ Some one
-  pub is_at : Is one.at
-
--- no transaction of this number is open
-abbrev pub IsNotOpen : Table → ℕ → Type 0
-IsNotOpen txs tx = map.get txs tx ≡ None
-
--- it is open and at nothing, and has done this many operations that stand
-pub record IsIdleWith (txs : Table) (tx count : ℕ) : Type 0 where
-  pub one : Transaction
-  pub there : map.get txs tx ≡ Some one
-  pub idle : one.at ≡ at.Idle
-  pub counts : length one.undo.entries ≡ count
 
 -- why no transaction begins: as many are open as may be; else all numbers are given out; else there is no memory
 abbrev pub IsCauseAtBegin : {P : Type 0} → Refusal → ManagerFields P → Type 0
@@ -99,21 +70,13 @@ abbrev pub AnswersBegin : {P : Type 0} → ManagerFields P → ManagerFields P �
 AnswersBegin old new (Ok tx) = HasBegun old new tx
 AnswersBegin old new (Err reason) = IsCauseAtBegin reason old × (new ≡ old)
 
--- why a transaction is not idle: there is none of this number; or its abort has begun; or an operation is pending
-abbrev pub IsNotIdle : Refusal → Table → ℕ → Type 0
-IsNotIdle refusal.NoSuchTx txs tx = IsNotOpen txs tx
-IsNotIdle refusal.Undoing txs tx = IsOpenAt txs tx IsUndoing
-IsNotIdle refusal.Running txs tx = IsOpenAt txs tx IsPending
-IsNotIdle other txs tx = ⊥
-
 -- it may be called: it is idle, and may have one more operation
 abbrev pub MayCall : {P : Type 0} → ManagerFields P → ℕ → Type 0
-MayCall m tx = (count : ℕ) × IsIdleWith m.txs tx count × (count < m.max_ops)
+MayCall m tx = MayCallOne m.txs tx m.max_ops
 
 -- why it is not called: it is not idle; or it has as many operations as it may have
 abbrev pub IsCauseAtCall : {P : Type 0} → Refusal → ManagerFields P → ℕ → Type 0
-IsCauseAtCall refusal.LogFull m tx = (count : ℕ) × IsIdleWith m.txs tx count × (m.max_ops ≤ count)
-IsCauseAtCall reason m tx = IsNotIdle reason m.txs tx
+IsCauseAtCall reason m tx = IsCauseAtCallOf reason m.txs tx m.max_ops
 
 -- one transaction and what all share have changed, and nothing else
 abbrev pub ChangesOpen : {P : Type 0} → ManagerFields P → ManagerFields P → Type 0
@@ -162,12 +125,6 @@ abbrev pub IsByAnother : Answer → Table → ℕ → Type 0
 IsByAnother (answer.Waiting page by) txs tx = (by ≢ tx) × IsOpenAt txs by IsRunning
 IsByAnother (answer.Blocked by) txs tx = (by ≢ tx) × IsSome (map.get txs by)
 IsByAnother other txs tx = Unit {0}
-
--- why it takes none: there is none of this number, or it is at nothing
-abbrev pub IsCauseAtStep : Refusal → Table → ℕ → Type 0
-IsCauseAtStep refusal.NoSuchTx txs tx = IsNotOpen txs tx
-IsCauseAtStep refusal.NotRunning txs tx = IsOpenAt txs tx IsIdle
-IsCauseAtStep other txs tx = ⊥
 
 -- A step answers what the transaction tells of it; or why there is none.
 abbrev pub AnswersStep : {P : Type 0} → (P → ℕ → ℕ) → ManagerFields P → ManagerFields P → ℕ

@@ -2,7 +2,7 @@
 
 ghost use Rattle.std.specs.Prelude.{◌≡◌, ◌≤◌, ◌+◌, ◌++◌, IfErr, IsOkUnless, IfOk, OnErr, OnOk, option_copied};
 ghost use Rattle.std.specs.FinMap as map;
-ghost use Rattle.mlt_manager.specs.Answers.{AnswersAbort, AnswersBegin, AnswersCall, AnswersCancel, AnswersCommit, AnswersStep, HasEnded, HasStepped, IsBusy, IsCauseAtCall, IsCauseAtCancel, IsCauseAtStep, IsIdleWith, IsNotIdle, IsOpenAt, IsUndoing, MayCall, counted};
+ghost use Rattle.mlt_manager.specs.Answers.{AnswersAbort, AnswersBegin, AnswersCall, AnswersCancel, AnswersCommit, AnswersStep, HasEnded, HasStepped, IsBusy, IsCauseAtCall, IsCauseAtCancel, IsIdleWith, IsNotIdle, IsOpenAt, IsUndoing, MayCall, counted, opens_after, txs_after};
 ghost use Rattle.mlt_manager.specs.Bases.{HasCleanPage, HasDepth};
 ghost use Rattle.mlt_manager.specs.HandingOut.{HandsOut};
 ghost use Rattle.mlt_manager.specs.Wholes.{AnswersWhole, RunsToEnd, StandsIn, StepsOnUpTo};
@@ -134,22 +134,6 @@ impl<P: Pseudo> Parts<P> {
         }
     }
 
-    /// That a transaction may take a step.
-    ///
-    /// # Errors
-    /// `NoSuchTx`, where it is not open; `NotRunning`, where it is at nothing.
-    fn busy(&self, tx: TxId) -> Result<(), Refusal>
-        ensures busy { OnOk result (IsOpenAt self.now.txs tx IsBusy) }
-        ensures refusal { IfErr result (λ reason. IsCauseAtStep reason self.now.txs tx) }
-    {
-        match self.stage(tx) {
-            Stage::NotOpen => Err(Refusal::NoSuchTx),
-            Stage::Idle(_) => Err(Refusal::NotRunning),
-            Stage::Pending => Ok(()),
-            Stage::Undoing => Ok(()),
-        }
-    }
-
     /// That a transaction has a pending operation.
     ///
     /// # Errors
@@ -246,23 +230,30 @@ impl<P: Pseudo> Parts<P> {
         Ok(())
     }
 
+    #[inline(always)]
     pub(crate) fn call(&mut self, tx: TxId, op: ObjOp) -> Result<(), Refusal>
         ensures answers { AnswersCall (fields_of self.old) (fields_of self.new) tx op result }
         ensures handed { self.new.commons.history.handed ≡ self.old.commons.history.handed }
     {
-        self.may_call(tx)?;
         operation_is_in_range(&op);
-        self.txs.call(tx, &mut self.commons, op)
+        let max_ops = self.limits.max_ops as usize;
+        self.txs.try_call(tx, &mut self.commons, op, max_ops)
     }
 
+    #[inline(always)]
     pub(crate) fn step(&mut self, tx: TxId) -> Result<Answer, Refusal>
         requires sound { IsManager P.bits_of (fields_of self.old) }
         ensures answers { AnswersStep P.bits_of (fields_of self.old) (fields_of self.new)
             tx result }
         ensures handed { self.new.commons.history.handed ≡ self.old.commons.history.handed }
     {
-        self.busy(tx)?;
-        Ok(self.step_open(tx))
+        let setting = Setting {
+            root: &self.root,
+            opens: &self.opens,
+        };
+        let answer = self.txs.try_step(tx, &mut self.commons, &setting)?;
+        leave_if_aborted(&mut self.txs, &mut self.opens, tx, &answer);
+        Ok(answer)
     }
 
     /// One step of a transaction that is not at nothing. One that is told `Aborted` is open no more.
@@ -277,10 +268,7 @@ impl<P: Pseudo> Parts<P> {
             opens: &self.opens,
         };
         let answer = self.txs.step(tx, &mut self.commons, &setting);
-        if let Answer::Aborted = answer {
-            self.txs.remove(tx);
-            self.opens.remove(tx);
-        }
+        leave_if_aborted(&mut self.txs, &mut self.opens, tx, &answer);
         answer
     }
 
@@ -429,5 +417,17 @@ impl<P: Pseudo> Parts<P> {
         self.commons.objects.release_all(tx);
         self.txs.remove(tx);
         self.opens.remove(tx);
+    }
+}
+
+/// A transaction that is told `Aborted` is open no more.
+#[inline(always)]
+fn leave_if_aborted(txs: &mut OpenTransactions, opens: &mut OpenSet, tx: TxId, told: &Answer)
+    ensures txs { txs.new ≡ txs_after told.now tx txs.old }
+    ensures opens { opens.new ≡ opens_after told.now tx opens.old }
+{
+    if let Answer::Aborted = told {
+        txs.remove(tx);
+        opens.remove(tx);
     }
 }

@@ -15,6 +15,7 @@ use mlt_trace::TraceItem;
 
 /// Ends an operation that was told its reply: asks for its object lock. Where that clashes, all is rolled back. It takes
 /// no memory.
+#[inline(always)]
 pub(crate) fn finish(
     done: Done,
     subtx: &mut Subtx,

@@ -22,6 +22,7 @@ use mlt_tx_operation::{Operation, StepAnswer};
 use mlt_types::{Pseudo, TxId};
 use std::alloc::Global;
 
+#[inline(always)]
 fn answer_of(told: StepAnswer) -> Answer
     ensures { result ≡ answer_of told }
 {
@@ -33,6 +34,7 @@ fn answer_of(told: StepAnswer) -> Answer
 }
 
 /// One step of a pending operation: of its walk, or its end. Where its end is blocked, it is to be run anew.
+#[inline(always)]
 pub(crate) fn step_on<P: Pseudo>(
     operation: &mut Operation,
     subtx: &mut Subtx,
@@ -48,17 +50,17 @@ pub(crate) fn step_on<P: Pseudo>(
         result }
     ensures handed { commons.new.history.handed ≡ commons.old.history.handed }
 {
-    match (operation.request(), operation.reply()) {
-        (_, None) => answer_of(operation.step(setting, subtx, &mut commons.pages)),
-        (Request::Do(op), Some(reply)) => {
-            let answer = finish(Done::new(op, reply), subtx, undo, commons);
-            if let Answer::Blocked { .. } = answer {
-                start_anew(operation, commons.alloc, op);
-            }
-            answer
-        }
-        (Request::TakeBack(_), Some(_)) => unreachable!(),
+    let Some(reply) = operation.reply() else {
+        return answer_of(operation.step(setting, subtx, &mut commons.pages));
+    };
+    let Request::Do(op) = operation.request() else {
+        unreachable!()
+    };
+    let answer = finish(Done::new(op, reply), subtx, undo, commons);
+    if let Answer::Blocked { .. } = answer {
+        start_anew(operation, commons.alloc, op);
     }
+    answer
 }
 
 /// Puts a pending operation back to its start. It stands apart, so that no room for an operation is cleared in a step that
@@ -91,6 +93,7 @@ fn take_back(tx: TxId, undo: &mut UndoList, commons: &mut Commons) -> Answer
 
 /// One step of an abort: of the inverse that runs, or its end; or the first step of the next one, of the last operation
 /// that stands. One without an inverse is taken back at once. It takes no memory.
+#[inline(never)]
 pub(crate) fn step_back<P: Pseudo>(
     inverting: &mut Option<Operation>,
     subtx: &mut Subtx,

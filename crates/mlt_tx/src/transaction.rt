@@ -71,6 +71,7 @@ impl Transaction {
     ///
     /// # Errors
     /// `OutOfMemory`, where a growth was refused; the transaction is then still at nothing.
+    #[inline(always)]
     pub fn call(&mut self, commons: &mut Commons, op: ObjOp) -> Result<(), Refusal>
         requires idle { self.old.at ≡ At.Idle }
         ensures calls { OnOk result (TellsOfCall op self.old self.new commons.old commons.new) }
@@ -87,6 +88,7 @@ impl Transaction {
     ///
     /// # Errors
     /// `OutOfMemory`, where a growth was refused.
+    #[inline(always)]
     pub(crate) fn make_room(&mut self, commons: &mut Commons, op: ObjOp) -> Result<(), Refusal>
         ensures room { OnOk result (HasRoomFor op self.old self.new commons.old commons.new) }
         ensures err { OnErr result (IsNotCalled self.old self.new commons.old commons.new) }
@@ -102,6 +104,7 @@ impl Transaction {
     /// One step of its pending operation, or of its abort. An operation that is done or refused is pending no more, and
     /// one that is refused gives up the room that it had in the history. A step of a first pass, or of an abort, takes no
     /// memory.
+    #[inline(always)]
     pub fn step<P: Pseudo>(&mut self, commons: &mut Commons, setting: &Setting<P>) -> Answer
         requires ready { MayStepIn (basis_in P.bits_of setting.now self.old.subtx.tx)
             self.old commons.old }
@@ -114,9 +117,9 @@ impl Transaction {
             At::Pending(operation) => {
                 let answer = step_on(operation, &mut self.subtx, &mut self.undo, commons, setting);
                 match answer {
-                    Answer::Done(_) => self.at = At::Idle,
+                    Answer::Done(_) => rest(&mut self.at),
                     Answer::Refused(_) => {
-                        self.at = At::Idle;
+                        rest(&mut self.at);
                         commons.history.release(2);
                     }
                     _ => {}
@@ -147,4 +150,12 @@ impl Transaction {
         self.at = At::Idle;
         commons.history.release(2);
     }
+}
+
+// Nothing is pending from now on. It stands apart, so that no room for an operation is cleared in a step that ends none.
+#[inline(never)]
+fn rest(at: &mut At)
+    ensures { at.new ≡ At.Idle }
+{
+    *at = At::Idle;
 }

@@ -2,3 +2,4 @@ pub mod AtOnce
 pub mod Images
 pub mod TakingBack
 pub mod TxSlots
+pub mod Trying

@@ -1,3 +1,4 @@
 pub mod Standing
 pub mod Tables
 pub mod TxSlots
+pub mod OpenAt

@@ -10,6 +10,7 @@ ghost use Rattle.mlt_hash.specs.Walks.{basis_in};
 ghost use Rattle.mlt_tx.specs.declared.transaction.Transaction.{Transaction as TransactionFields};
 ghost use Rattle.mlt_tx.specs.AtOnce.{MayCallAtOnce};
 ghost use Rattle.mlt_tx.specs.Transactions.{IsPending, MayStepIn};
+ghost use Rattle.mlt_tx_open.specs.OpenAt.{MayStepIfBusy, TriesCall, TriesStep};
 ghost use Rattle.mlt_tx_open.specs.Standing.{standing_in};
 ghost use Rattle.mlt_tx_open.specs.Tables.{BeginsOne, CallsNone, CallsOne, CallsOneAtOnce, CancelsOne, KeepsImage, KeepsNoImage, PutsOneAt, StepsOne};
 
@@ -134,21 +135,34 @@ impl OpenTransactions {
         }
     }
 
-    /// Calls the transaction of a number, which is open and at nothing, with an operation.
+    /// Calls the transaction of a number with an operation, if it has fewer than so many that stand. It is looked for once.
     ///
     /// # Errors
-    /// `OutOfMemory`, where a growth was refused; the transaction is then still at nothing.
-    pub fn call(&mut self, tx: TxId, commons: &mut Commons, op: ObjOp) -> Result<(), Refusal>
-        requires is_open { (t : TransactionFields) × (map.get self.old tx ≡ Some t)
-            × (t.at ≡ At.Idle) }
-        ensures calls { OnOk result (CallsOne tx op self.old self.new commons.old commons.new) }
-        ensures err { OnErr result (CallsNone tx self.old self.new commons.old commons.new) }
-        ensures refusal { IsOkUnless result Refusal.OutOfMemory }
+    /// `NoSuchTx`, where it is not open; `Undoing`, where its abort has begun; `Running`, where an operation is pending; `LogFull`,
+    /// where so many of its operations stand; else `OutOfMemory`, where a growth was refused: it is then still at nothing.
+    #[inline(always)]
+    pub fn try_call(
+        &mut self,
+        tx: TxId,
+        commons: &mut Commons,
+        op: ObjOp,
+        max_ops: usize,
+    ) -> Result<(), Refusal>
+        ensures tries { TriesCall tx op max_ops self.old self.new commons.old commons.new result }
         ensures handed { commons.new.history.handed ≡ commons.old.history.handed }
     {
         let Some(place) = slot_of(&self.slots, tx) else {
-            unreachable!()
+            return Err(Refusal::NoSuchTx);
         };
+        let transaction = &self.slots[place].transaction;
+        match transaction.at {
+            At::Idle => (),
+            At::Pending(_) => return Err(Refusal::Running),
+            At::Undoing(_) => return Err(Refusal::Undoing),
+        }
+        if transaction.undo.len() >= max_ops {
+            return Err(Refusal::LogFull);
+        }
         self.slots[place].transaction.call(commons, op)
     }
 
@@ -197,6 +211,31 @@ impl OpenTransactions {
             Some(place) => self.slots[place].transaction.step(commons, setting),
             None => unreachable!(),
         }
+    }
+
+    /// One step of the transaction of a number. It is looked for once.
+    ///
+    /// # Errors
+    /// `NoSuchTx`, where it is not open; `NotRunning`, where it is at nothing. Then nothing has changed.
+    #[inline(always)]
+    pub fn try_step<P: Pseudo>(
+        &mut self,
+        tx: TxId,
+        commons: &mut Commons,
+        setting: &Setting<P>,
+    ) -> Result<Answer, Refusal>
+        requires may { MayStepIfBusy (basis_in P.bits_of setting.now) tx self.old commons.old }
+        ensures tries { TriesStep (basis_in P.bits_of setting.now) tx self.old self.new
+            commons.old commons.new result }
+        ensures handed { commons.new.history.handed ≡ commons.old.history.handed }
+    {
+        let Some(place) = slot_of(&self.slots, tx) else {
+            return Err(Refusal::NoSuchTx);
+        };
+        if let At::Idle = self.slots[place].transaction.at {
+            return Err(Refusal::NotRunning);
+        }
+        Ok(self.slots[place].transaction.step(commons, setting))
     }
 
     /// Drops the pending operation of the transaction of a number, which is open and has one. It takes no memory.

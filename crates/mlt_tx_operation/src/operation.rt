@@ -39,6 +39,7 @@ impl Model for Operation {
 
 impl Operation {
     /// An operation that has taken no step. Only a pass that splits a bucket takes memory, or writes a third page.
+    #[inline(always)]
     pub fn start(alloc: Global, request: Request) -> Operation
         ensures { result ≡ started_for request }
     {
@@ -56,6 +57,7 @@ impl Operation {
     }
 
     /// What it is asked to do.
+    #[inline(always)]
     pub fn request(&self) -> Request
         ensures { result ≡ self.now.request }
     {
@@ -63,6 +65,7 @@ impl Operation {
     }
 
     /// What it is told, once all that it changes is written, so that its next step is its end.
+    #[inline(always)]
     pub fn reply(&self) -> Option<ObjReply>
         ensures { result ≡ self.now.reply }
     {
@@ -72,6 +75,7 @@ impl Operation {
     /// One step, up to the one before its end: of its walk to its record, or on its way to two.
     ///
     /// It takes memory in a later pass than the first alone. Where it is refused all is rolled back.
+    #[inline(always)]
     pub fn step<P: Pseudo>(
         &mut self,
         setting: &Setting<P>,

@@ -17,6 +17,7 @@ use mlt_page_subtx::Subtx;
 use mlt_types::{Pseudo, Value};
 
 /// Makes a change of the record that the walk has found with this value, or not found. Only an addition may lack room.
+#[inline(always)]
 pub(crate) fn perform<P: Pseudo>(
     walk: &mut Walk,
     decided: RecChange,

@@ -20,6 +20,7 @@ use mlt_types::{Pseudo, Value};
 /// One step of an operation on one record, up to the one before its end: on the way to its bucket it locks a page and reads
 /// it. At the bucket it learns what it is told, and makes its change there. Where there is no room, the pass is rolled back
 /// and another begins, which splits the bucket, one page a step.
+#[inline(always)]
 pub(crate) fn step_walk<P: Pseudo>(
     walk: &mut Walk,
     request: &Request,
@@ -53,6 +54,7 @@ pub(crate) fn step_walk<P: Pseudo>(
 }
 
 /// At the bucket, where the key has this value, or none.
+#[inline(always)]
 fn act_on<P: Pseudo>(
     walk: &mut Walk,
     request: &Request,

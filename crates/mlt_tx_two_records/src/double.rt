@@ -63,6 +63,7 @@ impl Double {
     /// Where one of them has no room the pass is rolled back, and a wide one begins, which splits buckets, one page a step.
     ///
     /// It takes memory in a wide pass alone. Where it is refused all is rolled back.
+    #[inline(never)]
     pub fn step<P: Pseudo>(
         &mut self,
         alloc: Global,

@@ -1,4 +1,4 @@
-use Rattle.std.proofs.Common.{refl, sym, ap, subst}
+use Rattle.std.proofs.Common.{refl, sym, ap, subst, ◌∙◌}
 use Rattle.mlt_hash.specs.Walks.{Basis, basis_in}
 use Rattle.mlt_event.specs.declared.answer.Answer.{Answer}
 use Rattle.mlt_tx.specs.declared.commons.Commons.{Commons}
@@ -13,13 +13,13 @@ pub returns-in-Done-clause-tells : goal.returns-in-Done-clause-tells
 returns-in-Done-clause-tells g c =
     let basis : Basis = basis_in g.P.Pseudo.bits_of c.args.setting.now c.args.self.now.subtx.tx in
     let told : Answer = c.step_on-answer.result in
-    let after : Transaction = record { subtx = c.step_on-answer.new.subtx; undo = c.step_on-answer.new.undo; at = at.Idle } in
+    let after : Transaction = record { subtx = c.step_on-answer.new.subtx; undo = c.step_on-answer.new.undo; at = c.rest.new.at } in
     let new : Commons = c.step_on-answer.new.commons in
     subst (λ (a : At). TellsAt a basis c.args.self.now after c.args.commons.now new told) (sym c.in-Pending.is) (record {
       next = c.step_on-answer.new.operation;
       between = new;
       tells = c.step_on-answer.ensures.tells;
-      now_at = sym (ap (λ (r : Answer). pending_after r c.step_on-answer.new.operation) c.in-Done.is);
+      now_at = c.rest.ensures ∙ sym (ap (λ (r : Answer). pending_after r c.step_on-answer.new.operation) c.in-Done.is);
       leaves = subst (λ (r : Answer). LeavesRoom r new new) (sym c.in-Done.is) refl;
     })
 
@@ -27,14 +27,14 @@ pub returns-in-Refused-clause-tells : goal.returns-in-Refused-clause-tells
 returns-in-Refused-clause-tells g c =
     let basis : Basis = basis_in g.P.Pseudo.bits_of c.args.setting.now c.args.self.now.subtx.tx in
     let told : Answer = c.step_on-answer.result in
-    let after : Transaction = record { subtx = c.step_on-answer.new.subtx; undo = c.step_on-answer.new.undo; at = at.Idle } in
+    let after : Transaction = record { subtx = c.step_on-answer.new.subtx; undo = c.step_on-answer.new.undo; at = c.rest-in-Refused.new.at } in
     let between : Commons = c.step_on-answer.new.commons in
     let new : Commons = record { alloc = between.alloc; pages = between.pages; objects = between.objects; history = c.release.new.self } in
     subst (λ (a : At). TellsAt a basis c.args.self.now after c.args.commons.now new told) (sym c.in-Pending.is) (record {
       next = c.step_on-answer.new.operation;
       between = between;
       tells = c.step_on-answer.ensures.tells;
-      now_at = sym (ap (λ (r : Answer). pending_after r c.step_on-answer.new.operation) c.in-Refused.is);
+      now_at = c.rest-in-Refused.ensures ∙ sym (ap (λ (r : Answer). pending_after r c.step_on-answer.new.operation) c.in-Refused.is);
       leaves = subst (λ (r : Answer). LeavesRoom r between new) (sym c.in-Refused.is) (record { pages = refl; objects = refl; items = c.release.ensures.items; room = c.release.ensures.room });
     })
 

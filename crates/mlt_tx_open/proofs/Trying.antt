@@ -1,0 +1,47 @@
+-- What a try to step or to call the transaction of a number answers
+use Rattle.std.proofs.Common.{◌≡◌, ℕ, Some, None, Result, Ok, Err, OnOk, OnErr, IfErr, length, get_or, List, refl, sym, ap, subst, ◌∙◌}
+use Rattle.std.specs.Prelude.{position}
+use Rattle.std.specs.FinMap as map
+use Rattle.mlt_types.specs.declared.refusal.Refusal.{Refusal}
+use Rattle.mlt_types.specs.declared.refusal.Refusal.TheVariants as refusal
+use Rattle.mlt_object_kinds.specs.declared.operation.ObjOp.{ObjOp}
+use Rattle.mlt_tx.specs.declared.commons.Commons.{Commons}
+use Rattle.mlt_tx.specs.declared.transaction.At.{At}
+use Rattle.mlt_tx.specs.declared.transaction.At.TheVariants as at
+use Rattle.mlt_tx.specs.declared.transaction.Transaction.{Transaction}
+use Rattle.mlt_tx_open.specs.declared.tx_slot.TxSlot.{TxSlot}
+use Rattle.mlt_tx_open.specs.Tables.{CallsNone, CallsOne, Table}
+use Rattle.mlt_tx_open.specs.OpenAt.{IsBusy, IsIdleWith, IsNotOpen, IsOpenAt, MayCallOne, TriesCall}
+use Rattle.mlt_tx_open.specs.TxSlots.{is_slot_of, table_of}
+use Rattle.mlt_tx_open.proofs.TxSlots.{none_sits, who_sits}
+
+-- what is not idle is busy
+pub busy_unless_idle : (a : At) → (a ≡ at.Idle → ⊥) → IsBusy a
+busy_unless_idle at.Idle not = absurd (not refl)
+busy_unless_idle (at.Pending o) not = tt
+busy_unless_idle (at.Undoing inverting) not = tt
+
+-- where no slot was found, it is not open
+pub not_found : (slots looked : List TxSlot) (table : Table) (tx : ℕ) → table_of slots ≡ table → looked ≡ slots → None ≡ position (is_slot_of tx) looked → IsNotOpen table tx
+not_found slots looked table tx view look none = ap (λ (t : Table). map.get t tx) (sym view) ∙ none_sits slots looked tx look none
+
+-- else it is who lies there
+module _ (slots looked : List TxSlot) (table : Table) (tx i : ℕ) (slot : TxSlot) (one : Transaction) (view : table_of slots ≡ table) (look : looked ≡ slots) (place : Some i ≡ position (is_slot_of tx) looked) (is : slot ≡ get_or slots i slot) (boxed : one ≡ slot.transaction.value) where
+  pub found_there : map.get table tx ≡ Some one
+  found_there =
+      ap (λ (t : Table). map.get t tx) (sym view) ∙ who_sits slots looked tx i slot look place ∙ ap (λ (s : TxSlot). Some s.transaction.value) (sym is) ∙ ap Some (sym boxed)
+
+  pub found_at : (where_at : At) (Is : At → Type 0) → one.at ≡ where_at → Is where_at → IsOpenAt table tx Is
+  found_at where_at Is at_it fits = record { one = one; there = found_there; is_at = subst Is (sym at_it) fits }
+
+  -- looked at twice
+  pub found_idle : (again : Transaction) (count : ℕ) → again ≡ slot.transaction.value → one.at ≡ at.Idle → count ≡ length again.undo.entries → IsIdleWith table tx count
+  found_idle again count boxed_again idle counts =
+      record { one = one; there = found_there; idle = idle; counts = ap (λ (t : Transaction). length t.undo.entries) (boxed ∙ sym boxed_again) ∙ sym counts }
+
+-- one that may be called is called, or there is no memory
+pub call_tried : (tx : ℕ) (op : ObjOp) (max_ops : ℕ) (old new : Table) (commons commons' : Commons) (r : Result (Unit {0}) Refusal) → MayCallOne old tx max_ops
+    → OnOk r (CallsOne tx op old new commons commons') → OnErr r (CallsNone tx old new commons commons') → IfErr r (λ reason. reason ≡ refusal.OutOfMemory) → TriesCall tx op max_ops old new commons commons' r
+call_tried tx op max_ops old new commons commons' (Ok done) may calls none memory = (may, calls)
+call_tried tx op max_ops old new commons commons' (Err reason) may calls none memory =
+    subst (λ r. TriesCall tx op max_ops old new commons commons' (Err r)) (sym memory) (may, none)
