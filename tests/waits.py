@@ -41,6 +41,20 @@ def work_of_others_costs_no_try(mltx):
         expect(server.end(), out="served 23\n")
 
 
+@test
+def session_has_its_tries_for_each_operation(mltx):
+    """With two tries one transaction waits in each of three operations: a wait leaves it one try, by which it would not wait again."""
+    with mltx.serve("--tries", 2, limit=2) as server:
+        with server.connect() as holder, server.connect() as waiter:
+            same(waiter.ask("begin"), "begun 1")
+            for number in (1, 2, 3):
+                same([holder.ask("begin"), holder.ask(f"up {number} 1")], [f"begun {number + 1}", "done"])
+                waiter.send(f"read {number}\n")
+                says_nothing(waiter, "the counter is held")
+                same([holder.ask("commit"), waiter.line()], [f"committed {number}", "is 1"])
+        expect(server.end(), out="served 2\n")
+
+
 @test(seconds=1)
 def session_that_waits_uses_no_processor(mltx):
     with mltx.serve(limit=2) as server:
@@ -58,14 +72,14 @@ def session_that_waits_uses_no_processor(mltx):
 
 
 def long(line):
-    """The line with so many spaces behind it that a session which reads it does not go on at once, but comes to its turn."""
-    return f"{line:<64}"
+    """The line behind so many blank ones that a session which reads them does not go on at once, but comes to its turn."""
+    return (" " * 99 + "\n") * 6 + line
 
 
 @test(seconds=1)
 def sessions_that_wait_keep_nobody_from_work(mltx):
-    """Four are blocked, four have said half a line, and four take no answers; meanwhile another one commits. All lines are so
-    long that who sends one has to queue."""
+    """Four are blocked, four have said half a line, and four take no answers; meanwhile another one commits. All send so
+    much that who does so has to queue."""
     with mltx.serve("--sessions", 14, limit=14) as server, server.connect() as holder, server.connect() as worker:
         same([holder.ask("begin"), holder.ask("up 1 1")], ["begun 1", "done"])
         blocked, halted, deaf = ([server.connect() for _ in range(4)] for _ in range(3))

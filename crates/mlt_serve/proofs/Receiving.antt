@@ -7,6 +7,7 @@ use Rattle.mlt_types.specs.declared.refusal.Refusal.TheVariants as refusal
 use Rattle.mlt_trace.specs.declared.item.TraceItem.{TraceItem}
 use Rattle.mlt_script_cursor.specs.Calls.{Moves}
 use Rattle.mlt_work_log.specs.Prefixes.{StartsWith}
+use Rattle.mlt_work_desk.specs.Holds.{DeskView}
 use Rattle.mlt_serve_session.specs.Talks.{Turn}
 use Rattle.mlt_serve_session.specs.Outcomes.{begins_by, begun_in, call_of, outcome_if, outcome_behind, outcomes_of}
 use Rattle.mlt_serve_session.specs.Sessions.{BrokenOff, HeardAll, Scene, SpokenLong, Summed}
@@ -24,18 +25,18 @@ all_of_client client begun (t ∷ ts) =
     All-append (IsOf client) (outcome_if client (begun + 1) (begun_in (call_of t) t.answer) ts) (outcomes_of client (begun + begins_by t.answer) ts)
     (one_of_client client (begun + 1) (begun_in (call_of t) t.answer) ts) (all_of_client client (begun + begins_by t.answer) ts)
 
-module _ {P D S : Type 0} (bits_of : P → ℕ → ℕ) (seen : D → List TraceItem) (client : ℕ) (old new : Scene D) (lines commits : S → ℕ) where
+module _ {P D S : Type 0} (bits_of : P → ℕ → ℕ) (view : D → DeskView) (client : ℕ) (old new : Scene D) (lines commits : S → ℕ) where
   abbrev moves : Moves D
-  moves = moves_of bits_of seen
+  moves = moves_of bits_of view
 
   abbrev items : List TraceItem
-  items = seen new.desk
+  items = (view new.desk).history
 
   long_grows : SpokenLong moves client old new → GrowsFor items client old.outcomes new.outcomes
-  long_grows spoken = record { more = outcomes_of client 0 spoken.spoken.turns; appended = spoken.spoken.noted; of_client = all_of_client client 0 spoken.spoken.turns; told = all_told bits_of seen new.desk _ spoken.spoken.gave }
+  long_grows spoken = record { more = outcomes_of client 0 spoken.spoken.turns; appended = spoken.spoken.noted; of_client = all_of_client client 0 spoken.spoken.turns; told = all_told bits_of view new.desk _ spoken.spoken.gave }
 
   off_grows : BrokenOff moves client old new → GrowsFor items client old.outcomes new.outcomes
-  off_grows off = record { more = outcomes_of client 0 off.heard; appended = off.noted; of_client = all_of_client client 0 off.heard; told = all_told bits_of seen new.desk _ off.gave }
+  off_grows off = record { more = outcomes_of client 0 off.heard; appended = off.noted; of_client = all_of_client client 0 off.heard; told = all_told bits_of view new.desk _ off.gave }
 
   -- however a session ends, it adds outcomes of its client alone
   pub grows : (result : Result S Refusal) → IfOk result (λ s. Summed moves client old new (lines s) (commits s))
@@ -44,7 +45,7 @@ module _ {P D S : Type 0} (bits_of : P → ℕ → ℕ) (seen : D → List Trace
       → (result ≡ Err refusal.OutOfMemory → BrokenOff moves client old new)
       → IfErr result (λ r. (r ≡ refusal.LineTooLong) ⊎ (r ≡ refusal.OutOfMemory) ⊎ (r ≡ refusal.Io))
       → GrowsFor items client old.outcomes new.outcomes
-  grows (Ok s) ok long io memory why = record { more = outcomes_of client 0 ok.spoken.turns; appended = ok.spoken.noted; of_client = all_of_client client 0 ok.spoken.turns; told = all_told bits_of seen new.desk _ ok.spoken.gave }
+  grows (Ok s) ok long io memory why = record { more = outcomes_of client 0 ok.spoken.turns; appended = ok.spoken.noted; of_client = all_of_client client 0 ok.spoken.turns; told = all_told bits_of view new.desk _ ok.spoken.gave }
   grows (Err r) ok long io memory (inl e) = long_grows (long (ap (λ (x : Refusal). Err x) e))
   grows (Err r) ok long io memory (inr (inl e)) = off_grows (memory (ap (λ (x : Refusal). Err x) e))
   grows (Err r) ok long io memory (inr (inr e)) = off_grows (io (ap (λ (x : Refusal). Err x) e)).off
@@ -55,8 +56,8 @@ module _ {P D S : Type 0} (bits_of : P → ℕ → ℕ) (seen : D → List Trace
       → (result ≡ Err refusal.Io → HeardAll moves client old new)
       → (result ≡ Err refusal.OutOfMemory → BrokenOff moves client old new)
       → IfErr result (λ r. (r ≡ refusal.LineTooLong) ⊎ (r ≡ refusal.OutOfMemory) ⊎ (r ≡ refusal.Io))
-      → StartsWith items (seen old.desk)
-  sees_on (Ok s) ok long io memory why = run_more bits_of seen old.desk _ _ new.desk ok.spoken.asked
-  sees_on (Err r) ok long io memory (inl e) = run_more bits_of seen old.desk _ _ new.desk (long (ap (λ (x : Refusal). Err x) e)).spoken.asked
-  sees_on (Err r) ok long io memory (inr (inl e)) = run_more bits_of seen old.desk _ _ new.desk (memory (ap (λ (x : Refusal). Err x) e)).asked
-  sees_on (Err r) ok long io memory (inr (inr e)) = run_more bits_of seen old.desk _ _ new.desk (io (ap (λ (x : Refusal). Err x) e)).off.asked
+      → StartsWith items (view old.desk).history
+  sees_on (Ok s) ok long io memory why = run_more bits_of view old.desk _ _ new.desk ok.spoken.asked
+  sees_on (Err r) ok long io memory (inl e) = run_more bits_of view old.desk _ _ new.desk (long (ap (λ (x : Refusal). Err x) e)).spoken.asked
+  sees_on (Err r) ok long io memory (inr (inl e)) = run_more bits_of view old.desk _ _ new.desk (memory (ap (λ (x : Refusal). Err x) e)).asked
+  sees_on (Err r) ok long io memory (inr (inr e)) = run_more bits_of view old.desk _ _ new.desk (io (ap (λ (x : Refusal). Err x) e)).off.asked

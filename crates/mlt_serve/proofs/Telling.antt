@@ -19,43 +19,48 @@ use Rattle.mlt_serve_session.specs.Desks.{Answers}
 use Rattle.mlt_serve_session.specs.Given.{Gave, GaveAll, GaveEnd, GaveReply}
 use Rattle.mlt_work_log.specs.Prefixes.{StartsWith}
 use Rattle.mlt_work_desk.specs.Holds as desk
+use Rattle.mlt_work_desk.specs.Holds.{DeskView}
 use Rattle.mlt_work_desk.proofs.Seeing.{more_than, no_more}
 use Rattle.mlt_serve.specs.Clients.{GrowsFor}
 use Rattle.mlt_serve.specs.Tellings.{TellsAll, TellsEnd, TellsOutcome, TellsOutcomes, TellsReply}
 
-module _ {D P : Type 0} (bits_of : P → ℕ → ℕ) (seen : D → List TraceItem) where
+module _ {D P : Type 0} (bits_of : P → ℕ → ℕ) (view : D → DeskView) where
   -- how a desk over a lock moves, by what it has seen of the history
   abbrev pub moves_of : Moves D
-  moves_of old call given new = desk.Answers bits_of (seen old) call given (seen new)
+  moves_of old call given new = desk.Answers bits_of (view old) call given (view new)
+
+  -- what it has seen
+  abbrev pub seen : D → List TraceItem
+  seen d = (view d).history
 
   -- it has seen what it had seen
   pub run_more : (old : D) (calls : List DeskCall) (answers : List DeskAnswer) (new : D) → Answers moves_of old calls answers new → StartsWith (seen new) (seen old)
   run_more old [] [] new same = no_more (seen old) (seen new) (ap seen same)
   run_more old (c ∷ calls) (a ∷ answers) new (mid, moved, rest) =
-      more_than (seen old) (seen mid) (seen new) (run_more mid calls answers new rest) (moved.1.1.more, moved.1.1.whole)
+      more_than (seen old) (seen mid) (seen new) (run_more mid calls answers new rest) (moved.1.sees.more, moved.1.sees.whole)
   run_more old [] (a ∷ answers) new none = absurd none
   run_more old (c ∷ calls) [] new none = absurd none
 
   module _ (last : D) where
     -- what it saw by an answer it has seen at last
-    contains_last : (c : DeskCall) (a : DeskAnswer) (gave : Gave moves_of last c a) (item : TraceItem) → Contains gave.moved.1.more item → Contains (seen last) item
+    contains_last : (c : DeskCall) (a : DeskAnswer) (gave : Gave moves_of last c a) (item : TraceItem) → Contains gave.moved.sees.more item → Contains (seen last) item
     contains_last c a gave item have =
-        let sees = gave.moved.1 in
+        let sees = gave.moved.sees in
         let more = run_more gave.after gave.leads.calls gave.leads.answers last gave.leads.run in
         let here = subst (λ xs. Contains xs item) (sym sees.whole) (Contains-append_right (seen gave.before) sees.more item have) in
         subst (λ xs. Contains xs item) (sym more.1) (Contains-append_left (seen gave.after) more.0 item here)
 
     reply_told : (tx : ℕ) (done : ObjOp × ObjReply) → GaveReply moves_of last tx done → TellsReply (seen last) tx done
-    reply_told tx done gave = contains_last _ _ gave (trace.Op tx done) gave.moved.1.have
+    reply_told tx done gave = contains_last _ _ gave (trace.Op tx done) gave.moved.sees.have
 
     end_told : (tx : ℕ) (e : End) → GaveEnd moves_of last tx e → TellsEnd (seen last) tx e
-    end_told tx (end.Committed n) gave = contains_last _ _ gave (trace.Commit tx n) gave.moved.1.have
+    end_told tx (end.Committed n) gave = contains_last _ _ gave (trace.Commit tx n) gave.moved.sees.have
     end_told tx end.Aborted gave = tt
     end_told tx (end.Refused r) gave = tt
 
     outcome_told : (o : Outcome) → GaveAll moves_of last o → TellsOutcome (seen last) o
     outcome_told o gave = merely (record {
-      begun = contains_last _ _ gave.begun (trace.Begin o.tx) gave.begun.moved.1.have;
+      begun = contains_last _ _ gave.begun (trace.Begin o.tx) gave.begun.moved.sees.have;
       replies = All-weaker (GaveReply moves_of last o.tx) (TellsReply (seen last) o.tx) (reply_told o.tx) o.done gave.replies;
       end = end_told o.tx o.end gave.end;
     })

@@ -113,12 +113,20 @@ impl<R: Wait + Clock> Gate for Admission<'_, R> {
         self.sitting.deadlock();
     }
 
-    fn give_up(&self, _client: u32) {
-        self.sitting.give_up();
-        self.restarts.give_up();
-    }
-
+    #[inline(always)]
     fn pause(&self, _client: u32, told: &Told) {
+        if let Told::Answered(Answer::Going) = told {
+            self.events.set(self.events.get().saturating_add(1));
+        } else {
+            self.pause_between(told);
+        }
+    }
+}
+
+impl<R: Wait + Clock> Admission<'_, R> {
+    /// The event was told something else than that its step goes on.
+    #[inline(never)]
+    fn pause_between(&self, told: &Told) {
         self.sitting.note(told);
         self.restarts.note(told);
         let events = self.events.get().saturating_add(1);
@@ -134,8 +142,9 @@ impl<R: Wait + Clock> Gate for Admission<'_, R> {
 }
 
 // Whether one that was told this, and is not to wait, is in no operation, so that nobody waits for its pages.
+#[inline(always)]
 fn holds_no_page(told: &Told) -> bool {
-    !matches!(told, Told::Answered(Answer::Going))
+    !matches!(told, Told::Called | Told::Answered(Answer::Going))
 }
 
 /// A connection whose reads and writes wait outside.

@@ -79,14 +79,10 @@ impl<'a> Restarts<'a> {
         self.is_restarted.set(true);
     }
 
-    /// An operation of the open transaction gave up.
-    pub(crate) fn give_up(&self) {
-        self.gave_up.set(true);
-    }
-
     /// The session's event was told this.
     pub(crate) fn note(&self, told: &Told) {
         match told {
+            Told::Cancelled => self.gave_up.set(true),
             Told::Committed(_) => {
                 self.gave_up.set(false);
                 self.end();

@@ -1,18 +1,19 @@
 //! What may be tuned. Beside each stands the group of `bench/run` that shows what it does.
 
-/// How many sessions are admitted at a time. While one has the lock over the manager, the other reads its lines or makes its
-/// answers. Measured by `hot`: with one 8 sessions did a quarter less, and with all a seventh.
-pub(crate) const MOST_ADMITTED: u64 = 2;
+/// How many sessions are admitted at a time. Measured by `connections`, 64 with a transaction a write: with two they did a tenth less, and
+/// with four no more.
+pub(crate) const MOST_ADMITTED: u64 = 3;
 
 /// How many of those that come next are awake: to wake a thread takes as long as one that is admitted is at work. By `hot`.
 pub(crate) const MOST_AWAKE: u64 = 1;
 
-/// How many sessions bypass the queue at a time. Measured by `connections`: with no queue the slowest of 64 took half as long again.
-pub(crate) const MOST_BYPASSING: u64 = 4;
+/// How many sessions bypass the queue at a time. Measured by `connections`, 64 with a transaction a write: with two the slowest hundredth
+/// waited a third longer, and with four twice as long, since who bypasses goes before those who queue.
+pub(crate) const MOST_BYPASSING: u64 = 1;
 
-/// With how many bytes a session bypasses the queue at most: a line or two, which take about a microsecond. To queue for them would
-/// take longer. By `connections`, line by line.
-pub(crate) const MOST_BYPASSING_BYTES: usize = 24;
+/// With how many bytes a session bypasses the queue at most: a transaction of some ten lines. To queue puts a thread to sleep and
+/// wakes it, which takes longer than such a transaction. By `connections`.
+pub(crate) const MOST_BYPASSING_BYTES: usize = 512;
 
 /// After how many events, which take some 30 microseconds, a session goes to the end of the queue: so one with many lines does not
 /// keep the others waiting. By `serve`.

@@ -66,17 +66,11 @@ impl<'a, R: Wait + Clock> Sitting<'a, R> {
         self.tallies.deadlocks.add_one();
     }
 
-    /// Its operation was given up.
-    pub fn give_up(&self) {
-        self.end_wait();
-        self.tallies.gave_up.add_one();
-    }
-
     /// An event of it was told this.
     #[inline(always)]
     pub fn note(&self, told: &Told) {
         match told {
-            Told::Answered(Answer::Going) => (),
+            Told::Called | Told::Answered(Answer::Going) => (),
             Told::Answered(Answer::Waiting { .. } | Answer::Blocked { .. }) => {
                 self.wait(Awaits::Lock)
             }
@@ -90,6 +84,7 @@ impl<'a, R: Wait + Clock> Sitting<'a, R> {
         self.end_wait();
         match told {
             Told::Begun(tx) => self.begin(*tx),
+            Told::Cancelled => self.tallies.gave_up.add_one(),
             Told::Committed(_) => {
                 self.tallies.commits.add_one();
                 self.end();

@@ -4,6 +4,7 @@ ghost use Rattle.std.specs.Prelude.{◌≡◌, Some, true};
 ghost use Rattle.mlt_work_log.specs.Seats.{id_of};
 ghost use Rattle.mlt_work_desk.specs.Makings.{making_of};
 
+use crate::gates::EventCounter;
 use crate::sessions::{LINES, OF_LINES};
 use crate::talks::{Talk, Wanted, WantedOutcome, talk_at};
 use mlt_manager::Manager;
@@ -12,7 +13,7 @@ use mlt_script_serial::End;
 use mlt_test_tools::{FaultyReader, FaultyWriter, same};
 use mlt_trace_audit::audit;
 use mlt_types::{Limits, Mult, Refusal};
-use mlt_work_desk::{BlankRecords, LockDesk, LockedState, MadeWith, NoGate, Shared, Tries};
+use mlt_work_desk::{BlankRecords, LockDesk, LockedState, MadeWith, Shared, Tries};
 use std::alloc::Global;
 use std::io::ErrorKind;
 use std::marker::Brand;
@@ -60,14 +61,21 @@ fn begins(manager: &mut Manager<Mult>, ops: &[ObjOp]) -> Result<(), Refusal> {
     Ok(())
 }
 
-// What came of a session at a desk over this manager, and the manager.
+// The events of a desk, and those that its gate was told of.
+#[derive(Drop)]
+struct Events {
+    made: u64,
+    told: u64,
+}
+
+// What came of a session at a desk over this manager, the manager, and the events.
 fn talk_over<L: MadeWith<Mult>>(
     rt: &impl Wait,
     alloc: Global,
     records: BlankRecords,
     manager: Manager<Mult>,
     reader: FaultyReader,
-) -> (Talk, Manager<Mult>)
+) -> (Talk, Manager<Mult>, Events)
     requires name { records.blank.name ≡ L.name }
     requires parts { records.blank.parts ≡ L.parts }
     requires log { id_of records.log ≡ L.log_id }
@@ -80,11 +88,13 @@ fn talk_over<L: MadeWith<Mult>>(
     let share = all.split_off(1, 0);
     let state = LockedState::of(manager, book, &mut all, &log, writer);
     let shared = Shared::new(log, state);
-    let mut desk = LockDesk::new(rt, &shared, &NoGate, share, Tries::PerOperation(3));
+    let gate = EventCounter::new();
+    let mut desk = LockDesk::new(rt, &shared, &gate, share, Tries::PerOperation(3));
     let talk = talk_at(alloc, &mut desk, reader, FaultyWriter::new(alloc));
-    let (share, _events, _snapshot) = desk.close();
+    let (share, made, _snapshot) = desk.close();
     all.merge(share);
-    (talk, shared.close(&mut all))
+    let told = gate.count();
+    (talk, shared.close(&mut all), Events { made, told })
 }
 
 // The same, with blank records of any name.
@@ -94,7 +104,7 @@ fn talk_over_manager(
     records: BlankRecords,
     manager: Manager<Mult>,
     reader: FaultyReader,
-) -> (Talk, Manager<Mult>)
+) -> (Talk, Manager<Mult>, Events)
     requires two { records.blank.parts ≡ 2 }
 {
     talk_over::<Brand>(rt, alloc, records, manager, reader)
@@ -120,10 +130,12 @@ fn are_over_managers(rt: &impl Wait, alloc: Global, sessions: &[Session]) -> Res
         let manager = manager_of(alloc, limits, session.beside)?;
         let reader = FaultyReader::of_pieces(session.input, 7);
         let reader = reader.failing(session.reads, ErrorKind::Interrupted);
-        let (talk, manager) = talk_over_manager(rt, alloc, records, manager, reader);
+        let (talk, manager, events) = talk_over_manager(rt, alloc, records, manager, reader);
         let result = is(alloc, &talk, &manager, session);
         manager.close();
         result?;
+        // The gate is told of each event, of the steps of an abort too.
+        same(&events.told, &events.made)?;
     }
     Ok(())
 }

@@ -3,7 +3,8 @@
 ghost use Rattle.std.specs.Prelude.{◌≤◌, ◌<◌};
 
 use crate::gates::{
-    Latch, SecondBeginsBeside, SecondCommits, SecondMeetsLock, TwoCrossBesideThird, Until,
+    Latch, ReadersPassPageOn, SecondBeginsBeside, SecondCommits, SecondMeetsLock,
+    TwoCrossBesideThird, Until,
 };
 use mlt_test_tools::{same, same_at};
 use mlt_types::{Limits, Mult, Refusal};
@@ -218,4 +219,45 @@ fn a_second_open_is_too_many(rt: HostRuntime) -> Result<(), Fail> {
     let text = text_within(&rt, rt.alloc(), limits, TWO_UPS, 2, MANY_TRIES, &gate)?;
     let is_late = gate.begun.is_late() || gate.refused.is_late();
     same(&(text.as_slice(), is_late), &(SECOND_IS_TOO_MANY, false))
+}
+
+const READS: usize = 100;
+
+const NINE_OPENED: &[u8] =
+    b"begin 3\nopen 0\nopen 1\nopen 2\nopen 3\nopen 4\nopen 5\nopen 6\nopen 7\nopen 8\ncommit\n";
+
+const OPENED_ALL: &[u8] =
+    b"client 3 script 1\nopened\nopened\nopened\nopened\nopened\nopened\nopened\nopened\nopened\ncommitted 1\naccount 0 0\naccount 1 0\naccount 2 0\naccount 3 0\naccount 4 0\naccount 5 0\naccount 6 0\naccount 7 0\naccount 8 0\n";
+
+// The same text so many times between two others.
+fn repeated(
+    text: &mut Vec<u8>,
+    before: &[u8],
+    repeated: &[u8],
+    behind: &[u8],
+) -> Result<(), Refusal> {
+    text.extend_from_slice(before)?;
+    for _ in 0..READS {
+        text.extend_from_slice(repeated)?;
+    }
+    text.extend_from_slice(behind)?;
+    Ok(())
+}
+
+// The ninth account needs the header page alone, which one of two readers always holds. With thirty tries it gets through, since the
+// readers yield to it after eight.
+#[test]
+fn a_doubling_insert_has_precedence(rt: HostRuntime) -> Result<(), Fail> {
+    let alloc = rt.alloc();
+    let mut scripts = Vec::new(alloc);
+    repeated(&mut scripts, b"begin 1\n", b"read 7\n", b"abort\n")?;
+    repeated(&mut scripts, b"begin 2\n", b"read 7\n", b"abort\n")?;
+    scripts.extend_from_slice(NINE_OPENED)?;
+    let mut wanted = Vec::new(alloc);
+    repeated(&mut wanted, b"client 1 script 1\n", b"is 0\n", b"aborted\n")?;
+    repeated(&mut wanted, b"client 2 script 1\n", b"is 0\n", b"aborted\n")?;
+    wanted.extend_from_slice(OPENED_ALL)?;
+    let gate = ReadersPassPageOn::new();
+    let text = text_of(&rt, alloc, scripts.as_slice(), 3, 30, &gate)?;
+    same(&text.as_slice(), &wanted.as_slice())
 }

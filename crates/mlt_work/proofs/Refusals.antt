@@ -15,8 +15,7 @@ use Rattle.mlt_script_serial.specs.declared.outcome.End.TheVariants.{Committed, 
 use Rattle.mlt_script_serial.specs.declared.outcome.Outcome.{Outcome}
 use Rattle.mlt_script_desk.specs.Clients.{AreRunsAt, IsServedAt}
 use Rattle.mlt_script_desk.specs.Runs.{ClosesAs, refusal_of_script}
-use Rattle.mlt_trace.specs.declared.item.TraceItem.{TraceItem}
-use Rattle.mlt_work_desk.specs.Holds.{Answers}
+use Rattle.mlt_work_desk.specs.Holds.{Answers, DeskView}
 use Rattle.mlt_work_desk.specs.Refusals.{IsOfBegin, IsOfCommit, IsOfOperation}
 use Rattle.mlt_work_clients.specs.Places.{IsScriptEnd, IsScriptRefusal}
 
@@ -46,7 +45,7 @@ commit_refuses other h = absurd h
 abbrev pub EndsSo : Outcome → Type 0
 EndsSo o = IsScriptEnd o.end
 
-module _ {P : Type 0} (bits_of : P → ℕ → ℕ) {D : Type 0} (seen : D → List TraceItem) where
+module _ {P : Type 0} (bits_of : P → ℕ → ℕ) {D : Type 0} (seen : D → DeskView) where
   abbrev moves_of : Moves D
   moves_of old call answer new = Answers bits_of (seen old) call answer (seen new)
 
@@ -54,13 +53,13 @@ module _ {P : Type 0} (bits_of : P → ℕ → ℕ) {D : Type 0} (seen : D → L
   closes_end : (s : ScriptForm) (tx : ℕ) (d m : D) (t : Transcript) (ended : Result Ending Refusal) (end : End) (e : D) → PlaysAt moves_of s tx d t ended m → ClosesAs moves_of tx ended m end e → IsScriptEnd end
   closes_end s tx d m t ended (Committed number) e plays closes = tt
   closes_end s tx d m t ended Aborted e plays closes = tt
-  closes_end s tx d m t (Ok Commit) (Refused other) e plays (reason, same, (n, commits, aborts)) = subst IsScriptRefusal (sym same) (commit_refuses reason commits.0)
+  closes_end s tx d m t (Ok Commit) (Refused other) e plays (reason, same, (n, commits, aborts)) = subst IsScriptRefusal (sym same) (commit_refuses reason commits.may.0)
   closes_end s tx d m t (Ok Abort) (Refused reason) e plays closes = absurd closes
-  closes_end s tx d m t (Err reason) (Refused other) e plays (same, aborts) = subst IsScriptRefusal (sym same) (operation_refuses reason plays.refused.0)
+  closes_end s tx d m t (Err reason) (Refused other) e plays (same, aborts) = subst IsScriptRefusal (sym same) (operation_refuses reason plays.refused.may.0)
 
   run_ends : (s : ScriptForm) (d : D) (tx : ℕ) (t : Transcript) (end : End) (e : D) → IsServedAt moves_of s d tx t end e → IsScriptEnd end
   run_ends s d tx t end e (inl none) = subst IsScriptEnd (sym none.refused) tt
-  run_ends s d tx t end e (inr (inl unbegun)) = subst IsScriptEnd (sym unbegun.refused) (begin_refuses unbegun.refusal unbegun.begins_none.0)
+  run_ends s d tx t end e (inr (inl unbegun)) = subst IsScriptEnd (sym unbegun.refused) (begin_refuses unbegun.refusal unbegun.begins_none.may.0)
   run_ends s d tx t end e (inr (inr begun)) = closes_end s tx begun.after_begin begun.after_script t begun.ended end e begun.plays begun.closes
 
   -- **Each script ends as a script may.**

@@ -1,6 +1,9 @@
 -- What a hold of the lock tells, and what a desk sees of the history by it.
-use Rattle.std.specs.Prelude.{ℕ, ◌≡◌, List, ◌++◌, Contains}
+use Rattle.std.specs.Prelude.{ℕ, ◌≡◌, ◌⊎◌, Bool, true, false, List, [], ◌∷◌, ◌++◌, Contains}
+use Rattle.mlt_types.specs.declared.refusal.Refusal.{Refusal}
+use Rattle.mlt_types.specs.declared.refusal.Refusal.TheVariants as refusal
 use Rattle.mlt_object_kinds.specs.declared.operation.ObjOp.{ObjOp}
+use Rattle.mlt_object_kinds.specs.declared.operation.ObjReply.{ObjReply}
 use Rattle.mlt_script_cursor.specs.declared.call.DeskAnswer.{DeskAnswer}
 use Rattle.mlt_script_cursor.specs.declared.call.DeskAnswer.TheVariants.{Begun, Replied, Committed, Aborted, Refused}
 use Rattle.mlt_script_cursor.specs.declared.call.DeskCall.{DeskCall}
@@ -10,13 +13,19 @@ use Rattle.mlt_event.specs.declared.event.Event.{Event}
 use Rattle.mlt_event.specs.declared.event.Event.TheVariants as event
 use Rattle.mlt_event.specs.declared.told.Told.{Told}
 use Rattle.mlt_event.specs.declared.told.Told.TheVariants as told
+use Rattle.mlt_trace.specs.Items.{TellsOf}
 use Rattle.mlt_trace.specs.declared.item.TraceItem.{TraceItem}
 use Rattle.mlt_trace.specs.declared.item.TraceItem.TheVariants as trace
 use Rattle.mlt_manager.specs.Answers.{counted}
 use Rattle.mlt_manager.specs.Events.{Meets}
 use Rattle.mlt_manager.specs.Managers.{IsManager, ManagerFields}
 use Rattle.mlt_manager.specs.Tolds.{AddsItems, CalledOps}
+use Rattle.mlt_work_log.specs.Seats.{first_items}
+use Rattle.mlt_work_log.specs.declared.seats.LogSnapshot.{LogSnapshot}
 use Rattle.mlt_work_desk.specs.Refusals.{IsOfBegin, IsOfCommit, IsOfOperation}
+use Rattle.mlt_work_desk.specs.Tries.{GivesUp, SpendsTries}
+use Rattle.mlt_work_desk.specs.Waits.{is_to_wait}
+use Rattle.mlt_work_desk.specs.declared.tries.TriesLeft.{TriesLeft}
 
 -- An event of some manager was told this, and met the contract of its call. What is always true of a manager is true of it
 -- before the event and after it.
@@ -27,23 +36,65 @@ pub record IsToldTo {P : Type 0} (bits_of : P → ℕ → ℕ) (event : Event) (
   pub sound_after : IsManager bits_of after
   pub meets : Meets bits_of event told (counted before) after
 
--- what an operation may answer: a reply that all of it was told in one event, or one of its refusals
-abbrev pub MayAnswerOperation : {P : Type 0} → (P → ℕ → ℕ) → ℕ → ObjOp → DeskAnswer → Type 0
-MayAnswerOperation bits_of tx op (Replied reply) =
-    IsToldTo bits_of (event.Whole tx op) (told.Answered (answer.Done reply))
-MayAnswerOperation bits_of tx op (Refused refusal) = IsOfOperation refusal
-MayAnswerOperation bits_of tx op other = ⊥
+-- told this, an operation goes on: nothing of the history, of waits or of the queue has changed
+abbrev pub goes_on : Told → Bool
+goes_on told.Called = true
+goes_on (told.Answered answer.Going) = true
+goes_on other = false
 
--- what a call may be answered: a number or a reply that was told, or one of its refusals
-abbrev pub MayAnswer : {P : Type 0} → (P → ℕ → ℕ) → DeskCall → DeskAnswer → Type 0
-MayAnswer bits_of call.Begin (Begun tx) = IsToldTo bits_of event.Begin (told.Begun tx)
-MayAnswer bits_of call.Begin (Refused refusal) = IsOfBegin refusal
-MayAnswer bits_of (call.Operation tx op) given = MayAnswerOperation bits_of tx op given
-MayAnswer bits_of (call.Commit tx) (Committed number) =
+-- told this, it is done
+abbrev pub is_done : Told → Bool
+is_done (told.Answered (answer.Done reply)) = true
+is_done other = false
+
+-- a step was told what comes only where another desk acts for its transaction: a reply to another operation, or that it is taken back
+-- or runs none
+abbrev pub IsOfAnother : Told → Type 0
+IsOfAnother (told.Answered (answer.Done reply)) = Unit {0}
+IsOfAnother (told.Answered answer.Undone) = Unit {0}
+IsOfAnother (told.Answered answer.Aborted) = Unit {0}
+IsOfAnother (told.Refused refusal) = Unit {0}
+IsOfAnother other = ⊥
+
+-- An operation was to wait, and was cancelled, for one of the reasons to give up.
+pub record IsGivenUp {P : Type 0} (bits_of : P → ℕ → ℕ) (tx : ℕ) (tries : TriesLeft) : Type 0 where
+  pub told : Told
+  pub cancelled : Told
+  pub to_wait : is_to_wait told ≡ true
+  pub stepped : IsToldTo bits_of (event.Step tx) told
+  pub cancels : IsToldTo bits_of (event.Cancel tx) cancelled
+  pub reason : GivesUp tx tries
+
+-- Why an operation is refused: its call was, or a step of it; another desk acts for its transaction; or it gave up.
+abbrev pub WhyRefused : {P : Type 0} → (P → ℕ → ℕ) → ℕ → ObjOp → Refusal → TriesLeft → Type 0
+WhyRefused bits_of tx op reason tries =
+    IsToldTo bits_of (event.Call tx op) (told.Refused reason)
+    ⊎ IsToldTo bits_of (event.Step tx) (told.Answered (answer.Refused reason))
+    ⊎ ((reason ≡ refusal.NoSuchTx)
+    × ((other : Told) × IsOfAnother other × IsToldTo bits_of (event.Step tx) other))
+    ⊎ ((reason ≡ refusal.GaveUp) × IsGivenUp bits_of tx tries)
+
+-- what an operation may answer: a reply that a step was told, or one of its refusals
+abbrev pub MayAnswerOperation : {P : Type 0} → (P → ℕ → ℕ) → ℕ → ObjOp → DeskAnswer → TriesLeft
+    → Type 0
+MayAnswerOperation bits_of tx op (Replied reply) tries =
+    IsToldTo bits_of (event.Step tx) (told.Answered (answer.Done reply))
+MayAnswerOperation bits_of tx op (Refused refusal) tries =
+    IsOfOperation refusal × WhyRefused bits_of tx op refusal tries
+MayAnswerOperation bits_of tx op other tries = ⊥
+
+-- what a call may be answered: a number or a reply that was told, or one of its refusals, for its reason
+abbrev pub MayAnswer : {P : Type 0} → (P → ℕ → ℕ) → DeskCall → DeskAnswer → TriesLeft → Type 0
+MayAnswer bits_of call.Begin (Begun tx) tries = IsToldTo bits_of event.Begin (told.Begun tx)
+MayAnswer bits_of call.Begin (Refused refusal) tries =
+    IsOfBegin refusal × IsToldTo bits_of event.Begin (told.Refused refusal)
+MayAnswer bits_of (call.Operation tx op) given tries = MayAnswerOperation bits_of tx op given tries
+MayAnswer bits_of (call.Commit tx) (Committed number) tries =
     IsToldTo bits_of (event.Commit tx) (told.Committed number)
-MayAnswer bits_of (call.Commit tx) (Refused refusal) = IsOfCommit refusal
-MayAnswer bits_of (call.Abort tx) Aborted = Unit {0}
-MayAnswer bits_of asked given = ⊥
+MayAnswer bits_of (call.Commit tx) (Refused refusal) tries =
+    IsOfCommit refusal × IsToldTo bits_of (event.Commit tx) (told.Refused refusal)
+MayAnswer bits_of (call.Abort tx) Aborted tries = Unit {0}
+MayAnswer bits_of asked given tries = ⊥
 
 -- What a desk had seen of the history before an event of it was told this, and what it has seen then: what others have added between,
 -- and what the event has added.
@@ -55,23 +106,53 @@ pub record SeesEvent (before : List TraceItem) (event : Event) (told : Told)
   pub whole : after ≡ (before ++ between) ++ here
   pub adds : AddsItems event told called here
 
--- these items have what a call was answered: that the transaction has begun, or has committed under this number, or did the operation
--- with this reply
-abbrev pub HaveAnswer : List TraceItem → DeskCall → DeskAnswer → Type 0
-HaveAnswer items call.Begin (Begun tx) = Contains items (trace.Begin tx)
-HaveAnswer items (call.Operation tx op) (Replied reply) = Contains items (trace.Op tx (op, reply))
-HaveAnswer items (call.Commit tx) (Committed number) = Contains items (trace.Commit tx number)
-HaveAnswer items asked given = Unit {0}
+-- the last item tells that some transaction did this operation
+pub record EndsWithOp (items : List TraceItem) (op : ObjOp) : Type 0 where
+  pub front : List TraceItem
+  pub last : TraceItem
+  pub whole : items ≡ front ++ last ∷ []
+  pub tells : TellsOf last op
+
+-- an event of the transaction that takes it back, or a step of that
+abbrev pub IsOfAbort : ℕ → Event → Type 0
+IsOfAbort tx (event.Abort x) = x ≡ tx
+IsOfAbort tx (event.Step x) = x ≡ tx
+IsOfAbort tx other = ⊥
+
+-- these items tell that the transaction was aborted, or its desk was refused to do so: then another one acts for it
+abbrev pub HaveAbort : {P : Type 0} → (P → ℕ → ℕ) → List TraceItem → ℕ → Type 0
+HaveAbort bits_of items tx = Contains items (trace.Abort tx)
+    ⊎ ((e : Event) × (reason : Refusal) × IsOfAbort tx e × IsToldTo bits_of e (told.Refused reason))
+
+-- these items have what a call was answered: that the transaction has begun, has committed under this number or was aborted, or did the
+-- operation with this reply
+abbrev pub HaveAnswer : {P : Type 0} → (P → ℕ → ℕ) → List TraceItem → DeskCall → DeskAnswer → Type 0
+HaveAnswer bits_of items call.Begin (Begun tx) = Contains items (trace.Begin tx)
+HaveAnswer bits_of items (call.Operation tx op) (Replied reply) =
+    Contains items (trace.Op tx (op, reply))
+HaveAnswer bits_of items (call.Commit tx) (Committed number) =
+    Contains items (trace.Commit tx number)
+HaveAnswer bits_of items (call.Abort tx) Aborted = HaveAbort bits_of items tx
+HaveAnswer bits_of items asked given = Unit {0}
 
 -- What a desk had seen of the history before it gave this answer to a call, and what it has seen then: more items, which have the answer.
-pub record SeesAnswer (before : List TraceItem) (asked : DeskCall) (given : DeskAnswer)
-    (after : List TraceItem) : Type 0 where
+pub record SeesAnswer {P : Type 0} (bits_of : P → ℕ → ℕ) (before : List TraceItem)
+    (asked : DeskCall) (given : DeskAnswer) (after : List TraceItem) : Type 0 where
   pub more : List TraceItem
   pub whole : after ≡ before ++ more
-  pub have : HaveAnswer more asked given
+  pub have : HaveAnswer bits_of more asked given
 
--- a call is answered by what was told or one of its refusals, and the history has what was told
-abbrev pub Answers : {P : Type 0} → (P → ℕ → ℕ) → List TraceItem → DeskCall → DeskAnswer
-    → List TraceItem → Type 0
-Answers bits_of before asked given after =
-    MayAnswer bits_of asked given × SeesAnswer before asked given after
+-- what a desk has seen of the history, and its tries
+pub record DeskView : Type 0 where
+  pub history : List TraceItem
+  pub tries : TriesLeft
+
+abbrev pub desk_view : LogSnapshot → TriesLeft → DeskView
+desk_view snapshot tries = record { history = first_items snapshot; tries = tries }
+
+-- a call is answered by what was told or one of its refusals, the history has what was told, and tries are spent as they are to be
+pub record Answers {P : Type 0} (bits_of : P → ℕ → ℕ) (before : DeskView) (asked : DeskCall)
+    (given : DeskAnswer) (after : DeskView) : Type 0 where
+  pub may : MayAnswer bits_of asked given after.tries
+  pub sees : SeesAnswer bits_of before.history asked given after.history
+  pub spends : SpendsTries before.tries asked after.tries

@@ -21,23 +21,21 @@ use Rattle.mlt_work_desk.specs.declared.turn.Sleeper.{Sleeper}
 use Rattle.mlt_work_desk.specs.declared.turn.Turn.{Turn}
 use Rattle.mlt_work_desk.specs.declared.turn.Turn.TheVariants as turn
 
--- whose locks a step of x, or all of its operation, has given back, by the answer
-abbrev pub given_back_by_answer : ℕ → Answer → GivenBack
-given_back_by_answer x answer.Aborted = given.All x
-given_back_by_answer x (answer.Done reply) = given.Operation x
-given_back_by_answer x (answer.Refused reason) = given.Operation x
-given_back_by_answer x (answer.Blocked by) = given.Pages x
-given_back_by_answer x answer.Undone = given.Pages x
-given_back_by_answer x other = given.Nothing
+-- whose locks a step of x has given back, by its answer
+abbrev pub given_back_by_step : ℕ → Answer → GivenBack
+given_back_by_step x answer.Aborted = given.All x
+given_back_by_step x (answer.Done reply) = given.Operation x
+given_back_by_step x (answer.Refused reason) = given.Operation x
+given_back_by_step x (answer.Blocked by) = given.Pages x
+given_back_by_step x answer.Undone = given.Pages x
+given_back_by_step x other = given.Nothing
 
--- Whose locks an event has given back, by what it was told. An operation that is refused has ended, whether all of it was or a
--- step.
+-- whose locks an event has given back, by what it was told
 abbrev pub given_back_by : Event → Told → GivenBack
 given_back_by (event.Commit x) (told.Committed number) = given.All x
 given_back_by (event.Abort x) (told.Aborting true) = given.All x
-given_back_by (event.Whole x op) (told.Answered answer) = given_back_by_answer x answer
-given_back_by (event.Whole x op) (told.Refused reason) = given.Operation x
-given_back_by (event.Step x) (told.Answered answer) = given_back_by_answer x answer
+given_back_by (event.Step x) (told.Answered answer) = given_back_by_step x answer
+given_back_by (event.Cancel x) told.Cancelled = given.Operation x
 given_back_by other another = given.Nothing
 
 -- whether one that was told this is to wait

@@ -1,20 +1,23 @@
 //! The calls of a desk over a shared manager.
 
-ghost use Rattle.std.specs.Prelude.{◌≡◌, ◌+◌, ◌-◌, ◌^◌, min, IfSome};
+ghost use Rattle.std.specs.Prelude.{◌≡◌, ◌+◌, ◌-◌, ◌^◌, min, true, false, IfSome};
 ghost use Rattle.mlt_script_cursor.specs.Calls.{answer_by};
 ghost use Rattle.mlt_work_log.specs.Prefixes.{StartsWith};
 ghost use Rattle.mlt_work_log.specs.Seats.{IsOf, first_items};
 ghost use Rattle.mlt_script_cursor.specs.declared.call.DeskCall.TheVariants as call;
-ghost use Rattle.mlt_work_desk.specs.Holds.{IsToldTo, MayAnswerOperation, SeesAnswer, SeesEvent};
+ghost use Rattle.mlt_event.specs.declared.event.Event.TheVariants as event;
+ghost use Rattle.mlt_work_desk.specs.Holds.{EndsWithOp, IsToldTo, MayAnswerOperation, SeesAnswer, SeesEvent, is_done};
+ghost use Rattle.mlt_work_desk.specs.Tries.{GivesUp, IsYoungestOfCircle, SpendsByWaits, tries_spent};
 
 use crate::called::Called;
 use crate::gate::Gate;
-use crate::lock_desk::{LockDesk, Tries};
+use crate::lock_desk::LockDesk;
 use crate::made_with::MadeWith;
 use crate::shared::Shared;
 use crate::timestamp::Timestamp;
+use crate::tries::{Tries, TriesLeft};
 use crate::tuning::WAITS_BEFORE_PRECEDENCE;
-use crate::turn::{Sleeper, Turn, is_to_wait};
+use crate::turn::{Sleeper, Turn, goes_on, is_done, is_to_wait};
 use mlt_event::{Answer, Event, Told};
 use mlt_object_kinds::{ObjOp, ObjReply};
 use mlt_script_cursor::{Answering, DeskAnswer};
@@ -61,9 +64,7 @@ impl<'a, P: Pseudo, L: MadeWith<P>, R: Wait, G: Gate> LockDesk<'a, P, L, R, G> {
             shared,
             gate,
             client: 0,
-            tries,
-            left: 0,
-            waited: 0,
+            tries: TriesLeft::new(tries),
             sleeper: Sleeper {
                 tx: TxId(0),
                 timestamp: 0,
@@ -72,8 +73,10 @@ impl<'a, P: Pseudo, L: MadeWith<P>, R: Wait, G: Gate> LockDesk<'a, P, L, R, G> {
                 op: ObjOp::Size(0),
             },
             is_asleep: false,
+            is_reply: false,
             called: Called::none(),
             timestamp: Timestamp::new(),
+            wakers: Wakers::new(),
             share,
             events: 0,
             snapshot,
@@ -100,52 +103,65 @@ impl<'a, P: Pseudo, L: MadeWith<P>, R: Wait, G: Gate> LockDesk<'a, P, L, R, G> {
             gate: _,
             client: _,
             tries: _,
-            left: _,
-            waited: _,
             sleeper,
             is_asleep: _,
+            is_reply: _,
             called: _,
             timestamp: _,
+            mut wakers,
             share,
             events,
             snapshot,
         } = self;
-        let mut wakers = Wakers::new();
         shared.lock(rt).desks.leave(sleeper.waker, &mut wakers);
         shared.wake(&wakers);
         (share, events, snapshot)
     }
 
     /// One event, in one hold of the lock, which counts in the share. The desk may sleep before it; and where it is to wait it
-    /// sleeps after it, if it may and the turn is so.
+    /// sleeps after it, if it may and the turn is so. Of a reply the desk looks whether it is to the operation that it is in.
     #[inline(always)]
     fn event(&mut self, event: Event, may_sleep: bool) -> (Told, Turn)
         ensures told { IsToldTo P.bits_of event result.0 }
         ensures sees { SeesEvent (first_items self.old.snapshot) event result.0
             (first_items self.new.snapshot) }
+        ensures reply { self.new.is_reply ≡ true
+            → EndsWithOp (first_items self.new.snapshot) self.old.sleeper.op }
+        ensures youngest { result.1 ≡ Turn.Deadlock → IsYoungestOfCircle self.old.sleeper.tx }
         ensures one { self.new.share.amount ≡ self.old.share.amount + 1 }
+        ensures sleeper { self.new.sleeper ≡ self.old.sleeper }
+        ensures tries { self.new.tries ≡ self.old.tries }
     {
         let LockDesk {
             rt,
             shared,
-            waited,
             sleeper,
             is_asleep,
+            is_reply,
+            wakers,
             share,
             events,
             snapshot,
             ..
         } = self;
-        let mut wakers = Wakers::new();
-        let is_first_try = matches!(event, Event::Whole(..)) && *waited == 0;
-        let mut state = shared.enter(*rt, sleeper, *is_asleep, is_first_try);
+        *events = events.saturating_add(1);
+        let is_call = matches!(event, Event::Call(..));
+        let mut state = shared.enter(*rt, sleeper, *is_asleep, is_call);
+        *is_asleep = false;
+        *is_reply = false;
         let log = &shared.log;
-        let (told, turn) = state.act(event, share, may_sleep, sleeper, log, snapshot, &mut wakers);
+        let (told, turn) = state.act(event, share, may_sleep, sleeper, log, snapshot, wakers);
+        if goes_on(&told) {
+            return (told, turn);
+        }
+        *is_reply = is_done(&told) && state.ends_with(&sleeper.op);
         shared.note_blocked(state.desks.blocked());
         drop(state);
-        shared.wake(&wakers);
+        if !wakers.is_empty() {
+            shared.wake(wakers);
+            wakers.clear();
+        }
         *is_asleep = turn == Turn::Sleeps;
-        *events = events.saturating_add(1);
         (told, turn)
     }
 
@@ -155,7 +171,12 @@ impl<'a, P: Pseudo, L: MadeWith<P>, R: Wait, G: Gate> LockDesk<'a, P, L, R, G> {
         ensures told { IsToldTo P.bits_of event result.0 }
         ensures sees { SeesEvent (first_items self.old.snapshot) event result.0
             (first_items self.new.snapshot) }
+        ensures reply { self.new.is_reply ≡ true
+            → EndsWithOp (first_items self.new.snapshot) self.old.sleeper.op }
+        ensures youngest { result.1 ≡ Turn.Deadlock → IsYoungestOfCircle self.old.sleeper.tx }
         ensures one { self.new.share.amount ≡ self.old.share.amount + 1 }
+        ensures sleeper { self.new.sleeper ≡ self.old.sleeper }
+        ensures tries { self.new.tries ≡ self.old.tries }
     {
         let (told, turn) = self.event(event, may_sleep);
         self.gate.pause(self.client, &told);
@@ -164,32 +185,41 @@ impl<'a, P: Pseudo, L: MadeWith<P>, R: Wait, G: Gate> LockDesk<'a, P, L, R, G> {
 
     /// From now on it sleeps as one of this transaction, which has not waited yet.
     fn is_in(&mut self, tx: TxId)
-        ensures { self.new.snapshot ≡ self.old.snapshot }
+        ensures tx { self.new.sleeper.tx ≡ tx }
+        ensures snapshot { self.new.snapshot ≡ self.old.snapshot }
+        ensures tries { self.new.tries ≡ self.old.tries }
     {
-        self.waited = 0;
         self.sleeper.tx = tx;
         self.sleeper.takes_precedence = false;
     }
 
-    /// The transaction is to call this operation. Where others are blocked in operations that may clash with it, the desk sleeps
-    /// behind the last of them before its next event: unless the transaction may hold something there, for which they wait.
+    /// The transaction is to call the operation that it is in. Where others are blocked in operations that may clash with it, the desk
+    /// sleeps behind the last of them before its next event: unless the transaction may hold something there, for which they wait.
     #[inline(always)]
-    fn wait_for_turn(&mut self, op: &ObjOp)
-        ensures { self.new.snapshot ≡ self.old.snapshot }
+    fn wait_for_turn(&mut self)
+        ensures snapshot { self.new.snapshot ≡ self.old.snapshot }
+        ensures sleeper { self.new.sleeper ≡ self.old.sleeper }
+        ensures tries { self.new.tries ≡ self.old.tries }
     {
-        let is_new = self.called.add(op);
+        let op = self.sleeper.op;
+        let is_new = self.called.add(&op);
         if is_new && self.shared.has_blocked() {
-            self.queue_behind(op);
+            self.queue_behind();
         }
     }
 
     /// Where others are blocked in operations that may clash with this one, the desk sleeps behind the last of them before its
     /// next event. The gate is told so, with the lock free.
-    fn queue_behind(&mut self, op: &ObjOp)
-        ensures { self.new.snapshot ≡ self.old.snapshot }
+    #[cold]
+    #[inline(never)]
+    fn queue_behind(&mut self)
+        ensures snapshot { self.new.snapshot ≡ self.old.snapshot }
+        ensures sleeper { self.new.sleeper ≡ self.old.sleeper }
+        ensures tries { self.new.tries ≡ self.old.tries }
     {
         let mut state = self.shared.lock(self.rt);
-        let queues = state.desks.queues(&self.sleeper, op);
+        let op = self.sleeper.op;
+        let queues = state.desks.queues(&self.sleeper, &op);
         drop(state);
         if queues {
             self.is_asleep = true;
@@ -197,67 +227,109 @@ impl<'a, P: Pseudo, L: MadeWith<P>, R: Wait, G: Gate> LockDesk<'a, P, L, R, G> {
         }
     }
 
-    /// Spends a try. It answers whether others are left, and not all of them would be told the same.
-    fn tries_again(&mut self, turn: Turn) -> bool
-        ensures { self.new.snapshot ≡ self.old.snapshot }
+    /// The operation is to wait, which spends a try. It answers whether it gives up: where no tries are left, where its transaction is
+    /// the youngest of a circle, so that each would be told the same, and where the gate is out of patience.
+    fn spends_last_try(&mut self, turn: Turn) -> bool
+        requires youngest { turn ≡ Turn.Deadlock → IsYoungestOfCircle self.old.sleeper.tx }
+        ensures spent { self.new.tries ≡ tries_spent self.old.tries }
+        ensures reason { result ≡ true → GivesUp self.old.sleeper.tx self.new.tries }
+        ensures snapshot { self.new.snapshot ≡ self.old.snapshot }
+        ensures tx { self.new.sleeper.tx ≡ self.old.sleeper.tx }
+        ensures op { self.new.sleeper.op ≡ self.old.sleeper.op }
     {
-        self.left = self.left.saturating_sub(1);
-        self.waited = self.waited.saturating_add(1);
-        self.sleeper.takes_precedence = self.waited >= WAITS_BEFORE_PRECEDENCE;
-        self.left > 0 && turn != Turn::Deadlock
+        self.tries.spend();
+        self.sleeper.takes_precedence = self.tries.waited >= WAITS_BEFORE_PRECEDENCE;
+        self.tries.left == 0 || turn == Turn::Deadlock || !self.tries.is_patient
     }
 
-    /// The operation is given up: it is in the queue no longer. The next transaction keeps the timestamp of this one.
-    fn give_up(&mut self, tx: TxId, turn: Turn)
-        ensures { self.new.snapshot ≡ self.old.snapshot }
+    /// The operation is cancelled. The next transaction keeps the timestamp of this one.
+    #[tactic(auto, using(crate::proofs::Seeing::sees_more))]
+    fn cancel(&mut self, turn: Turn)
+        ensures cancels { (cancelled : Told)
+            × IsToldTo P.bits_of (event.Cancel self.old.sleeper.tx) cancelled }
+        ensures more { StartsWith (first_items self.new.snapshot) (first_items self.old.snapshot) }
+        ensures sleeper { self.new.sleeper ≡ self.old.sleeper }
+        ensures tries { self.new.tries ≡ self.old.tries }
     {
         if turn == Turn::Deadlock {
             self.gate.deadlock(self.client);
         }
-        self.shared.give_up(self.rt, tx);
+        self.hold(Event::Cancel(self.sleeper.tx), false);
         self.timestamp.give_up();
-        self.gate.give_up(self.client);
     }
 
-    /// One try of this operation: all of it in one event. Where it is to wait nothing is left of it, and the try is spent: with
-    /// others left it is tried again once the desk is awake, else it is given up. So it is where the gate is out of patience. It
-    /// answers the operation's answer, if it has one.
-    #[tactic(auto, using(crate::proofs::Seeing::more_than, crate::proofs::Seeing::no_more, crate::proofs::Seeing::sees_more, crate::proofs::Seeing::sees_refused, crate::proofs::Seeing::sees_whole))]
-    fn try_once(&mut self, tx: TxId, op: &ObjOp) -> Option<Result<ObjReply, Refusal>>
-        ensures told { IfSome result
-            (λ reply. MayAnswerOperation P.bits_of tx op.now (answer_by DeskAnswer.Replied reply)) }
-        ensures sees { IfSome result (λ reply. SeesAnswer (first_items self.old.snapshot)
-            (call.Operation tx op.now) (answer_by DeskAnswer.Replied reply)
-            (first_items self.new.snapshot)) }
+    /// The operation was to wait. Where it gives up it is cancelled, and else it goes on once the desk is awake. It answers whether it
+    /// gave up.
+    #[tactic(auto, using(crate::proofs::Seeing::no_more))]
+    #[cold]
+    #[inline(never)]
+    fn gives_up(&mut self, turn: Turn) -> bool
+        requires youngest { turn ≡ Turn.Deadlock → IsYoungestOfCircle self.old.sleeper.tx }
+        ensures cancels { result ≡ true → (cancelled : Told)
+            × IsToldTo P.bits_of (event.Cancel self.old.sleeper.tx) cancelled }
+        ensures reason { result ≡ true → GivesUp self.old.sleeper.tx self.new.tries }
+        ensures spent { self.new.tries ≡ tries_spent self.old.tries }
+        ensures tx { self.new.sleeper.tx ≡ self.old.sleeper.tx }
+        ensures op { self.new.sleeper.op ≡ self.old.sleeper.op }
         ensures more { StartsWith (first_items self.new.snapshot) (first_items self.old.snapshot) }
     {
+        let gives_up = self.spends_last_try(turn);
+        if gives_up {
+            self.cancel(turn);
+        }
+        gives_up
+    }
+
+    /// One step of the operation that the desk is in, which was called. It answers the operation's answer, if it has one: a reply that
+    /// the history has as one to this operation. A step that is told what comes only where another desk acts for the same transaction
+    /// is answered by `NoSuchTx`.
+    #[tactic(auto, using(crate::proofs::Trying::spends_none, crate::proofs::Trying::spends_one))]
+    #[inline(always)]
+    fn step(&mut self) -> Option<Result<ObjReply, Refusal>>
+        ensures told { IfSome result (λ reply. MayAnswerOperation P.bits_of self.old.sleeper.tx
+            self.old.sleeper.op (answer_by DeskAnswer.Replied reply) self.new.tries) }
+        ensures sees { IfSome result (λ reply. SeesAnswer P.bits_of (first_items self.old.snapshot)
+            (call.Operation self.old.sleeper.tx self.old.sleeper.op)
+            (answer_by DeskAnswer.Replied reply) (first_items self.new.snapshot)) }
+        ensures more { StartsWith (first_items self.new.snapshot) (first_items self.old.snapshot) }
+        ensures spends { SpendsByWaits self.old.tries self.new.tries }
+        ensures tx { self.new.sleeper.tx ≡ self.old.sleeper.tx }
+        ensures op { self.new.sleeper.op ≡ self.old.sleeper.op }
+    {
+        self.tries.is_patient = self.gate.is_patient(self.client);
         // With its last try it does not wait, nor where the gate is out of patience.
-        let may_sleep = self.left > 1 && self.gate.is_patient(self.client);
-        let (told, turn) = self.hold(Event::Whole(tx, *op), may_sleep);
+        let may_sleep = self.tries.left > 1 && self.tries.is_patient;
+        let (told, turn) = self.hold(Event::Step(self.sleeper.tx), may_sleep);
         if is_to_wait(&told) {
-            if self.tries_again(turn) && may_sleep {
-                return None;
-            }
-            self.give_up(tx, turn);
-            return Some(Err(Refusal::GaveUp));
+            return if self.gives_up(turn) {
+                Some(Err(Refusal::GaveUp))
+            } else {
+                None
+            };
         }
         match told {
-            Told::Answered(Answer::Done(reply)) => Some(Ok(reply)),
-            Told::Answered(Answer::Refused(refusal)) | Told::Refused(refusal) => Some(Err(refusal)),
+            Told::Answered(Answer::Going) => None,
+            Told::Answered(Answer::Done(reply)) if self.is_reply => Some(Ok(reply)),
+            Told::Answered(Answer::Refused(refusal)) => Some(Err(refusal)),
+            Told::Answered(Answer::Done(_) | Answer::Undone | Answer::Aborted) | Told::Refused(_) =>
+                Some(Err(Refusal::NoSuchTx)),
             _ => unreachable!(),
         }
     }
 
-    /// Tries of this operation, up to its answer.
-    #[tactic(auto, using(crate::proofs::Seeing::more_than, crate::proofs::Seeing::no_more, crate::proofs::Seeing::sees_later))]
-    fn try_on(&mut self, tx: TxId, op: &ObjOp) -> Result<ObjReply, Refusal>
-        ensures told { MayAnswerOperation P.bits_of tx op.now (answer_by DeskAnswer.Replied result) }
-        ensures sees { SeesAnswer (first_items self.old.snapshot) (call.Operation tx op.now)
+    /// Steps of the operation that the desk is in, which was called, up to its answer.
+    #[tactic(auto, using(crate::proofs::Seeing::more_than, crate::proofs::Seeing::no_more, crate::proofs::Seeing::sees_later, crate::proofs::Trying::spends_nothing, crate::proofs::Trying::spends_more))]
+    fn steps(&mut self) -> Result<ObjReply, Refusal>
+        ensures told { MayAnswerOperation P.bits_of self.old.sleeper.tx self.old.sleeper.op
+            (answer_by DeskAnswer.Replied result) self.new.tries }
+        ensures sees { SeesAnswer P.bits_of (first_items self.old.snapshot)
+            (call.Operation self.old.sleeper.tx self.old.sleeper.op)
             (answer_by DeskAnswer.Replied result) (first_items self.new.snapshot) }
+        ensures spends { SpendsByWaits self.old.tries self.new.tries }
     {
         let rt = self.rt;
         for _ in rt.forever() {
-            if let Some(answer) = self.try_once(tx, op) {
+            if let Some(answer) = self.step() {
                 return answer;
             }
         }
@@ -265,54 +337,63 @@ impl<'a, P: Pseudo, L: MadeWith<P>, R: Wait, G: Gate> LockDesk<'a, P, L, R, G> {
     }
 
     /// One step of an abort. Where it is to wait it goes on once it is awake, and spends no try. It answers whether more are to
-    /// come.
-    #[tactic(auto, using(crate::proofs::Seeing::sees_more))]
-    fn undo_step(&mut self, tx: TxId) -> bool
-        ensures { StartsWith (first_items self.new.snapshot) (first_items self.old.snapshot) }
+    /// come: the last one is told that the transaction was aborted, or that the desk may not act for it.
+    fn undo_step(&mut self) -> bool
+        ensures ends { result ≡ false → SeesAnswer P.bits_of (first_items self.old.snapshot)
+            (call.Abort self.old.sleeper.tx) DeskAnswer.Aborted (first_items self.new.snapshot) }
+        ensures more { StartsWith (first_items self.new.snapshot) (first_items self.old.snapshot) }
+        ensures tx { self.new.sleeper.tx ≡ self.old.sleeper.tx }
+        ensures tries { self.new.tries ≡ self.old.tries }
     {
-        let (told, _) = self.hold(Event::Step(tx), true);
-        is_to_wait(&told) || matches!(told, Told::Answered(Answer::Going | Answer::Undone))
+        let (told, _) = self.hold(Event::Step(self.sleeper.tx), true);
+        match told {
+            Told::Answered(Answer::Aborted) => false,
+            Told::Refused(_) => false,
+            _ => true,
+        }
     }
 
     /// Steps of an abort, up to its end.
-    #[tactic(auto, using(crate::proofs::Seeing::more_than, crate::proofs::Seeing::no_more))]
-    fn undo(&mut self, tx: TxId)
-        ensures { StartsWith (first_items self.new.snapshot) (first_items self.old.snapshot) }
+    #[tactic(auto, using(crate::proofs::Seeing::more_than, crate::proofs::Seeing::no_more, crate::proofs::Seeing::sees_later))]
+    fn undo(&mut self)
+        ensures ends { SeesAnswer P.bits_of (first_items self.old.snapshot)
+            (call.Abort self.old.sleeper.tx) DeskAnswer.Aborted (first_items self.new.snapshot) }
+        ensures tries { self.new.tries ≡ self.old.tries }
     {
         let rt = self.rt;
         for _ in rt.forever() {
-            if !self.undo_step(tx) {
+            if !self.undo_step() {
                 return;
             }
         }
+        unreachable!()
     }
 }
 
 impl<'a, P: Pseudo, L: MadeWith<P>, R: Wait, G: Gate> Answering for LockDesk<'a, P, L, R, G> {
-    ghost use Rattle.mlt_work_log.specs.Seats.{first_items};
-    ghost use Rattle.mlt_work_desk.specs.Holds.{Answers};
+    ghost use Rattle.mlt_work_desk.specs.Holds.{Answers, desk_view};
 
-    ghost moves = { λ old call answer new. Answers P.bits_of (first_items old.snapshot) call answer
-        (first_items new.snapshot) };
+    ghost moves = { λ old call answer new. Answers P.bits_of (desk_view old.snapshot old.tries) call
+        answer (desk_view new.snapshot new.tries) };
 
     fn operation(&mut self, tx: TxId, op: ObjOp) -> Result<ObjReply, Refusal> {
-        if let Tries::PerOperation(tries) = self.tries {
-            self.left = tries;
-        }
+        self.tries.call();
         self.is_in(tx);
         self.sleeper.op = op;
         self.gate.call(self.client, &op);
-        self.wait_for_turn(&op);
-        self.try_on(tx, &op)
+        self.wait_for_turn();
+        let (told, _) = self.hold(Event::Call(tx, op), false);
+        match told {
+            Told::Called => self.steps(),
+            Told::Refused(refusal) => Err(refusal),
+            _ => unreachable!(),
+        }
     }
 }
 
 impl<'a, P: Pseudo, L: MadeWith<P>, R: Wait, G: Gate> Desk for LockDesk<'a, P, L, R, G> {
-    #[tactic(auto, using(crate::proofs::Seeing::sees_begun, crate::proofs::Seeing::sees_more, crate::proofs::Seeing::sees_refused))]
     fn begin(&mut self) -> Result<TxId, Refusal> {
-        if let Tries::PerScript(tries) = self.tries {
-            self.left = tries;
-        }
+        self.tries.begin();
         self.gate.begin(self.client);
         let (told, _) = self.hold(Event::Begin, false);
         match told {
@@ -327,7 +408,6 @@ impl<'a, P: Pseudo, L: MadeWith<P>, R: Wait, G: Gate> Desk for LockDesk<'a, P, L
         }
     }
 
-    #[tactic(auto, using(crate::proofs::Seeing::sees_committed, crate::proofs::Seeing::sees_more, crate::proofs::Seeing::sees_refused))]
     fn commit(&mut self, tx: TxId) -> Result<u64, Refusal> {
         let (told, _) = self.hold(Event::Commit(tx), false);
         match told {
@@ -340,12 +420,16 @@ impl<'a, P: Pseudo, L: MadeWith<P>, R: Wait, G: Gate> Desk for LockDesk<'a, P, L
         }
     }
 
-    #[tactic(auto, using(crate::proofs::Seeing::more_than, crate::proofs::Seeing::sees_more, crate::proofs::Seeing::sees_aborted))]
     fn abort(&mut self, tx: TxId) {
         let (told, _) = self.hold(Event::Abort(tx), false);
-        if told == Told::Aborting(false) {
-            self.is_in(tx);
-            self.undo(tx);
+        match told {
+            Told::Aborting(true) => (),
+            Told::Aborting(false) => {
+                self.is_in(tx);
+                self.undo();
+            }
+            Told::Refused(_) => (),
+            _ => unreachable!(),
         }
     }
 }

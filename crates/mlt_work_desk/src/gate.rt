@@ -27,9 +27,6 @@ pub trait Gate {
     /// The client's operation is given up since its transaction is the youngest of a circle of waits. Most gates have nothing to do
     /// then.
     fn deadlock(&self, _client: u32) {}
-
-    /// The client's operation was given up. Most gates have nothing to do then.
-    fn give_up(&self, _client: u32) {}
 }
 
 /// Does nothing.

@@ -7,16 +7,17 @@ ghost use Rattle.mlt_manager.specs.Managers.{IsManager};
 ghost use Rattle.mlt_work_waits.specs.declared.wait.Waker.{Waker};
 ghost use Rattle.mlt_work_log.specs.Prefixes.{StartsWith};
 ghost use Rattle.mlt_work_log.specs.Seats.{IsOf, IsWriterOf, all_items, first_items, id_of};
-ghost use Rattle.mlt_work_desk.specs.Holds.{SeesEvent};
+ghost use Rattle.mlt_work_desk.specs.Holds.{EndsWithOp, SeesEvent, goes_on};
 ghost use Rattle.mlt_work_desk.specs.Makings.{making_of};
 ghost use Rattle.mlt_work_desk.specs.Waits.{given_back_by, precedence_after, precedence_if, queue_after, queue_if, TurnsIfWaits, wait_if, waits_after, woken_by};
 
 use crate::desks::Desks;
 use crate::locked_state::LockedState;
 use crate::made_with::MadeWith;
-use crate::turn::{Sleeper, Turn, given_back};
+use crate::turn::{Sleeper, Turn, given_back, goes_on};
 use mlt_event::{Event, Told};
 use mlt_manager::Manager;
+use mlt_object_kinds::ObjOp;
 use mlt_types::Pseudo;
 use mlt_work_log::{Growth, HistoryLog, LogSnapshot, LogWriter};
 use mlt_work_waits::Wakers;
@@ -73,8 +74,8 @@ impl<P: Pseudo, L: MadeWith<P>> LockedState<P, L> {
     }
 
     /// One event of a desk, which counts in the share. Where it is to wait, and may sleep, it does so as this sleeper. Whoever waits
-    /// for what it gave back is awake then, and its waker is added. The snapshot is one of the history after it then. It answers what was
-    /// told, and what the desk does next.
+    /// for what it gave back is awake then, and its waker is added. It answers what was told, and what the desk does next. The snapshot is
+    /// one of the history after it then, but where an operation goes on: there nothing that the desk has to look after has changed.
     #[inline(always)]
     pub(crate) fn act(
         &mut self,
@@ -91,7 +92,8 @@ impl<P: Pseudo, L: MadeWith<P>> LockedState<P, L> {
         requires log { id_of log.now ≡ L.log_id }
         requires of_log { IsOf L.log_id snapshot.old }
         ensures of_log { IsOf L.log_id snapshot.new }
-        ensures seen { first_items snapshot.new ≡ self.new.manager.commons.history.items }
+        ensures seen { goes_on result.0 ≡ false
+            → first_items snapshot.new ≡ self.new.manager.commons.history.items }
         ensures sees { SeesEvent (first_items snapshot.old) event result.0
             (first_items snapshot.new) }
         ensures before { IsManager P.bits_of self.old.manager }
@@ -122,10 +124,24 @@ impl<P: Pseudo, L: MadeWith<P>> LockedState<P, L> {
         manager.keeps_its_invariant();
         let told = manager.act(event);
         manager.keeps_its_invariant();
+        if goes_on(&told) {
+            return (told, Turn::Goes);
+        }
         see_history::<Brand, P>(log, writer, snapshot, manager);
         desks.give_back(given_back(&event, &told), wakers);
         let turn = desks.take_turn(&told, may_sleep, sleeper, wakers);
         (told, turn)
+    }
+
+    /// Whether the last item of the history tells of this operation.
+    #[inline(always)]
+    pub(crate) fn ends_with(&self, op: &ObjOp) -> bool
+        ensures { result ≡ true → EndsWithOp self.now.manager.commons.history.items op.now }
+    {
+        let Some((last, _)) = self.manager.kept_history().split_last() else {
+            return false;
+        };
+        last.is_op(op)
     }
 
     /// A snapshot of the history.

@@ -8,7 +8,7 @@ use crate::locked_state::LockedState;
 use crate::look::Look;
 use crate::made_with::MadeWith;
 use crate::tuning::{FIRST_LOCK_SPINS, LOCK_SPINS, PAUSES_PER_LOCK_SPIN};
-use crate::turn::{GivenBack, Sleeper};
+use crate::turn::Sleeper;
 use crate::unlocked::Unlocked;
 use mlt_manager::Manager;
 use mlt_trace::KeptItem;
@@ -50,12 +50,24 @@ impl<P: Pseudo, L: MadeWith<P>> Shared<P, L> {
 
     /// The state, once nobody else has it.
     ///
-    /// A hold takes about a microsecond, and to put a thread to sleep and wake it takes many. So a lock that is
-    /// taken is looked at again a few times, each time after a wait in which its holder may take it for its next events: then what
-    /// it works on stays in its processor. After that a thread queues, and of the queue the first alone goes on looking (Dice,
-    /// Malthusian Locks, EuroSys 2017, section 3). Who holds the lock may not be running, so that one too sleeps in the end.
+    /// A hold takes some tenths of a microsecond, and to put a thread to sleep and wake it takes many. So a lock that is taken is looked
+    /// at again many times, each time after a wait as long as a short hold. After that a thread queues, and of the queue the first alone
+    /// goes on looking (Dice, Malthusian Locks, EuroSys 2017, section 3). Who holds the lock may not be running, so that one too sleeps
+    /// in the end.
+    #[inline(always)]
     pub(crate) fn lock<R: Wait>(&self, rt: &R) -> MutexGuard<'_, LockedState<P, L>> {
-        if let Some(state) = self.spin(LOCK_SPINS) {
+        match self.state.try_lock() {
+            Some(state) => state,
+            None => self.lock_slowly(rt),
+        }
+    }
+
+    /// The same, where another had it at the first look.
+    #[cold]
+    #[inline(never)]
+    fn lock_slowly<R: Wait>(&self, rt: &R) -> MutexGuard<'_, LockedState<P, L>> {
+        pause();
+        if let Some(state) = self.spin(LOCK_SPINS - 1) {
             return state;
         }
         let _first = self.queue.lock(rt);
@@ -76,21 +88,21 @@ impl<P: Pseudo, L: MadeWith<P>> Shared<P, L> {
         None
     }
 
-    /// The state for a desk's next event, once nobody else has it and the desk is awake, if it sleeps. One that tries an operation
-    /// for the first time then yields where another has precedence.
+    /// The state for a desk's next event, once nobody else has it and the desk is awake, if it sleeps. One that is to call an
+    /// operation then yields where another has precedence.
     #[inline(always)]
     pub(crate) fn enter<R: Wait>(
         &self,
         rt: &R,
         sleeper: &Sleeper,
         is_asleep: bool,
-        is_first_try: bool,
+        is_call: bool,
     ) -> MutexGuard<'_, LockedState<P, L>> {
         let mut state = self.lock(rt);
         if is_asleep {
             state = self.sleep(rt, state, sleeper);
         }
-        if is_first_try && state.desks.yields(sleeper) {
+        if is_call && state.desks.yields(sleeper) {
             return self.sleep(rt, state, sleeper);
         }
         state
@@ -127,17 +139,6 @@ impl<P: Pseudo, L: MadeWith<P>> Shared<P, L> {
         let mut wakers = Wakers::new();
         let mut state = self.lock(rt);
         state.desks.rouse(tx, &mut wakers);
-        drop(state);
-        self.wake(&wakers);
-    }
-
-    /// The operation of a transaction is given up: it is in the queue no longer, and who waits for its turn behind it is awake. It
-    /// takes the lock once, and is no event.
-    pub(crate) fn give_up<R: Wait>(&self, rt: &R, tx: TxId) {
-        let mut wakers = Wakers::new();
-        let mut state = self.lock(rt);
-        state.desks.give_back(GivenBack::Operation(tx), &mut wakers);
-        self.note_blocked(state.desks.blocked());
         drop(state);
         self.wake(&wakers);
     }

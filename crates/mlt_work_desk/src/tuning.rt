@@ -5,12 +5,11 @@
 pub(crate) const WAITS_BEFORE_PRECEDENCE: u64 = 8;
 
 /// How many times a thread looks at a lock that is taken before it queues. Measured by `connections`: to queue at once was slower.
-pub(crate) const LOCK_SPINS: u32 = 4;
+pub(crate) const LOCK_SPINS: u32 = 128;
 
 /// How many times the first of the queue looks at the lock before it sleeps. Measured by `connections`.
-pub(crate) const FIRST_LOCK_SPINS: u32 = 20;
+pub(crate) const FIRST_LOCK_SPINS: u32 = 640;
 
-/// How many pauses of the processor follow each look at the lock. They take 3 to 14 microseconds, as processors differ, in which
-/// who has the lock takes it for its next events. Measured by `connections`: with a sixteenth of it and 16 times as
-/// many looks, 8 sessions did 5 to 16 in 100 less.
-pub(crate) const PAUSES_PER_LOCK_SPIN: u32 = 256;
+/// How many pauses of the processor follow each look at the lock: they take 0.1 to 0.5 microseconds, as processors differ, about as long
+/// as a step holds the lock. Measured by `connections`: with one pause and more looks 64 sessions did a quarter less.
+pub(crate) const PAUSES_PER_LOCK_SPIN: u32 = 8;

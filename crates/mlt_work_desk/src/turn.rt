@@ -1,7 +1,8 @@
 //! What a desk does that would wait, and what wakes it.
 
 ghost use Rattle.std.specs.Prelude.{◌≡◌};
-ghost use Rattle.mlt_work_desk.specs.Waits.{given_back_by, given_back_by_answer, is_to_wait, wait_for, wait_of};
+ghost use Rattle.mlt_work_desk.specs.Holds.{goes_on, is_done};
+ghost use Rattle.mlt_work_desk.specs.Waits.{given_back_by, given_back_by_step, is_to_wait, wait_for, wait_of};
 
 use mlt_event::{Answer, Event, Told};
 use mlt_object_kinds::ObjOp;
@@ -50,17 +51,15 @@ pub(crate) fn given_back(event: &Event, told: &Told) -> GivenBack
     match (event, told) {
         (Event::Commit(tx), Told::Committed(_)) => GivenBack::All(*tx),
         (Event::Abort(tx), Told::Aborting(true)) => GivenBack::All(*tx),
-        (Event::Whole(tx, _) | Event::Step(tx), Told::Answered(answer)) => {
-            given_back_by_answer(*tx, answer)
-        }
-        (Event::Whole(tx, _), Told::Refused(_)) => GivenBack::Operation(*tx),
+        (Event::Step(tx), Told::Answered(answer)) => given_back_by_step(*tx, answer),
+        (Event::Cancel(tx), Told::Cancelled) => GivenBack::Operation(*tx),
         _ => GivenBack::Nothing,
     }
 }
 
-/// Whose locks a step of a transaction, or all of its operation, has given back that was answered so.
-fn given_back_by_answer(tx: TxId, answer: &Answer) -> GivenBack
-    ensures { result ≡ given_back_by_answer tx answer.now }
+/// Whose locks a step of a transaction has given back that was answered so.
+fn given_back_by_step(tx: TxId, answer: &Answer) -> GivenBack
+    ensures { result ≡ given_back_by_step tx answer.now }
 {
     match answer {
         Answer::Aborted => GivenBack::All(tx),
@@ -68,6 +67,22 @@ fn given_back_by_answer(tx: TxId, answer: &Answer) -> GivenBack
         Answer::Blocked { .. } | Answer::Undone => GivenBack::Pages(tx),
         Answer::Going | Answer::Waiting { .. } => GivenBack::Nothing,
     }
+}
+
+/// Whether an operation goes on that was told this: then nothing of the history, of waits or of the queue has changed.
+#[inline(always)]
+pub(crate) fn goes_on(told: &Told) -> bool
+    ensures { result ≡ goes_on told.now }
+{
+    matches!(told, Told::Called | Told::Answered(Answer::Going))
+}
+
+/// Whether an operation is done that was told this.
+#[inline(always)]
+pub(crate) fn is_done(told: &Told) -> bool
+    ensures { result ≡ is_done told.now }
+{
+    matches!(told, Told::Answered(Answer::Done(_)))
 }
 
 /// Whether one that was told this is to wait.

@@ -8,7 +8,7 @@ use Rattle.mlt_script_tree.specs.Scripts.{ScriptForm}
 use Rattle.mlt_work_clients.specs.declared.forms.ClientRun.{ClientRun}
 use Rattle.mlt_work_clients.specs.Places.{AreClientOutcomes, IsClientRun, place_of, scripts_of_clients}
 use Rattle.mlt_work_clients.proofs.Placing.{draws_client}
-use Rattle.mlt_work_log.specs.Seats.{first_items}
+use Rattle.mlt_work_desk.specs.Holds.{desk_view}
 use Rattle.mlt_work.proofs.Refusals.{runs_end}
 use Rattle.mlt_work.proofs.worker.run_claimed.Goals as goal
 
@@ -24,7 +24,7 @@ claims-preserved g c =
     let run : ClientRun = record { place = number; outcomes = c.in-Ok.outcomes } in
     let here : get_or lists number [] ≡ c.as_slice-scripts.result.now = get_or-map items clients number client [] small ∙ ap items (sym c.index-clients-place.is) ∙ sym c.as_slice-scripts.ensures.value in
     let long : length lists ≡ length clients = length-map clients items in
-    let ends = runs_end g.P.Pseudo.bits_of (λ d. first_items d.snapshot) _ _ _ _ c.in-Ok.ensures.runs in
+    let ends = runs_end g.P.Pseudo.bits_of (λ d. desk_view d.snapshot d.tries) _ _ _ _ c.in-Ok.ensures.runs in
     let one : IsClientRun lists run = (omega arith, subst (λ (ss : List ScriptForm). AreClientOutcomes ss c.in-Ok.outcomes.items) (sym here) (c.in-Ok.ensures.outcomes, ends)) in
     rw (c.push_reserved.ensures.items, c.reserve.ensures.items) record {
       seat = c.draw-number.ensures.beside ∙ l.invariant.seat;

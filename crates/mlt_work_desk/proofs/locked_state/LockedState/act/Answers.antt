@@ -1,6 +1,9 @@
-use Rattle.std.proofs.Common.{◌≡◌, ◌∙◌, ◌+◌, ◌-◌, ◌^◌, ◌++◌, Some, ap, min, arith, sym}
+use Rattle.std.proofs.Common.{rules, ◌≡◌, ◌∙◌, ◌+◌, ◌-◌, ◌^◌, ◌++◌, Some, true, ap, min, arith, sym}
+use Rattle.mlt_work_log.specs.Seats.{first_items}
+use Rattle.mlt_work_desk.specs.Holds.{goes_on}
 use Rattle.mlt_work_desk.proofs.Adding.{event_adds}
 use Rattle.mlt_work_desk.proofs.Counting.{one_event, same_making}
+use Rattle.mlt_work_desk.proofs.GoingOn.{sees_same}
 use Rattle.mlt_work_desk.proofs.locked_state.LockedState.act.Goals as goal
 
 pub invariant_of-self-clause-counted : goal.invariant_of-self-clause-counted
@@ -12,6 +15,17 @@ invariant_of-self-clause-counted g c =
 
 pub invariant_of-self-clause-made : goal.invariant_of-self-clause-made
 invariant_of-self-clause-made g c =
+    ap Some (same_making g.P.Pseudo.bits_of c.args.event c.act-told.result c.args.self.now.manager c.act-told.new.self c.act-told.ensures.meets) ∙ c.args.self.now.made
+
+pub invariant_of-self-2-clause-counted : goal.invariant_of-self-2-clause-counted
+invariant_of-self-2-clause-counted g c =
+    let counts : c.act-told.new.self.events ≡ min (c.args.self.now.manager.events + 1) (2 ^ 64 - 1) = one_event g.P.Pseudo.bits_of c.args.event c.act-told.result c.args.self.now.manager c.act-told.new.self c.act-told.ensures.meets in
+    let before = c.args.self.now.counted in
+    let total = c.add.ensures.total in
+    omega (arith, counts, before, total)
+
+pub invariant_of-self-2-clause-made : goal.invariant_of-self-2-clause-made
+invariant_of-self-2-clause-made g c =
     ap Some (same_making g.P.Pseudo.bits_of c.args.event c.act-told.result c.args.self.now.manager c.act-told.new.self c.act-told.ensures.meets) ∙ c.args.self.now.made
 
 pub see_history-requires-clause-grows : goal.see_history-requires-clause-grows
@@ -30,3 +44,8 @@ returns-clause-sees g c =
       whole = c.see_history.ensures.seen ∙ adds.2 ∙ ap (λ xs. xs ++ adds.0) (sym c.args.self.now.logged ∙ first.1);
       adds = adds.3;
     }
+
+pub returns-then-goes_on-clause-sees : goal.returns-then-goes_on-clause-sees
+returns-then-goes_on-clause-sees g c =
+    let on : goes_on c.act-told.result ≡ true = search rules in
+    sees_same (first_items c.args.snapshot.now) c.args.event c.act-told.result on

@@ -1,0 +1,18 @@
+use Rattle.std.proofs.Common.{◌∙◌, subst}
+use Rattle.mlt_event.specs.declared.event.Event.TheVariants as event
+use Rattle.mlt_work_log.specs.Seats.{first_items}
+use Rattle.mlt_work_desk.specs.Holds.{IsToldTo, SeesEvent}
+use Rattle.mlt_work_desk.proofs.Seeing.{sees_begun}
+use Rattle.mlt_work_desk.proofs.calls.LockDeskDesk.begin.Goals as goal
+
+pub returns-in-Begun : goal.returns-in-Begun
+returns-in-Begun g c =
+    let bits_of = g.P.Pseudo.bits_of in
+    let before = first_items c.args.self.now.snapshot in
+    let after = first_items c.hold-told.new.self.snapshot in
+    let held = c.hold-told.ensures in
+    record {
+      may = subst (λ said. IsToldTo bits_of event.Begin said) c.in-Begun.is held.told;
+      sees = sees_begun bits_of before c.in-Begun.tx after (subst (λ said. SeesEvent before event.Begin said after) c.in-Begun.is held.sees);
+      spends = held.tries ∙ c.begin.ensures;
+    }

@@ -1,0 +1,60 @@
+use Rattle.std.proofs.Common.{rules, ◌≡◌, inl, inr, refl, subst, true}
+use Rattle.mlt_types.specs.declared.refusal.Refusal.TheVariants.{GaveUp}
+use Rattle.mlt_event.specs.declared.answer.Answer.TheVariants as answer
+use Rattle.mlt_event.specs.declared.event.Event.TheVariants as event
+use Rattle.mlt_event.specs.declared.told.Told.TheVariants as told
+use Rattle.mlt_script_cursor.specs.declared.call.DeskCall.TheVariants as call
+use Rattle.mlt_work_log.specs.Seats.{first_items}
+use Rattle.mlt_work_desk.specs.Holds.{IsToldTo, SeesEvent}
+use Rattle.mlt_work_desk.specs.Tries.{GivesUp}
+use Rattle.mlt_work_desk.specs.Waits.{is_to_wait}
+use Rattle.mlt_work_desk.specs.declared.turn.Sleeper.{Sleeper}
+use Rattle.mlt_work_desk.proofs.Seeing.{more_than, sees_more, sees_refused, sees_replied}
+use Rattle.mlt_work_desk.proofs.lock_desk.LockDesk.step.Goals as goal
+
+pub returns-in-Answered-Done-clause-sees : goal.returns-in-Answered-Done-clause-sees
+returns-in-Answered-Done-clause-sees g c =
+    let before = first_items c.args.self.now.snapshot in
+    let after = first_items c.hold-told.new.self.snapshot in
+    let tx = c.args.self.now.sleeper.tx in
+    let reply = c.in-Answered-Done.reply in
+    let held = c.hold-told.ensures in
+    let is_reply : c.hold-told.new.self.is_reply ≡ true = search rules in
+    let was_told : c.hold-told.result.0 ≡ told.Answered (answer.Done reply) = search rules in
+    sees_replied g.P.Pseudo.bits_of before tx c.args.self.now.sleeper.op reply after (held.reply is_reply)
+    (subst (λ said. SeesEvent before (event.Step tx) said after) was_told held.sees)
+
+pub returns-then-gives_up-clause-told : goal.returns-then-gives_up-clause-told
+returns-then-gives_up-clause-told g c =
+    let held = c.hold-told.ensures in
+    let gave : c.gives_up.result ≡ true = search rules in
+    let cancel = c.gives_up.ensures.cancels gave in
+    let waits : is_to_wait c.hold-told.result.0 ≡ true = search rules in (
+      tt,
+      inr (inr (inr (
+        refl,
+        record {
+          told = c.hold-told.result.0;
+          cancelled = cancel.0;
+          to_wait = waits;
+          stepped = held.told;
+          cancels = subst (λ (s : Sleeper). IsToldTo g.P.Pseudo.bits_of (event.Cancel s.tx) cancel.0) held.sleeper cancel.1;
+          reason = subst (λ (s : Sleeper). GivesUp s.tx c.gives_up.new.self.tries) held.sleeper (c.gives_up.ensures.reason gave);
+        },
+      ))),
+    )
+
+pub returns-then-gives_up-clause-more : goal.returns-then-gives_up-clause-more
+returns-then-gives_up-clause-more g c =
+    let before = first_items c.args.self.now.snapshot in
+    let mid = first_items c.hold-told.new.self.snapshot in
+    more_than before mid (first_items c.gives_up.new.self.snapshot) c.gives_up.ensures.more (sees_more before _ _ mid c.hold-told.ensures.sees)
+
+pub returns-then-gives_up-clause-sees : goal.returns-then-gives_up-clause-sees
+returns-then-gives_up-clause-sees g c =
+    let before = first_items c.args.self.now.snapshot in
+    let mid = first_items c.hold-told.new.self.snapshot in
+    let after = first_items c.gives_up.new.self.snapshot in
+    let sleeper = c.args.self.now.sleeper in
+    sees_refused g.P.Pseudo.bits_of before (call.Operation sleeper.tx sleeper.op) GaveUp after
+    (more_than before mid after c.gives_up.ensures.more (sees_more before _ _ mid c.hold-told.ensures.sees))

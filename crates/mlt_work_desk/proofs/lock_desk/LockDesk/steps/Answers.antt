@@ -1,0 +1,18 @@
+use Rattle.std.proofs.Common.{◌∙◌}
+use Rattle.mlt_work_log.specs.Seats.{first_items}
+use Rattle.mlt_work_desk.proofs.Seeing.{more_than}
+use Rattle.mlt_work_desk.proofs.Trying.{spends_more}
+use Rattle.mlt_work_desk.proofs.lock_desk.LockDesk.steps.Goals as goal
+
+pub loop-preserved : goal.loop-preserved
+loop-preserved g c =
+    let first = c.args.self.now in
+    let before = c.loop.self in
+    let after = c.step.new.self in
+    let had = c.loop.invariant in
+    let step = c.step.ensures in (
+      more_than (first_items first.snapshot) (first_items before.snapshot) (first_items after.snapshot) step.more had.0,
+      step.tx ∙ had.1,
+      step.op ∙ had.2,
+      spends_more first.tries before.tries after.tries had.3 step.spends,
+    )

@@ -1,0 +1,11 @@
+use Rattle.std.proofs.Common.{◌≡◌}
+use Rattle.mlt_work_log.specs.Prefixes.{StartsWith}
+use Rattle.mlt_work_log.specs.Seats.{first_items}
+use Rattle.mlt_work_desk.specs.Tries.{SpendsByWaits}
+use Rattle.mlt_work_desk.proofs.lock_desk.LockDesk.steps.Given as goal
+
+-- it has seen what it had seen, is in the same operation, and has spent its tries by waits
+abbrev pub invariant-loop : goal.invariant-loop
+invariant-loop g l = StartsWith (first_items l.self.snapshot) (first_items l.initial.self.snapshot)
+    × (l.self.sleeper.tx ≡ l.initial.self.sleeper.tx) × (l.self.sleeper.op ≡ l.initial.self.sleeper.op)
+    × SpendsByWaits l.initial.self.tries l.self.tries
