@@ -1,14 +1,13 @@
 //! What may be tuned. Beside each stands the group of `bench/run` that shows what it does.
 
-/// How many sessions are admitted at a time. Measured by `connections`, 64 with a transaction a write: with two they did a tenth less, and
-/// with four no more.
+/// How many sessions are admitted at a time. By `connections`, 64 with a transaction a write.
 pub(crate) const MOST_ADMITTED: u64 = 3;
 
 /// How many of those that come next are awake: to wake a thread takes as long as one that is admitted is at work. By `hot`.
 pub(crate) const MOST_AWAKE: u64 = 1;
 
-/// How many sessions bypass the queue at a time. Measured by `connections`, 64 with a transaction a write: with two the slowest hundredth
-/// waited a third longer, and with four twice as long, since who bypasses goes before those who queue.
+/// How many sessions bypass the queue at a time. A session that bypasses goes before those in the queue, so the slowest wait longer with
+/// more of them. By `connections`, 64 with a transaction a write.
 pub(crate) const MOST_BYPASSING: u64 = 1;
 
 /// With how many bytes a session bypasses the queue at most: a transaction of some ten lines. To queue puts a thread to sleep and

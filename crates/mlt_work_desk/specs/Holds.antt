@@ -3,7 +3,6 @@ use Rattle.std.specs.Prelude.{ℕ, ◌≡◌, ◌⊎◌, Bool, true, false, List
 use Rattle.mlt_types.specs.declared.refusal.Refusal.{Refusal}
 use Rattle.mlt_types.specs.declared.refusal.Refusal.TheVariants as refusal
 use Rattle.mlt_object_kinds.specs.declared.operation.ObjOp.{ObjOp}
-use Rattle.mlt_object_kinds.specs.declared.operation.ObjReply.{ObjReply}
 use Rattle.mlt_script_cursor.specs.declared.call.DeskAnswer.{DeskAnswer}
 use Rattle.mlt_script_cursor.specs.declared.call.DeskAnswer.TheVariants.{Begun, Replied, Committed, Aborted, Refused}
 use Rattle.mlt_script_cursor.specs.declared.call.DeskCall.{DeskCall}
@@ -47,54 +46,21 @@ abbrev pub is_done : Told → Bool
 is_done (told.Answered (answer.Done reply)) = true
 is_done other = false
 
--- a step was told what comes only where another desk acts for its transaction: a reply to another operation, or that it is taken back
--- or runs none
-abbrev pub IsOfAnother : Told → Type 0
-IsOfAnother (told.Answered (answer.Done reply)) = Unit {0}
-IsOfAnother (told.Answered answer.Undone) = Unit {0}
-IsOfAnother (told.Answered answer.Aborted) = Unit {0}
-IsOfAnother (told.Refused refusal) = Unit {0}
-IsOfAnother other = ⊥
+-- the last item tells that some transaction did this operation
+pub record EndsWithOp (items : List TraceItem) (op : ObjOp) : Type 0 where
+  pub front : List TraceItem
+  pub last : TraceItem
+  pub whole : items ≡ front ++ last ∷ []
+  pub tells : TellsOf last op
 
--- An operation was to wait, and was cancelled, for one of the reasons to give up.
-pub record IsGivenUp {P : Type 0} (bits_of : P → ℕ → ℕ) (tx : ℕ) (tries : TriesLeft) : Type 0 where
-  pub told : Told
-  pub cancelled : Told
-  pub to_wait : is_to_wait told ≡ true
-  pub stepped : IsToldTo bits_of (event.Step tx) told
-  pub cancels : IsToldTo bits_of (event.Cancel tx) cancelled
-  pub reason : GivesUp tx tries
-
--- Why an operation is refused: its call was, or a step of it; another desk acts for its transaction; or it gave up.
-abbrev pub WhyRefused : {P : Type 0} → (P → ℕ → ℕ) → ℕ → ObjOp → Refusal → TriesLeft → Type 0
-WhyRefused bits_of tx op reason tries =
-    IsToldTo bits_of (event.Call tx op) (told.Refused reason)
-    ⊎ IsToldTo bits_of (event.Step tx) (told.Answered (answer.Refused reason))
-    ⊎ ((reason ≡ refusal.NoSuchTx)
-    × ((other : Told) × IsOfAnother other × IsToldTo bits_of (event.Step tx) other))
-    ⊎ ((reason ≡ refusal.GaveUp) × IsGivenUp bits_of tx tries)
-
--- what an operation may answer: a reply that a step was told, or one of its refusals
-abbrev pub MayAnswerOperation : {P : Type 0} → (P → ℕ → ℕ) → ℕ → ObjOp → DeskAnswer → TriesLeft
-    → Type 0
-MayAnswerOperation bits_of tx op (Replied reply) tries =
-    IsToldTo bits_of (event.Step tx) (told.Answered (answer.Done reply))
-MayAnswerOperation bits_of tx op (Refused refusal) tries =
-    IsOfOperation refusal × WhyRefused bits_of tx op refusal tries
-MayAnswerOperation bits_of tx op other tries = ⊥
-
--- what a call may be answered: a number or a reply that was told, or one of its refusals, for its reason
-abbrev pub MayAnswer : {P : Type 0} → (P → ℕ → ℕ) → DeskCall → DeskAnswer → TriesLeft → Type 0
-MayAnswer bits_of call.Begin (Begun tx) tries = IsToldTo bits_of event.Begin (told.Begun tx)
-MayAnswer bits_of call.Begin (Refused refusal) tries =
-    IsOfBegin refusal × IsToldTo bits_of event.Begin (told.Refused refusal)
-MayAnswer bits_of (call.Operation tx op) given tries = MayAnswerOperation bits_of tx op given tries
-MayAnswer bits_of (call.Commit tx) (Committed number) tries =
-    IsToldTo bits_of (event.Commit tx) (told.Committed number)
-MayAnswer bits_of (call.Commit tx) (Refused refusal) tries =
-    IsOfCommit refusal × IsToldTo bits_of (event.Commit tx) (told.Refused refusal)
-MayAnswer bits_of (call.Abort tx) Aborted tries = Unit {0}
-MayAnswer bits_of asked given tries = ⊥
+-- what comes only where another desk acts for the transaction: a reply, where the history does not end with this operation; or that the
+-- transaction is taken back, or runs no operation
+abbrev pub ComesOfAnother : Told → List TraceItem → ObjOp → Type 0
+ComesOfAnother (told.Answered (answer.Done reply)) items op = EndsWithOp items op → ⊥
+ComesOfAnother (told.Answered answer.Undone) items op = Unit {0}
+ComesOfAnother (told.Answered answer.Aborted) items op = Unit {0}
+ComesOfAnother (told.Refused refusal) items op = Unit {0}
+ComesOfAnother other items op = ⊥
 
 -- What a desk had seen of the history before an event of it was told this, and what it has seen then: what others have added between,
 -- and what the event has added.
@@ -106,12 +72,66 @@ pub record SeesEvent (before : List TraceItem) (event : Event) (told : Told)
   pub whole : after ≡ (before ++ between) ++ here
   pub adds : AddsItems event told called here
 
--- the last item tells that some transaction did this operation
-pub record EndsWithOp (items : List TraceItem) (op : ObjOp) : Type 0 where
-  pub front : List TraceItem
-  pub last : TraceItem
-  pub whole : items ≡ front ++ last ∷ []
-  pub tells : TellsOf last op
+-- A step of the transaction was told what comes only where another desk acts for it, and the desk has seen the history up to that step.
+pub record IsOfAnother {P : Type 0} (bits_of : P → ℕ → ℕ) (tx : ℕ) (op : ObjOp)
+    (history : List TraceItem) : Type 0 where
+  pub told : Told
+  pub before : List TraceItem
+  pub comes : ComesOfAnother told history op
+  pub stepped : IsToldTo bits_of (event.Step tx) told
+  pub sees : SeesEvent before (event.Step tx) told history
+
+-- of an event that is a step with a reply
+abbrev pub IfReply : Event → Told → Type 0 → Type 0
+IfReply (event.Step tx) (told.Answered (answer.Done reply)) X = X
+IfReply event told X = Unit {0}
+
+-- what a desk has seen of the history, and its tries
+pub record DeskView : Type 0 where
+  pub history : List TraceItem
+  pub tries : TriesLeft
+
+abbrev pub desk_view : LogSnapshot → TriesLeft → DeskView
+desk_view snapshot tries = record { history = first_items snapshot; tries = tries }
+
+-- An operation was to wait, and was cancelled, for one of the reasons to give up.
+pub record IsGivenUp {P : Type 0} (bits_of : P → ℕ → ℕ) (tx : ℕ) (tries : TriesLeft) : Type 0 where
+  pub told : Told
+  pub cancelled : Told
+  pub to_wait : is_to_wait told ≡ true
+  pub stepped : IsToldTo bits_of (event.Step tx) told
+  pub cancels : IsToldTo bits_of (event.Cancel tx) cancelled
+  pub reason : GivesUp tx tries
+
+-- Why an operation is refused: its call was, or a step of it; another desk acts for its transaction; or it gave up.
+abbrev pub WhyRefused : {P : Type 0} → (P → ℕ → ℕ) → ℕ → ObjOp → Refusal → DeskView → Type 0
+WhyRefused bits_of tx op reason after =
+    IsToldTo bits_of (event.Call tx op) (told.Refused reason)
+    ⊎ IsToldTo bits_of (event.Step tx) (told.Answered (answer.Refused reason))
+    ⊎ ((reason ≡ refusal.NoSuchTx) × IsOfAnother bits_of tx op after.history)
+    ⊎ ((reason ≡ refusal.GaveUp) × IsGivenUp bits_of tx after.tries)
+
+-- what an operation may answer: a reply that a step answered, or one of its refusals
+abbrev pub MayAnswerOperation : {P : Type 0} → (P → ℕ → ℕ) → ℕ → ObjOp → DeskAnswer → DeskView
+    → Type 0
+MayAnswerOperation bits_of tx op (Replied reply) after =
+    IsToldTo bits_of (event.Step tx) (told.Answered (answer.Done reply))
+MayAnswerOperation bits_of tx op (Refused refusal) after =
+    IsOfOperation refusal × WhyRefused bits_of tx op refusal after
+MayAnswerOperation bits_of tx op other after = ⊥
+
+-- what a call may answer: a number or a reply that an event answered, or one of its refusals, for its reason
+abbrev pub MayAnswer : {P : Type 0} → (P → ℕ → ℕ) → DeskCall → DeskAnswer → DeskView → Type 0
+MayAnswer bits_of call.Begin (Begun tx) after = IsToldTo bits_of event.Begin (told.Begun tx)
+MayAnswer bits_of call.Begin (Refused refusal) after =
+    IsOfBegin refusal × IsToldTo bits_of event.Begin (told.Refused refusal)
+MayAnswer bits_of (call.Operation tx op) given after = MayAnswerOperation bits_of tx op given after
+MayAnswer bits_of (call.Commit tx) (Committed number) after =
+    IsToldTo bits_of (event.Commit tx) (told.Committed number)
+MayAnswer bits_of (call.Commit tx) (Refused refusal) after =
+    IsOfCommit refusal × IsToldTo bits_of (event.Commit tx) (told.Refused refusal)
+MayAnswer bits_of (call.Abort tx) Aborted after = Unit {0}
+MayAnswer bits_of asked given after = ⊥
 
 -- an event of the transaction that takes it back, or a step of that
 abbrev pub IsOfAbort : ℕ → Event → Type 0
@@ -142,17 +162,9 @@ pub record SeesAnswer {P : Type 0} (bits_of : P → ℕ → ℕ) (before : List 
   pub whole : after ≡ before ++ more
   pub have : HaveAnswer bits_of more asked given
 
--- what a desk has seen of the history, and its tries
-pub record DeskView : Type 0 where
-  pub history : List TraceItem
-  pub tries : TriesLeft
-
-abbrev pub desk_view : LogSnapshot → TriesLeft → DeskView
-desk_view snapshot tries = record { history = first_items snapshot; tries = tries }
-
--- a call is answered by what was told or one of its refusals, the history has what was told, and tries are spent as they are to be
+-- A call has the answer of an event or one of its refusals, the history has that answer, and tries are spent as they are to be.
 pub record Answers {P : Type 0} (bits_of : P → ℕ → ℕ) (before : DeskView) (asked : DeskCall)
     (given : DeskAnswer) (after : DeskView) : Type 0 where
-  pub may : MayAnswer bits_of asked given after.tries
+  pub may : MayAnswer bits_of asked given after
   pub sees : SeesAnswer bits_of before.history asked given after.history
   pub spends : SpendsTries before.tries asked after.tries

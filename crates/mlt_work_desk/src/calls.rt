@@ -6,7 +6,7 @@ ghost use Rattle.mlt_work_log.specs.Prefixes.{StartsWith};
 ghost use Rattle.mlt_work_log.specs.Seats.{IsOf, first_items};
 ghost use Rattle.mlt_script_cursor.specs.declared.call.DeskCall.TheVariants as call;
 ghost use Rattle.mlt_event.specs.declared.event.Event.TheVariants as event;
-ghost use Rattle.mlt_work_desk.specs.Holds.{EndsWithOp, IsToldTo, MayAnswerOperation, SeesAnswer, SeesEvent, is_done};
+ghost use Rattle.mlt_work_desk.specs.Holds.{EndsWithOp, IfReply, IsToldTo, MayAnswerOperation, SeesAnswer, SeesEvent, desk_view, is_done};
 ghost use Rattle.mlt_work_desk.specs.Tries.{GivesUp, IsYoungestOfCircle, SpendsByWaits, tries_spent};
 
 use crate::called::Called;
@@ -17,7 +17,7 @@ use crate::shared::Shared;
 use crate::timestamp::Timestamp;
 use crate::tries::{Tries, TriesLeft};
 use crate::tuning::WAITS_BEFORE_PRECEDENCE;
-use crate::turn::{Sleeper, Turn, goes_on, is_done, is_to_wait};
+use crate::turn::{Sleeper, Turn, goes_on, is_done};
 use mlt_event::{Answer, Event, Told};
 use mlt_object_kinds::{ObjOp, ObjReply};
 use mlt_script_cursor::{Answering, DeskAnswer};
@@ -127,6 +127,8 @@ impl<'a, P: Pseudo, L: MadeWith<P>, R: Wait, G: Gate> LockDesk<'a, P, L, R, G> {
             (first_items self.new.snapshot) }
         ensures reply { self.new.is_reply ≡ true
             → EndsWithOp (first_items self.new.snapshot) self.old.sleeper.op }
+        ensures another { self.new.is_reply ≡ false → IfReply event result.0
+            (EndsWithOp (first_items self.new.snapshot) self.old.sleeper.op → ⊥) }
         ensures youngest { result.1 ≡ Turn.Deadlock → IsYoungestOfCircle self.old.sleeper.tx }
         ensures one { self.new.share.amount ≡ self.old.share.amount + 1 }
         ensures sleeper { self.new.sleeper ≡ self.old.sleeper }
@@ -173,6 +175,8 @@ impl<'a, P: Pseudo, L: MadeWith<P>, R: Wait, G: Gate> LockDesk<'a, P, L, R, G> {
             (first_items self.new.snapshot) }
         ensures reply { self.new.is_reply ≡ true
             → EndsWithOp (first_items self.new.snapshot) self.old.sleeper.op }
+        ensures another { self.new.is_reply ≡ false → IfReply event result.0
+            (EndsWithOp (first_items self.new.snapshot) self.old.sleeper.op → ⊥) }
         ensures youngest { result.1 ≡ Turn.Deadlock → IsYoungestOfCircle self.old.sleeper.tx }
         ensures one { self.new.share.amount ≡ self.old.share.amount + 1 }
         ensures sleeper { self.new.sleeper ≡ self.old.sleeper }
@@ -281,13 +285,14 @@ impl<'a, P: Pseudo, L: MadeWith<P>, R: Wait, G: Gate> LockDesk<'a, P, L, R, G> {
     }
 
     /// One step of the operation that the desk is in, which was called. It answers the operation's answer, if it has one: a reply that
-    /// the history has as one to this operation. A step that is told what comes only where another desk acts for the same transaction
-    /// is answered by `NoSuchTx`.
+    /// the history has as one to this operation. Where a step's answer comes only where another desk acts for the same transaction, the
+    /// answer is `NoSuchTx`.
     #[tactic(auto, using(crate::proofs::Trying::spends_none, crate::proofs::Trying::spends_one))]
     #[inline(always)]
     fn step(&mut self) -> Option<Result<ObjReply, Refusal>>
         ensures told { IfSome result (λ reply. MayAnswerOperation P.bits_of self.old.sleeper.tx
-            self.old.sleeper.op (answer_by DeskAnswer.Replied reply) self.new.tries) }
+            self.old.sleeper.op (answer_by DeskAnswer.Replied reply)
+            (desk_view self.new.snapshot self.new.tries)) }
         ensures sees { IfSome result (λ reply. SeesAnswer P.bits_of (first_items self.old.snapshot)
             (call.Operation self.old.sleeper.tx self.old.sleeper.op)
             (answer_by DeskAnswer.Replied reply) (first_items self.new.snapshot)) }
@@ -300,15 +305,14 @@ impl<'a, P: Pseudo, L: MadeWith<P>, R: Wait, G: Gate> LockDesk<'a, P, L, R, G> {
         // With its last try it does not wait, nor where the gate is out of patience.
         let may_sleep = self.tries.left > 1 && self.tries.is_patient;
         let (told, turn) = self.hold(Event::Step(self.sleeper.tx), may_sleep);
-        if is_to_wait(&told) {
-            return if self.gives_up(turn) {
-                Some(Err(Refusal::GaveUp))
-            } else {
-                None
-            };
-        }
         match told {
             Told::Answered(Answer::Going) => None,
+            Told::Answered(Answer::Waiting { .. } | Answer::Blocked { .. }) =>
+                if self.gives_up(turn) {
+                    Some(Err(Refusal::GaveUp))
+                } else {
+                    None
+                },
             Told::Answered(Answer::Done(reply)) if self.is_reply => Some(Ok(reply)),
             Told::Answered(Answer::Refused(refusal)) => Some(Err(refusal)),
             Told::Answered(Answer::Done(_) | Answer::Undone | Answer::Aborted) | Told::Refused(_) =>
@@ -321,7 +325,7 @@ impl<'a, P: Pseudo, L: MadeWith<P>, R: Wait, G: Gate> LockDesk<'a, P, L, R, G> {
     #[tactic(auto, using(crate::proofs::Seeing::more_than, crate::proofs::Seeing::no_more, crate::proofs::Seeing::sees_later, crate::proofs::Trying::spends_nothing, crate::proofs::Trying::spends_more))]
     fn steps(&mut self) -> Result<ObjReply, Refusal>
         ensures told { MayAnswerOperation P.bits_of self.old.sleeper.tx self.old.sleeper.op
-            (answer_by DeskAnswer.Replied result) self.new.tries }
+            (answer_by DeskAnswer.Replied result) (desk_view self.new.snapshot self.new.tries) }
         ensures sees { SeesAnswer P.bits_of (first_items self.old.snapshot)
             (call.Operation self.old.sleeper.tx self.old.sleeper.op)
             (answer_by DeskAnswer.Replied result) (first_items self.new.snapshot) }

@@ -1,13 +1,13 @@
 //! What a desk does while it holds the lock.
 
-ghost use Rattle.std.specs.Prelude.{◌≡◌, ◌++◌, ◌+◌, ◌-◌, ◌<◌, ◌^◌, [], false, true, List, Some, min};
+ghost use Rattle.std.specs.Prelude.{◌≡◌, ◌++◌, ◌+◌, ◌-◌, ◌<◌, ◌^◌, ◌≢◌, [], false, true, List, Some, min};
 ghost use Rattle.mlt_manager.specs.Answers.{counted};
 ghost use Rattle.mlt_manager.specs.Events.{Meets};
 ghost use Rattle.mlt_manager.specs.Managers.{IsManager};
 ghost use Rattle.mlt_work_waits.specs.declared.wait.Waker.{Waker};
 ghost use Rattle.mlt_work_log.specs.Prefixes.{StartsWith};
 ghost use Rattle.mlt_work_log.specs.Seats.{IsOf, IsWriterOf, all_items, first_items, id_of};
-ghost use Rattle.mlt_work_desk.specs.Holds.{EndsWithOp, SeesEvent, goes_on};
+ghost use Rattle.mlt_work_desk.specs.Holds.{EndsWithOp, IfReply, SeesEvent, goes_on};
 ghost use Rattle.mlt_work_desk.specs.Makings.{making_of};
 ghost use Rattle.mlt_work_desk.specs.Waits.{given_back_by, precedence_after, precedence_if, queue_after, queue_if, TurnsIfWaits, wait_if, waits_after, woken_by};
 
@@ -100,6 +100,8 @@ impl<P: Pseudo, L: MadeWith<P>> LockedState<P, L> {
         ensures after { IsManager P.bits_of self.new.manager }
         ensures meets { Meets P.bits_of event result.0
             (counted self.old.manager) self.new.manager }
+        ensures keeps { IfReply event result.0 (self.new.manager.commons.history.items
+            ≢ self.new.manager.commons.history.handed) }
         ensures amount { share.new.amount ≡ share.old.amount + 1 }
         ensures parts { share.new.parts ≡ share.old.parts }
         ensures desks { self.new.desks.count ≡ self.old.desks.count }
@@ -122,6 +124,8 @@ impl<P: Pseudo, L: MadeWith<P>> LockedState<P, L> {
         } = self;
         book.add(share, 1);
         manager.keeps_its_invariant();
+        // What was handed out are the first items of the history.
+        manager.kept_history();
         let told = manager.act(event);
         manager.keeps_its_invariant();
         if goes_on(&told) {
@@ -133,10 +137,13 @@ impl<P: Pseudo, L: MadeWith<P>> LockedState<P, L> {
         (told, turn)
     }
 
-    /// Whether the last item of the history tells of this operation.
+    /// Whether the last item of the history tells of this operation. Of a history that was all handed out it does not know.
     #[inline(always)]
     pub(crate) fn ends_with(&self, op: &ObjOp) -> bool
-        ensures { result ≡ true → EndsWithOp self.now.manager.commons.history.items op.now }
+        ensures is { result ≡ true → EndsWithOp self.now.manager.commons.history.items op.now }
+        ensures is_not { result ≡ false
+            → self.now.manager.commons.history.items ≢ self.now.manager.commons.history.handed
+            → EndsWithOp self.now.manager.commons.history.items op.now → ⊥ }
     {
         let Some((last, _)) = self.manager.kept_history().split_last() else {
             return false;

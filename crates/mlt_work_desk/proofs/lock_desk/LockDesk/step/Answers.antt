@@ -1,11 +1,11 @@
-use Rattle.std.proofs.Common.{rules, ◌≡◌, inl, inr, refl, subst, true}
+use Rattle.std.proofs.Common.{rules, ◌≡◌, inl, inr, false, refl, subst, true}
 use Rattle.mlt_types.specs.declared.refusal.Refusal.TheVariants.{GaveUp}
 use Rattle.mlt_event.specs.declared.answer.Answer.TheVariants as answer
 use Rattle.mlt_event.specs.declared.event.Event.TheVariants as event
 use Rattle.mlt_event.specs.declared.told.Told.TheVariants as told
 use Rattle.mlt_script_cursor.specs.declared.call.DeskCall.TheVariants as call
 use Rattle.mlt_work_log.specs.Seats.{first_items}
-use Rattle.mlt_work_desk.specs.Holds.{IsToldTo, SeesEvent}
+use Rattle.mlt_work_desk.specs.Holds.{EndsWithOp, IfReply, IsToldTo, SeesEvent}
 use Rattle.mlt_work_desk.specs.Tries.{GivesUp}
 use Rattle.mlt_work_desk.specs.Waits.{is_to_wait}
 use Rattle.mlt_work_desk.specs.declared.turn.Sleeper.{Sleeper}
@@ -23,6 +23,27 @@ returns-in-Answered-Done-clause-sees g c =
     let was_told : c.hold-told.result.0 ≡ told.Answered (answer.Done reply) = search rules in
     sees_replied g.P.Pseudo.bits_of before tx c.args.self.now.sleeper.op reply after (held.reply is_reply)
     (subst (λ said. SeesEvent before (event.Step tx) said after) was_told held.sees)
+
+pub returns-in-Answered-Done-2-clause-told : goal.returns-in-Answered-Done-2-clause-told
+returns-in-Answered-Done-2-clause-told g c =
+    let step = event.Step c.args.self.now.sleeper.tx in
+    let done = told.Answered (answer.Done c.in-Answered-Done.reply) in
+    let held = c.hold-told.ensures in
+    let is_other : c.hold-told.new.self.is_reply ≡ false = search rules in
+    let was_told : c.hold-told.result.0 ≡ done = search rules in
+    let ends = EndsWithOp (first_items c.hold-told.new.self.snapshot) c.args.self.now.sleeper.op in (
+      tt,
+      inr (inr (inl (
+        refl,
+        record {
+          told = done;
+          before = first_items c.args.self.now.snapshot;
+          comes = subst (λ said. IfReply step said (ends → ⊥)) was_told (held.another is_other);
+          stepped = subst (λ said. IsToldTo g.P.Pseudo.bits_of step said) was_told held.told;
+          sees = subst (λ said. SeesEvent (first_items c.args.self.now.snapshot) step said (first_items c.hold-told.new.self.snapshot)) was_told held.sees;
+        },
+      ))),
+    )
 
 pub returns-then-gives_up-clause-told : goal.returns-then-gives_up-clause-told
 returns-then-gives_up-clause-told g c =

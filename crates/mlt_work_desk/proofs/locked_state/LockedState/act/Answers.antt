@@ -1,9 +1,10 @@
-use Rattle.std.proofs.Common.{rules, ◌≡◌, ◌∙◌, ◌+◌, ◌-◌, ◌^◌, ◌++◌, Some, true, ap, min, arith, sym}
+use Rattle.std.proofs.Common.{rules, ◌≡◌, ◌≢◌, ◌∙◌, ◌+◌, ◌-◌, ◌^◌, ◌++◌, Some, true, ap, min, arith, sym}
 use Rattle.mlt_work_log.specs.Seats.{first_items}
 use Rattle.mlt_work_desk.specs.Holds.{goes_on}
 use Rattle.mlt_work_desk.proofs.Adding.{event_adds}
 use Rattle.mlt_work_desk.proofs.Counting.{one_event, same_making}
 use Rattle.mlt_work_desk.proofs.GoingOn.{sees_same}
+use Rattle.mlt_work_desk.proofs.Replying.{keeps_reply, reply_goes_on}
 use Rattle.mlt_work_desk.proofs.locked_state.LockedState.act.Goals as goal
 
 pub invariant_of-self-clause-counted : goal.invariant_of-self-clause-counted
@@ -49,3 +50,13 @@ pub returns-then-goes_on-clause-sees : goal.returns-then-goes_on-clause-sees
 returns-then-goes_on-clause-sees g c =
     let on : goes_on c.act-told.result ≡ true = search rules in
     sees_same (first_items c.args.snapshot.now) c.args.event c.act-told.result on
+
+pub returns-clause-keeps : goal.returns-clause-keeps
+returns-clause-keeps g c =
+    keeps_reply g.P.Pseudo.bits_of c.args.event c.act-told.result c.args.self.now.manager c.act-told.new.self c.kept_history.result.now c.kept_history.ensures c.act-told.ensures.handed c.act-told.ensures.meets
+
+pub returns-then-goes_on-clause-keeps : goal.returns-then-goes_on-clause-keeps
+returns-then-goes_on-clause-keeps g c =
+    let on : goes_on c.act-told.result ≡ true = search rules in
+    let history = c.act-told.new.self.commons.history in
+    reply_goes_on (history.items ≢ history.handed) c.args.event c.act-told.result on
