@@ -50,10 +50,10 @@ impl<P: Pseudo, L: MadeWith<P>> Shared<P, L> {
 
     /// The state, once nobody else has it.
     ///
-    /// A hold takes some tenths of a microsecond, and to put a thread to sleep and wake it takes many. So a lock that is taken is looked
-    /// at again many times, each time after a wait as long as a short hold. After that a thread queues, and of the queue the first alone
-    /// goes on looking (Dice, Malthusian Locks, EuroSys 2017, section 3). Who holds the lock may not be running, so that one too sleeps
-    /// in the end.
+    /// A hold takes some tenths of a microsecond, and to put a thread to sleep and wake it takes many. So a thread looks at a lock that is
+    /// taken again a few times, each time after a wait in which its holder may take it for its next events: then what it works on stays in
+    /// its processor. After that a thread queues, and of the queue the first alone goes on looking (Dice, Malthusian Locks, EuroSys 2017,
+    /// section 3). The thread that holds the lock may not be running, so that one too sleeps in the end.
     #[inline(always)]
     pub(crate) fn lock<R: Wait>(&self, rt: &R) -> MutexGuard<'_, LockedState<P, L>> {
         match self.state.try_lock() {

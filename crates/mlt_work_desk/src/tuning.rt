@@ -5,11 +5,12 @@
 pub(crate) const WAITS_BEFORE_PRECEDENCE: u64 = 8;
 
 /// How many times a thread looks at a lock that is taken before it queues. By `connections`.
-pub(crate) const LOCK_SPINS: u32 = 128;
+pub(crate) const LOCK_SPINS: u32 = 4;
 
 /// How many times the first of the queue looks at the lock before it sleeps. By `connections`.
-pub(crate) const FIRST_LOCK_SPINS: u32 = 640;
+pub(crate) const FIRST_LOCK_SPINS: u32 = 20;
 
-/// How many pauses of the processor follow each look at the lock: they take 0.1 to 0.5 microseconds, as processors differ, about as long
-/// as a step holds the lock. By `connections`.
-pub(crate) const PAUSES_PER_LOCK_SPIN: u32 = 8;
+/// How many pauses of the processor follow each look at the lock. They take 3 to 14 microseconds, as processors differ, in which the
+/// thread that has the lock takes it for its next events, and what these work on stays in its processor. By `connections`: 8 sessions
+/// with a transaction a write do less with shorter waits, however many looks there are.
+pub(crate) const PAUSES_PER_LOCK_SPIN: u32 = 256;
