@@ -307,12 +307,13 @@ impl<'a, P: Pseudo, L: MadeWith<P>, R: Wait, G: Gate> LockDesk<'a, P, L, R, G> {
         let (told, turn) = self.hold(Event::Step(self.sleeper.tx), may_sleep);
         match told {
             Told::Answered(Answer::Going) => None,
-            Told::Answered(Answer::Waiting { .. } | Answer::Blocked { .. }) =>
+            Told::Answered(Answer::Waiting { .. } | Answer::Blocked { .. }) => {
                 if self.gives_up(turn) {
                     Some(Err(Refusal::GaveUp))
                 } else {
                     None
-                },
+                }
+            }
             Told::Answered(Answer::Done(reply)) if self.is_reply => Some(Ok(reply)),
             Told::Answered(Answer::Refused(refusal)) => Some(Err(refusal)),
             Told::Answered(Answer::Done(_) | Answer::Undone | Answer::Aborted) | Told::Refused(_) =>

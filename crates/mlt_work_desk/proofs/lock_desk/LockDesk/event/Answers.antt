@@ -12,14 +12,14 @@ returns-clause-another g c = λ no_reply.
     let op = c.args.self.now.sleeper.op in
     let items = first_items c.act-told.new.snapshot in
     elim c.if-is_done.branch [
-      then-is_done w ↦
-        let ends_not : w.ends_with.result ≡ false = search rules in
-        let seen : items ≡ history.items = search rules in
-        let not_in : history.items ≢ history.handed → EndsWithOp items op → ⊥ = search rules in
-        reply_then _ _ c.args.event c.act-told.result.0 not_in c.act-told.ensures.keeps
-    | else-is_done w ↦
-        let not : is_done c.act-told.result.0 ≡ false = search rules in
-        reply_not_done _ c.args.event c.act-told.result.0 not
+      | then-is_done w ↦
+          let ends_not : w.ends_with.result ≡ false = search rules in
+          let seen : items ≡ history.items = search rules in
+          let not_in : history.items ≢ history.handed → EndsWithOp items op → ⊥ = search rules in
+          reply_then _ _ c.args.event c.act-told.result.0 not_in c.act-told.ensures.keeps
+      | else-is_done w ↦
+          let not : is_done c.act-told.result.0 ≡ false = search rules in
+          reply_not_done _ c.args.event c.act-told.result.0 not
     ]
 
 pub returns-clause-youngest : goal.returns-clause-youngest
