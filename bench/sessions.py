@@ -147,8 +147,10 @@ def serve_works() -> Iterator[Work]:
 def connections_works() -> Iterator[Work]:
     for connections in (1, 2, 4, 8, 16, 32, SESSIONS):
         threads = min(connections, CLIENT_THREADS)
-        load = Load(THREE, connections, counters=50_000, threads=threads)
-        yield Work("connections", f"{named(connections, threads)}, a line a round trip", "transactions/s", sides_of(load, "Redis"))
+        for whole, way in WAYS.items():
+            if not whole or connections == SESSIONS:
+                load = Load(THREE, connections, whole, counters=50_000, threads=threads)
+                yield Work("connections", f"{named(connections, threads)}, {way}", "transactions/s", sides_of(load, "Redis"))
 
 
 def with_tail(side: Side, beside: int) -> Side:
