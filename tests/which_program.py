@@ -9,6 +9,7 @@ import signal
 import subprocess
 import time
 from collections.abc import Mapping
+from functools import partial
 from pathlib import Path
 
 from harness import PATIENCE, ROOT, Program, Ran, each, expect, holds, same, test
@@ -112,7 +113,11 @@ class Tree:
         """The script, started with these words, in a group of processes of its own."""
         pipe = subprocess.PIPE
         command = [str(self.top / "mltx"), *words]
-        return subprocess.Popen(command, env=self.env, start_new_session=True, stdin=pipe, stdout=pipe, stderr=pipe)
+        # An interrupt ends it, also where the tests were started with interrupts ignored, as a shell starts what it has in the background.
+        heed = partial(signal.signal, signal.SIGINT, signal.SIG_DFL)
+        return subprocess.Popen(
+            command, env=self.env, start_new_session=True, stdin=pipe, stdout=pipe, stderr=pipe, preexec_fn=heed
+        )
 
     def run(self, *words: str) -> Ran:
         return ended(self.start(*words))
