@@ -6,23 +6,8 @@ ghost use Rattle.mlt_object_kinds.specs.Accounts.{IsAccount};
 ghost use Rattle.mlt_object_kinds.specs.Bases.{SameBut, account_at, counter_at, element_at, state_at};
 
 use mlt_object_base::Base;
-use mlt_object_kinds::{AccountOp, CounterOp, ElementOp, ObjOp, ObjReply};
+use mlt_object_kinds::{CounterOp, ElementOp, ObjOp};
 use mlt_types::{Cell, Refusal, Value};
-
-// Opens an account with this balance, where it is not there yet.
-fn copy_account(base: &mut Base, account: u32, balance: u64) -> Result<(), Refusal>
-    requires range { IsAccount (Some balance) }
-    requires before { (account_at base.old account ≡ Some balance)
-        ⊎ (account_at base.old account ≡ None) }
-    ensures holds { OnOk result (account_at base.new account ≡ Some balance) }
-    ensures others { OnOk result (SameBut base.old base.new (Cell.Account account)) }
-    ensures refusal { IsOkUnless result Refusal.OutOfMemory }
-{
-    if base.apply(&ObjOp::Account(account, AccountOp::Open))? == ObjReply::Opened {
-        base.apply(&ObjOp::Account(account, AccountOp::Deposit(balance)))?;
-    }
-    Ok(())
-}
 
 fn copy_element(base: &mut Base, set: u16, element: u32) -> Result<(), Refusal>
     ensures holds { OnOk result (element_at base.new set element ≡ true) }
@@ -60,7 +45,7 @@ pub(crate) fn copy_cell(base: &mut Base, cell: &Cell, value: Value) -> Result<()
     ensures refusal { IsOkUnless result Refusal.OutOfMemory }
 {
     match *cell {
-        Cell::Account(account) => copy_account(base, account, value),
+        Cell::Account(account) => base.put_account(account, value),
         Cell::Element(set, element) => copy_element(base, set, element),
         Cell::Counter(counter) => copy_counter(base, counter, value),
         Cell::Size(_) => Ok(()),

@@ -3,6 +3,7 @@
 ghost use Rattle.std.specs.Prelude.{◌≡◌, ◌++◌, None, Some, IsOkUnless, IfNone, IfOk, IfSome, OnErr, OnOk};
 ghost use Rattle.std.specs.FinMap as map;
 ghost use Rattle.std.specs.String.{string_bytes};
+ghost use Rattle.mlt_types.specs.Maps.{with_entry};
 ghost use Rattle.mlt_object_base.specs.BaseText.{account_lines};
 ghost use Rattle.mlt_object_base.specs.Kept.{DoesAt};
 ghost use Rattle.mlt_object_kinds.specs.Accounts.{AccountStep, IsAccount};
@@ -101,6 +102,17 @@ impl Accounts {
         }
         self.balances.remove(&account);
         Ok(ObjReply::Closed)
+    }
+
+    // Gives an account a balance, whether it is there or not. It is searched for once.
+    pub(crate) fn put(&mut self, account: u32, balance: u64) -> Result<(), Refusal>
+        requires { IsAccount (Some balance) }
+        ensures put { OnOk result (self.new ≡ with_entry self.old account (Some balance)) }
+        ensures err { OnErr result (self.new ≡ self.old) }
+        ensures refusal { IsOkUnless result Refusal.OutOfMemory }
+    {
+        self.balances.insert(account, balance)?;
+        Ok(())
     }
 
     // Appends a line `account A b` for each account, by rising number.

@@ -1,11 +1,13 @@
 //! The base of all objects, in maps and a set.
 
-ghost use Rattle.std.specs.Prelude.{◌≡◌, IfOk, OnOk, OnErr, IsOkUnless};
+ghost use Rattle.std.specs.Prelude.{◌≡◌, Some, IfOk, OnOk, OnErr, IsOkUnless};
 ghost use Rattle.std.specs.String.{string_bytes};
 ghost use Rattle.mlt_object_base.specs.BaseText.{base_text};
 ghost use Rattle.mlt_object_base.specs.Growth.{MakesObject};
 ghost use Rattle.mlt_object_kinds.specs.Accounts.{IsAccount};
-ghost use Rattle.mlt_object_kinds.specs.Bases.{account_at, counter_at, element_at, empty_base, size_at, Step};
+ghost use Rattle.mlt_types.specs.declared.cell.Cell.TheVariants as cell;
+ghost use Rattle.mlt_object_kinds.specs.Bases.{account_at, counter_at, element_at, empty_base, size_at, with_state, Step};
+ghost use Rattle.mlt_object_kinds.specs.Cells.CellState.{AccountState};
 
 use crate::accounts::Accounts;
 use crate::counters::Counters;
@@ -76,6 +78,20 @@ impl Base {
         ensures { result ≡ counter_at self.now counter }
     {
         self.counters.value(counter)
+    }
+
+    /// Gives an account this balance, 0 to 10^18, whether it is there or not. No other cell changes.
+    ///
+    /// # Errors
+    /// `OutOfMemory`, where a growth was refused; the base is then as before.
+    pub fn put_account(&mut self, account: u32, balance: u64) -> Result<(), Refusal>
+        requires range { IsAccount (Some balance) }
+        ensures holds { OnOk result (self.new
+            ≡ with_state self.old (cell.Account account) (AccountState (Some balance))) }
+        ensures err { OnErr result (self.new ≡ self.old) }
+        ensures refusal { IsOkUnless result Refusal.OutOfMemory }
+    {
+        self.accounts.put(account, balance)
     }
 
     /// Does an operation, and answers what it is told. No other cell changes.
