@@ -77,31 +77,26 @@ impl KeptItem {
     pub fn is_op(&self, op: &ObjOp) -> bool
         ensures { IsTrue result ↔ TellsOf self.now op.now }
     {
-        match self.form {
-            Form::Op(kind, reply, number, amount, told) => {
-                let parts = Packed {
-                    op: kind,
-                    reply,
-                    set: 0,
-                    number,
-                    amount,
-                    told,
-                };
-                parts.is_op(op)
+        let parts = match self.form {
+            Form::Op(op, reply, number, amount, told) => Packed {
+                op,
+                reply,
+                set: 0,
+                number,
+                amount,
+                told,
             },
-            Form::OfSet(kind, reply, set, number, told) => {
-                let parts = Packed {
-                    op: kind,
-                    reply,
-                    set,
-                    number,
-                    amount: 0,
-                    told,
-                };
-                parts.is_op(op)
+            Form::OfSet(op, reply, set, number, told) => Packed {
+                op,
+                reply,
+                set,
+                number,
+                amount: 0,
+                told,
             },
-            Form::Begin | Form::Back | Form::Commit(_) | Form::Abort => false,
-        }
+            Form::Begin | Form::Back | Form::Commit(_) | Form::Abort => return false,
+        };
+        parts.is_op(op)
     }
 
     /// The item that is kept.
