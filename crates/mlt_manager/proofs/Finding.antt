@@ -11,9 +11,9 @@ use Rattle.mlt_tx_open.specs.Tables.{Table}
 use Rattle.mlt_manager.specs.Undoings.{IsNotUndoing}
 
 -- one that was found is open at what it is at
-pub open_at : (txs : Table) (tx : ℕ) (got : Option (Bor Transaction)) (one : Bor Transaction) (where_at : At) (Is : At → Type 0)
-    → option_copied got ≡ map.get txs tx → got ≡ Some one → one.now.at ≡ where_at → Is where_at → IsOpenAt txs tx Is
-open_at txs tx got one where_at Is found is at_it fits = record { one = one.now; there = sym found ∙ ap option_copied is; is_at = subst Is (sym at_it) fits }
+pub open_at : (txs : Table) (tx : ℕ) (got : Option (Bor Transaction)) (one : Bor Transaction) (Is : At → Type 0)
+    → option_copied got ≡ map.get txs tx → got ≡ Some one → Is one.now.at → IsOpenAt txs tx Is
+open_at txs tx got one Is found is fits = record { one = one.now; there = sym found ∙ ap option_copied is; is_at = fits }
 
 pub idle_at : (txs : Table) (tx count : ℕ) → IsIdleWith txs tx count → IsOpenAt txs tx IsIdle
 idle_at txs tx count h = record { one = h.one; there = h.there; is_at = subst IsIdle (sym h.idle) tt }

@@ -17,8 +17,9 @@ use Rattle.mlt_tx.specs.declared.transaction.At.{At}
 use Rattle.mlt_tx.specs.declared.transaction.At.TheVariants as at
 use Rattle.mlt_tx.specs.declared.transaction.Transaction.{Transaction}
 use Rattle.mlt_tx.specs.Transactions.{IsPending}
+pub use Rattle.mlt_tx.specs.Transactions.{IsUndoing}
 use Rattle.mlt_hash.specs.Walks.{basis_by}
-pub use Rattle.mlt_tx_open.specs.OpenAt.{IsBusy, IsCauseAtCallOf, IsCauseAtStep, IsIdle, IsIdleWith, IsNotIdle, IsNotOpen, IsOpenAt, IsUndoing, MayCallOne}
+pub use Rattle.mlt_tx_open.specs.OpenAt.{IsBusy, IsCauseAtCallOf, IsCauseAtStep, IsIdle, IsIdleWith, IsNotIdle, IsNotOpen, IsOpenAt, MayCallOne}
 use Rattle.mlt_tx_open.specs.Tables.{CallsNone, CallsOne, CancelsOne, PutsOneAt, StepsOne, Table}
 use Rattle.mlt_tx_meaning.specs.Presences.{IsOpInRange}
 use Rattle.mlt_manager.specs.Managers.{ManagerFields}

@@ -81,6 +81,7 @@ impl<P: Pseudo> Manager<P> {
     /// `NoSuchTx`, where no transaction of this number is open; `Undoing`, where its abort has begun; `Running`, where an
     /// operation is pending; `LogFull`, where it has as many operations as it may have; else `OutOfMemory`, where a
     /// growth was refused. No operation is pending then that was not before.
+    #[inline(always)]
     pub fn call(&mut self, tx: TxId, op: ObjOp) -> Result<(), Refusal>
         ensures answers { AnswersCall (counted self.old) self.new tx op result }
         ensures handed { self.new.commons.history.handed ≡ self.old.commons.history.handed }

@@ -22,7 +22,7 @@ use mlt_page::Page;
 use mlt_page_locks::PageLocks;
 use mlt_page_store::Store;
 use mlt_trace::{History, KeptItem, TraceItem};
-use mlt_tx::{At, Commons};
+use mlt_tx::{Commons, State};
 use mlt_tx_meaning::operation_is_in_range;
 use mlt_tx_open::OpenTransactions;
 use mlt_types::{Limits, OpenSet, PageNo, Pseudo, Refusal, TxId};
@@ -111,10 +111,10 @@ impl<P: Pseudo> Parts<P> {
         let Some(transaction) = self.txs.get(tx) else {
             return Stage::NotOpen;
         };
-        match transaction.at {
-            At::Idle => Stage::Idle(transaction.undo.len()),
-            At::Pending(_) => Stage::Pending,
-            At::Undoing(_) => Stage::Undoing,
+        match transaction.at.state() {
+            State::Idle => Stage::Idle(transaction.undo.len()),
+            State::Pending => Stage::Pending,
+            State::Undoing => Stage::Undoing,
         }
     }
 
@@ -396,7 +396,7 @@ impl<P: Pseudo> Parts<P> {
             self.close(tx, 0, TraceItem::Abort(tx));
             return Ok(true);
         }
-        self.txs.put_at(tx, At::Undoing(None));
+        self.txs.undo(tx);
         Ok(false)
     }
 

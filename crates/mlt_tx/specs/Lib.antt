@@ -1,3 +1,4 @@
+pub mod Activities
 pub mod AtOnce
 pub mod Endings
 pub mod Steps

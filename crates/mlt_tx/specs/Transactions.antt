@@ -4,6 +4,8 @@ use Rattle.mlt_object_kinds.specs.declared.operation.ObjOp.{ObjOp}
 use Rattle.mlt_object_kinds.specs.Operations.{cell_of}
 use Rattle.mlt_object_base.specs.declared.request.Request.TheVariants.{Do}
 use Rattle.mlt_object_locks.specs.Locks.{SameReservations, reservation_of}
+use Rattle.mlt_object_undo.specs.Undo.{Undo}
+use Rattle.mlt_page_subtx.specs.Images.{Running}
 use Rattle.mlt_hash.specs.Walks.{Basis}
 use Rattle.mlt_tx_operation.specs.Operating.{OperationFields, started_for}
 use Rattle.mlt_event.specs.declared.answer.Answer.{Answer}
@@ -23,6 +25,15 @@ workplace_of t commons = record { running = t.subtx; undo = t.undo; commons = co
 abbrev pub IsPending : At → Type 0
 IsPending (at.Pending o) = Unit {0}
 IsPending other = ⊥
+
+-- its abort has begun
+abbrev pub IsUndoing : At → Type 0
+IsUndoing (at.Undoing inverting) = Unit {0}
+IsUndoing other = ⊥
+
+-- a transaction of these parts
+abbrev pub transaction_at : Running → Undo → At → Transaction
+transaction_at subtx undo at = record { subtx = subtx; undo = undo; at = at }
 
 -- the history gives up room for this many items, and all else stays
 pub record GivesUpRoom (count : ℕ) (old new : Commons) : Type 0 where

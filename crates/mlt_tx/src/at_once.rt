@@ -8,12 +8,11 @@ ghost use Rattle.mlt_tx.specs.AtOnce.{CallsAtOnce, MayCallAtOnce, StepsAtOnce, c
 ghost use Rattle.mlt_tx.specs.Transactions.{IsNotCalled};
 
 use crate::commons::Commons;
-use crate::transaction::{At, Transaction};
+use crate::transaction::Transaction;
 use mlt_hash::Setting;
-use mlt_object_base::Request;
 use mlt_object_kinds::{Done, ObjOp, ObjReply};
 use mlt_trace::TraceItem;
-use mlt_tx_operation::{Operation, plan_at_once};
+use mlt_tx_operation::plan_at_once;
 use mlt_types::{Pseudo, Refusal};
 
 impl Transaction {
@@ -42,7 +41,7 @@ impl Transaction {
         if let Some(reply) = self.step_at_once(op, commons, setting) {
             return Ok(Some(reply));
         }
-        self.at = At::Pending(Operation::start(commons.alloc, Request::Do(op)));
+        self.at.call(op);
         Ok(None)
     }
 

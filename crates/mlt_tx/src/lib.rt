@@ -2,11 +2,13 @@
 //! the pages, the object locks and the history, which all transactions share.
 #![tactic(auto)]
 
+mod activity;
 mod at_once;
 mod commons;
 mod ending;
 mod stepping;
 mod transaction;
 
+pub use activity::{Activity, State};
 pub use commons::Commons;
 pub use transaction::{At, Transaction};

@@ -6,11 +6,10 @@ ghost use Rattle.mlt_page_subtx.specs.Images.{AreThere, started};
 ghost use Rattle.mlt_tx.specs.AtOnce.{HasRoomFor};
 ghost use Rattle.mlt_tx.specs.Transactions.{IsNotCalled, IsPending, MayStepIn, TellsOfCall, TellsOfCancel, TellsOfTransaction};
 
+use crate::activity::Activity;
 use crate::commons::Commons;
-use crate::stepping::{step_back, step_on};
 use mlt_event::Answer;
 use mlt_hash::Setting;
-use mlt_object_base::Request;
 use mlt_object_kinds::ObjOp;
 use mlt_object_undo::UndoList;
 use mlt_page_subtx::Subtx;
@@ -18,8 +17,7 @@ use mlt_tx_operation::Operation;
 use mlt_types::{Pseudo, Refusal, TxId};
 use std::alloc::Global;
 
-/// What an open transaction is at.
-#[derive(Drop)]
+/// What an open transaction is at. Contracts alone speak of it; no value of it is made.
 pub enum At {
     /// Nothing is pending.
     Idle,
@@ -37,7 +35,7 @@ pub struct Transaction {
     /// What it did and has not taken back.
     pub undo: UndoList,
     /// What it is at.
-    pub at: At,
+    pub at: Activity,
 }
 
 impl Transaction {
@@ -50,7 +48,7 @@ impl Transaction {
         Transaction {
             subtx: Subtx::start(alloc, tx),
             undo: UndoList::new(alloc),
-            at: At::Idle,
+            at: Activity::idle(alloc),
         }
     }
 
@@ -63,7 +61,7 @@ impl Transaction {
     {
         self.subtx.restart(alloc, tx);
         self.undo.clear();
-        self.at = At::Idle;
+        self.at.rest();
     }
 
     /// Calls the transaction, which is at nothing, with an operation, which is pending from then on. Room is made for its
@@ -80,7 +78,7 @@ impl Transaction {
         ensures handed { commons.new.history.handed ≡ commons.old.history.handed }
     {
         self.make_room(commons, op)?;
-        self.at = At::Pending(Operation::start(commons.alloc, Request::Do(op)));
+        self.at.call(op);
         Ok(())
     }
 
@@ -112,28 +110,8 @@ impl Transaction {
             self.old self.new commons.old commons.new result }
         ensures handed { commons.new.history.handed ≡ commons.old.history.handed }
     {
-        match &mut self.at {
-            At::Idle => unreachable!(),
-            At::Pending(operation) => {
-                let answer = step_on(operation, &mut self.subtx, &mut self.undo, commons, setting);
-                match answer {
-                    Answer::Done(_) => rest(&mut self.at),
-                    Answer::Refused(_) => {
-                        rest(&mut self.at);
-                        commons.history.release(2);
-                    }
-                    _ => {}
-                }
-                answer
-            }
-            At::Undoing(inverting) => step_back(
-                inverting,
-                &mut self.subtx,
-                &mut self.undo,
-                commons,
-                setting,
-            ),
-        }
+        self.at
+            .step(&mut self.subtx, &mut self.undo, commons, setting)
     }
 
     /// Drops the pending operation, rolls its pages back, and gives up the room that it had in the history. It takes no
@@ -147,15 +125,7 @@ impl Transaction {
     {
         self.subtx
             .roll_back(&mut commons.pages.store, &mut commons.pages.locks);
-        self.at = At::Idle;
+        self.at.rest();
         commons.history.release(2);
     }
-}
-
-// Nothing is pending from now on. It stands apart, so that no room for an operation is cleared in a step that ends none.
-#[inline(never)]
-fn rest(at: &mut At)
-    ensures { at.new ≡ At.Idle }
-{
-    *at = At::Idle;
 }

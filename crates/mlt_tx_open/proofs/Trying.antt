@@ -5,21 +5,32 @@ use Rattle.std.specs.FinMap as map
 use Rattle.mlt_types.specs.declared.refusal.Refusal.{Refusal}
 use Rattle.mlt_types.specs.declared.refusal.Refusal.TheVariants as refusal
 use Rattle.mlt_object_kinds.specs.declared.operation.ObjOp.{ObjOp}
+use Rattle.mlt_tx.specs.declared.activity.State.{State}
+use Rattle.mlt_tx.specs.declared.activity.State.TheVariants as state
 use Rattle.mlt_tx.specs.declared.commons.Commons.{Commons}
 use Rattle.mlt_tx.specs.declared.transaction.At.{At}
 use Rattle.mlt_tx.specs.declared.transaction.At.TheVariants as at
 use Rattle.mlt_tx.specs.declared.transaction.Transaction.{Transaction}
+use Rattle.mlt_tx.specs.Transactions.{IsPending, IsUndoing}
 use Rattle.mlt_tx_open.specs.declared.tx_slot.TxSlot.{TxSlot}
 use Rattle.mlt_tx_open.specs.Tables.{CallsNone, CallsOne, Table}
 use Rattle.mlt_tx_open.specs.OpenAt.{IsBusy, IsIdleWith, IsNotOpen, IsOpenAt, MayCallOne, TriesCall}
 use Rattle.mlt_tx_open.specs.TxSlots.{is_slot_of, table_of}
 use Rattle.mlt_tx_open.proofs.TxSlots.{none_sits, who_sits}
 
+pending_is_busy : (a : At) → IsPending a → IsBusy a
+pending_is_busy at.Idle is = is
+pending_is_busy other is = tt
+
+undoing_is_busy : (a : At) → IsUndoing a → IsBusy a
+undoing_is_busy at.Idle is = is
+undoing_is_busy other is = tt
+
 -- what is not idle is busy
-pub busy_unless_idle : (a : At) → (a ≡ at.Idle → ⊥) → IsBusy a
-busy_unless_idle at.Idle not = absurd (not refl)
-busy_unless_idle (at.Pending o) not = tt
-busy_unless_idle (at.Undoing inverting) not = tt
+pub busy_unless_idle : (s : State) (a : At) → (s ≡ state.Idle → ⊥) → (s ≡ state.Pending → IsPending a) → (s ≡ state.Undoing → IsUndoing a) → IsBusy a
+busy_unless_idle state.Idle a not pending undoing = absurd (not refl)
+busy_unless_idle state.Pending a not pending undoing = pending_is_busy a (pending refl)
+busy_unless_idle state.Undoing a not pending undoing = undoing_is_busy a (undoing refl)
 
 -- where no slot was found, it is not open
 pub not_found : (slots looked : List TxSlot) (table : Table) (tx : ℕ) → table_of slots ≡ table → looked ≡ slots → None ≡ position (is_slot_of tx) looked → IsNotOpen table tx
@@ -31,8 +42,8 @@ module _ (slots looked : List TxSlot) (table : Table) (tx i : ℕ) (slot : TxSlo
   found_there =
       ap (λ (t : Table). map.get t tx) (sym view) ∙ who_sits slots looked tx i slot look place ∙ ap (λ (s : TxSlot). Some s.transaction.value) (sym is) ∙ ap Some (sym boxed)
 
-  pub found_at : (where_at : At) (Is : At → Type 0) → one.at ≡ where_at → Is where_at → IsOpenAt table tx Is
-  found_at where_at Is at_it fits = record { one = one; there = found_there; is_at = subst Is (sym at_it) fits }
+  pub found_at : (Is : At → Type 0) → Is one.at → IsOpenAt table tx Is
+  found_at Is fits = record { one = one; there = found_there; is_at = fits }
 
   -- looked at twice
   pub found_idle : (again : Transaction) (count : ℕ) → again ≡ slot.transaction.value → one.at ≡ at.Idle → count ≡ length again.undo.entries → IsIdleWith table tx count

@@ -10,17 +10,13 @@ use Rattle.mlt_tx.specs.declared.commons.Commons.{Commons}
 use Rattle.mlt_tx.specs.declared.transaction.At.{At}
 use Rattle.mlt_tx.specs.declared.transaction.At.TheVariants as at
 use Rattle.mlt_tx.specs.declared.transaction.Transaction.{Transaction}
-use Rattle.mlt_tx.specs.Transactions.{IsPending, MayStepIn}
+use Rattle.mlt_tx.specs.Transactions.{IsPending, IsUndoing, MayStepIn}
 use Rattle.mlt_tx_open.specs.Tables.{CallsNone, CallsOne, StepsOne, Table}
 
 -- what a transaction may be at
 abbrev pub IsIdle : At → Type 0
 IsIdle at.Idle = Unit {0}
 IsIdle other = ⊥
-
-abbrev pub IsUndoing : At → Type 0
-IsUndoing (at.Undoing inverting) = Unit {0}
-IsUndoing other = ⊥
 
 abbrev pub IsBusy : At → Type 0
 IsBusy at.Idle = ⊥

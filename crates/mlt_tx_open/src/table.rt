@@ -8,6 +8,7 @@ ghost use Rattle.mlt_object_kinds.specs.Bases.{Base as ObjectBase, Step};
 ghost use Rattle.mlt_page_subtx.specs.Images.{AreThere};
 ghost use Rattle.mlt_hash.specs.Walks.{basis_in};
 ghost use Rattle.mlt_tx.specs.declared.transaction.Transaction.{Transaction as TransactionFields};
+ghost use Rattle.mlt_tx.specs.declared.transaction.At.TheVariants as at;
 ghost use Rattle.mlt_tx.specs.AtOnce.{MayCallAtOnce};
 ghost use Rattle.mlt_tx.specs.Transactions.{IsPending, MayStepIn};
 ghost use Rattle.mlt_tx_open.specs.OpenAt.{MayStepIfBusy, TriesCall, TriesStep};
@@ -20,7 +21,7 @@ use mlt_hash::Setting;
 use mlt_object_base::Base;
 use mlt_object_kinds::{ObjOp, ObjReply};
 use mlt_page::Page;
-use mlt_tx::{At, Commons, Transaction};
+use mlt_tx::{Commons, State, Transaction};
 use mlt_types::{PageNo, Pseudo, Refusal, TxId};
 use std::alloc::Global;
 use std::marker::Model;
@@ -155,10 +156,10 @@ impl OpenTransactions {
             return Err(Refusal::NoSuchTx);
         };
         let transaction = &self.slots[place].transaction;
-        match transaction.at {
-            At::Idle => (),
-            At::Pending(_) => return Err(Refusal::Running),
-            At::Undoing(_) => return Err(Refusal::Undoing),
+        match transaction.at.state() {
+            State::Idle => (),
+            State::Pending => return Err(Refusal::Running),
+            State::Undoing => return Err(Refusal::Undoing),
         }
         if transaction.undo.len() >= max_ops {
             return Err(Refusal::LogFull);
@@ -232,7 +233,7 @@ impl OpenTransactions {
         let Some(place) = slot_of(&self.slots, tx) else {
             return Err(Refusal::NoSuchTx);
         };
-        if let At::Idle = self.slots[place].transaction.at {
+        if let State::Idle = self.slots[place].transaction.at.state() {
             return Err(Refusal::NotRunning);
         }
         Ok(self.slots[place].transaction.step(commons, setting))
@@ -252,15 +253,14 @@ impl OpenTransactions {
         self.slots[place].transaction.cancel(commons);
     }
 
-    /// Puts the transaction of a number, which is open, at something else: at an operation that it is called with, or at
-    /// its abort. It takes no memory.
-    pub fn put_at(&mut self, tx: TxId, at: At)
+    /// Begins the abort of the transaction of a number, which is open. It takes no memory.
+    pub fn undo(&mut self, tx: TxId)
         requires is_open { IsSome (map.get self.old tx) }
-        ensures puts { PutsOneAt tx at self.old self.new }
+        ensures puts { PutsOneAt tx (at.Undoing None) self.old self.new }
     {
         let Some(place) = slot_of(&self.slots, tx) else {
             unreachable!()
         };
-        self.slots[place].transaction.at = at;
+        self.slots[place].transaction.at.undo();
     }
 }

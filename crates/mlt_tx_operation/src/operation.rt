@@ -4,7 +4,8 @@ ghost use Rattle.std.specs.Prelude.{◌≡◌, None};
 ghost use Rattle.mlt_hash_access.specs.Moments.{moment};
 ghost use Rattle.mlt_hash.specs.Walks.{basis_in};
 ghost use Rattle.mlt_tx_operation.specs.Answers.{TellsOfStep};
-ghost use Rattle.mlt_tx_operation.specs.Operating.{MayOperate, started_for};
+ghost use Rattle.mlt_object_base.specs.Requests.{size_key_of};
+ghost use Rattle.mlt_tx_operation.specs.Operating.{MayOperate, course_for, started_for};
 
 use crate::answer::StepAnswer;
 use crate::course::Course;
@@ -56,6 +57,22 @@ impl Operation {
         }
     }
 
+    /// Makes it an operation on this request that has taken no step, in the place of this one: so none is moved.
+    #[inline(always)]
+    pub fn restart(&mut self, request: Request)
+        ensures { self.new ≡ started_for request }
+    {
+        match (request.size_key(), &mut self.course) {
+            (None, Course::One(walk)) => {
+                let (key, mode) = request.target();
+                *walk = Walk::find(self.alloc, key, mode);
+            }
+            (_, course) => begin_course(course, self.alloc, request),
+        }
+        self.request = request;
+        self.reply = None;
+    }
+
     /// What it is asked to do.
     #[inline(always)]
     pub fn request(&self) -> Request
@@ -105,4 +122,17 @@ impl Operation {
             }
         }
     }
+}
+
+// Puts the course of an operation that has taken no step in the place of another. It stands apart, so that no room for one is
+// cleared where a walk follows a walk.
+#[inline(never)]
+fn begin_course(course: &mut Course, alloc: Global, request: Request)
+    ensures { course.new ≡ course_for request (size_key_of request) }
+{
+    let (key, mode) = request.target();
+    *course = match request.size_key() {
+        None => Course::One(Walk::find(alloc, key, mode)),
+        Some(size) => Course::Two(Double::find(key, size)),
+    };
 }

@@ -28,6 +28,6 @@ returns-clause-answers g c = record {
   count = c.in_ok-count.count;
   idle = c.in_ok-count.ensures.idle;
   some = omega (arith, c.if-count-eq0.false);
-  puts = c.put_at.ensures.puts;
+  puts = c.undo.ensures.puts;
   rest = refl;
 }

@@ -13,6 +13,6 @@ returns-clause-tells c = record {
   objects = refl;
   history = refl;
   undo_kept = refl;
-  idle = refl;
+  idle = c.rest.ensures;
   room = record { pages = refl; objects = refl; items = c.release.ensures.items; room = c.release.ensures.room };
 }
