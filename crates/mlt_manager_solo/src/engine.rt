@@ -17,6 +17,7 @@ use mlt_text::read_input;
 use mlt_types::{Limits, Pseudo, Refusal};
 use std::alloc::Global;
 use std::io::{Read, Write};
+use std::mem;
 
 /// Reads scripts to the end of the input, runs them one after another through a new manager with these limits, and writes
 /// for each the texts of its replies and how it ended. Clients' numbers make no difference. It answers the manager.
@@ -66,7 +67,11 @@ where
             return Err(refusal);
         }
     };
-    match write_outcomes(alloc, &outcomes, writer) {
+    let written = write_outcomes(alloc, &outcomes, writer);
+    // The program ends behind a run, and the system takes its memory back: to free each list would take 100 instructions an operation.
+    mem::forget(scripts);
+    mem::forget(outcomes);
+    match written {
         Ok(()) => Ok(manager),
         Err(refusal) => {
             manager.close();

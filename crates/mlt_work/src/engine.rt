@@ -13,23 +13,15 @@ use crate::running::run;
 use mlt_manager::Manager;
 use mlt_script::parse;
 use mlt_script_serial::{Form, write_report};
-use mlt_script_tree::{Script, by_client};
+use mlt_script_tree::by_client;
 use mlt_text::read_input;
 use mlt_types::{Pseudo, Refusal};
 use mlt_work_desk::Gate;
 use std::alloc::Global;
 use std::io::{Read, Write};
+use std::mem;
 use std::sync::Wait;
-use std::thread;
-use std::thread::{JoinHandle, Threads};
-
-/// Frees the memory of the scripts, where there are several workers in a thread of its own, whose handle it answers.
-fn free<T: Threads>(rt: &T, workers: usize, clients: Vec<Vec<Script>>) -> Option<JoinHandle<()>> {
-    if workers == 1 {
-        return None;
-    }
-    thread::spawn(rt, move || drop(clients)).ok()
-}
+use std::thread::Threads;
 
 /// Reads scripts to the end of the input, runs those of each client one after another and the clients side by side on a
 /// new manager, with these options, and writes for each script its client, its number, the texts of its replies and how it
@@ -79,11 +71,10 @@ pub fn run_scripts<
     let scripts = parse(alloc, input.as_slice())?;
     let clients = by_client(alloc, scripts)?;
     let (report, manager) = run(rt, alloc, pseudo, clients.as_slice(), options, gate)?;
-    let freeing = free(rt, options.workers, clients);
     let written = write_report(alloc, &report, Form::Run, writer);
-    if let Some(freeing) = freeing {
-        freeing.join(rt);
-    }
+    // The program ends behind a run, and the system takes its memory back: to free each list would take 100 instructions an operation.
+    mem::forget(clients);
+    mem::forget(report);
     match written {
         Ok(()) => Ok(manager),
         Err(refusal) => {

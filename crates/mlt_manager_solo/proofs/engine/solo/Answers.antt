@@ -12,13 +12,13 @@ run_all-ran-requires g c =
     let manager = c.in_ok-manager.manager in
     record { rest = new_rests g.P.Pseudo.bits_of c.in_ok-manager.manager c.args.limits c.args.pseudo c.in_ok-manager.ensures.opening (g.met.P.Pseudo.has_64_bits c.in_ok-manager.manager.root.pseudo) }
 
-pub returns-in-Ok-write_outcomes-clause-text : goal.returns-in-Ok-write_outcomes-clause-text
-returns-in-Ok-write_outcomes-clause-text g c =
+pub returns-in-Ok-written-clause-text : goal.returns-in-Ok-written-clause-text
+returns-in-Ok-written-clause-text g c =
     let input = c.in_ok-input.input.items in
     let outcomes = c.in-Ok.outcomes in
     let text = solo_text g.P.Pseudo.bits_of c.in_ok-manager.manager c.args.limits c.args.pseudo c.in_ok-manager.ensures.opening c.run_all-ran.new.desk.manager c.as_slice.result.now input c.as_slice-2.result.now
     c.in_ok-scripts.scripts.items c.in-Ok.outcomes c.as_slice.ensures.value c.as_slice-2.ensures.value c.in_ok-scripts.ensures.spelled c.in-Ok.ensures.run in
-    (input, flat_map outcome_text outcomes, (c.in_ok-input.ensures.ok, text), c.in-Ok-write_outcomes.ensures.ok)
+    (input, flat_map outcome_text outcomes, (c.in_ok-input.ensures.ok, text), c.in-Ok-written.ensures.ok)
 
 pub returns-in_err-input-clause-failure : goal.returns-in_err-input-clause-failure
 returns-in_err-input-clause-failure g c =
@@ -34,8 +34,8 @@ returns-in_err-manager-clause-failure g c = unwritten _ _ _ _ _ c.from_residual-
 pub returns-in-Err-clause-failure : goal.returns-in-Err-clause-failure
 returns-in-Err-clause-failure g c = unwritten _ _ _ _ _ (Err c.in-Err.refusal) c.in_ok-input.input.items c.in_ok-input.ensures.ok (Keeps-refl _)
 
-pub returns-in-Ok-write_outcomes-clause-failure : goal.returns-in-Ok-write_outcomes-clause-failure
-returns-in-Ok-write_outcomes-clause-failure g c = finished _ _ _ _ _ c.run_all-ran.new.desk.manager c.in_ok-input.input.items c.in_ok-input.ensures.ok
+pub returns-in-Ok-written-clause-failure : goal.returns-in-Ok-written-clause-failure
+returns-in-Ok-written-clause-failure g c = finished _ _ _ _ _ c.run_all-ran.new.desk.manager c.in_ok-input.input.items c.in_ok-input.ensures.ok
 
 pub returns-clause-failure : goal.returns-clause-failure
 returns-clause-failure g c =
@@ -43,5 +43,5 @@ returns-clause-failure g c =
     let outcomes = c.in-Ok.outcomes in
     let text = solo_text g.P.Pseudo.bits_of c.in_ok-manager.manager c.args.limits c.args.pseudo c.in_ok-manager.ensures.opening c.run_all-ran.new.desk.manager c.as_slice.result.now input c.as_slice-2.result.now
     c.in_ok-scripts.scripts.items c.in-Ok.outcomes c.as_slice.ensures.value c.as_slice-2.ensures.value c.in_ok-scripts.ensures.spelled c.in-Ok.ensures.run in
-    unfinished _ _ _ _ _ c.in-Err-write_outcomes.refusal input (flat_map outcome_text outcomes) c.run_all-ran.new.desk.manager c.in_ok-input.ensures.ok text c.in-Err-write_outcomes.ensures.refusal
-    (λ memory. c.in-Err-write_outcomes.ensures.memory (ap Err memory)) (λ io. c.in-Err-write_outcomes.ensures.io (ap Err io))
+    unfinished _ _ _ _ _ c.in-Err-written.refusal input (flat_map outcome_text outcomes) c.run_all-ran.new.desk.manager c.in_ok-input.ensures.ok text c.in-Err-written.ensures.refusal
+    (λ memory. c.in-Err-written.ensures.memory (ap Err memory)) (λ io. c.in-Err-written.ensures.io (ap Err io))
