@@ -1,9 +1,8 @@
 //! Cells of a base that get what their records mean.
 
-ghost use Rattle.std.specs.Prelude.{◌≡◌, ◌≢◌, ◌⊎◌, IsOkUnless, None, OnOk, Some, false, true};
+ghost use Rattle.std.specs.Prelude.{◌≡◌, ◌⊎◌, IsOkUnless, None, OnOk, Some, false, true};
 ghost use Rattle.mlt_object_base.specs.Records.{IsRecord, state_of_record};
-ghost use Rattle.mlt_object_kinds.specs.Accounts.{IsAccount};
-ghost use Rattle.mlt_object_kinds.specs.Bases.{SameBut, account_at, counter_at, element_at, state_at};
+ghost use Rattle.mlt_object_kinds.specs.Bases.{SameBut, counter_at, element_at, state_at};
 
 use mlt_object_base::Base;
 use mlt_object_kinds::{CounterOp, ElementOp, ObjOp};

@@ -109,6 +109,7 @@ impl Accounts {
         requires { IsAccount (Some balance) }
         ensures put { OnOk result (self.new ≡ with_entry self.old account (Some balance)) }
         ensures err { OnErr result (self.new ≡ self.old) }
+        ensures growth { OnErr result (map.get self.old account ≡ None) }
         ensures refusal { IsOkUnless result Refusal.OutOfMemory }
     {
         self.balances.insert(account, balance)?;

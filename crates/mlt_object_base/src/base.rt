@@ -1,6 +1,6 @@
 //! The base of all objects, in maps and a set.
 
-ghost use Rattle.std.specs.Prelude.{◌≡◌, Some, IfOk, OnOk, OnErr, IsOkUnless};
+ghost use Rattle.std.specs.Prelude.{◌≡◌, None, Some, IfOk, OnOk, OnErr, IsOkUnless};
 ghost use Rattle.std.specs.String.{string_bytes};
 ghost use Rattle.mlt_object_base.specs.BaseText.{base_text};
 ghost use Rattle.mlt_object_base.specs.Growth.{MakesObject};
@@ -83,12 +83,13 @@ impl Base {
     /// Gives an account this balance, 0 to 10^18, whether it is there or not. No other cell changes.
     ///
     /// # Errors
-    /// `OutOfMemory`, where a growth was refused; the base is then as before.
+    /// `OutOfMemory`, where the account was to be made and a growth was refused; the base is then as before.
     pub fn put_account(&mut self, account: u32, balance: u64) -> Result<(), Refusal>
         requires range { IsAccount (Some balance) }
         ensures holds { OnOk result (self.new
             ≡ with_state self.old (cell.Account account) (AccountState (Some balance))) }
         ensures err { OnErr result (self.new ≡ self.old) }
+        ensures growth { OnErr result (account_at self.old account ≡ None) }
         ensures refusal { IsOkUnless result Refusal.OutOfMemory }
     {
         self.accounts.put(account, balance)

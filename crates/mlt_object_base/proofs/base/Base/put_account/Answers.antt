@@ -1,4 +1,4 @@
-use Rattle.std.proofs.Common.{◌≡◌, ℕ, ◌∙◌, Some, Result, Ok, Err, OnOk, ap, refl}
+use Rattle.std.proofs.Common.{◌≡◌, ℕ, ◌∙◌, Result, Ok, Err, OnOk, ap, refl}
 use Rattle.std.specs.FinMap as map
 use Rattle.std.specs.Ordering.{nat_cmp}
 use Rattle.mlt_types.specs.declared.refusal.Refusal.{Refusal}
