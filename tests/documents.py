@@ -310,12 +310,3 @@ def readme_lists_the_operations(_mltx):
     listed = re.search(r"(?s)Operations are (.*?)\. ", (ROOT / "README.md").read_text())[1]
     table = (ROOT / "docs/FORMATS.md").read_text().partition("| OP | On | Asks for |")[2].partition("\n\n")[0]
     same(re.findall(r"`(\w+)`", listed), re.findall(r"(?m)^\| `(\w+) ", table), "the operations")
-
-
-@test
-def the_manager_shows_how_it_is_called(_mltx):
-    """The caller and its helper in the README of `mlt_manager` stand so in the source, which is proved."""
-    readme, source = ((ROOT / "crates" / path).read_text() for path in ("mlt_manager/README.md", "mlt_manager_example/src/lib.rt"))
-    for words, name in (("has this caller", "open_with_five"), ("An operation is run to its end by", "ask")):
-        shown = block_after(readme, words)
-        holds(f"fn {name}<" in shown.splitlines()[0] and "\n" + shown in source, f"the source has no such {name}")
