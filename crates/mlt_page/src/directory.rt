@@ -142,12 +142,4 @@ impl HeadPage {
     {
         self.dirs[at]
     }
-
-    /// Names another directory page at a place. Nothing else changes.
-    pub fn set_dir(&mut self, at: usize, dir: PageNo)
-        requires { at < 256 }
-        ensures { self.new ≡ record self.old { dirs = slice_set self.old.dirs at dir } }
-    {
-        self.dirs[at] = dir;
-    }
 }
