@@ -88,9 +88,6 @@ class History:
         self.standing[number] -= count
 
 
-LINE = "\n"
-
-
 def going(count):
     return ", ".join(["going"] * count)
 
@@ -119,6 +116,17 @@ HIGH = range(32768, 8 * 65536, 65536)
 PARTED = (*range(5), *range(32768, 32772))
 # Seventeen that make a directory of depth 13 by low pseudokeys.
 DEEP = (*range(9), *range(1024, 1032))
+
+# Seven elements, and what is told where an eighth splits their bucket.
+SEVEN = "\n".join(f"element 32768 {number}" for number in range(7))
+SEVEN_ADDED = "\n".join(f"whole 1 add 32768 {number} > done added" for number in range(7))
+SIZE_SPLIT = f"""begin > begun 1
+{SEVEN_ADDED}
+commit 1 > committed 1
+begin > begun 2
+call 2 add 32768 7 > called
+step 2 > {going(13)}, done added
+whole 2 size 32768 > done is 8"""
 
 ROWS = {
     "abort-under-later-deposit": Schedule(f"""
@@ -152,6 +160,8 @@ abort 2 > aborting
 undo 2 > aborted
 step 3 > going, going, going, done done
 commit 3 > committed 2
+begin > begun 4
+whole 4 balance 1 > done is 1
 account 1 1
 depth 0"""),
     "over-after-undo": Schedule(f"""
@@ -163,6 +173,8 @@ whole 3 deposit 1 1 > blocked by 2
 abort 2 > aborting
 undo 2 > aborted
 whole 3 deposit 1 1 > done over
+begin > begun 4
+whole 4 balance 1 > done is {MOST}
 account 1 {MOST}
 depth 0"""),
     "remove-add-remove-undone": Schedule("""
@@ -175,6 +187,8 @@ whole 2 add 4 9 > done added
 whole 2 remove 4 9 > done removed
 abort 2 > aborting
 undo 2 > aborted
+begin > begun 3
+whole 3 has 4 9 > done yes
 element 4 9
 depth 0"""),
     "other-adds-after-undo": Schedule("""
@@ -187,6 +201,9 @@ begin > begun 2
 whole 2 add 4 9 > done added
 commit 2 > committed 1
 step 1 > going, going, going, aborted
+begin > begun 3
+whole 3 has 4 9 > done yes
+whole 3 read 1 > done is 0
 element 4 9
 depth 0"""),
     "split-waits-for-reader": Schedule(f"""
@@ -207,6 +224,10 @@ begin > begun 2
 whole 2 open 32768 > done opened
 abort 2 > aborting
 undo 2 > aborted
+begin > begun 3
+whole 3 balance 0 > done is 0
+whole 3 balance 7 > done is 0
+whole 3 balance 32768 > done missing
 {empty(*EIGHT)}
 depth 1""", LOW),
     "no-room-at-depth": Schedule(f"""
@@ -255,6 +276,8 @@ begin > begun 3
 whole 3 read 2 > done is 5
 whole 3 down 2 6 > done done
 commit 3 > committed 2
+begin > begun 4
+whole 4 read 2 > done is 18446744073709551615
 counter 2 18446744073709551615
 depth 0"""),
     "thirteen-splits": Schedule(f"""
@@ -308,6 +331,8 @@ begin > begun 3
 whole 3 deposit 1 10 > done done
 commit 3 > committed 2
 commit 2 > committed 3
+begin > begun 4
+whole 4 balance 1 > done is {MOST}
 account 1 {MOST}
 depth 0"""),
     "over-blocks-withdrawal": Schedule(f"""
@@ -371,6 +396,16 @@ call 1 read 7 > refused 3 NoSuchTx
 abort 2 > aborted
 begin > begun 3
 commit 3 > committed 1
+depth 0"""),
+    # What is refused beside a pending operation leaves it as it was.
+    "refused-while-pending": Schedule("""
+begin > begun 1
+call 1 up 7 1 > called
+undo 1 > refused 6 NotRunning
+abort 1 > refused 5 Running
+whole 1 up 7 1 > refused 5 Running
+step 1 > going, going, going, done done
+undo 9 > refused 3 NoSuchTx
 depth 0"""),
     # Each step is an event: those after the answer are told that there is nothing to step.
     "steps-after-the-answer": Schedule("""
@@ -642,19 +677,17 @@ commit 2 > committed 2
 element 0 0
 depth 0""", LOW),
     # The set's own number is the size's low pseudokey, so the split parts it from the elements.
+    "size-in-a-split": Schedule(f"""
+{SIZE_SPLIT}
+{SEVEN}
+depth 1""", LOW),
     "size-after-a-split": Schedule(f"""
-begin > begun 1
-{LINE.join(f"whole 1 add 32768 {number} > done added" for number in range(7))}
-commit 1 > committed 1
-begin > begun 2
-call 2 add 32768 7 > called
-step 2 > {going(13)}, done added
-whole 2 size 32768 > done is 8
+{SIZE_SPLIT}
 abort 2 > aborting
 undo 2 > aborted
 begin > begun 3
 whole 3 size 32768 > done is 7
-{LINE.join(f"element 32768 {number}" for number in range(7))}
+{SEVEN}
 depth 1""", LOW),
     # In two buckets the later one is written in its step, and the earlier one in a step of its own, where it changes. In
     # one bucket both are written in one step.

@@ -4,23 +4,15 @@
 #![tactic(auto)]
 
 #[cfg(test)]
-mod buckets;
-#[cfg(test)]
 mod driver;
 #[cfg(test)]
 mod engines;
-#[cfg(test)]
-mod objects;
 #[cfg(test)]
 mod open_bases;
 #[cfg(test)]
 mod refusals;
 #[cfg(test)]
-mod room;
-#[cfg(test)]
 mod schedule;
-#[cfg(test)]
-mod sizes;
 #[cfg(test)]
 mod solo;
 #[cfg(test)]

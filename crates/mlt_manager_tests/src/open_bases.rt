@@ -1,10 +1,49 @@
 //! The base while transactions are open: what stands of them is not in it, wherever they are, and also where the history was
 //! handed out.
 
-use crate::buckets::{LOWEST, LOWEST_TEXT};
 use crate::driver::runs;
 use crate::schedule::{PROGRAM, Part, Row, Schedule, Sight};
+use crate::splits::{LOWEST, LOWEST_TEXT};
 use std::test::Fail;
+
+// Two deposits on one account, the first of which is taken back after the second.
+const UNDER_LATER_DEPOSIT: Schedule = Schedule {
+    bounds: PROGRAM,
+    is_low: false,
+    parts: &[
+        Part::Told(&[
+            ("begin", 1, "begun 1"),
+            ("whole 1 open 1", 1, "done opened"),
+            ("commit 1", 1, "committed 1"),
+            ("begin", 1, "begun 2"),
+            ("begin", 1, "begun 3"),
+            ("call 2 deposit 1 5", 1, "called"),
+            ("step 2 2", 2, "going"),
+            ("call 3 deposit 1 7", 1, "called"),
+            ("step 3 2", 2, "going"),
+            ("step 2", 1, "going"),
+            ("step 3", 1, "waiting by 2"),
+            ("step 2", 1, "done done"),
+            ("step 3", 1, "going"),
+            ("step 3", 1, "done done"),
+            ("abort 2", 1, "aborting"),
+            ("step 2 4", 3, "going"),
+            ("", 1, "aborted"),
+        ]),
+        Part::Seen(&[Sight::Base("account 1 0\n"), Sight::Depth(0)]),
+        Part::Told(&[
+            ("commit 3", 1, "committed 2"),
+            ("begin", 1, "begun 4"),
+            ("whole 4 balance 1", 1, "done is 7"),
+        ]),
+    ],
+    end: &[Sight::Base("account 1 7\n"), Sight::Depth(0)],
+};
+
+#[test]
+fn abort_under_later_deposit(rt: HostRuntime) -> Result<(), Fail> {
+    runs(rt.alloc(), &UNDER_LATER_DEPOSIT)
+}
 
 // One has several operations on one account, and has closed another.
 const SEVERAL: &[Row] = &[

@@ -1,7 +1,7 @@
 //! What events are refused for, and how events and commits are counted.
 
 use crate::driver::runs;
-use crate::schedule::{PROGRAM, Part, Schedule, Sight};
+use crate::schedule::{Part, Schedule, Sight};
 use std::test::Fail;
 
 const IN_ORDER: Schedule = Schedule {
@@ -60,26 +60,4 @@ const TWO_IN_TURN: Schedule = Schedule {
 #[test]
 fn refused_begins_are_counted(rt: HostRuntime) -> Result<(), Fail> {
     runs(rt.alloc(), &TWO_IN_TURN)
-}
-
-// An undoing asks for an abort that has begun, and an abort for a transaction that is at nothing.
-const WHILE_PENDING: Schedule = Schedule {
-    bounds: PROGRAM,
-    is_low: false,
-    parts: &[Part::Told(&[
-        ("begin", 1, "begun 1"),
-        ("call 1 up 7 1", 1, "called"),
-        ("undo 1", 1, "refused 6 NotRunning"),
-        ("abort 1", 1, "refused 5 Running"),
-        ("whole 1 up 7 1", 1, "refused 5 Running"),
-        ("step 1 4", 3, "going"),
-        ("", 1, "done done"),
-        ("undo 9", 1, "refused 3 NoSuchTx"),
-    ])],
-    end: &[Sight::Base(""), Sight::Depth(0)],
-};
-
-#[test]
-fn refused_while_pending(rt: HostRuntime) -> Result<(), Fail> {
-    runs(rt.alloc(), &WHILE_PENDING)
 }

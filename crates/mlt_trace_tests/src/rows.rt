@@ -36,7 +36,7 @@ fn check_two_serials(rt: HostRuntime) -> Result<(), Fail> {
     are_said(rt.alloc(), TWO_SERIALS)
 }
 
-// The history of two deposits on one account, the first of which is taken back. `mlt_manager_tests` has the events, and
+// The history of two deposits on one account, the first of which is taken back. `tests/schedules.py` has the events, and
 // the same text of what a manager noted of them.
 const ABORT: &[(&[u8], Said)] = &[(
     b"begin 1\nop 1 open 1 opened\ncommit 1 1\nbegin 2\nbegin 3\nop 2 deposit 1 5 done\n\
