@@ -120,11 +120,4 @@ impl Store {
     {
         self.pages.len()
     }
-
-    /// Whether there is no page.
-    pub fn is_empty(&self) -> bool
-        ensures { IsTrue result ↔ (map.len self.now.pages ≡ 0) }
-    {
-        self.pages.is_empty()
-    }
 }

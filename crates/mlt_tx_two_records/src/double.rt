@@ -1,10 +1,10 @@
 //! Operations on two records.
 
-ghost use Rattle.std.specs.Prelude.{◌≡◌, ◌≢◌, ◌↔◌, IsTrue};
+ghost use Rattle.std.specs.Prelude.{◌≡◌, ◌≢◌};
 ghost use Rattle.mlt_hash_access.specs.Moments.{moment};
 ghost use Rattle.mlt_hash.specs.Walks.{basis_in};
 ghost use Rattle.mlt_tx_two_records.specs.Answers.{TellsOfDouble};
-ghost use Rattle.mlt_tx_two_records.specs.Doubles.{IsFirst, MayGoOn, find_both};
+ghost use Rattle.mlt_tx_two_records.specs.Doubles.{MayGoOn, find_both};
 
 use crate::answer::DoubleAnswer;
 use crate::first::{FirstAnswer, step_first};
@@ -46,16 +46,6 @@ impl Double {
         ensures { result ≡ find_both own size }
     {
         Double::First(Pair::find(own, size))
-    }
-
-    /// Whether it is in its first pass, which splits nothing.
-    pub fn is_first(&self) -> bool
-        ensures { IsTrue result ↔ IsFirst self.now }
-    {
-        match self {
-            Double::First(_) | Double::Owing(_, _) => true,
-            Double::Wide(_, _) => false,
-        }
     }
 
     /// One step, up to the one before its end. In the first pass it locks a page, the next one of either key or of both, and
