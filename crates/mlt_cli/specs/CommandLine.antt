@@ -21,7 +21,7 @@ use Rattle.mlt_cli.specs.declared.words.Connections.{Connections}
 use Rattle.mlt_cli.specs.declared.words.Connections.TheVariants.{Limit, Endless}
 use Rattle.mlt_cli.specs.declared.words.Full.{Full}
 use Rattle.mlt_cli.specs.declared.words.Full.TheVariants.{Wait, Refuse}
-use Rattle.mlt_cli.specs.declared.words.Operating.{Operating}
+use Rattle.mlt_cli.specs.declared.words.OperatorOptions.{OperatorOptions}
 use Rattle.mlt_cli.specs.declared.words.Check.{Check}
 use Rattle.mlt_cli.specs.declared.words.Run.{Run}
 use Rattle.mlt_cli.specs.declared.words.Schedule.{Schedule}
@@ -255,7 +255,7 @@ abbrev pub form_of_work : Work → WorkForm
 form_of_work work =
     record { run = form_of_run work.run; workers = work.workers; tries = work.tries }
 
-abbrev pub form_of_operating : Operating → OperatingForm
+abbrev pub form_of_operating : OperatorOptions → OperatingForm
 form_of_operating operating = record {
   admin = option_map string_bytes operating.admin;
   until_eof = operating.until_eof;

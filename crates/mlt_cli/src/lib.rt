@@ -10,6 +10,6 @@ mod words;
 pub use fault::{FaultLine, report_fault, status};
 pub use report::{command_line_status, report_command_line};
 pub use words::{
-    Check, CommandLine, Connections, Full, Hash, Job, Operating, Run, Schedule, Serve, Times, Work,
-    read_words,
+    Check, CommandLine, Connections, Full, Hash, Job, OperatorOptions, Run, Schedule, Serve, Times,
+    Work, read_words,
 };

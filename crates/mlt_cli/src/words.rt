@@ -69,7 +69,7 @@ pub struct Serve {
     /// What a client finds while all sessions are taken, `Wait` where none is named.
     pub full: Full,
     /// How the server is run and ended.
-    pub operating: Operating,
+    pub operating: OperatorOptions,
 }
 
 /// A trace that is checked.
@@ -112,7 +112,7 @@ pub enum Full {
 
 /// How an operator reaches a server and ends it.
 #[derive(Debug, Drop)]
-pub struct Operating {
+pub struct OperatorOptions {
     /// The address at which an operator connects by HTTP, as it stands on the command line, if there is one.
     pub admin: Option<String>,
     /// Whether the server ends in order at the end of standard input.
@@ -452,13 +452,13 @@ fn full_found(found: &ArgMatches<'_>) -> Option<Full>
     full_of(found.get_str("full"))
 }
 
-fn operating_found(alloc: Global, found: &ArgMatches<'_>) -> Result<Operating, AllocError>
+fn operating_found(alloc: Global, found: &ArgMatches<'_>) -> Result<OperatorOptions, AllocError>
     ensures { IfOk result
         (λ operating. form_of_operating operating ≡ operating_in (rows_of (found_of found.now))) }
 {
     let admin = text_found(alloc, found, "admin")?;
     let until_eof = flag_found(found, "until-eof");
-    Ok(Operating { admin, until_eof })
+    Ok(OperatorOptions { admin, until_eof })
 }
 
 // The table that is named, if one is; None where there is none of the name.

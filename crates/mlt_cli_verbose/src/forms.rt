@@ -8,154 +8,154 @@ use crate::kind::TextKind;
 
 // The first word of a line, and the form of lines that begin so.
 #[derive(Clone, Copy)]
-struct Form {
+struct ExpectedForm {
     word: &'static str,
     form: &'static str,
 }
 
-static SCRIPT_FORMS: [Form; 20] = [
-    Form {
+static SCRIPT_FORMS: [ExpectedForm; 20] = [
+    ExpectedForm {
         word: "begin",
         form: "`begin`, or `begin K` with K of 0 to 999",
     },
-    Form {
+    ExpectedForm {
         word: "commit",
         form: "`commit`",
     },
-    Form {
+    ExpectedForm {
         word: "abort",
         form: "`abort`",
     },
-    Form {
+    ExpectedForm {
         word: "open",
         form: "`open A`, A below 2^32",
     },
-    Form {
+    ExpectedForm {
         word: "close",
         form: "`close A`, A below 2^32",
     },
-    Form {
+    ExpectedForm {
         word: "deposit",
         form: "`deposit A n`, A below 2^32, n below 2^64 or a variable",
     },
-    Form {
+    ExpectedForm {
         word: "withdraw",
         form: "`withdraw A n`, A below 2^32, n below 2^64 or a variable",
     },
-    Form {
+    ExpectedForm {
         word: "balance",
         form: "`balance A`, A below 2^32",
     },
-    Form {
+    ExpectedForm {
         word: "add",
         form: "`add S e`, S below 2^16, e below 2^32",
     },
-    Form {
+    ExpectedForm {
         word: "remove",
         form: "`remove S e`, S below 2^16, e below 2^32",
     },
-    Form {
+    ExpectedForm {
         word: "has",
         form: "`has S e`, S below 2^16, e below 2^32",
     },
-    Form {
+    ExpectedForm {
         word: "size",
         form: "`size S`, S below 2^16",
     },
-    Form {
+    ExpectedForm {
         word: "up",
         form: "`up C n`, C below 2^32, n below 2^64 or a variable",
     },
-    Form {
+    ExpectedForm {
         word: "down",
         form: "`down C n`, C below 2^32, n below 2^64 or a variable",
     },
-    Form {
+    ExpectedForm {
         word: "read",
         form: "`read C`, C below 2^32",
     },
-    Form {
+    ExpectedForm {
         word: "need",
         form: "`need OP is REPLY`, as `need withdraw 1 5 is done`",
     },
-    Form {
+    ExpectedForm {
         word: "let",
         form: "`let v = balance A`, `let v = read C` or `let v = size S`",
     },
-    Form {
+    ExpectedForm {
         word: "if",
         form: "`if OP is REPLY`, as `if withdraw 1 5 is done`",
     },
-    Form {
+    ExpectedForm {
         word: "else",
         form: "`else`",
     },
-    Form {
+    ExpectedForm {
         word: "end",
         form: "`end`",
     },
 ];
 
-static SCHEDULE_FORMS: [Form; 8] = [
-    Form {
+static SCHEDULE_FORMS: [ExpectedForm; 8] = [
+    ExpectedForm {
         word: "begin",
         form: "`begin`",
     },
-    Form {
+    ExpectedForm {
         word: "call",
         form: "`call T OP`, as `call 1 deposit 1 5`",
     },
-    Form {
+    ExpectedForm {
         word: "step",
         form: "`step T`, or `step T N` with N of 1 to 1000",
     },
-    Form {
+    ExpectedForm {
         word: "cancel",
         form: "`cancel T`",
     },
-    Form {
+    ExpectedForm {
         word: "commit",
         form: "`commit T`",
     },
-    Form {
+    ExpectedForm {
         word: "abort",
         form: "`abort T`",
     },
-    Form {
+    ExpectedForm {
         word: "whole",
         form: "`whole T OP`, as `whole 1 deposit 1 5`",
     },
-    Form {
+    ExpectedForm {
         word: "undo",
         form: "`undo T`",
     },
 ];
 
-static TRACE_FORMS: [Form; 5] = [
-    Form {
+static TRACE_FORMS: [ExpectedForm; 5] = [
+    ExpectedForm {
         word: "begin",
         form: "`begin T`, T from 1 on",
     },
-    Form {
+    ExpectedForm {
         word: "op",
         form: "`op T OP REPLY`, as `op 1 balance 1 is 7`",
     },
-    Form {
+    ExpectedForm {
         word: "back",
         form: "`back T`, T from 1 on",
     },
-    Form {
+    ExpectedForm {
         word: "commit",
         form: "`commit T N`, T and N from 1 on",
     },
-    Form {
+    ExpectedForm {
         word: "abort",
         form: "`abort T`, T from 1 on",
     },
 ];
 
 // The forms of the lines of a text of this kind.
-fn forms(kind: TextKind) -> &'static [Form]
+fn forms(kind: TextKind) -> &'static [ExpectedForm]
     ensures { map form_text result.now ≡ forms_of kind }
 {
     match kind {
@@ -166,7 +166,7 @@ fn forms(kind: TextKind) -> &'static [Form]
 }
 
 // The form that goes with this word, the first of these.
-fn find_among(forms: &'static [Form], word: &[u8]) -> Option<&'static str>
+fn find_among(forms: &'static [ExpectedForm], word: &[u8]) -> Option<&'static str>
     ensures { option_map (λ text. text.now) result
         ≡ form_among (map form_text forms.now) word.now }
 {

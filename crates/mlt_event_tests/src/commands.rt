@@ -1,6 +1,6 @@
 //! Lines of sessions, and what they ask.
 
-use mlt_event_text::{Command, Line, next_line};
+use mlt_event_text::{Command, SessionLine, next_line};
 use mlt_object_kinds::{AccountOp, CounterOp, ElementOp, ObjOp};
 use mlt_test_tools::{same_at, with_spaces};
 use std::test::Fail;
@@ -89,29 +89,42 @@ const OTHERS: &[&[u8]] = &[
 ];
 
 // A start, so many spaces, and an end, with the next line of that text, if it has one.
-const LONG_LINES: &[(&[u8], usize, &[u8], Option<Line>)] = &[
-    (b"", 200, b"\n", Some(Line::Says(Command::Blank))),
-    (b"", 201, b"\n", Some(Line::TooLong)),
+const LONG_LINES: &[(&[u8], usize, &[u8], Option<SessionLine>)] = &[
+    (b"", 200, b"\n", Some(SessionLine::Says(Command::Blank))),
+    (b"", 201, b"\n", Some(SessionLine::TooLong)),
     (b"", 200, b"", None),
-    (b"", 201, b"", Some(Line::TooLong)),
-    (b"", 199, b"\r\n", Some(Line::Says(Command::Blank))),
-    (b"", 200, b"\r\n", Some(Line::TooLong)),
+    (b"", 201, b"", Some(SessionLine::TooLong)),
+    (b"", 199, b"\r\n", Some(SessionLine::Says(Command::Blank))),
+    (b"", 200, b"\r\n", Some(SessionLine::TooLong)),
     (b"", 199, b"\r", None),
-    (b"", 200, b"\r", Some(Line::TooLong)),
-    (b"begin", 195, b"\n", Some(Line::Says(Command::Begin))),
-    (b"begin", 196, b"\n", Some(Line::TooLong)),
-    (b"#", 199, b"\n", Some(Line::Says(Command::Other))),
-    (b"#", 200, b"\n", Some(Line::TooLong)),
-    (b"begin\n", 201, b"", Some(Line::Says(Command::Begin))),
+    (b"", 200, b"\r", Some(SessionLine::TooLong)),
+    (
+        b"begin",
+        195,
+        b"\n",
+        Some(SessionLine::Says(Command::Begin)),
+    ),
+    (b"begin", 196, b"\n", Some(SessionLine::TooLong)),
+    (b"#", 199, b"\n", Some(SessionLine::Says(Command::Other))),
+    (b"#", 200, b"\n", Some(SessionLine::TooLong)),
+    (
+        b"begin\n",
+        201,
+        b"",
+        Some(SessionLine::Says(Command::Begin)),
+    ),
     (b"begin", 0, b"", None),
     (b"", 0, b"", None),
 ];
 
 // A line goes up to its first LF, whatever stands behind it.
-const SEVERAL: &[(&[u8], Option<(Line, usize)>)] = &[
-    (b"begin\nquit\n", Some((Line::Says(Command::Begin), 6))),
-    (b"begin\r\nqu", Some((Line::Says(Command::Begin), 7))),
-    (b"\n\n", Some((Line::Says(Command::Blank), 1))),
+const SEVERAL: &[(&[u8], Option<(SessionLine, usize)>)] = &[
+    (
+        b"begin\nquit\n",
+        Some((SessionLine::Says(Command::Begin), 6)),
+    ),
+    (b"begin\r\nqu", Some((SessionLine::Says(Command::Begin), 7))),
+    (b"\n\n", Some((SessionLine::Says(Command::Blank), 1))),
     (b"begin\r", None),
 ];
 
@@ -120,7 +133,7 @@ fn asks(text: &[u8], command: Command) -> Result<(), Fail> {
     same_at(
         &text,
         &next_line(text),
-        &Some((Line::Says(command), text.len())),
+        &Some((SessionLine::Says(command), text.len())),
     )
 }
 

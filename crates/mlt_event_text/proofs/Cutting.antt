@@ -7,8 +7,8 @@ use Rattle.std.proofs.Math.Seq.{take-append_seam}
 use Rattle.std.proofs.lemmas.Bool.{lt-ltb, le-ltb}
 use Rattle.mlt_event_text.specs.Inputs.{IsNext, NextLine, Splits, heard, lines_of}
 use Rattle.mlt_event_text.specs.Commands.{command_of}
-use Rattle.mlt_event_text.specs.declared.session_line.Line.{Line}
-use Rattle.mlt_event_text.specs.declared.session_line.Line.TheVariants.{Says, TooLong}
+use Rattle.mlt_event_text.specs.declared.session_line.SessionLine.{SessionLine}
+use Rattle.mlt_event_text.specs.declared.session_line.SessionLine.TheVariants.{Says, TooLong}
 use Rattle.mlt_event_text.specs.declared.command.Command.{Command}
 use Rattle.mlt_text_words.specs.Fronts.{is_printable}
 use Rattle.mlt_text_words.specs.Lines.{Raw, lines, onto, is_lf, without_cr}
@@ -37,8 +37,8 @@ heard_long raw l = rw (lt-ltb 200 (length raw.bytes) l) refl
 heard_cut : (bytes : List ℕ) → length bytes ≤ 200 → heard (record { bytes = bytes; ended = false }) ≡ []
 heard_cut bytes l = rw (le-ltb 200 (length bytes) l) refl
 
-first_of : (raw : Raw) (rest : List Raw) (ls : List Line) → heard raw ≡ ls → flat_map heard (raw ∷ rest) ≡ ls ++ flat_map heard rest
-first_of raw rest ls h = flat_map-cons heard raw rest ∙ ap (λ (l : List Line). l ++ flat_map heard rest) h
+first_of : (raw : Raw) (rest : List Raw) (ls : List SessionLine) → heard raw ≡ ls → flat_map heard (raw ∷ rest) ≡ ls ++ flat_map heard rest
+first_of raw rest ls h = flat_map-cons heard raw rest ∙ ap (λ (l : List SessionLine). l ++ flat_map heard rest) h
 
 -- no byte has no line
 pub empty : lines_of [] ≡ []
@@ -52,10 +52,10 @@ module _ (prefix bytes : List ℕ) (line : (more : List ℕ) → lines (prefix +
   short more = ap (flat_map heard) (line more) ∙ first_of (record { bytes = bytes; ended = true }) (lines more) _ (heard_short bytes l)
 
   alone : lines_of prefix ≡ Says (command_of (without_cr bytes)) ∷ []
-  alone = ap lines_of (sym (append-nil prefix)) ∙ short [] ∙ ap (λ (rest : List Line). Says (command_of (without_cr bytes)) ∷ rest) empty
+  alone = ap lines_of (sym (append-nil prefix)) ∙ short [] ∙ ap (λ (rest : List SessionLine). Says (command_of (without_cr bytes)) ∷ rest) empty
 
   splits : Splits prefix
-  splits more = short more ∙ ap (λ (ls : List Line). ls ++ lines_of more) (sym alone)
+  splits more = short more ∙ ap (λ (ls : List SessionLine). ls ++ lines_of more) (sym alone)
 
   is_next : (text : List ℕ) (count : ℕ) (r : Command) → take count text ≡ prefix → r ≡ command_of (without_cr bytes) → IsNext text (Says r) count
   is_next text count r e q = rw (e, q) (alone, splits)
@@ -95,10 +95,10 @@ next_long text i e l =
     (omega arith, omega arith, (lines_of (drop (i + 1) text), same))
 
 -- the only line of a text without an LF
-cut : (text : List ℕ) (ls : List Line) → 0 < length text → position is_lf text ≡ None → heard (record { bytes = text; ended = false }) ≡ ls → lines_of text ≡ ls
+cut : (text : List ℕ) (ls : List SessionLine) → 0 < length text → position is_lf text ≡ None → heard (record { bytes = text; ended = false }) ≡ ls → lines_of text ≡ ls
 unfolding lines_of
 cut text ls some e h =
-    ap (flat_map heard) (not_found text some e) ∙ first_of (record { bytes = text; ended = false }) (lines []) ls h ∙ ap (λ (rest : List Line). ls ++ rest) empty ∙ append-nil ls
+    ap (flat_map heard) (not_found text some e) ∙ first_of (record { bytes = text; ended = false }) (lines []) ls h ∙ ap (λ (rest : List SessionLine). ls ++ rest) empty ∙ append-nil ls
 
 pub next_endless : (text : List ℕ) → position is_lf text ≡ None → 200 < length text → NextLine text (Some (TooLong, length text))
 next_endless text e l =

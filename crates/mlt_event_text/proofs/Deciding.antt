@@ -7,8 +7,8 @@ use Rattle.mlt_types.specs.declared.refusal.Refusal.TheVariants.{OutOfMemory, Sc
 use Rattle.mlt_types.specs.declared.refusal.ScriptCause.{ScriptCause}
 use Rattle.mlt_types.specs.declared.refusal.ScriptCause.TheVariants as cause
 use Rattle.mlt_event.specs.declared.event.Event.{Event}
-use Rattle.mlt_event_text.specs.declared.line.Reading.{Reading}
-use Rattle.mlt_event_text.specs.declared.line.Reading.TheVariants.{Bad, Skip, Asks}
+use Rattle.mlt_event_text.specs.declared.line.EventReading.{EventReading}
+use Rattle.mlt_event_text.specs.declared.line.EventReading.TheVariants.{Bad, Skip, Asks}
 use Rattle.mlt_event_text.specs.Answering.{Answers}
 use Rattle.mlt_event_text.specs.Grammar.{AreEvents, AreLawful, IsDecided, IsFault, IsFirstFault, IsFirstFaultOf, IsLawful, IsNoFault, Spells, events_of}
 use Rattle.mlt_event_text.specs.Readings.{reading}
@@ -24,7 +24,7 @@ one_more raw raws lawful (inl h) = inl (events_of raw ++ h.0, record { lawful = 
 one_more raw raws lawful (inr h) = let f = h.2 in
     inr (h.0 + 1, h.1, (raw ∷ f.0, f.1, f.2, ap (λ rs. raw ∷ rs) f.3, omega (arith, f.4), All-cons IsLawful raw f.0 lawful f.5, f.6))
 
-decided_by : (raw : Raw) (raws : List Raw) (r : Reading) → reading raw ≡ r → AreDecided raws → AreDecided (raw ∷ raws)
+decided_by : (raw : Raw) (raws : List Raw) (r : EventReading) → reading raw ≡ r → AreDecided raws → AreDecided (raw ∷ raws)
 decided_by raw raws (Bad fault) is h = inr (1, fault, ([], raw, raws, refl, refl, All-nil IsLawful, bad_line raw fault is))
 decided_by raw raws Skip is h = one_more raw raws (subst IsNoFault (sym is) tt) h
 decided_by raw raws (Asks asked) is h = one_more raw raws (subst IsNoFault (sym is) tt) h

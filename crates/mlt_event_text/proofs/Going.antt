@@ -7,8 +7,8 @@ use Rattle.mlt_types.specs.declared.refusal.ScriptCause.{ScriptCause}
 use Rattle.mlt_types.specs.declared.refusal.ScriptCause.TheVariants as cause
 use Rattle.mlt_event.specs.declared.event.Event.{Event}
 use Rattle.mlt_event_text.specs.declared.forms.Asked.{Asked}
-use Rattle.mlt_event_text.specs.declared.line.Reading.{Reading}
-use Rattle.mlt_event_text.specs.declared.line.Reading.TheVariants.{Bad, Skip, Asks}
+use Rattle.mlt_event_text.specs.declared.line.EventReading.{EventReading}
+use Rattle.mlt_event_text.specs.declared.line.EventReading.TheVariants.{Bad, Skip, Asks}
 use Rattle.mlt_event_text.specs.Answering.{WentOver}
 use Rattle.mlt_event_text.specs.Forms.{asked_by}
 use Rattle.mlt_event_text.specs.Grammar.{AreEvents, IsFault, IsLawful, Spells, events_of}
@@ -20,14 +20,14 @@ use Rattle.mlt_text_words.proofs.Cutting.{no_lines}
 -- ---- the faults of lines
 
 -- a fault that a line can have
-abbrev IsOwn : Reading → Type 0
+abbrev IsOwn : EventReading → Type 0
 IsOwn (Bad cause.Line) = Unit {0}
 IsOwn (Bad cause.Words) = Unit {0}
 IsOwn (Bad other) = ⊥
 IsOwn Skip = Unit {0}
 IsOwn (Asks asked) = Unit {0}
 
-own_either : (b : Bool) (x y : Reading) → IsOwn x → IsOwn y → IsOwn (cond b x y)
+own_either : (b : Bool) (x y : EventReading) → IsOwn x → IsOwn y → IsOwn (cond b x y)
 own_either true x y h k = h
 own_either false x y h k = k
 

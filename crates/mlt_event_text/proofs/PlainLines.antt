@@ -5,7 +5,7 @@ use Rattle.mlt_event_text.specs.declared.command.Command.TheVariants as command
 use Rattle.mlt_event_text.specs.Commands.{asked, command_of, op_command}
 use Rattle.mlt_event_text.specs.Forms.{no_more, only_op}
 use Rattle.mlt_event_text.specs.Inputs.{NextLine}
-use Rattle.mlt_event_text.specs.declared.session_line.Line.TheVariants.{Says}
+use Rattle.mlt_event_text.specs.declared.session_line.SessionLine.TheVariants.{Says}
 use Rattle.mlt_event_text.proofs.Cutting.{next_plain}
 use Rattle.mlt_script.specs.Forms.{asking_at, key_at, op_at}
 use Rattle.mlt_script.specs.Plain.{BeginsWithOp}

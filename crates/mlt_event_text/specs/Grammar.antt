@@ -4,12 +4,12 @@ use Rattle.std.specs.List.{flat_map}
 use Rattle.mlt_types.specs.declared.refusal.ScriptCause.{ScriptCause}
 use Rattle.mlt_types.specs.declared.refusal.ScriptCause.TheVariants as cause
 use Rattle.mlt_event.specs.declared.event.Event.{Event}
-use Rattle.mlt_event_text.specs.declared.line.Reading.{Reading}
-use Rattle.mlt_event_text.specs.declared.line.Reading.TheVariants.{Bad, Skip, Asks}
+use Rattle.mlt_event_text.specs.declared.line.EventReading.{EventReading}
+use Rattle.mlt_event_text.specs.declared.line.EventReading.TheVariants.{Bad, Skip, Asks}
 use Rattle.mlt_event_text.specs.Readings.{reading}
 use Rattle.mlt_text_words.specs.Lines.{Raw, lines}
 
-abbrev pub IsNoFault : Reading → Type 0
+abbrev pub IsNoFault : EventReading → Type 0
 IsNoFault (Bad fault) = ⊥
 IsNoFault Skip = Unit {0}
 IsNoFault (Asks asked) = Unit {0}
@@ -22,7 +22,7 @@ IsLawful raw = IsNoFault (reading raw)
 abbrev pub AreLawful : List Raw → Type 0
 AreLawful raws = All IsLawful raws
 
-abbrev pub events_in : Reading → List Event
+abbrev pub events_in : EventReading → List Event
 events_in (Bad fault) = []
 events_in Skip = []
 events_in (Asks asked) = replicate asked.times asked.event

@@ -11,5 +11,5 @@ mod tells;
 pub use command::Command;
 pub use forms::read_only_op;
 pub use parser::parse_events;
-pub use session_line::{Line, next_line};
+pub use session_line::{SessionLine, next_line};
 pub use tells::told_text;

@@ -9,7 +9,7 @@ ghost use Rattle.mlt_text_words.specs.Lines.{Raw};
 ghost use Rattle.mlt_types.specs.declared.refusal.ScriptCause.{ScriptCause};
 
 use crate::forms::Asked;
-use crate::line::{Reading, read_first};
+use crate::line::{EventReading, read_first};
 use mlt_event::Event;
 use mlt_types::Refusal;
 use std::alloc::{AllocError, Global};
@@ -26,14 +26,14 @@ fn push_asked(events: &mut Vec<Event>, asked: Asked) -> Result<(), AllocError>
 }
 
 // Goes over a line of this reading.
-fn take_line(events: &mut Vec<Event>, line: u64, reading: Reading) -> Result<(), Refusal>
+fn take_line(events: &mut Vec<Event>, line: u64, reading: EventReading) -> Result<(), Refusal>
     ensures { (raw : Raw) → reading ≡ reading_of raw
         → TakesLine result events.old.items events.new.items line raw }
 {
     match reading {
-        Reading::Bad(cause) => Err(Refusal::ScriptFault { line, cause }),
-        Reading::Skip => Ok(()),
-        Reading::Asks(asked) => {
+        EventReading::Bad(cause) => Err(Refusal::ScriptFault { line, cause }),
+        EventReading::Skip => Ok(()),
+        EventReading::Asks(asked) => {
             push_asked(events, asked)?;
             Ok(())
         }

@@ -15,7 +15,7 @@ const MOST_BYTES: usize = 200;
 
 /// A line of a session.
 #[derive(Clone, Copy, Debug, PartialEq, Eq)]
-pub enum Line {
+pub enum SessionLine {
     /// At most 200 bytes, a CR among them, and an LF.
     Says(Command),
     /// More than 200 bytes before an LF, or without one.
@@ -38,30 +38,30 @@ fn command_in(bytes: &[u8]) -> Command
 /// The next line of a text, and how many of its bytes it takes, with its LF 1 to 201. A session ends at a line that is
 /// too long, so of such a line the number says nothing. `None` where the line goes on behind the text, which then has
 /// at most 200 bytes and no LF. Takes no memory.
-pub fn next_line(text: &[u8]) -> Option<(Line, usize)>
+pub fn next_line(text: &[u8]) -> Option<(SessionLine, usize)>
     ensures { NextLine text.now result }
 {
     if let Some((op, rest)) = op_line(text) {
-        return Some((Line::Says(Command::Op(op)), text.len() - rest.len()));
+        return Some((SessionLine::Says(Command::Op(op)), text.len() - rest.len()));
     }
     if let Some(rest) = after(text, b"commit\n") {
-        return Some((Line::Says(Command::Commit), text.len() - rest.len()));
+        return Some((SessionLine::Says(Command::Commit), text.len() - rest.len()));
     }
     if let Some(rest) = after(text, b"begin\n") {
-        return Some((Line::Says(Command::Begin), text.len() - rest.len()));
+        return Some((SessionLine::Says(Command::Begin), text.len() - rest.len()));
     }
     line_of_any_form(text)
 }
 
 // The next line of a text, whatever form it has. Nearly all are of those that are told before it is asked.
 #[inline(never)]
-fn line_of_any_form(text: &[u8]) -> Option<(Line, usize)>
+fn line_of_any_form(text: &[u8]) -> Option<(SessionLine, usize)>
     ensures { NextLine text.now result }
 {
     match find_lf(text) {
-        Some(end) if end > MOST_BYTES => Some((Line::TooLong, text.len())),
-        Some(end) => Some((Line::Says(command_in(&text[..end])), end + 1)),
-        None if text.len() > MOST_BYTES => Some((Line::TooLong, text.len())),
+        Some(end) if end > MOST_BYTES => Some((SessionLine::TooLong, text.len())),
+        Some(end) => Some((SessionLine::Says(command_in(&text[..end])), end + 1)),
+        None if text.len() > MOST_BYTES => Some((SessionLine::TooLong, text.len())),
         None => None,
     }
 }

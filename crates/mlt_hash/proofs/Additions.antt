@@ -12,11 +12,11 @@ use Rattle.mlt_page.specs.declared.slot.Slot.TheVariants.{Free, Live}
 use Rattle.mlt_page.specs.Values.{BucketFields}
 use Rattle.mlt_page_locks.specs.LockTables.{can_write}
 use Rattle.mlt_hash_form.specs.Form.{value_in}
-use Rattle.mlt_hash_access.specs.Moments.{Moment}
+use Rattle.mlt_hash_access.specs.LocalStates.{LocalState}
 use Rattle.mlt_hash_access.specs.Views.{ReadsHeldBucket, View, WritesPage, view_of}
 use Rattle.mlt_hash_record.specs.Plans.{IsNowhere, SetsFirst, WriteFields, has_room, planned_page}
 use Rattle.mlt_hash.specs.Passes.{slot_after}
-use Rattle.mlt_hash.specs.Walks.{Basis, FoundBefore, Stands, StoodBefore, WalkFields, nothing_before, view_for}
+use Rattle.mlt_hash.specs.Walks.{WalkContext, FoundBefore, Stands, StoodBefore, WalkFields, nothing_before, view_for}
 use Rattle.mlt_hash.specs.Changes.{FillsFirst, HasOwnGhost, IsAtAbsent, IsAtBucketPhase, IsFull, Makes, PlansSlot, RevivesFirst, SeesBucket, TakesSlot, TellsOfAddition, TellsOfChange, TellsOfWrite, directory_depth_of, page_of}
 use Rattle.mlt_hash.specs.declared.pass.Change.{Change}
 use Rattle.mlt_hash.specs.declared.pass.Change.TheVariants as change
@@ -32,127 +32,127 @@ nowhere_found has slots (Some i) is nowhere =
     absurd (false≢true (sym (nowhere i at.0) ∙ at.1))
 
 -- a walk that found no record of its key has none in its bucket
-pub absent_value : (basis : Basis) (walk : WalkFields) (view : View) (fields : BucketFields) → IsAtAbsent walk.phase → Stands walk.phase basis walk view → SeesBucket walk view fields → value_in walk.key fields.slots ≡ None
-absent_value basis walk view fields none stands sees = found_there basis walk view (page_of walk.phase) (directory_depth_of walk.phase) None fields (absent_at basis walk view walk.phase none stands) sees.at
+pub absent_value : (context : WalkContext) (walk : WalkFields) (view : View) (fields : BucketFields) → IsAtAbsent walk.phase → Stands walk.phase context walk view → SeesBucket walk view fields → value_in walk.key fields.slots ≡ None
+absent_value context walk view fields none stands sees = found_there context walk view (page_of walk.phase) (directory_depth_of walk.phase) None fields (absent_at context walk view walk.phase none stands) sees.at
 
-pub absent_from_bucket : (basis : Basis) (walk : WalkFields) (view : View) (key : ℕ) (fields : BucketFields) → IsAtAbsent walk.phase → Stands walk.phase basis walk view → SeesBucket walk view fields → key ≡ walk.key → position (is_live_of key) fields.slots ≡ None
-absent_from_bucket basis walk view key fields none stands sees key_is = no_live_slot key fields.slots (ap (λ k. value_in k fields.slots) key_is ∙ absent_value basis walk view fields none stands sees)
+pub absent_from_bucket : (context : WalkContext) (walk : WalkFields) (view : View) (key : ℕ) (fields : BucketFields) → IsAtAbsent walk.phase → Stands walk.phase context walk view → SeesBucket walk view fields → key ≡ walk.key → position (is_live_of key) fields.slots ≡ None
+absent_from_bucket context walk view key fields none stands sees key_is = no_live_slot key fields.slots (ap (λ k. value_in k fields.slots) key_is ∙ absent_value context walk view fields none stands sees)
 
-own_ghost_nowhere : (basis : Basis) (walk : WalkFields) (key owner : ℕ) (fields : BucketFields) → key ≡ walk.key → owner ≡ basis.tx → IsNowhere (is_ghost_of key owner) fields.slots → position (is_ghost_of walk.key basis.tx) fields.slots ≡ None
-own_ghost_nowhere basis walk key owner fields key_is own nowhere =
+own_ghost_nowhere : (context : WalkContext) (walk : WalkFields) (key owner : ℕ) (fields : BucketFields) → key ≡ walk.key → owner ≡ context.tx → IsNowhere (is_ghost_of key owner) fields.slots → position (is_ghost_of walk.key context.tx) fields.slots ≡ None
+own_ghost_nowhere context walk key owner fields key_is own nowhere =
     (λ i. position (is_ghost_of (sym key_is i) (sym own i)) fields.slots) ∙ nowhere_found (is_ghost_of key owner) fields.slots (position (is_ghost_of key owner) fields.slots) refl nowhere
 
 -- which is full where no slot has room and none has the transaction's own ghost
-pub is_full : (basis : Basis) (walk : WalkFields) (view : View) (key owner : ℕ) (fields : BucketFields) → SeesBucket walk view fields → key ≡ walk.key → owner ≡ basis.tx → IsNowhere (is_ghost_of key owner) fields.slots → IsNowhere (has_room basis.opens) fields.slots → IsFull basis walk view fields
-is_full basis walk view key owner fields sees key_is own nowhere full = record {
+pub is_full : (context : WalkContext) (walk : WalkFields) (view : View) (key owner : ℕ) (fields : BucketFields) → SeesBucket walk view fields → key ≡ walk.key → owner ≡ context.tx → IsNowhere (is_ghost_of key owner) fields.slots → IsNowhere (has_room context.active) fields.slots → IsFull context walk view fields
+is_full context walk view key owner fields sees key_is own nowhere full = record {
   sees = sees;
-  no_ghost = own_ghost_nowhere basis walk key owner fields key_is own nowhere;
-  no_room = list_all-from_AllPass (is_kept basis.opens) fields.slots (All-from_get_or (λ s. is_kept basis.opens s ≡ true) fields.slots Free (λ i within. not-false (is_kept basis.opens (slice_index_or fields.slots i Free)) (full i within)));
+  no_ghost = own_ghost_nowhere context walk key owner fields key_is own nowhere;
+  no_room = list_all-from_AllPass (is_kept context.active) fields.slots (All-from_get_or (λ s. is_kept context.active s ≡ true) fields.slots Free (λ i within. not-false (is_kept context.active (slice_index_or fields.slots i Free)) (full i within)));
 }
 
 -- a walk whose transaction left a ghost there has a plan of what to do with it,
-pub ghost_has_plan : (basis : Basis) (walk : WalkFields) (view : View) (key owner : ℕ) (fields : BucketFields) → HasOwnGhost basis.tx walk view → SeesBucket walk view fields → key ≡ walk.key → owner ≡ basis.tx → IsNowhere (is_ghost_of key owner) fields.slots → ⊥
-ghost_has_plan basis walk view key owner fields ghost sees key_is own nowhere =
+pub ghost_has_plan : (context : WalkContext) (walk : WalkFields) (view : View) (key owner : ℕ) (fields : BucketFields) → HasOwnGhost context.tx walk view → SeesBucket walk view fields → key ≡ walk.key → owner ≡ context.tx → IsNowhere (is_ghost_of key owner) fields.slots → ⊥
+ghost_has_plan context walk view key owner fields ghost sees key_is own nowhere =
     let same : ghost.0 ≡ fields = same_bucket (view.seen (page_of walk.phase)) ghost.0 fields ghost.2.at sees.at in
-    let here : position (is_ghost_of key owner) fields.slots ≡ Some ghost.1 = (λ i. position (is_ghost_of (key_is i) (own i)) fields.slots) ∙ ap (λ (b : BucketFields). position (is_ghost_of walk.key basis.tx) b.slots) (sym same) ∙ ghost.3 in
+    let here : position (is_ghost_of key owner) fields.slots ≡ Some ghost.1 = (λ i. position (is_ghost_of (key_is i) (own i)) fields.slots) ∙ ap (λ (b : BucketFields). position (is_ghost_of walk.key context.tx) b.slots) (sym same) ∙ ghost.3 in
     let at = position-Some (is_ghost_of key owner) fields.slots ghost.1 Free here in
     false≢true (sym (nowhere ghost.1 at.0) ∙ at.1)
 
 -- and may write it.
-pub absent_may_write : (basis : Basis) (walk : WalkFields) (old : Moment) (number : ℕ) (fields : BucketFields) (has : Slot → Bool) (s : Slot) (write : WriteFields) → IsAtAbsent walk.phase → Stands walk.phase basis walk (view_for basis old) → walk.mode ≡ Exclusive
+pub absent_may_write : (context : WalkContext) (walk : WalkFields) (old : LocalState) (number : ℕ) (fields : BucketFields) (has : Slot → Bool) (s : Slot) (write : WriteFields) → IsAtAbsent walk.phase → Stands walk.phase context walk (view_for context old) → walk.mode ≡ Exclusive
     → number ≡ page_of walk.phase → SetsFirst number fields has s write → can_write old.locks old.running.tx write.number ≡ true
-absent_may_write basis walk old number fields has s write none stands = may_write_bucket basis walk old number (directory_depth_of walk.phase) None fields has s write (absent_at basis walk (view_for basis old) walk.phase none stands)
+absent_may_write context walk old number fields has s write none stands = may_write_bucket context walk old number (directory_depth_of walk.phase) None fields has s write (absent_at context walk (view_for context old) walk.phase none stands)
 
 -- Its plan is one of what it reads.
-pub absent_plans : (basis : Basis) (walk : WalkFields) (old : Moment) (number key : ℕ) (fields : BucketFields) (has : Slot → Bool) (s : Slot) (write : WriteFields) → IsAtAbsent walk.phase → (reads : ReadsBucket basis walk old number key fields)
+pub absent_plans : (context : WalkContext) (walk : WalkFields) (old : LocalState) (number key : ℕ) (fields : BucketFields) (has : Slot → Bool) (s : Slot) (write : WriteFields) → IsAtAbsent walk.phase → (reads : ReadsBucket context walk old number key fields)
     → SetsFirst number fields has s write → PlansSlot (view_of old) write
-absent_plans basis walk old number key fields has s write none reads =
-    plans_slot basis walk old number (directory_depth_of walk.phase) None fields has s write reads.ready.written (absent_at basis walk (view_for basis old) walk.phase none reads.ready.stands) reads.sees reads.here
+absent_plans context walk old number key fields has s write none reads =
+    plans_slot context walk old number (directory_depth_of walk.phase) None fields has s write reads.ready.written (absent_at context walk (view_for context old) walk.phase none reads.ready.stands) reads.sees reads.here
 
-module _ (basis : Basis) (walk after : WalkFields) (old new : Moment) (number key : ℕ) (fields : BucketFields) (write : WriteFields) (result : WalkAnswer) (reads : ReadsBucket basis walk old number key fields) (none : IsAtAbsent walk.phase) where
+module _ (context : WalkContext) (walk after : WalkFields) (old new : LocalState) (number key : ℕ) (fields : BucketFields) (write : WriteFields) (result : WalkAnswer) (reads : ReadsBucket context walk old number key fields) (none : IsAtAbsent walk.phase) where
   -- the plan of a walk whose key had no record is the change of it
-  absent_makes : (done : Change) (has : Slot → Bool) → FoundBefore done None → (plan : SetsFirst number fields has (slot_after done walk.key basis.tx) write) → StoodBefore done basis walk.key fields.slots (slice_index_or fields.slots plan.slot Free)
-      → WritesPlan basis walk after old new write done → Makes basis new walk after done
+  absent_makes : (done : Change) (has : Slot → Bool) → FoundBefore done None → (plan : SetsFirst number fields has (slot_after done walk.key context.tx) write) → StoodBefore done context walk.key fields.slots (slice_index_or fields.slots plan.slot Free)
+      → WritesPlan context walk after old new write done → Makes context new walk after done
   absent_makes done has fits plan was wrote =
-      makes_change basis walk after old new number (directory_depth_of walk.phase) None fields done has write reads.ready.bounded reads.ready.small (absent_at basis walk (view_for basis old) walk.phase none reads.ready.stands) reads.sees reads.here plan fits was wrote.writes wrote.walk_is
+      makes_change context walk after old new number (directory_depth_of walk.phase) None fields done has write reads.ready.bounded reads.ready.small (absent_at context walk (view_for context old) walk.phase none reads.ready.stands) reads.sees reads.here plan fits was wrote.writes wrote.walk_is
 
   no_value : value_in walk.key fields.slots ≡ None
-  no_value = absent_value basis walk (view_for basis old) fields none reads.ready.stands reads.sees
+  no_value = absent_value context walk (view_for context old) fields none reads.ready.stands reads.sees
 
   at_bucket : IsAtBucketPhase walk.phase
   at_bucket = at_bucket_without walk.phase none
 
   -- the plan of a revival is one of the walk's own key and transaction
-  own_plan : (value owner : ℕ) → owner ≡ basis.tx → SetsFirst number fields (is_ghost_of key owner) (Live key value) write → SetsFirst number fields (is_ghost_of walk.key basis.tx) (Live walk.key value) write
+  own_plan : (value owner : ℕ) → owner ≡ context.tx → SetsFirst number fields (is_ghost_of key owner) (Live key value) write → SetsFirst number fields (is_ghost_of walk.key context.tx) (Live walk.key value) write
   own_plan value owner own plan =
       let of_walk : SetsFirst number fields (is_ghost_of walk.key owner) (Live walk.key value) write = subst (λ k. SetsFirst number fields (is_ghost_of k owner) (Live k value) write) reads.key_is plan in
       subst (λ tx. SetsFirst number fields (is_ghost_of walk.key tx) (Live walk.key value) write) own of_walk
 
-  revive_makes : (value owner : ℕ) → owner ≡ basis.tx → SetsFirst number fields (is_ghost_of key owner) (Live key value) write → WritesPlan basis walk after old new write (change.Revive value) → Makes basis new walk after (change.Revive value)
+  revive_makes : (value owner : ℕ) → owner ≡ context.tx → SetsFirst number fields (is_ghost_of key owner) (Live key value) write → WritesPlan context walk after old new write (change.Revive value) → Makes context new walk after (change.Revive value)
   revive_makes value owner own plan wrote =
       let mine = own_plan value owner own plan in
-      absent_makes (change.Revive value) (is_ghost_of walk.key basis.tx) refl mine (no_value, mine.was) wrote
+      absent_makes (change.Revive value) (is_ghost_of walk.key context.tx) refl mine (no_value, mine.was) wrote
 
   -- **A revival,**
-  pub revive_tells : (value owner : ℕ) → owner ≡ basis.tx → SetsFirst number fields (is_ghost_of key owner) (Live key value) write → TellsOfWrite old new walk after write (change.Revive value) result → TellsOfChange basis new walk after (change.Revive value) result
+  pub revive_tells : (value owner : ℕ) → owner ≡ context.tx → SetsFirst number fields (is_ghost_of key owner) (Live key value) write → TellsOfWrite old new walk after write (change.Revive value) result → TellsOfChange context new walk after (change.Revive value) result
   revive_tells value owner own plan told =
-      write_cases basis walk after old new write (change.Revive value) reads.ready at_bucket (λ r. TellsOfChange basis new walk after (change.Revive value) r) result told (λ wrote. revive_makes value owner own plan wrote) (λ lacks. lacks)
+      write_cases context walk after old new write (change.Revive value) reads.ready at_bucket (λ r. TellsOfChange context new walk after (change.Revive value) r) result told (λ wrote. revive_makes value owner own plan wrote) (λ lacks. lacks)
 
   -- **an addition in the place of the transaction's own ghost,**
-  pub revival_tells : (value owner : ℕ) → owner ≡ basis.tx → SetsFirst number fields (is_ghost_of key owner) (Live key value) write → TellsOfWrite old new walk after write (change.Revive value) result → TellsOfAddition basis new walk after value result
+  pub revival_tells : (value owner : ℕ) → owner ≡ context.tx → SetsFirst number fields (is_ghost_of key owner) (Live key value) write → TellsOfWrite old new walk after write (change.Revive value) result → TellsOfAddition context new walk after value result
   revival_tells value owner own plan told =
-      write_cases basis walk after old new write (change.Revive value) reads.ready at_bucket (λ r. TellsOfAddition basis new walk after value r) result told (λ wrote. inl (revive_makes value owner own plan wrote)) (λ lacks. lacks)
+      write_cases context walk after old new write (change.Revive value) reads.ready at_bucket (λ r. TellsOfAddition context new walk after value r) result told (λ wrote. inl (revive_makes value owner own plan wrote)) (λ lacks. lacks)
 
   -- **and one in a slot with room.**
-  pub put_tells : (value owner : ℕ) → owner ≡ basis.tx → IsNowhere (is_ghost_of key owner) fields.slots → SetsFirst number fields (has_room basis.opens) (Live key value) write → TellsOfWrite old new walk after write (change.Put value) result → TellsOfAddition basis new walk after value result
+  pub put_tells : (value owner : ℕ) → owner ≡ context.tx → IsNowhere (is_ghost_of key owner) fields.slots → SetsFirst number fields (has_room context.active) (Live key value) write → TellsOfWrite old new walk after write (change.Put value) result → TellsOfAddition context new walk after value result
   put_tells value owner own nowhere plan told =
-      let of_walk : SetsFirst number fields (has_room basis.opens) (Live walk.key value) write = subst (λ k. SetsFirst number fields (has_room basis.opens) (Live k value) write) reads.key_is plan in
-      let no_ghost : position (is_ghost_of walk.key basis.tx) fields.slots ≡ None = own_ghost_nowhere basis walk key owner fields reads.key_is own nowhere in
-      let free : is_kept basis.opens (slice_index_or fields.slots of_walk.slot Free) ≡ false = not-true (is_kept basis.opens (slice_index_or fields.slots of_walk.slot Free)) of_walk.was in
-      write_cases basis walk after old new write (change.Put value) reads.ready at_bucket (λ r. TellsOfAddition basis new walk after value r) result told
-      (λ wrote. inr (absent_makes (change.Put value) (has_room basis.opens) refl of_walk (no_value, no_ghost, free) wrote)) (λ lacks. lacks)
+      let of_walk : SetsFirst number fields (has_room context.active) (Live walk.key value) write = subst (λ k. SetsFirst number fields (has_room context.active) (Live k value) write) reads.key_is plan in
+      let no_ghost : position (is_ghost_of walk.key context.tx) fields.slots ≡ None = own_ghost_nowhere context walk key owner fields reads.key_is own nowhere in
+      let free : is_kept context.active (slice_index_or fields.slots of_walk.slot Free) ≡ false = not-true (is_kept context.active (slice_index_or fields.slots of_walk.slot Free)) of_walk.was in
+      write_cases context walk after old new write (change.Put value) reads.ready at_bucket (λ r. TellsOfAddition context new walk after value r) result told
+      (λ wrote. inr (absent_makes (change.Put value) (has_room context.active) refl of_walk (no_value, no_ghost, free) wrote)) (λ lacks. lacks)
 
   -- The slot that its plan names is the first one with the property.
-  fills : (has : Slot → Bool) (s : Slot) (done : Change) → (plan : SetsFirst number fields has s write) → WritesPlan basis walk after old new write done → FillsFirst (view_for basis old) (view_for basis new) (page_of walk.phase) has s
+  fills : (has : Slot → Bool) (s : Slot) (done : Change) → (plan : SetsFirst number fields has s write) → WritesPlan context walk after old new write done → FillsFirst (view_for context old) (view_for context new) (page_of walk.phase) has s
   fills has s done plan wrote =
       let on : write.number ≡ page_of walk.phase = ap (λ (w : WriteFields). w.number) plan.written ∙ reads.here in
-      let here : ReadsHeldBucket (view_for basis old) write.number fields = plan_reads basis walk (view_for basis old) number (directory_depth_of walk.phase) None fields has s write (absent_at basis walk (view_for basis old) walk.phase none reads.ready.stands) reads.sees reads.here plan in
+      let here : ReadsHeldBucket (view_for context old) write.number fields = plan_reads context walk (view_for context old) number (directory_depth_of walk.phase) None fields has s write (absent_at context walk (view_for context old) walk.phase none reads.ready.stands) reads.sees reads.here plan in
       record {
         bucket = fields;
-        reads = subst (λ q. ReadsHeldBucket (view_for basis old) q fields) on here;
+        reads = subst (λ q. ReadsHeldBucket (view_for context old) q fields) on here;
         write = write;
         first = subst (λ q. SetsFirst q fields has s write) reads.here plan;
-        writes = subst (λ q. WritesPage (view_for basis old) (view_for basis new) q (planned_page fields write)) on (wrote.writes fields here);
+        writes = subst (λ q. WritesPage (view_for context old) (view_for context new) q (planned_page fields write)) on (wrote.writes fields here);
       }
 
   -- **A revival takes the first ghost,**
-  revival_takes_first : (value owner : ℕ) → owner ≡ basis.tx → SetsFirst number fields (is_ghost_of key owner) (Live key value) write → WritesPlan basis walk after old new write (change.Revive value) → RevivesFirst basis.tx (view_for basis old) (view_for basis new) walk (page_of walk.phase) value
-  revival_takes_first value owner own plan wrote = fills (is_ghost_of walk.key basis.tx) (Live walk.key value) (change.Revive value) (own_plan value owner own plan) wrote
+  revival_takes_first : (value owner : ℕ) → owner ≡ context.tx → SetsFirst number fields (is_ghost_of key owner) (Live key value) write → WritesPlan context walk after old new write (change.Revive value) → RevivesFirst context.tx (view_for context old) (view_for context new) walk (page_of walk.phase) value
+  revival_takes_first value owner own plan wrote = fills (is_ghost_of walk.key context.tx) (Live walk.key value) (change.Revive value) (own_plan value owner own plan) wrote
 
   -- **as it does where the key is the walk's first,**
-  pub first_revival : (value owner : ℕ) → owner ≡ basis.tx → SetsFirst number fields (is_ghost_of key owner) (Live key value) write → basis.before ≡ nothing_before → TellsOfWrite old new walk after write (change.Revive value) result → RevivesFirst basis.tx (view_for basis old) (view_for basis new) walk (page_of walk.phase) value
+  pub first_revival : (value owner : ℕ) → owner ≡ context.tx → SetsFirst number fields (is_ghost_of key owner) (Live key value) write → context.before ≡ nothing_before → TellsOfWrite old new walk after write (change.Revive value) result → RevivesFirst context.tx (view_for context old) (view_for context new) walk (page_of walk.phase) value
   first_revival value owner own plan anew told =
-      write_cases basis walk after old new write (change.Revive value) reads.ready at_bucket (λ r. RevivesFirst basis.tx (view_for basis old) (view_for basis new) walk (page_of walk.phase) value) result told (λ wrote. revival_takes_first value owner own plan wrote) (λ lacks. absurd (lacks.1 anew))
+      write_cases context walk after old new write (change.Revive value) reads.ready at_bucket (λ r. RevivesFirst context.tx (view_for context old) (view_for context new) walk (page_of walk.phase) value) result told (λ wrote. revival_takes_first value owner own plan wrote) (λ lacks. absurd (lacks.1 anew))
 
   -- **an addition too,**
-  pub revival_takes : (value owner : ℕ) → owner ≡ basis.tx → SetsFirst number fields (is_ghost_of key owner) (Live key value) write → TellsOfWrite old new walk after write (change.Revive value) result → TakesSlot result basis (view_for basis old) (view_for basis new) walk value
+  pub revival_takes : (value owner : ℕ) → owner ≡ context.tx → SetsFirst number fields (is_ghost_of key owner) (Live key value) write → TellsOfWrite old new walk after write (change.Revive value) result → TakesSlot result context (view_for context old) (view_for context new) walk value
   revival_takes value owner own plan told =
-      write_cases basis walk after old new write (change.Revive value) reads.ready at_bucket (λ r. TakesSlot r basis (view_for basis old) (view_for basis new) walk value) result told (λ wrote. inl (revival_takes_first value owner own plan wrote)) (λ lacks. tt)
+      write_cases context walk after old new write (change.Revive value) reads.ready at_bucket (λ r. TakesSlot r context (view_for context old) (view_for context new) walk value) result told (λ wrote. inl (revival_takes_first value owner own plan wrote)) (λ lacks. tt)
 
   -- **and where there is none, the lowest slot with room.**
-  pub put_takes : (value owner : ℕ) → owner ≡ basis.tx → IsNowhere (is_ghost_of key owner) fields.slots → SetsFirst number fields (has_room basis.opens) (Live key value) write → TellsOfWrite old new walk after write (change.Put value) result → TakesSlot result basis (view_for basis old) (view_for basis new) walk value
+  pub put_takes : (value owner : ℕ) → owner ≡ context.tx → IsNowhere (is_ghost_of key owner) fields.slots → SetsFirst number fields (has_room context.active) (Live key value) write → TellsOfWrite old new walk after write (change.Put value) result → TakesSlot result context (view_for context old) (view_for context new) walk value
   put_takes value owner own nowhere plan told =
-      let of_walk : SetsFirst number fields (has_room basis.opens) (Live walk.key value) write = subst (λ k. SetsFirst number fields (has_room basis.opens) (Live k value) write) reads.key_is plan in
-      let no_ghost : HasOwnGhost basis.tx walk (view_for basis old) → ⊥ = λ ghost. ghost_has_plan basis walk (view_for basis old) key owner fields ghost reads.sees reads.key_is own nowhere in
-      write_cases basis walk after old new write (change.Put value) reads.ready at_bucket (λ r. TakesSlot r basis (view_for basis old) (view_for basis new) walk value) result told
-      (λ wrote. inr (no_ghost, fills (has_room basis.opens) (Live walk.key value) (change.Put value) of_walk wrote)) (λ lacks. tt)
+      let of_walk : SetsFirst number fields (has_room context.active) (Live walk.key value) write = subst (λ k. SetsFirst number fields (has_room context.active) (Live k value) write) reads.key_is plan in
+      let no_ghost : HasOwnGhost context.tx walk (view_for context old) → ⊥ = λ ghost. ghost_has_plan context walk (view_for context old) key owner fields ghost reads.sees reads.key_is own nowhere in
+      write_cases context walk after old new write (change.Put value) reads.ready at_bucket (λ r. TakesSlot r context (view_for context old) (view_for context new) walk value) result told
+      (λ wrote. inr (no_ghost, fills (has_room context.active) (Live walk.key value) (change.Put value) of_walk wrote)) (λ lacks. tt)
 
 -- what is not made takes no slot
-pub unmade_takes : (told : WalkAnswer) (basis : Basis) (old new : View) (walk : WalkFields) (value : ℕ) → (told ≡ answer.Changed → ⊥) → TakesSlot told basis old new walk value
-unmade_takes answer.Changed basis old new walk value unchanged = absurd (unchanged refl)
-unmade_takes answer.Going basis old new walk value unchanged = tt
-unmade_takes (answer.Waiting page by) basis old new walk value unchanged = tt
-unmade_takes (answer.Found found) basis old new walk value unchanged = tt
-unmade_takes answer.NeedSplit basis old new walk value unchanged = tt
-unmade_takes answer.Widen basis old new walk value unchanged = tt
-unmade_takes (answer.Refused reason) basis old new walk value unchanged = tt
+pub unmade_takes : (told : WalkAnswer) (context : WalkContext) (old new : View) (walk : WalkFields) (value : ℕ) → (told ≡ answer.Changed → ⊥) → TakesSlot told context old new walk value
+unmade_takes answer.Changed context old new walk value unchanged = absurd (unchanged refl)
+unmade_takes answer.Going context old new walk value unchanged = tt
+unmade_takes (answer.Waiting page by) context old new walk value unchanged = tt
+unmade_takes (answer.Found found) context old new walk value unchanged = tt
+unmade_takes answer.NeedSplit context old new walk value unchanged = tt
+unmade_takes answer.Widen context old new walk value unchanged = tt
+unmade_takes (answer.Refused reason) context old new walk value unchanged = tt

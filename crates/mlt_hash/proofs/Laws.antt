@@ -7,18 +7,18 @@ use Rattle.mlt_page.specs.declared.page.Page.{Page}
 use Rattle.mlt_page_locks.specs.LockTables.{Modes, can_read, pages_of}
 use Rattle.mlt_hash_form.specs.File.{IsPath, look_up}
 use Rattle.mlt_hash_form.specs.Held.{Agrees}
-use Rattle.mlt_hash_access.specs.Moments.{Moment}
+use Rattle.mlt_hash_access.specs.LocalStates.{LocalState}
 use Rattle.mlt_hash_access.specs.Views.{View, view_of}
 use Rattle.mlt_hash_access.proofs.Reading.{path_read, read_is_there}
 use Rattle.mlt_hash_access.proofs.Views.{own_free, seen_free}
-use Rattle.mlt_hash.specs.Walks.{Basis, IsAtBucket, IsAtStart, WalkFields}
+use Rattle.mlt_hash.specs.Walks.{WalkContext, IsAtBucket, IsAtStart, WalkFields}
 use Rattle.mlt_hash.proofs.Passed.{read_at_bucket}
 
 -- who holds no page reads none
-reads_none : (m : Moment) (q : ℕ) → pages_of m.locks m.running.tx ≡ map.empty → can_read m.locks m.running.tx q ≡ false
+reads_none : (m : LocalState) (q : ℕ) → pages_of m.locks m.running.tx ≡ map.empty → can_read m.locks m.running.tx q ≡ false
 reads_none m q none = ap (λ (modes : Modes). is_some (map.get modes q)) none ∙ ap is_some (map.get-empty {X = Mode} nat_cmp q)
 
-pub at_start : (m : Moment) → pages_of m.locks m.running.tx ≡ map.empty → IsAtStart (view_of m)
+pub at_start : (m : LocalState) → pages_of m.locks m.running.tx ≡ map.empty → IsAtStart (view_of m)
 at_start m none = record {
   unwritten = λ q. own_free m q (reads_none m q none);
   unheld = none;
@@ -26,17 +26,17 @@ at_start m none = record {
 }
 
 -- the path of a walk at its bucket
-pub path_taken : (basis : Basis) (walk : WalkFields) (view : View) (bucket depth : ℕ) (found : Option ℕ) (clean : ℕ → Option Page) (here : IsAtBucket basis walk view bucket depth found) → Agrees view.seen clean
-    → IsPath clean basis.root (basis.bits walk.key) here.header here.dir bucket here.fields
-path_taken basis walk view bucket depth found clean here agree =
-    let read = read_at_bucket basis walk view bucket depth found here in
-    path_read basis.bits basis.root walk.key view read.dir bucket found clean read.way agree
+pub path_taken : (context : WalkContext) (walk : WalkFields) (view : View) (bucket depth : ℕ) (found : Option ℕ) (clean : ℕ → Option Page) (here : IsAtBucket context walk view bucket depth found) → Agrees view.seen clean
+    → IsPath clean context.root (context.bits walk.key) here.header here.dir bucket here.fields
+path_taken context walk view bucket depth found clean here agree =
+    let read = read_at_bucket context walk view bucket depth found here in
+    path_read context.bits context.root walk.key view read.dir bucket found clean read.way agree
 
-pub found_there : (basis : Basis) (walk : WalkFields) (view : View) (bucket depth : ℕ) (found : Option ℕ) (clean : ℕ → Option Page) → IsAtBucket basis walk view bucket depth found → Agrees view.seen clean
-    → look_up basis.bits clean basis.root walk.key ≡ found
-found_there basis walk view bucket depth found clean here agree =
-    let read = read_at_bucket basis walk view bucket depth found here in
-    sym (read_is_there basis.bits basis.root walk.key view read.dir bucket found clean read.way agree)
+pub found_there : (context : WalkContext) (walk : WalkFields) (view : View) (bucket depth : ℕ) (found : Option ℕ) (clean : ℕ → Option Page) → IsAtBucket context walk view bucket depth found → Agrees view.seen clean
+    → look_up context.bits clean context.root walk.key ≡ found
+found_there context walk view bucket depth found clean here agree =
+    let read = read_at_bucket context walk view bucket depth found here in
+    sym (read_is_there context.bits context.root walk.key view read.dir bucket found clean read.way agree)
 
 -- views that read alike are one
 pub same_view : (before after : View) → after.modes ≡ before.modes → ((q : ℕ) → after.seen q ≡ before.seen q) → ((q : ℕ) → after.own q ≡ before.own q) → before ≡ after

@@ -10,13 +10,13 @@ use Rattle.mlt_page_locks.specs.LockTables.{mode_held}
 use Rattle.mlt_page_locks.specs.Requests.{conflicts, is_against}
 use Rattle.mlt_hash_form.specs.File.{HasForm}
 use Rattle.mlt_hash_form.specs.Held.{Agrees}
-use Rattle.mlt_hash_access.specs.Moments.{MayStep, Moment}
+use Rattle.mlt_hash_access.specs.LocalStates.{MayStep, LocalState}
 use Rattle.mlt_hash_access.specs.Views.{view_of}
 use Rattle.mlt_hash_access.proofs.Views.{may_write}
 use Rattle.mlt_hash_split.specs.Splits.{SplitFields}
 use Rattle.mlt_hash_split.specs.Steps.{IsNextPage}
 use Rattle.mlt_hash.specs.Splitting.{TellsOfSplitting, WalkStep}
-use Rattle.mlt_hash.specs.Walks.{Basis, IsSplitting, aim_of, view_for}
+use Rattle.mlt_hash.specs.Walks.{WalkContext, IsSplitting, split_target, view_for}
 use Rattle.mlt_hash.specs.declared.answer.WalkAnswer.TheVariants as answer
 use Rattle.mlt_hash.specs.declared.pass.Pass.TheVariants as pass
 use Rattle.mlt_hash.proofs.Passed.{narrow_holds_next}
@@ -27,7 +27,7 @@ against_is_held None mode against = absurd (false≢true against)
 against_is_held (Some held) mode against = refl
 
 -- nobody's lock stands against a page that is held exclusively
-nobody_against : (m : Moment) (q by : ℕ) → MayStep m → map.get (view_of m).modes q ≡ Some Exclusive → conflicts m.locks m.running.tx q Exclusive by ≡ true → ⊥
+nobody_against : (m : LocalState) (q by : ℕ) → MayStep m → map.get (view_of m).modes q ≡ Some Exclusive → conflicts m.locks m.running.tx q Exclusive by ≡ true → ⊥
 nobody_against m q by may held against =
     elim (cases_eq by m.running.tx) [
       | inl mine ↦ let none : conflicts m.locks m.running.tx q Exclusive by ≡ false = grind (arith, nat_tests) in false≢true (sym none ∙ against)
@@ -37,9 +37,9 @@ nobody_against m q by may held against =
     ]
 
 -- **A narrow pass that splits never waits.**
-pub narrow_never_waits : (basis : Basis) (step : WalkStep) (value room_depth page by : ℕ) (clean : ℕ → Option Page) → MayStep step.old → IsSplitting basis step.before (view_for basis step.old) room_depth → step.before.pass ≡ pass.Narrow
-    → Agrees (view_for basis step.old).seen clean → HasForm basis.bits clean basis.root → TellsOfSplitting basis step value room_depth (answer.Waiting page by) → ⊥
-narrow_never_waits basis step value room_depth page by clean may splits narrow agree form tells =
+pub narrow_never_waits : (context : WalkContext) (step : WalkStep) (value room_depth page by : ℕ) (clean : ℕ → Option Page) → MayStep step.old → IsSplitting context step.before (view_for context step.old) room_depth → step.before.pass ≡ pass.Narrow
+    → Agrees (view_for context step.old).seen clean → HasForm context.bits clean context.root → TellsOfSplitting context step value room_depth (answer.Waiting page by) → ⊥
+narrow_never_waits context step value room_depth page by clean may splits narrow agree form tells =
     let same : tells.0.0 ≡ splits.split = some_is_one tells.0.0 splits.split step.before.split tells.0.1 splits.split_is in
-    let next : IsNextPage splits.split.phase (aim_of basis step.before room_depth) (view_for basis step.old) page = subst (λ (s : SplitFields). IsNextPage s.phase (aim_of basis step.before room_depth) (view_for basis step.old) page) same tells.0.2 in
-    nobody_against step.old page by may (narrow_holds_next basis step.before (view_for basis step.old) room_depth page clean splits narrow agree form next) tells.1.has_it
+    let next : IsNextPage splits.split.phase (split_target context step.before room_depth) (view_for context step.old) page = subst (λ (s : SplitFields). IsNextPage s.phase (split_target context step.before room_depth) (view_for context step.old) page) same tells.0.2 in
+    nobody_against step.old page by may (narrow_holds_next context step.before (view_for context step.old) room_depth page clean splits narrow agree form next) tells.1.has_it

@@ -52,8 +52,8 @@ module _ (empty one two three : PageStore) (b d r : ℕ) (bucket dir head : Page
   nothing_else q no_r no_d no_b =
       elsewhere two three r head third q no_r ∙ elsewhere one two d dir second q no_d ∙ elsewhere empty one b bucket first q no_b ∙ ap (λ (pages : Pages). page_at pages q) none ∙ map.get-empty {X = Page} nat_cmp q
 
-  pub opens : head ≡ page.Head (record { depth = 0; dirs = replicate 256 d }) → dir ≡ page.Dir (replicate 256 b) → bucket ≡ page.Bucket (record { depth = 0; slots = replicate 8 Free }) → IsOpening (page_at three.pages) r d b
-  opens head_is dir_is bucket_is = record {
+  pub active : head ≡ page.Head (record { depth = 0; dirs = replicate 256 d }) → dir ≡ page.Dir (replicate 256 b) → bucket ≡ page.Bucket (record { depth = 0; slots = replicate 8 Free }) → IsOpening (page_at three.pages) r d b
+  active head_is dir_is bucket_is = record {
     head = here two three r head third ∙ ap Some head_is;
     listed = stays two three r head third d dir (here one two d dir second) ∙ ap Some dir_is;
     bucket = stays two three r head third b bucket (stays one two d dir second b bucket (here empty one b bucket first)) ∙ ap Some bucket_is;

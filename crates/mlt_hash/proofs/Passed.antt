@@ -13,15 +13,15 @@ use Rattle.mlt_page_locks.specs.LockTables.{Modes, mode_held}
 use Rattle.mlt_page_locks.specs.Requests.{stronger, with_page}
 use Rattle.mlt_page_locks.proofs.LockLaws.{stronger_exclusive}
 use Rattle.mlt_hash_form.specs.File.{HasForm, dir_of}
-use Rattle.mlt_hash_form.specs.Held.{Agrees, own_or}
-use Rattle.mlt_hash_access.specs.Moments.{MayStep, Moment}
+use Rattle.mlt_hash_form.specs.Held.{Agrees, own_or_clean}
+use Rattle.mlt_hash_access.specs.LocalStates.{MayStep, LocalState}
 use Rattle.mlt_hash_access.specs.PageSteps.{TouchesOnePage}
 use Rattle.mlt_hash_access.specs.Views.{MakesPage, View, WritesPage}
 use Rattle.mlt_hash_access.proofs.Reading.{bucket_still}
 use Rattle.mlt_hash_access.proofs.OwnSteps.{own_step_writes_more, step_keeps_tx}
 use Rattle.mlt_hash_access.proofs.Since.{over_sees_more}
 use Rattle.mlt_hash_access.proofs.Views.{exclusive_stays, mode_of_others, mode_of_page}
-use Rattle.mlt_hash_split.specs.Rests.{Aim}
+use Rattle.mlt_hash_split.specs.Rests.{SplitTarget}
 use Rattle.mlt_hash_split.specs.Splits.{IsUnderWay, SplitFields}
 use Rattle.mlt_hash_split.specs.Steps.{IsDone, IsKeysPage, IsMaking, IsNextPage}
 use Rattle.mlt_hash_split.specs.declared.split.SplitAnswer.TheVariants as split_answer
@@ -29,17 +29,17 @@ use Rattle.mlt_hash_split.proofs.HeldPages.{exclusive_after_make, grows_by_make}
 use Rattle.mlt_hash_split.proofs.Locks.{done_writes_what_it_locks, locks_its_page_alone}
 use Rattle.mlt_hash_split.proofs.Narrow.{narrow_leaves_header, narrow_makes_none, narrow_next_page}
 use Rattle.mlt_hash.specs.Passes.{MayHoldMore, bucket_held, bucket_mode, directory_held, directory_mode, header_held, header_mode}
-use Rattle.mlt_hash.specs.Walks.{Basis, Before, GoesAfter, HasRead, HoldsByPass, IsAtBucket, IsSplitting, StaysNarrow, WalkFields, aim_of, view_for}
+use Rattle.mlt_hash.specs.Walks.{WalkContext, Before, GoesAfter, HasRead, HoldsByPass, IsAtBucket, IsSplitting, StaysNarrow, WalkFields, split_target, view_for}
 use Rattle.mlt_hash.specs.declared.pass.Pass.{Pass}
 use Rattle.mlt_hash.specs.declared.pass.Pass.TheVariants as pass
 
 -- what was read is so whoever is open,
-abbrev pub read_as : (basis : Basis) (opens : set.FinSet nat_cmp) (key : ℕ) (view : View) (found : Option ℕ) → HasRead basis key view found → HasRead (record basis { opens = opens }) key view found
-read_as basis opens key view found read = record { dir = read.dir; bucket = read.bucket; way = read.way; shallow = read.shallow }
+abbrev pub read_as : (context : WalkContext) (active : set.FinSet nat_cmp) (key : ℕ) (view : View) (found : Option ℕ) → HasRead context key view found → HasRead (record context { active = active }) key view found
+read_as context active key view found read = record { dir = read.dir; bucket = read.bucket; way = read.way; shallow = read.shallow }
 
 -- and whatever it is called
-abbrev pub read_of : (basis : Basis) (key : ℕ) (view : View) (found other : Option ℕ) → found ≡ other → HasRead basis key view found → HasRead basis key view other
-read_of basis key view found other same read = record {
+abbrev pub read_of : (context : WalkContext) (key : ℕ) (view : View) (found other : Option ℕ) → found ≡ other → HasRead context key view found → HasRead context key view other
+read_of context key view found other same read = record {
   dir = read.dir;
   bucket = read.bucket;
   way = record { placed = read.way.placed; fields = read.way.fields; at = read.way.at; found_is = sym same ∙ read.way.found_is };
@@ -99,9 +99,9 @@ module _ (before : Before) (walk : WalkFields) (follows : GoesAfter walk.pass be
   }
 
 -- **A walk at its bucket has read its way,**
-abbrev pub read_at_bucket : (basis : Basis) (walk : WalkFields) (view : View) (bucket depth : ℕ) (found : Option ℕ) → IsAtBucket basis walk view bucket depth found → HasRead basis walk.key view found
-read_at_bucket basis walk view bucket depth found here = record {
-  dir = dir_of here.header (basis.bits walk.key);
+abbrev pub read_at_bucket : (context : WalkContext) (walk : WalkFields) (view : View) (bucket depth : ℕ) (found : Option ℕ) → IsAtBucket context walk view bucket depth found → HasRead context walk.key view found
+read_at_bucket context walk view bucket depth found here = record {
+  dir = dir_of here.header (context.bits walk.key);
   bucket = bucket;
   way = record {
     placed = record { header = here.header; head = here.head; dir_is = refl; entries = here.dir; listed = here.listed; bucket_is = here.bucket_is };
@@ -113,10 +113,10 @@ read_at_bucket basis walk view bucket depth found here = record {
 }
 
 -- **and holds its pages by its pass.**
-pub holds_at_bucket : (basis : Basis) (walk : WalkFields) (view : View) (bucket depth : ℕ) (found : Option ℕ) → (here : IsAtBucket basis walk view bucket depth found) → HoldsByPass basis.before.held walk.pass walk.mode basis.root (dir_of here.header (basis.bits walk.key)) bucket view
-holds_at_bucket basis walk view bucket depth found here =
-    let dir = dir_of here.header (basis.bits walk.key) in
-    held_on_way basis.before walk here.goes_after basis.root dir bucket (head_is_no_dir view basis.root dir here.header here.dir here.head here.listed) (head_is_no_bucket view basis.root bucket here.header here.fields here.head here.at) (dir_is_no_bucket view dir bucket here.dir here.fields here.listed here.at) view here.held
+pub holds_at_bucket : (context : WalkContext) (walk : WalkFields) (view : View) (bucket depth : ℕ) (found : Option ℕ) → (here : IsAtBucket context walk view bucket depth found) → HoldsByPass context.before.held walk.pass walk.mode context.root (dir_of here.header (context.bits walk.key)) bucket view
+holds_at_bucket context walk view bucket depth found here =
+    let dir = dir_of here.header (context.bits walk.key) in
+    held_on_way context.before walk here.goes_after context.root dir bucket (head_is_no_dir view context.root dir here.header here.dir here.head here.listed) (head_is_no_bucket view context.root bucket here.header here.fields here.head here.at) (dir_is_no_bucket view dir bucket here.dir here.fields here.listed here.at) view here.held
 
 -- the page is one that the pass may hold beside its way
 abbrev IsMore : WalkFields → View → ℕ → Type 0
@@ -130,7 +130,7 @@ pub record StepsOn (walk : WalkFields) (old new : View) : Type 0 where
   pub modes : (q : ℕ) → (map.get new.modes q ≡ map.get old.modes q)
       ⊎ ((map.get new.modes q ≡ Some Exclusive) × ((map.get old.modes q ≡ Some Exclusive) ⊎ IsMore walk new q))
 
-module _ (basis : Basis) (walk : WalkFields) (old new : View) (step : StepsOn walk old new) where
+module _ (context : WalkContext) (walk : WalkFields) (old new : View) (step : StepsOn walk old new) where
   keeps_mode : (q : ℕ) (mode : Mode) (p : Page) → old.seen q ≡ Some (Some p) → (walk.pass ≡ pass.Wide → mode ≡ Exclusive) → map.get old.modes q ≡ Some mode → map.get new.modes q ≡ Some mode
   keeps_mode q mode p sees wide held =
       elim (step.modes q) [
@@ -164,7 +164,7 @@ module _ (basis : Basis) (walk : WalkFields) (old new : View) (step : StepsOn wa
   holds_more q pass.Narrow made = (step.before q None made.0, step.written q made.1)
   holds_more q pass.Wide written = step.written q written
 
-  keeps_others : (root dir bucket : ℕ) → HoldsByPass basis.before.held walk.pass walk.mode root dir bucket old → (q : ℕ) → q ≢ root → q ≢ dir → q ≢ bucket → is_some (map.get basis.before.held q) ≡ false → is_some (map.get new.modes q) ≡ true
+  keeps_others : (root dir bucket : ℕ) → HoldsByPass context.before.held walk.pass walk.mode root dir bucket old → (q : ℕ) → q ≢ root → q ≢ dir → q ≢ bucket → is_some (map.get context.before.held q) ≡ false → is_some (map.get new.modes q) ≡ true
       → (map.get new.modes q ≡ Some Exclusive) × IsMore walk new q
   keeps_others root dir bucket holds q away further last none some =
       elim (step.modes q) [
@@ -181,18 +181,18 @@ module _ (basis : Basis) (walk : WalkFields) (old new : View) (step : StepsOn wa
       ]
 
   -- **What was read stays so from step to step,**
-  abbrev pub reads_on : (found : Option ℕ) → HasRead basis walk.key old found → HasRead basis walk.key new found
-  reads_on found read = record { dir = read.dir; bucket = read.bucket; way = bucket_still basis.bits basis.root walk.key old new read.dir read.bucket found step.before read.way; shallow = read.shallow }
+  abbrev pub reads_on : (found : Option ℕ) → HasRead context walk.key old found → HasRead context walk.key new found
+  reads_on found read = record { dir = read.dir; bucket = read.bucket; way = bucket_still context.bits context.root walk.key old new read.dir read.bucket found step.before read.way; shallow = read.shallow }
 
   -- **and so do the modes.**
-  pub holds_on : (found : Option ℕ) → (read : HasRead basis walk.key old found) → HoldsByPass basis.before.held walk.pass walk.mode basis.root read.dir read.bucket old → HoldsByPass basis.before.held walk.pass walk.mode basis.root read.dir read.bucket new
+  pub holds_on : (found : Option ℕ) → (read : HasRead context walk.key old found) → HoldsByPass context.before.held walk.pass walk.mode context.root read.dir read.bucket old → HoldsByPass context.before.held walk.pass walk.mode context.root read.dir read.bucket new
   holds_on found read holds = record {
-    on_header = keeps_mode basis.root (header_mode walk.pass) (page.Head read.way.placed.header) read.way.placed.head (λ wide. ap header_mode wide) holds.on_header;
+    on_header = keeps_mode context.root (header_mode walk.pass) (page.Head read.way.placed.header) read.way.placed.head (λ wide. ap header_mode wide) holds.on_header;
     on_dir = keeps_mode read.dir (directory_mode walk.pass) (page.Dir read.way.placed.entries) read.way.placed.listed (λ wide. ap directory_mode wide) holds.on_dir;
     on_bucket = keeps_mode read.bucket (bucket_mode walk.pass walk.mode) (page.Bucket read.way.fields) read.way.at (λ wide. ap (λ pass. bucket_mode pass walk.mode) wide) holds.on_bucket;
     kept = λ q some. keeps_held q (holds.kept q some);
     exclusive = λ q was. keeps_exclusive q (holds.exclusive q was);
-    others = keeps_others basis.root read.dir read.bucket holds;
+    others = keeps_others context.root read.dir read.bucket holds;
   }
 
 -- a write of a held page is such a step,
@@ -232,61 +232,61 @@ same_head : (a b : HeadFields) → Some (page.Head a) ≡ Some (page.Head b) →
 same_head a b same = cc
 
 -- where the splits of a narrow pass stand
-module _ (basis : Basis) (walk : WalkFields) (view : View) (room_depth : ℕ) (split : SplitFields) (clean : ℕ → Option Page) (agree : Agrees view.seen clean) (form : HasForm basis.bits clean basis.root)
-    (way : IsUnderWay (aim_of basis walk room_depth) view split) (found : Option ℕ) (read : HasRead basis walk.key view found) (narrow : StaysNarrow basis.root view room_depth split.depth split.directory_depth) where
+module _ (context : WalkContext) (walk : WalkFields) (view : View) (room_depth : ℕ) (split : SplitFields) (clean : ℕ → Option Page) (agree : Agrees view.seen clean) (form : HasForm context.bits clean context.root)
+    (way : IsUnderWay (split_target context walk room_depth) view split) (found : Option ℕ) (read : HasRead context walk.key view found) (narrow : StaysNarrow context.root view room_depth split.depth split.directory_depth) where
   -- they are in place,
   pub in_place : split.depth < split.directory_depth
   in_place = let deep = (way.begins clean agree form).deep in let enough = narrow.enough in omega (arith, deep, enough)
 
   -- and their next page is the key's own, which the pass holds
-  pub next_is_dir : (n : ℕ) → IsNextPage split.phase (aim_of basis walk room_depth) view n → n ≡ read.dir
+  pub next_is_dir : (n : ℕ) → IsNextPage split.phase (split_target context walk room_depth) view n → n ≡ read.dir
   next_is_dir n next =
-      let own : IsKeysPage (aim_of basis walk room_depth) view n = narrow_next_page (aim_of basis walk room_depth) view split n clean agree form way in_place narrow.one_page next in
+      let own : IsKeysPage (split_target context walk room_depth) view n = narrow_next_page (split_target context walk room_depth) view split n clean agree form way in_place narrow.one_page next in
       let header = read.way.placed.header in
-      let reads : Some (page.Head header) ≡ Some (page.Head own.0) = sym (ap (λ o. own_or o (Some (page.Head header))) narrow.unwritten) ∙ ap (λ (o : Option (Option Page)). own_or (view.own basis.root) (unwrap_or o None)) (sym read.way.placed.head) ∙ own.1 in
-      own.2 ∙ ap (λ (h : HeadFields). dir_of h (basis.bits walk.key)) (sym (same_head header own.0 reads)) ∙ sym read.way.placed.dir_is
+      let reads : Some (page.Head header) ≡ Some (page.Head own.0) = sym (ap (λ o. own_or_clean o (Some (page.Head header))) narrow.unwritten) ∙ ap (λ (o : Option (Option Page)). own_or_clean (view.own context.root) (unwrap_or o None)) (sym read.way.placed.head) ∙ own.1 in
+      own.2 ∙ ap (λ (h : HeadFields). dir_of h (context.bits walk.key)) (sym (same_head header own.0 reads)) ∙ sym read.way.placed.dir_is
 
-  pub narrow_holds : HoldsByPass basis.before.held walk.pass walk.mode basis.root read.dir read.bucket view → walk.pass ≡ pass.Narrow → (n : ℕ) → IsNextPage split.phase (aim_of basis walk room_depth) view n → map.get view.modes n ≡ Some Exclusive
+  pub narrow_holds : HoldsByPass context.before.held walk.pass walk.mode context.root read.dir read.bucket view → walk.pass ≡ pass.Narrow → (n : ℕ) → IsNextPage split.phase (split_target context walk room_depth) view n → map.get view.modes n ≡ Some Exclusive
   narrow_holds holds is n next = ap (map.get view.modes) (next_is_dir n next) ∙ holds.on_dir ∙ ap (λ p. Some (directory_mode p)) is
 
 -- **The page that a narrow pass is to lock next it holds exclusively.**
-pub narrow_holds_next : (basis : Basis) (walk : WalkFields) (view : View) (room_depth n : ℕ) (clean : ℕ → Option Page) → (splits : IsSplitting basis walk view room_depth) → walk.pass ≡ pass.Narrow → Agrees view.seen clean → HasForm basis.bits clean basis.root
-    → IsNextPage splits.split.phase (aim_of basis walk room_depth) view n → map.get view.modes n ≡ Some Exclusive
-narrow_holds_next basis walk view room_depth n clean splits is agree form next = narrow_holds basis walk view room_depth splits.split clean agree form splits.under_way None splits.read (splits.narrow is) splits.holds is n next
+pub narrow_holds_next : (context : WalkContext) (walk : WalkFields) (view : View) (room_depth n : ℕ) (clean : ℕ → Option Page) → (splits : IsSplitting context walk view room_depth) → walk.pass ≡ pass.Narrow → Agrees view.seen clean → HasForm context.bits clean context.root
+    → IsNextPage splits.split.phase (split_target context walk room_depth) view n → map.get view.modes n ≡ Some Exclusive
+narrow_holds_next context walk view room_depth n clean splits is agree form next = narrow_holds context walk view room_depth splits.split clean agree form splits.under_way None splits.read (splits.narrow is) splits.holds is n next
 
 -- what is needed of a step of the splits of a pass
-module _ (basis : Basis) (walk : WalkFields) (old new : Moment) (room_depth : ℕ) (split : SplitFields) (may : MayStep old) (clean : ℕ → Option Page) (agree : Agrees (view_for basis old).seen clean) (form : HasForm basis.bits clean basis.root)
-    (way : IsUnderWay (aim_of basis walk room_depth) (view_for basis old) split) (found : Option ℕ) (read : HasRead basis walk.key (view_for basis old) found) where
-  abbrev aim : Aim
-  aim = aim_of basis walk room_depth
+module _ (context : WalkContext) (walk : WalkFields) (old new : LocalState) (room_depth : ℕ) (split : SplitFields) (may : MayStep old) (clean : ℕ → Option Page) (agree : Agrees (view_for context old).seen clean) (form : HasForm context.bits clean context.root)
+    (way : IsUnderWay (split_target context walk room_depth) (view_for context old) split) (found : Option ℕ) (read : HasRead context walk.key (view_for context old) found) where
+  abbrev target : SplitTarget
+  target = split_target context walk room_depth
 
   -- a narrow pass leaves the header as it was
-  pub narrow_keeps_header : StaysNarrow basis.root (view_for basis old) room_depth split.depth split.directory_depth → IsDone split.phase aim old new split → (view_for basis new).own basis.root ≡ None
+  pub narrow_keeps_header : StaysNarrow context.root (view_for context old) room_depth split.depth split.directory_depth → IsDone split.phase target old new split → (view_for context new).own context.root ≡ None
   narrow_keeps_header narrow done =
-      narrow_leaves_header aim old new split may (in_place basis walk (view_for basis old) room_depth split clean agree form way found read narrow) clean agree form way
-      (λ n next same. head_is_no_dir (view_for basis old) basis.root read.dir read.way.placed.header read.way.placed.entries read.way.placed.head read.way.placed.listed (same ∙ next_is_dir basis walk (view_for basis old) room_depth split clean agree form way found read narrow n next)) done
+      narrow_leaves_header target old new split may (in_place context walk (view_for context old) room_depth split clean agree form way found read narrow) clean agree form way
+      (λ n next same. head_is_no_dir (view_for context old) context.root read.dir read.way.placed.header read.way.placed.entries read.way.placed.head read.way.placed.listed (same ∙ next_is_dir context walk (view_for context old) room_depth split clean agree form way found read narrow n next)) done
       ∙ narrow.unwritten
 
-  module _ (holds : HoldsByPass basis.before.held walk.pass walk.mode basis.root read.dir read.bucket (view_for basis old)) (later : walk.pass ≡ pass.First → ⊥) (narrow : walk.pass ≡ pass.Narrow → StaysNarrow basis.root (view_for basis old) room_depth split.depth split.directory_depth) (touches : TouchesOnePage old new) (done : IsDone split.phase aim old new split) where
-    why : (p : Pass) → walk.pass ≡ p → (q : ℕ) → mode_held new.locks old.running.tx q ≡ Some Exclusive → IsNextPage split.phase aim (view_for basis old) q ⊎ IsMaking split.phase → (map.get (view_for basis old).modes q ≡ Some Exclusive) ⊎ MayHoldMore p ((view_for basis new).seen q) (is_some ((view_for basis new).own q))
+  module _ (holds : HoldsByPass context.before.held walk.pass walk.mode context.root read.dir read.bucket (view_for context old)) (later : walk.pass ≡ pass.First → ⊥) (narrow : walk.pass ≡ pass.Narrow → StaysNarrow context.root (view_for context old) room_depth split.depth split.directory_depth) (touches : TouchesOnePage old new) (done : IsDone split.phase target old new split) where
+    why : (p : Pass) → walk.pass ≡ p → (q : ℕ) → mode_held new.locks old.running.tx q ≡ Some Exclusive → IsNextPage split.phase target (view_for context old) q ⊎ IsMaking split.phase → (map.get (view_for context old).modes q ≡ Some Exclusive) ⊎ MayHoldMore p ((view_for context new).seen q) (is_some ((view_for context new).own q))
     why pass.First is q exclusive locked = absurd (later is)
-    why pass.Narrow is q exclusive (inl next) = inl (narrow_holds basis walk (view_for basis old) room_depth split clean agree form way found read (narrow is) holds is q next)
-    why pass.Narrow is q exclusive (inr making) = absurd (narrow_makes_none aim (view_for basis old) split clean agree form way (in_place basis walk (view_for basis old) room_depth split clean agree form way found read (narrow is)) making)
+    why pass.Narrow is q exclusive (inl next) = inl (narrow_holds context walk (view_for context old) room_depth split clean agree form way found read (narrow is) holds is q next)
+    why pass.Narrow is q exclusive (inr making) = absurd (narrow_makes_none target (view_for context old) split clean agree form way (in_place context walk (view_for context old) room_depth split clean agree form way found read (narrow is)) making)
     why pass.Wide is q exclusive locked =
-        elim (done_writes_what_it_locks split.phase aim old new split q may done) [
+        elim (done_writes_what_it_locks split.phase target old new split q may done) [
           | inl same ↦ inl (sym same ∙ exclusive)
           | inr written ↦ inr written.1
         ]
 
     -- **A step of the splits of a pass.**
-    pub steps_by_split : StepsOn walk (view_for basis old) (view_for basis new)
+    pub steps_by_split : StepsOn walk (view_for context old) (view_for context new)
     steps_by_split = record {
-      before = λ q first sees. over_sees_more basis.before.written old new q first may touches sees;
+      before = λ q first sees. over_sees_more context.before.written old new q first may touches sees;
       written = own_step_writes_more old new may touches;
       modes = λ q.
           let tx = step_keeps_tx old new touches in
-          let now : map.get (view_for basis new).modes q ≡ mode_held new.locks old.running.tx q = ap (λ t. mode_held new.locks t q) tx in
-          elim (locks_its_page_alone split_answer.Going aim old new split q done) [
+          let now : map.get (view_for context new).modes q ≡ mode_held new.locks old.running.tx q = ap (λ t. mode_held new.locks t q) tx in
+          elim (locks_its_page_alone split_answer.Going target old new split q done) [
             | inl same ↦ inl (now ∙ same)
             | inr locked ↦ inr (now ∙ locked.0, elim locked.1 [ inl next ↦ why walk.pass refl q locked.0 (inl next) | inr making ↦ why walk.pass refl q locked.0 (inr making.0) ])
           ];

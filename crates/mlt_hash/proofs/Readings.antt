@@ -8,9 +8,9 @@ use Rattle.mlt_page.specs.declared.page.Page.{Page}
 use Rattle.mlt_page_store.specs.Stores.{page_at}
 use Rattle.mlt_page_locks.specs.LockTables.{Modes, page_count}
 use Rattle.mlt_page_locks.specs.Requests.{stronger, with_page}
-use Rattle.mlt_hash_access.specs.Moments.{IsCleanFor, MayStep, Moment}
+use Rattle.mlt_hash_access.specs.LocalStates.{IsCleanFor, MayStep, LocalState}
 use Rattle.mlt_hash_form.specs.File.{FilePages}
-use Rattle.mlt_hash_form.specs.Held.{over, own_or}
+use Rattle.mlt_hash_form.specs.Held.{over, own_or_clean}
 use Rattle.mlt_hash_access.specs.Views.{HasWritten, IsUnwrittenSince, ReadsPage, view_of, view_over}
 use Rattle.mlt_hash_access.proofs.Since.{agrees_over, sees_page_since, there_since}
 use Rattle.mlt_hash_access.proofs.Views.{page_count_of_view}
@@ -18,7 +18,7 @@ use Rattle.mlt_hash.specs.Passes.{bucket_held, bucket_mode, directory_held, dire
 use Rattle.mlt_hash.specs.declared.pass.Pass.{Pass}
 
 -- what was read is what the clean page is, with what was written before over it
-pub reads_clean : (before : FilePages) (old new : Moment) (q : ℕ) (mode : Mode) (page : Option Page) (clean : ℕ → Option Page) → MayStep new → IsCleanFor new clean → IsUnwrittenSince before (view_over before old) → ReadsPage (view_over before old) (view_over before new) q mode page → over clean before q ≡ page
+pub reads_clean : (before : FilePages) (old new : LocalState) (q : ℕ) (mode : Mode) (page : Option Page) (clean : ℕ → Option Page) → MayStep new → IsCleanFor new clean → IsUnwrittenSince before (view_over before old) → ReadsPage (view_over before old) (view_over before new) q mode page → over clean before q ≡ page
 reads_clean before old new q mode page clean may is none reads = agrees_over before new clean may is q page (sees_page_since before (view_over before old) (view_over before new) q mode page none reads)
 
 -- one page more, at most, is held with it
@@ -41,13 +41,13 @@ pub three_held : (modes : Modes) (pass : Pass) (mode : Mode) (root dir bucket : 
 three_held modes pass mode root dir bucket is = one_page_more 2 (directory_held map.empty pass root dir) modes bucket (bucket_mode pass mode) (two_held (directory_held map.empty pass root dir) pass root dir refl) is
 
 -- so it may lock one more
-pub few_held : (m : Moment) (n : ℕ) → map.len (view_of m).modes ≤ n → n < 300 → page_count m.locks m.running.tx < 300
+pub few_held : (m : LocalState) (n : ℕ) → map.len (view_of m).modes ≤ n → n < 300 → page_count m.locks m.running.tx < 300
 few_held m n few small = omega (arith, page_count_of_view m, few, small)
 
-own_is_there : (own clean : Option Page) → is_some clean ≡ true → is_some (own_or own clean) ≡ true
+own_is_there : (own clean : Option Page) → is_some clean ≡ true → is_some (own_or_clean own clean) ≡ true
 own_is_there None clean some = some
 own_is_there (Some page) clean some = refl
 
 -- a page of the walk's file is in the store
-pub is_there : (before : FilePages) (m : Moment) (clean : ℕ → Option Page) (q p : ℕ) → MayStep m → HasWritten before (view_of m) → IsCleanFor m clean → q ≡ p → is_some (over clean before p) ≡ true → is_some (page_at m.store.pages q) ≡ true
+pub is_there : (before : FilePages) (m : LocalState) (clean : ℕ → Option Page) (q p : ℕ) → MayStep m → HasWritten before (view_of m) → IsCleanFor m clean → q ≡ p → is_some (over clean before p) ≡ true → is_some (page_at m.store.pages q) ≡ true
 is_there before m clean q p may written is same some = there_since before m written clean q may is (own_is_there ((view_of m).own q) (over clean before q) (ap (λ p. is_some (over clean before p)) same ∙ some))

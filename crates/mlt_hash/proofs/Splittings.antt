@@ -11,21 +11,21 @@ use Rattle.mlt_hash_form.specs.Held.{Agrees, over}
 use Rattle.mlt_page_locks.specs.LockTables.{LockTable, can_write}
 use Rattle.mlt_page_locks.proofs.LockLaws.{can_write-granted}
 use Rattle.mlt_page_locks.specs.Requests.{granted}
-use Rattle.mlt_hash_access.specs.Moments.{HasFileOver, MayStep, Moment}
+use Rattle.mlt_hash_access.specs.LocalStates.{HasFileOver, MayStep, LocalState}
 use Rattle.mlt_hash_access.specs.PageSteps.{LocksAtMost, TouchesOnePage, WritesAtMost}
 use Rattle.mlt_hash_access.specs.Views.{view_of}
 use Rattle.mlt_hash_access.proofs.OwnSteps.{step_keeps_tx}
 use Rattle.mlt_hash_access.proofs.Since.{agrees_over}
 use Rattle.mlt_hash_access.proofs.Views.{holds_exclusively, may_write}
 use Rattle.mlt_hash_split.specs.Splits.{IsUnderWay, MayAdvance, SplitFields, steps_left}
-use Rattle.mlt_hash_split.specs.Rests.{Aim}
+use Rattle.mlt_hash_split.specs.Rests.{SplitTarget}
 use Rattle.mlt_hash_split.specs.Steps.{IsDone, IsLeft, IsMaking, Touches}
 use Rattle.mlt_hash_split.specs.Tells.{GoesOn, Rests, Tells}
 use Rattle.mlt_hash_split.specs.declared.phase.SplitPhase.{SplitPhase}
 use Rattle.mlt_hash_split.specs.declared.phase.SplitPhase.TheVariants as split_at
 use Rattle.mlt_hash_split.specs.declared.split.SplitAnswer.{SplitAnswer}
 use Rattle.mlt_hash_split.specs.declared.split.SplitAnswer.TheVariants as split_answer
-use Rattle.mlt_hash.specs.Walks.{Basis, HasRead, HoldsByPass, IsAdding, IsSplitting, IsStanding, MayWalk, Stands, StaysNarrow, WalkFields, aim_of, view_for}
+use Rattle.mlt_hash.specs.Walks.{WalkContext, HasRead, HoldsByPass, IsAdding, IsSplitting, IsStanding, MayWalk, Stands, StaysNarrow, WalkFields, split_target, view_for}
 use Rattle.mlt_hash.specs.Changes.{page_of}
 use Rattle.mlt_hash.specs.Splitting.{OfSplit, SplitCloses, SplitGoesOn, TellsOfAdding, TellsOfSplitting, WalkStep, walk_step}
 use Rattle.mlt_hash.specs.Steps.{HasFound, LocksIfFound, TellsOfPath, steps_to_bucket}
@@ -41,81 +41,81 @@ use Rattle.mlt_hash.proofs.StepsLeft.{some_is_one}
 granted_keeps : (locks new : LockTable) (tx q root : ℕ) (mode : Mode) → new ≡ granted locks tx q mode → can_write locks tx root ≡ true → can_write new tx root ≡ true
 granted_keeps locks new tx q root mode is held = ap (λ (t : LockTable). can_write t tx root) is ∙ grind (arith, can_write-granted locks tx q mode tx root, held)
 
-locks_keep : (old mid : Moment) (q root : ℕ) → LocksAtMost old mid q → can_write old.locks old.running.tx root ≡ true → can_write mid.locks old.running.tx root ≡ true
-locks_keep old mid q root (inl same) held = ap (λ (m : Moment). can_write m.locks old.running.tx root) same ∙ held
+locks_keep : (old mid : LocalState) (q root : ℕ) → LocksAtMost old mid q → can_write old.locks old.running.tx root ≡ true → can_write mid.locks old.running.tx root ≡ true
+locks_keep old mid q root (inl same) held = ap (λ (m : LocalState). can_write m.locks old.running.tx root) same ∙ held
 locks_keep old mid q root (inr lock) held = granted_keeps old.locks mid.locks old.running.tx q root lock.0 lock.1.locks held
 
-writes_keep : (mid new : Moment) (q tx root : ℕ) → WritesAtMost mid new q → can_write mid.locks tx root ≡ true → can_write new.locks tx root ≡ true
-writes_keep mid new q tx root (inl same) held = ap (λ (m : Moment). can_write m.locks tx root) same ∙ held
+writes_keep : (mid new : LocalState) (q tx root : ℕ) → WritesAtMost mid new q → can_write mid.locks tx root ≡ true → can_write new.locks tx root ≡ true
+writes_keep mid new q tx root (inl same) held = ap (λ (m : LocalState). can_write m.locks tx root) same ∙ held
 writes_keep mid new q tx root (inr write) held = ap (λ (t : LockTable). can_write t tx root) write.1.locks ∙ held
 
 -- what the transaction may write before a step it may write afterwards
-step_keeps_right : (old new : Moment) (root : ℕ) → TouchesOnePage old new → can_write old.locks old.running.tx root ≡ true → can_write new.locks old.running.tx root ≡ true
+step_keeps_right : (old new : LocalState) (root : ℕ) → TouchesOnePage old new → can_write old.locks old.running.tx root ≡ true → can_write new.locks old.running.tx root ≡ true
 step_keeps_right old new root (q, inl step) held = writes_keep step.0 new q old.running.tx root step.2 (locks_keep old step.0 q root step.1 held)
 step_keeps_right old new root (q, inr make) held = granted_keeps old.locks new.locks old.running.tx q root Exclusive make.1.locks held
 
 -- **A page that is held exclusively stays so through a step.**
-pub stays_exclusive_in_step : (old new : Moment) (root : ℕ) → MayStep old → TouchesOnePage old new → map.get (view_of old).modes root ≡ Some Exclusive → map.get (view_of new).modes root ≡ Some Exclusive
+pub stays_exclusive_in_step : (old new : LocalState) (root : ℕ) → MayStep old → TouchesOnePage old new → map.get (view_of old).modes root ≡ Some Exclusive → map.get (view_of new).modes root ≡ Some Exclusive
 stays_exclusive_in_step old new root may touches held =
     let right : can_write new.locks old.running.tx root ≡ true = step_keeps_right old new root touches (may_write old root held) in
     holds_exclusively new root (ap (λ tx. can_write new.locks tx root) (step_keeps_tx old new touches) ∙ right)
 
 -- where a walk that splits stands
-splitting_at : (basis : Basis) (walk : WalkFields) (old : Moment) (value room_depth : ℕ) → walk.phase ≡ at.Splitting value room_depth → IsStanding basis walk (view_for basis old) → IsSplitting basis walk (view_for basis old) room_depth
-splitting_at basis walk old value room_depth phase stands = subst (λ p. Stands p basis walk (view_for basis old)) phase stands
+splitting_at : (context : WalkContext) (walk : WalkFields) (old : LocalState) (value room_depth : ℕ) → walk.phase ≡ at.Splitting value room_depth → IsStanding context walk (view_for context old) → IsSplitting context walk (view_for context old) room_depth
+splitting_at context walk old value room_depth phase stands = subst (λ p. Stands p context walk (view_for context old)) phase stands
 
 -- a walk that splits may go on with its split
-pub may_advance : (basis : Basis) (walk : WalkFields) (old : Moment) (value room_depth : ℕ) (was : SplitFields) → walk.phase ≡ at.Splitting value room_depth → walk.split ≡ Some was → MayWalk basis old walk → MayAdvance (aim_of basis walk room_depth) old was
-may_advance basis walk old value room_depth was phase was_is ready =
-    let splits = splitting_at basis walk old value room_depth phase ready.stands in
+pub may_advance : (context : WalkContext) (walk : WalkFields) (old : LocalState) (value room_depth : ℕ) (was : SplitFields) → walk.phase ≡ at.Splitting value room_depth → walk.split ≡ Some was → MayWalk context old walk → MayAdvance (split_target context walk room_depth) old was
+may_advance context walk old value room_depth was phase was_is ready =
+    let splits = splitting_at context walk old value room_depth phase ready.stands in
     record {
       may = ready.may;
       written = ready.written;
       file = ready.file;
-      under_way = subst (λ (s : SplitFields). IsUnderWay (aim_of basis walk room_depth) (view_for basis old) s) (some_is_one splits.split was walk.split splits.split_is was_is) splits.under_way;
+      under_way = subst (λ (s : SplitFields). IsUnderWay (split_target context walk room_depth) (view_for context old) s) (some_is_one splits.split was walk.split splits.split_is was_is) splits.under_way;
     }
 
-module _ (basis : Basis) (walk after : WalkFields) (old new : Moment) (value room_depth : ℕ) (was : SplitFields) (phase : walk.phase ≡ at.Splitting value room_depth) (stands : IsStanding basis walk (view_for basis old)) (was_is : walk.split ≡ Some was) (may : MayStep old) (file : HasFileOver basis.bits basis.root basis.before.written old) (touches : TouchesOnePage old new) (done : IsDone was.phase (aim_of basis walk room_depth) old new was) where
-  splits : IsSplitting basis walk (view_for basis old) room_depth
-  splits = splitting_at basis walk old value room_depth phase stands
+module _ (context : WalkContext) (walk after : WalkFields) (old new : LocalState) (value room_depth : ℕ) (was : SplitFields) (phase : walk.phase ≡ at.Splitting value room_depth) (stands : IsStanding context walk (view_for context old)) (was_is : walk.split ≡ Some was) (may : MayStep old) (file : HasFileOver context.bits context.root context.before.written old) (touches : TouchesOnePage old new) (done : IsDone was.phase (split_target context walk room_depth) old new was) where
+  splits : IsSplitting context walk (view_for context old) room_depth
+  splits = splitting_at context walk old value room_depth phase stands
 
   same_split : splits.split ≡ was
   same_split = some_is_one splits.split was walk.split splits.split_is was_is
 
-  narrow_before : walk.pass ≡ pass.Narrow → StaysNarrow basis.root (view_for basis old) room_depth was.depth was.directory_depth
-  narrow_before narrow = subst (λ (s : SplitFields). StaysNarrow basis.root (view_for basis old) room_depth s.depth s.directory_depth) same_split (splits.narrow narrow)
+  narrow_before : walk.pass ≡ pass.Narrow → StaysNarrow context.root (view_for context old) room_depth was.depth was.directory_depth
+  narrow_before narrow = subst (λ (s : SplitFields). StaysNarrow context.root (view_for context old) room_depth s.depth s.directory_depth) same_split (splits.narrow narrow)
 
-  way : IsUnderWay (aim_of basis walk room_depth) (view_for basis old) was
-  way = subst (λ (s : SplitFields). IsUnderWay (aim_of basis walk room_depth) (view_for basis old) s) same_split splits.under_way
+  way : IsUnderWay (split_target context walk room_depth) (view_for context old) was
+  way = subst (λ (s : SplitFields). IsUnderWay (split_target context walk room_depth) (view_for context old) s) same_split splits.under_way
 
-  shallow_before : was.directory_depth ≤ basis.max_depth
-  shallow_before = subst (λ (s : SplitFields). s.directory_depth ≤ basis.max_depth) same_split splits.shallow
+  shallow_before : was.directory_depth ≤ context.max_depth
+  shallow_before = subst (λ (s : SplitFields). s.directory_depth ≤ context.max_depth) same_split splits.shallow
 
-  agreed : Agrees (view_for basis old).seen (over file.clean basis.before.written)
-  agreed = agrees_over basis.before.written old file.clean may file.is_clean
+  agreed : Agrees (view_for context old).seen (over file.clean context.before.written)
+  agreed = agrees_over context.before.written old file.clean may file.is_clean
 
   deep_before : was.depth < room_depth
-  deep_before = (way.begins (over file.clean basis.before.written) agreed file.form).deep
+  deep_before = (way.begins (over file.clean context.before.written) agreed file.form).deep
 
-  step : StepsOn walk (view_for basis old) (view_for basis new)
-  step = steps_by_split basis walk old new room_depth was may (over file.clean basis.before.written) agreed file.form way None splits.read splits.holds splits.later narrow_before touches done
+  step : StepsOn walk (view_for context old) (view_for context new)
+  step = steps_by_split context walk old new room_depth was may (over file.clean context.before.written) agreed file.form way None splits.read splits.holds splits.later narrow_before touches done
 
-  abbrev read_now : HasRead basis walk.key (view_for basis new) None
-  read_now = reads_on basis walk (view_for basis old) (view_for basis new) step None splits.read
+  abbrev read_now : HasRead context walk.key (view_for context new) None
+  read_now = reads_on context walk (view_for context old) (view_for context new) step None splits.read
 
-  holds_now : HoldsByPass basis.before.held walk.pass walk.mode basis.root read_now.dir read_now.bucket (view_for basis new)
-  holds_now = holds_on basis walk (view_for basis old) (view_for basis new) step None splits.read splits.holds
+  holds_now : HoldsByPass context.before.held walk.pass walk.mode context.root read_now.dir read_now.bucket (view_for context new)
+  holds_now = holds_on context walk (view_for context old) (view_for context new) step None splits.read splits.holds
 
-  header_kept : walk.pass ≡ pass.Narrow → (view_for basis new).own basis.root ≡ None
-  header_kept narrow = narrow_keeps_header basis walk old new room_depth was may (over file.clean basis.before.written) agreed file.form way None splits.read (narrow_before narrow) done
+  header_kept : walk.pass ≡ pass.Narrow → (view_for context new).own context.root ≡ None
+  header_kept narrow = narrow_keeps_header context walk old new room_depth was may (over file.clean context.before.written) agreed file.form way None splits.read (narrow_before narrow) done
 
-  wide_now : walk.pass ≡ pass.Wide → map.get (view_for basis new).modes basis.root ≡ Some Exclusive
-  wide_now wide = stays_exclusive_in_step old new basis.root may touches (splits.wide wide)
+  wide_now : walk.pass ≡ pass.Wide → map.get (view_for context new).modes context.root ≡ Some Exclusive
+  wide_now wide = stays_exclusive_in_step old new context.root may touches (splits.wide wide)
 
   -- **The split goes on.**
-  pub split_goes_on : (is : SplitFields) → after ≡ record walk { split = Some is } → GoesOn (aim_of basis walk room_depth) new was is → SplitGoesOn basis new walk after value room_depth
+  pub split_goes_on : (is : SplitFields) → after ≡ record walk { split = Some is } → GoesOn (split_target context walk room_depth) new was is → SplitGoesOn context new walk after value room_depth
   split_goes_on is after_is goes =
-      let here : IsSplitting basis (record walk { split = Some is }) (view_for basis new) room_depth = record {
+      let here : IsSplitting context (record walk { split = Some is }) (view_for context new) room_depth = record {
         split = is;
         split_is = refl;
         read = read_now;
@@ -134,7 +134,7 @@ module _ (basis : Basis) (walk after : WalkFields) (old new : Moment) (value roo
       record {
         on = record {
           same = record { key = ap (λ (w : WalkFields). w.key) after_is; mode = ap (λ (w : WalkFields). w.mode) after_is; pass = ap (λ (w : WalkFields). w.pass) after_is };
-          stands = subst (λ (w : WalkFields). Stands w.phase basis w (view_for basis new)) (sym after_is) (subst (λ p. Stands p basis (record walk { split = Some is }) (view_for basis new)) (sym phase) here);
+          stands = subst (λ (w : WalkFields). Stands w.phase context w (view_for context new)) (sym after_is) (subst (λ p. Stands p context (record walk { split = Some is }) (view_for context new)) (sym phase) here);
         };
         phase = ap (λ (w : WalkFields). w.phase) after_is ∙ phase;
         was = was;
@@ -147,7 +147,7 @@ module _ (basis : Basis) (walk after : WalkFields) (old new : Moment) (value roo
       }
 
   -- the directory is no deeper than it may be
-  within_limit : (n : ℕ) (rests : Rests (aim_of basis walk room_depth) new was n) → rests.header.depth ≤ basis.max_depth
+  within_limit : (n : ℕ) (rests : Rests (split_target context walk room_depth) new was n) → rests.header.depth ≤ context.max_depth
   within_limit n rests =
       elim (cases_eq was.depth was.directory_depth) [
         | inl deep ↦ let is = rests.doubled deep in let most = splits.most in omega (arith, is, deep, deep_before, most)
@@ -155,9 +155,9 @@ module _ (basis : Basis) (walk after : WalkFields) (old new : Moment) (value roo
       ]
 
   -- **The split closes.**
-  pub split_closes_walk : (n : ℕ) (split : Option SplitFields) → after ≡ record walk { phase = at.Adding value n room_depth false; split = split } → Rests (aim_of basis walk room_depth) new was n → steps_left was ≡ 1 → SplitCloses basis new walk after value room_depth
+  pub split_closes_walk : (n : ℕ) (split : Option SplitFields) → after ≡ record walk { phase = at.Adding value n room_depth false; split = split } → Rests (split_target context walk room_depth) new was n → steps_left was ≡ 1 → SplitCloses context new walk after value room_depth
   split_closes_walk n split after_is rests last =
-      let here : IsAdding basis (record walk { phase = at.Adding value n room_depth false; split = split }) (view_for basis new) n room_depth false = record {
+      let here : IsAdding context (record walk { phase = at.Adding value n room_depth false; split = split }) (view_for context new) n room_depth false = record {
         header = rests.header;
         fields = rests.bucket;
         read = read_now;
@@ -179,7 +179,7 @@ module _ (basis : Basis) (walk after : WalkFields) (old new : Moment) (value roo
       record {
         on = record {
           same = record { key = ap (λ (w : WalkFields). w.key) after_is; mode = ap (λ (w : WalkFields). w.mode) after_is; pass = ap (λ (w : WalkFields). w.pass) after_is };
-          stands = subst (λ (w : WalkFields). Stands w.phase basis w (view_for basis new)) (sym after_is) here;
+          stands = subst (λ (w : WalkFields). Stands w.phase context w (view_for context new)) (sym after_is) here;
         };
         bucket = n;
         phase = ap (λ (w : WalkFields). w.phase) after_is;
@@ -190,17 +190,17 @@ module _ (basis : Basis) (walk after : WalkFields) (old new : Moment) (value roo
       }
 
 -- the page of a second half is not made, and nothing has changed
-making_leaves : (phase : SplitPhase) (aim : Aim) (old new : Moment) → IsMaking phase → IsLeft phase aim old new → new ≡ old
-making_leaves (split_at.SecondHalf place) aim old new making left = left
-making_leaves other aim old new making left = absurd making
+making_leaves : (phase : SplitPhase) (target : SplitTarget) (old new : LocalState) → IsMaking phase → IsLeft phase target old new → new ≡ old
+making_leaves (split_at.SecondHalf place) target old new making left = left
+making_leaves other target old new making left = absurd making
 
-module _ (basis : Basis) (walk after : WalkFields) (old new : Moment) (value room_depth : ℕ) (was : SplitFields) (was_is : walk.split ≡ Some was) where
+module _ (context : WalkContext) (walk after : WalkFields) (old new : LocalState) (value room_depth : ℕ) (was : SplitFields) (was_is : walk.split ≡ Some was) where
   -- **A step of the split is refused.**
-  pub split_is_refused : (aim : Aim) (is : SplitFields) (why : Refusal) → aim ≡ aim_of basis walk room_depth → after ≡ record walk { split = Some is } → Tells aim old new was is (split_answer.Refused why) → Touches (split_answer.Refused why) aim old new was
-      → TellsOfSplitting basis (walk_step old new walk after) value room_depth (answer.Refused why)
-  split_is_refused aim is refusal.NoRoom same after_is tells left = ((was, was_is, tells.0), making_leaves was.phase aim old new tells.0 left, tells.1)
-  split_is_refused aim is refusal.OutOfMemory same after_is tells left = (refl, (was, was_is, subst (λ (a : Aim). IsLeft was.phase a old new) same left))
-  split_is_refused aim is why same after_is tells left = (tells, (was, was_is, subst (λ (a : Aim). IsLeft was.phase a old new) same left))
+  pub split_is_refused : (target : SplitTarget) (is : SplitFields) (why : Refusal) → target ≡ split_target context walk room_depth → after ≡ record walk { split = Some is } → Tells target old new was is (split_answer.Refused why) → Touches (split_answer.Refused why) target old new was
+      → TellsOfSplitting context (walk_step old new walk after) value room_depth (answer.Refused why)
+  split_is_refused target is refusal.NoRoom same after_is tells left = ((was, was_is, tells.0), making_leaves was.phase target old new tells.0 left, tells.1)
+  split_is_refused target is refusal.OutOfMemory same after_is tells left = (refl, (was, was_is, subst (λ (a : SplitTarget). IsLeft was.phase a old new) same left))
+  split_is_refused target is why same after_is tells left = (tells, (was, was_is, subst (λ (a : SplitTarget). IsLeft was.phase a old new) same left))
 
 -- there is no room for a page just where the split's step makes one
 pub no_room_in_split : {Full : Type 0} (walk : WalkFields) (was : SplitFields) (was_is : walk.split ≡ Some was) (told : SplitAnswer) → (told ≡ split_answer.Refused refusal.NoRoom) ↔ (IsMaking was.phase × Full) → (told ≡ split_answer.Refused refusal.NoRoom) ↔ (OfSplit walk (λ split. IsMaking split.phase) × Full)
@@ -228,25 +228,25 @@ none_left (at.AtBucket bucket depth f) found is = refl
 none_left other found is = absurd is
 
 -- **Where a step finds the key, all that it did is to lock the bucket:** it is the last one to the bucket, and no other finds it.
-pub locks_if_found : (old new : Moment) (q : ℕ) (told : WalkAnswer) → LocksAtMost old new q → LocksIfFound old new q told
+pub locks_if_found : (old new : LocalState) (q : ℕ) (told : WalkAnswer) → LocksAtMost old new q → LocksIfFound old new q told
 locks_if_found old new q (answer.Found value) locks = locks
 locks_if_found old new q other locks = tt
 
-pub earlier_finds_none : (basis : Basis) (old new : Moment) (before after : WalkFields) (told : WalkAnswer) → 1 < steps_to_bucket before.phase → TellsOfPath basis old new before after told → LocksIfFound old new (page_of after.phase) told
-earlier_finds_none basis old new before after (answer.Found value) more tells =
+pub earlier_finds_none : (context : WalkContext) (old new : LocalState) (before after : WalkFields) (told : WalkAnswer) → 1 < steps_to_bucket before.phase → TellsOfPath context old new before after told → LocksIfFound old new (page_of after.phase) told
+earlier_finds_none context old new before after (answer.Found value) more tells =
     let fewer = tells.0.fewer in
     let none = none_left after.phase value tells.1 in
     absurd (omega (arith, more, fewer, none))
-earlier_finds_none basis old new before after other more tells = tt
+earlier_finds_none context old new before after other more tells = tt
 
-pub adding_finds_none : (basis : Basis) (step : WalkStep) (value bucket room_depth : ℕ) (told : WalkAnswer) → TellsOfAdding basis step value bucket room_depth told → LocksIfFound step.old step.new (page_of step.after.phase) told
-adding_finds_none basis step value bucket room_depth (answer.Found found) tells = absurd tells
-adding_finds_none basis step value bucket room_depth other tells = tt
+pub adding_finds_none : (context : WalkContext) (step : WalkStep) (value bucket room_depth : ℕ) (told : WalkAnswer) → TellsOfAdding context step value bucket room_depth told → LocksIfFound step.old step.new (page_of step.after.phase) told
+adding_finds_none context step value bucket room_depth (answer.Found found) tells = absurd tells
+adding_finds_none context step value bucket room_depth other tells = tt
 
-pub splitting_finds_none : (basis : Basis) (step : WalkStep) (value room_depth : ℕ) (told : WalkAnswer) → TellsOfSplitting basis step value room_depth told → LocksIfFound step.old step.new (page_of step.after.phase) told
-splitting_finds_none basis step value room_depth (answer.Found found) tells = absurd tells
-splitting_finds_none basis step value room_depth other tells = tt
+pub splitting_finds_none : (context : WalkContext) (step : WalkStep) (value room_depth : ℕ) (told : WalkAnswer) → TellsOfSplitting context step value room_depth told → LocksIfFound step.old step.new (page_of step.after.phase) told
+splitting_finds_none context step value room_depth (answer.Found found) tells = absurd tells
+splitting_finds_none context step value room_depth other tells = tt
 
 -- a step to the bucket makes no page, and is refused none
-pub path_has_room : (basis : Basis) (old new : Moment) (before after : WalkFields) (told : WalkAnswer) → TellsOfPath basis old new before after told → told ≡ answer.Refused refusal.NoRoom → ⊥
-path_has_room basis old new before after told tells is = subst (λ (r : WalkAnswer). TellsOfPath basis old new before after r) is tells
+pub path_has_room : (context : WalkContext) (old new : LocalState) (before after : WalkFields) (told : WalkAnswer) → TellsOfPath context old new before after told → told ≡ answer.Refused refusal.NoRoom → ⊥
+path_has_room context old new before after told tells is = subst (λ (r : WalkAnswer). TellsOfPath context old new before after r) is tells

@@ -43,29 +43,29 @@ own_after (change.Set value) key tx = tt
 own_after change.Remove key tx = refl
 
 -- and its room is kept as long as the transaction is open
-own_is_kept : (opens : set.FinSet nat_cmp) (tx : ℕ) (slot : Slot) → set.contains opens tx ≡ true → IsOwnSlot tx slot → is_kept opens slot ≡ true
-own_is_kept opens tx Free is_open own = absurd own
-own_is_kept opens tx (Live key value) is_open own = refl
-own_is_kept opens tx (Ghost key value owner) is_open own = ap (set.contains opens) own ∙ is_open
+own_is_kept : (active : set.FinSet nat_cmp) (tx : ℕ) (slot : Slot) → set.contains active tx ≡ true → IsOwnSlot tx slot → is_kept active slot ≡ true
+own_is_kept active tx Free is_open own = absurd own
+own_is_kept active tx (Live key value) is_open own = refl
+own_is_kept active tx (Ghost key value owner) is_open own = ap (set.contains active) own ∙ is_open
 
 -- what stood on pages that were seen still did once more is seen
 pub still_stood : (written : FilePages) (tx : ℕ) (old new : View) → SlotsStood written tx old → ((q : ℕ) (p : Option Page) → old.seen q ≡ Some p → new.seen q ≡ Some p) → SlotsStood written tx new
 still_stood written tx old new stood more n p is i used = elim (stood n p is i used) [ inl own ↦ inl own | inr was ↦ inr (was.0, was.1, more was.0 was.1 was.2, was.3) ]
 
-module _ (written : FilePages) (tx : ℕ) (opens fewer : set.FinSet nat_cmp) (view : View) (stood : SlotsStood written tx view) (is_open : set.contains opens tx ≡ true) (no_more : KeepsNoMore opens fewer view) where
-  kept_on : (n : ℕ) (page : Page) (i : ℕ) → written n ≡ Some page → is_kept fewer (slot_on (Some page) i) ≡ true → is_kept opens (slot_on (Some page) i) ≡ true
+module _ (written : FilePages) (tx : ℕ) (active fewer : set.FinSet nat_cmp) (view : View) (stood : SlotsStood written tx view) (is_open : set.contains active tx ≡ true) (no_more : KeepsNoMore active fewer view) where
+  kept_on : (n : ℕ) (page : Page) (i : ℕ) → written n ≡ Some page → is_kept fewer (slot_on (Some page) i) ≡ true → is_kept active (slot_on (Some page) i) ≡ true
   kept_on n page i is kept =
       elim (stood n page is i (used_from_kept fewer (slot_on (Some page) i) kept)) [
-        | inl own ↦ own_is_kept opens tx (slot_on (Some page) i) is_open own
-        | inr was ↦ ap (is_kept opens) (sym was.3) ∙ no_more was.0 was.1 was.2 i (ap (is_kept fewer) was.3 ∙ kept)
+        | inl own ↦ own_is_kept active tx (slot_on (Some page) i) is_open own
+        | inr was ↦ ap (is_kept active) (sym was.3) ∙ no_more was.0 was.1 was.2 i (ap (is_kept fewer) was.3 ∙ kept)
       ]
 
-  kept_at : (n : ℕ) (p : Option Page) (i : ℕ) (w : Option Page) → written n ≡ w → seen_with w (view.seen n) ≡ Some p → is_kept fewer (slot_on p i) ≡ true → is_kept opens (slot_on p i) ≡ true
+  kept_at : (n : ℕ) (p : Option Page) (i : ℕ) (w : Option Page) → written n ≡ w → seen_with w (view.seen n) ≡ Some p → is_kept fewer (slot_on p i) ≡ true → is_kept active (slot_on p i) ≡ true
   kept_at n p i None is sees kept = no_more n p sees i kept
   kept_at n p i (Some page) is sees kept =
       let same : p ≡ Some page = (let both : Some p ≡ Some (Some page) = sym sees in cc) in
-      subst (λ (q : Option Page). is_kept opens (slot_on q i) ≡ true) (sym same) (kept_on n page i is (subst (λ (q : Option Page). is_kept fewer (slot_on q i) ≡ true) same kept))
+      subst (λ (q : Option Page). is_kept active (slot_on q i) ≡ true) (sym same) (kept_on n page i is (subst (λ (q : Option Page). is_kept fewer (slot_on q i) ≡ true) same kept))
 
   -- **Where no more is kept on the pages that were seen, none is on those that were written, as long as the transaction is open.**
-  pub keeps_no_more_written : KeepsNoMore opens fewer (rebased written view)
+  pub keeps_no_more_written : KeepsNoMore active fewer (rebased written view)
   keeps_no_more_written n p sees i kept = kept_at n p i (written n) refl sees kept

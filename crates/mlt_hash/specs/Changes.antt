@@ -12,13 +12,13 @@ use Rattle.mlt_page.specs.declared.page.Page.{Page}
 use Rattle.mlt_page.specs.declared.page.Page.TheVariants as page
 use Rattle.mlt_page.specs.Values.{BucketFields}
 use Rattle.mlt_hash_form.specs.Room.{is_crowded}
-use Rattle.mlt_hash_access.specs.Moments.{Moment}
+use Rattle.mlt_hash_access.specs.LocalStates.{LocalState}
 use Rattle.mlt_hash_access.specs.PageSteps.{WritesHeldPage, WritesHeldSlot}
 use Rattle.mlt_hash_access.specs.Views.{ReadsHeldBucket, View, WritesPage}
-use Rattle.mlt_hash_split.specs.declared.setting.Setting.{Setting}
+use Rattle.mlt_hash_split.specs.declared.environment.Environment.{Environment}
 use Rattle.mlt_hash_record.specs.Plans.{SetsFirst, WriteFields, has_room, planned_page}
 use Rattle.mlt_hash.specs.Passes.{HasRoomFrom, IsNextPass, NeverHasRoom}
-use Rattle.mlt_hash.specs.Walks.{Basis, IsStanding, MayWalk, WalkFields, nothing_before, view_for}
+use Rattle.mlt_hash.specs.Walks.{WalkContext, IsStanding, MayWalk, WalkFields, nothing_before, view_for}
 use Rattle.mlt_hash.specs.Steps.{IsSameWalk}
 use Rattle.mlt_hash.specs.declared.pass.Pass.{Pass}
 use Rattle.mlt_hash.specs.declared.pass.Pass.TheVariants as pass
@@ -71,18 +71,18 @@ HasOwnGhost tx walk view =
     × (position (is_ghost_of walk.key tx) fields.slots ≡ Some i)
 
 -- What a change asks: the walk may go on, and has its bucket exclusively.
-pub record MayChange (basis : Basis) (m : Moment) (walk : WalkFields) : Type 0 where
-  pub walks : MayWalk basis m walk
+pub record MayChange (context : WalkContext) (m : LocalState) (walk : WalkFields) : Type 0 where
+  pub walks : MayWalk context m walk
   pub exclusive : walk.mode ≡ Exclusive
 
 -- what a change asks of a walk of transaction tx, whatever it goes by
-abbrev pub MayChangeBy : ℕ → Moment → WalkFields → Type 0
-MayChangeBy tx m walk = (basis : Basis) × (basis.tx ≡ tx) × MayChange basis m walk
+abbrev pub MayChangeBy : ℕ → LocalState → WalkFields → Type 0
+MayChangeBy tx m walk = (context : WalkContext) × (context.tx ≡ tx) × MayChange context m walk
 
 -- what a change asks of a walk of transaction tx that went to no key before
-abbrev pub MayChangeFirst : ℕ → Moment → WalkFields → Type 0
+abbrev pub MayChangeFirst : ℕ → LocalState → WalkFields → Type 0
 MayChangeFirst tx m walk =
-    (basis : Basis) × (basis.tx ≡ tx) × MayChange basis m walk × (basis.before ≡ nothing_before)
+    (context : WalkContext) × (context.tx ≡ tx) × MayChange context m walk × (context.before ≡ nothing_before)
 
 -- a plan sets a slot of the bucket that its page reads as
 pub record PlansSlot (view : View) (write : WriteFields) : Type 0 where
@@ -92,7 +92,7 @@ pub record PlansSlot (view : View) (write : WriteFields) : Type 0 where
 
 -- A change of a slot is written as planned, or memory was refused for its page, at least the third one that is written, and
 -- nothing has changed.
-abbrev pub TellsOfWrite : Moment → Moment → WalkFields → WalkFields → WriteFields → Change → WalkAnswer
+abbrev pub TellsOfWrite : LocalState → LocalState → WalkFields → WalkFields → WriteFields → Change → WalkAnswer
     → Type 0
 TellsOfWrite old new before after write done answer.Changed =
     WritesHeldSlot old new write.number write.at write.slot
@@ -102,7 +102,7 @@ TellsOfWrite old new before after write done (answer.Refused reason) =
 TellsOfWrite old new before after write done other = ⊥
 
 -- page q was written if the answer is that the change is made, and else nothing has changed
-abbrev pub WritesIfChanged : Moment → Moment → ℕ → WalkAnswer → Type 0
+abbrev pub WritesIfChanged : LocalState → LocalState → ℕ → WalkAnswer → Type 0
 WritesIfChanged old new q answer.Changed = (page : Page) × WritesHeldPage old new q page
 WritesIfChanged old new q other = new ≡ old
 
@@ -119,50 +119,50 @@ abbrev pub RevivesFirst : ℕ → View → View → WalkFields → ℕ → ℕ �
 RevivesFirst tx old new walk q value = FillsFirst old new q (is_ghost_of walk.key tx) (Live walk.key value)
 
 -- It stands in the lowest slot with room: one that is free, or has a ghost whose owner is not open.
-abbrev pub PutsLowest : Basis → View → View → WalkFields → ℕ → ℕ → Type 0
-PutsLowest basis old new walk q value = FillsFirst old new q (has_room basis.opens) (Live walk.key value)
+abbrev pub PutsLowest : WalkContext → View → View → WalkFields → ℕ → ℕ → Type 0
+PutsLowest context old new walk q value = FillsFirst old new q (has_room context.active) (Live walk.key value)
 
 -- which slot an addition takes: that of the transaction's own ghost; where it left none, the lowest with room
-abbrev pub TakesSlot : WalkAnswer → Basis → View → View → WalkFields → ℕ → Type 0
-TakesSlot answer.Changed basis old new walk value =
-    RevivesFirst basis.tx old new walk (page_of walk.phase) value
-    ⊎ ((HasOwnGhost basis.tx walk old → ⊥) × PutsLowest basis old new walk (page_of walk.phase) value)
-TakesSlot other basis old new walk value = Unit {0}
+abbrev pub TakesSlot : WalkAnswer → WalkContext → View → View → WalkFields → ℕ → Type 0
+TakesSlot answer.Changed context old new walk value =
+    RevivesFirst context.tx old new walk (page_of walk.phase) value
+    ⊎ ((HasOwnGhost context.tx walk old → ⊥) × PutsLowest context old new walk (page_of walk.phase) value)
+TakesSlot other context old new walk value = Unit {0}
 
 -- the change is made
-pub record Makes (basis : Basis) (new : Moment) (before after : WalkFields) (done : Change) : Type 0 where
+pub record Makes (context : WalkContext) (new : LocalState) (before after : WalkFields) (done : Change) : Type 0 where
   pub same : IsSameWalk before after
   pub phase : after.phase ≡ at.Changed (page_of before.phase) done
-  pub stands : IsStanding basis after (view_for basis new)
+  pub stands : IsStanding context after (view_for context new)
 
 -- Memory was refused, and the walk is as it was. The first change of a walk takes none.
-abbrev pub LacksMemory : Basis → WalkFields → WalkFields → Refusal → Type 0
-LacksMemory basis before after reason =
-    (reason ≡ refusal.OutOfMemory) × (basis.before ≡ nothing_before → ⊥) × (after ≡ before)
+abbrev pub LacksMemory : WalkContext → WalkFields → WalkFields → Refusal → Type 0
+LacksMemory context before after reason =
+    (reason ≡ refusal.OutOfMemory) × (context.before ≡ nothing_before → ⊥) × (after ≡ before)
 
 -- The change of the record that was found is made; or memory was refused, of which a walk's first
 -- change takes none, and the walk is as it was.
-abbrev pub TellsOfChange : Basis → Moment → WalkFields → WalkFields → Change → WalkAnswer → Type 0
-TellsOfChange basis new before after done answer.Changed = Makes basis new before after done
-TellsOfChange basis new before after done (answer.Refused reason) =
-    LacksMemory basis before after reason
-TellsOfChange basis new before after done other = ⊥
+abbrev pub TellsOfChange : WalkContext → LocalState → WalkFields → WalkFields → Change → WalkAnswer → Type 0
+TellsOfChange context new before after done answer.Changed = Makes context new before after done
+TellsOfChange context new before after done (answer.Refused reason) =
+    LacksMemory context before after reason
+TellsOfChange context new before after done other = ⊥
 
 -- The bucket has neither a ghost of the transaction to revive nor a slot with room.
-pub record IsFull (basis : Basis) (walk : WalkFields) (view : View) (fields : BucketFields) : Type 0 where
+pub record IsFull (context : WalkContext) (walk : WalkFields) (view : View) (fields : BucketFields) : Type 0 where
   pub sees : SeesBucket walk view fields
-  pub no_ghost : position (is_ghost_of walk.key basis.tx) fields.slots ≡ None
-  pub no_room : list_all (is_kept basis.opens) fields.slots ≡ true
+  pub no_ghost : position (is_ghost_of walk.key context.tx) fields.slots ≡ None
+  pub no_room : list_all (is_kept context.active) fields.slots ≡ true
 
--- at which depths a bucket with these slots would have no room for a key, in this setting
-abbrev pub crowded_in : {P : Type 0} → (P → ℕ → ℕ) → Setting P → ℕ → List Slot → ℕ → Bool
-crowded_in bits_of setting key slots d =
-    is_crowded (bits_of setting.root.now.pseudo) setting.opens.now d
-    (bits_of setting.root.now.pseudo key) slots
+-- at which depths a bucket with these slots would have no room for a key, in this environment
+abbrev pub crowded_in : {P : Type 0} → (P → ℕ → ℕ) → Environment P → ℕ → List Slot → ℕ → Bool
+crowded_in bits_of environment key slots d =
+    is_crowded (bits_of environment.root.now.pseudo) environment.active.now d
+    (bits_of environment.root.now.pseudo key) slots
 
 -- and the bucket that a walk is at, for the walk's key
-abbrev pub crowded_at : Basis → WalkFields → BucketFields → ℕ → Bool
-crowded_at basis walk fields d = is_crowded basis.bits basis.opens d (basis.bits walk.key) fields.slots
+abbrev pub crowded_at : WalkContext → WalkFields → BucketFields → ℕ → Bool
+crowded_at context walk fields d = is_crowded context.bits context.active d (context.bits walk.key) fields.slots
 
 -- the depth of the directory that a walk at its bucket has read
 abbrev pub directory_depth_of : Phase → ℕ
@@ -170,51 +170,51 @@ directory_depth_of (at.AtBucket bucket depth found) = depth
 directory_depth_of other = 0
 
 -- this pass is the one that splits the bucket
-abbrev pub IsNext : Basis → WalkFields → BucketFields → Pass → Type 0
-IsNext basis walk fields next =
-    IsNextPass (crowded_at basis walk fields) fields.depth basis.max_depth
+abbrev pub IsNext : WalkContext → WalkFields → BucketFields → Pass → Type 0
+IsNext context walk fields next =
+    IsNextPass (crowded_at context walk fields) fields.depth context.max_depth
     (directory_depth_of walk.phase) next
 
 -- A split is needed: in a first pass this says which one follows, and a later pass is to go on, and may.
-pub record NeedsSplit (basis : Basis) (new : Moment) (before after : WalkFields) (value : ℕ) : Type 0 where
+pub record NeedsSplit (context : WalkContext) (new : LocalState) (before after : WalkFields) (value : ℕ) : Type 0 where
   pub fields : BucketFields
-  pub full : IsFull basis before (view_for basis new) fields
+  pub full : IsFull context before (view_for context new) fields
   pub same : IsSameWalk before after
-  pub stands : IsStanding basis after (view_for basis new)
-  pub first : before.pass ≡ pass.First → (next : Pass) × (after.phase ≡ at.Full next) × IsNext basis before fields next
+  pub stands : IsStanding context after (view_for context new)
+  pub first : before.pass ≡ pass.First → (next : Pass) × (after.phase ≡ at.Full next) × IsNext context before fields next
   pub later : (before.pass ≡ pass.First → ⊥) → (d : ℕ)
       × (after.phase ≡ at.Adding value (page_of before.phase) d true)
-      × HasRoomFrom (crowded_at basis before fields) fields.depth basis.max_depth d
-  pub narrow : before.pass ≡ pass.Narrow → IsNext basis before fields pass.Narrow
+      × HasRoomFrom (crowded_at context before fields) fields.depth context.max_depth d
+  pub narrow : before.pass ≡ pass.Narrow → IsNext context before fields pass.Narrow
 
 -- A narrow pass has to be wide.
-pub record MustWiden (basis : Basis) (new : Moment) (before after : WalkFields) : Type 0 where
+pub record MustWiden (context : WalkContext) (new : LocalState) (before after : WalkFields) : Type 0 where
   pub fields : BucketFields
-  pub full : IsFull basis before (view_for basis new) fields
+  pub full : IsFull context before (view_for context new) fields
   pub same : IsSameWalk before after
-  pub stands : IsStanding basis after (view_for basis new)
+  pub stands : IsStanding context after (view_for context new)
   pub narrow : before.pass ≡ pass.Narrow
-  pub wide : IsNext basis before fields pass.Wide
+  pub wide : IsNext context before fields pass.Wide
   pub phase : after.phase ≡ at.Full pass.Wide
 
 -- There is no room at any depth that the directory may get, and the pass is the one that would split. The walk is as it was.
-pub record HasNoRoom (basis : Basis) (new : Moment) (before after : WalkFields) : Type 0 where
+pub record HasNoRoom (context : WalkContext) (new : LocalState) (before after : WalkFields) : Type 0 where
   pub fields : BucketFields
-  pub full : IsFull basis before (view_for basis new) fields
-  pub shallow : fields.depth ≤ basis.max_depth
-  pub never : NeverHasRoom (crowded_at basis before fields) fields.depth basis.max_depth
+  pub full : IsFull context before (view_for context new) fields
+  pub shallow : fields.depth ≤ context.max_depth
+  pub never : NeverHasRoom (crowded_at context before fields) fields.depth context.max_depth
   pub later : before.pass ≡ pass.First → ⊥
-  pub narrow : before.pass ≡ pass.Narrow → IsNext basis before fields pass.Narrow
+  pub narrow : before.pass ≡ pass.Narrow → IsNext context before fields pass.Narrow
   pub stays : after ≡ before
 
 -- A record of this value is added: in the place of the transaction's own ghost, or in a slot with room.
-abbrev pub TellsOfAddition : Basis → Moment → WalkFields → WalkFields → ℕ → WalkAnswer → Type 0
-TellsOfAddition basis new before after value answer.Changed =
-    Makes basis new before after (change.Revive value)
-    ⊎ Makes basis new before after (change.Put value)
-TellsOfAddition basis new before after value answer.NeedSplit = NeedsSplit basis new before after value
-TellsOfAddition basis new before after value answer.Widen = MustWiden basis new before after
-TellsOfAddition basis new before after value (answer.Refused refusal.NoRoom) = HasNoRoom basis new before after
-TellsOfAddition basis new before after value (answer.Refused reason) =
-    LacksMemory basis before after reason
-TellsOfAddition basis new before after value other = ⊥
+abbrev pub TellsOfAddition : WalkContext → LocalState → WalkFields → WalkFields → ℕ → WalkAnswer → Type 0
+TellsOfAddition context new before after value answer.Changed =
+    Makes context new before after (change.Revive value)
+    ⊎ Makes context new before after (change.Put value)
+TellsOfAddition context new before after value answer.NeedSplit = NeedsSplit context new before after value
+TellsOfAddition context new before after value answer.Widen = MustWiden context new before after
+TellsOfAddition context new before after value (answer.Refused refusal.NoRoom) = HasNoRoom context new before after
+TellsOfAddition context new before after value (answer.Refused reason) =
+    LacksMemory context before after reason
+TellsOfAddition context new before after value other = ⊥

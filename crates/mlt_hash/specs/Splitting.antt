@@ -9,13 +9,13 @@ use Rattle.mlt_page.specs.Values.{BucketFields, HeadFields}
 use Rattle.mlt_page.specs.declared.page.Page.{Page}
 use Rattle.mlt_page.specs.declared.page.Page.TheVariants as page
 use Rattle.mlt_page_locks.specs.Requests.{IsLowest, conflicts}
-use Rattle.mlt_hash_access.specs.Moments.{Moment}
+use Rattle.mlt_hash_access.specs.LocalStates.{LocalState}
 use Rattle.mlt_hash_access.specs.PageSteps.{MakesLockedPage, WritesAtMost}
 use Rattle.mlt_hash_split.specs.Rests.{held_page}
 use Rattle.mlt_hash_split.specs.Splits.{HasHalves, SplitFields, directory_steps, steps_left}
 use Rattle.mlt_hash_split.specs.Steps.{IsDone, IsLeft, IsMaking, IsNextPage}
 use Rattle.mlt_hash_split.specs.Tells.{Rests}
-use Rattle.mlt_hash.specs.Walks.{Basis, IsStanding, WalkFields, aim_of, view_for}
+use Rattle.mlt_hash.specs.Walks.{WalkContext, IsStanding, WalkFields, split_target, view_for}
 use Rattle.mlt_hash.specs.Steps.{IsSameWalk, TellsOfPath}
 use Rattle.mlt_hash.specs.Changes.{Makes, PutsLowest}
 use Rattle.mlt_hash.specs.declared.pass.Phase.{Phase}
@@ -24,27 +24,27 @@ use Rattle.mlt_hash.specs.declared.pass.Change.TheVariants as change
 use Rattle.mlt_hash.specs.declared.answer.WalkAnswer.{WalkAnswer}
 use Rattle.mlt_hash.specs.declared.answer.WalkAnswer.TheVariants as answer
 
--- one step of a walk: the moment and the walk, before it and after
+-- one step of a walk: the state and the walk, before it and after
 pub record WalkStep : Type 0 where
-  pub old : Moment
-  pub new : Moment
+  pub old : LocalState
+  pub new : LocalState
   pub before : WalkFields
   pub after : WalkFields
 
-abbrev pub walk_step : Moment → Moment → WalkFields → WalkFields → WalkStep
+abbrev pub walk_step : LocalState → LocalState → WalkFields → WalkFields → WalkStep
 walk_step old new before after = record { old = old; new = new; before = before; after = after }
 
 -- the walk is the same and stands somewhere
-pub record StandsOn (basis : Basis) (new : Moment) (before after : WalkFields) : Type 0 where
+pub record StandsOn (context : WalkContext) (new : LocalState) (before after : WalkFields) : Type 0 where
   pub same : IsSameWalk before after
-  pub stands : IsStanding basis after (view_for basis new)
+  pub stands : IsStanding context after (view_for context new)
 
 -- the walk has to split its bucket: it has not yet, or there is still no room
-abbrev pub HasToSplit : Basis → Moment → WalkFields → ℕ → ℕ → ℕ → Type 0
-HasToSplit basis old before value n room_depth =
+abbrev pub HasToSplit : WalkContext → LocalState → WalkFields → ℕ → ℕ → ℕ → Type 0
+HasToSplit context old before value n room_depth =
     (before.phase ≡ at.Adding value n room_depth true)
-    ⊎ ((bucket : BucketFields) × (held_page (view_for basis old) n ≡ Some (page.Bucket bucket))
-    × (list_all (is_kept basis.opens) bucket.slots ≡ true))
+    ⊎ ((bucket : BucketFields) × (held_page (view_for context old) n ≡ Some (page.Bucket bucket))
+    × (list_all (is_kept context.active) bucket.slots ≡ true))
 
 -- this is so of the walk's split
 abbrev pub OfSplit : WalkFields → (SplitFields → Type 0) → Type 0
@@ -52,25 +52,25 @@ OfSplit walk Is = (split : SplitFields) × (walk.split ≡ Some split) × Is spl
 
 -- A split of the bucket on page n begins: with the new bucket made, it takes so many steps more as the depths of the bucket and of
 -- the directory say.
-pub record BeginsSplit (basis : Basis) (step : WalkStep) (value n room_depth : ℕ) : Type 0 where
-  pub needed : HasToSplit basis step.old step.before value n room_depth
-  pub on : StandsOn basis step.new step.before step.after
+pub record BeginsSplit (context : WalkContext) (step : WalkStep) (value n room_depth : ℕ) : Type 0 where
+  pub needed : HasToSplit context step.old step.before value n room_depth
+  pub on : StandsOn context step.new step.before step.after
   pub phase : step.after.phase ≡ at.Splitting value room_depth
   pub split : SplitFields
   pub split_is : step.after.split ≡ Some split
   pub header : HeadFields
-  pub head : held_page (view_for basis step.old) basis.root ≡ Some (page.Head header)
+  pub head : held_page (view_for context step.old) context.root ≡ Some (page.Head header)
   pub bucket : BucketFields
-  pub found : held_page (view_for basis step.old) n ≡ Some (page.Bucket bucket)
+  pub found : held_page (view_for context step.old) n ≡ Some (page.Bucket bucket)
   pub depth : split.depth ≡ bucket.depth
   pub directory_depth : split.directory_depth ≡ header.depth
   pub steps : steps_left split ≡ 1 + directory_steps split.depth split.directory_depth
   pub made : (page : Page) × MakesLockedPage step.old step.new split.new_page page
-  pub halves : HasHalves (aim_of basis step.before room_depth) step.new.store.pages bucket split
+  pub halves : HasHalves (split_target context step.before room_depth) step.new.store.pages bucket split
 
 -- The split goes on, one step fewer is left.
-pub record SplitGoesOn (basis : Basis) (new : Moment) (before after : WalkFields) (value room_depth : ℕ) : Type 0 where
-  pub on : StandsOn basis new before after
+pub record SplitGoesOn (context : WalkContext) (new : LocalState) (before after : WalkFields) (value room_depth : ℕ) : Type 0 where
+  pub on : StandsOn context new before after
   pub phase : after.phase ≡ at.Splitting value room_depth
   pub was : SplitFields
   pub is : SplitFields
@@ -81,69 +81,69 @@ pub record SplitGoesOn (basis : Basis) (new : Moment) (before after : WalkFields
   pub directory_depth : is.directory_depth ≡ was.directory_depth
 
 -- That was its last step: the key's bucket is one deeper, and so is the directory, where it was doubled.
-pub record SplitCloses (basis : Basis) (new : Moment) (before after : WalkFields) (value room_depth : ℕ) : Type 0 where
-  pub on : StandsOn basis new before after
+pub record SplitCloses (context : WalkContext) (new : LocalState) (before after : WalkFields) (value room_depth : ℕ) : Type 0 where
+  pub on : StandsOn context new before after
   pub bucket : ℕ
   pub phase : after.phase ≡ at.Adding value bucket room_depth false
   pub was : SplitFields
   pub was_is : before.split ≡ Some was
   pub last : steps_left was ≡ 1
-  pub rests : Rests (aim_of basis before room_depth) new was bucket
+  pub rests : Rests (split_target context before room_depth) new was bucket
 
 -- a step of a walk whose bucket had no room: it puts the record where there is room now, into the lowest slot, but splits once
 -- at least
-abbrev pub TellsOfAdding : Basis → WalkStep → ℕ → ℕ → ℕ → WalkAnswer → Type 0
-TellsOfAdding basis step value bucket room_depth answer.Going =
-    BeginsSplit basis step value bucket room_depth
-TellsOfAdding basis step value bucket room_depth answer.Changed =
+abbrev pub TellsOfAdding : WalkContext → WalkStep → ℕ → ℕ → ℕ → WalkAnswer → Type 0
+TellsOfAdding context step value bucket room_depth answer.Going =
+    BeginsSplit context step value bucket room_depth
+TellsOfAdding context step value bucket room_depth answer.Changed =
     (step.before.phase ≡ at.Adding value bucket room_depth false)
-    × Makes basis step.new step.before step.after (change.Put value)
+    × Makes context step.new step.before step.after (change.Put value)
     × WritesAtMost step.old step.new bucket
-    × PutsLowest basis (view_for basis step.old) (view_for basis step.new) step.before bucket value
-TellsOfAdding basis step value bucket room_depth (answer.Refused refusal.NoRoom) =
-    HasToSplit basis step.old step.before value bucket room_depth
+    × PutsLowest context (view_for context step.old) (view_for context step.new) step.before bucket value
+TellsOfAdding context step value bucket room_depth (answer.Refused refusal.NoRoom) =
+    HasToSplit context step.old step.before value bucket room_depth
     × (map.len step.old.store.pages ≡ step.old.store.max_pages)
-TellsOfAdding basis step value bucket room_depth (answer.Refused reason) =
+TellsOfAdding context step value bucket room_depth (answer.Refused reason) =
     reason ≡ refusal.OutOfMemory
-TellsOfAdding basis step value bucket room_depth other = ⊥
+TellsOfAdding context step value bucket room_depth other = ⊥
 
 -- a step of a walk that splits its bucket tells what the step of the split tells, and which page that one locked or made
-abbrev pub TellsOfSplitting : Basis → WalkStep → ℕ → ℕ → WalkAnswer → Type 0
-TellsOfSplitting basis step value room_depth answer.Going =
+abbrev pub TellsOfSplitting : WalkContext → WalkStep → ℕ → ℕ → WalkAnswer → Type 0
+TellsOfSplitting context step value room_depth answer.Going =
     OfSplit step.before (λ split.
-    IsDone split.phase (aim_of basis step.before room_depth) step.old step.new split)
-    × (SplitGoesOn basis step.new step.before step.after value room_depth
-    ⊎ SplitCloses basis step.new step.before step.after value room_depth)
-TellsOfSplitting basis step value room_depth (answer.Waiting page by) =
+    IsDone split.phase (split_target context step.before room_depth) step.old step.new split)
+    × (SplitGoesOn context step.new step.before step.after value room_depth
+    ⊎ SplitCloses context step.new step.before step.after value room_depth)
+TellsOfSplitting context step value room_depth (answer.Waiting page by) =
     OfSplit step.before (λ split.
-    IsNextPage split.phase (aim_of basis step.before room_depth) (view_for basis step.old) page)
+    IsNextPage split.phase (split_target context step.before room_depth) (view_for context step.old) page)
     × IsLowest (conflicts step.old.locks step.old.running.tx page Exclusive) by
     × (step.new ≡ step.old)
     × (step.after ≡ step.before)
-TellsOfSplitting basis step value room_depth (answer.Refused refusal.NoRoom) =
+TellsOfSplitting context step value room_depth (answer.Refused refusal.NoRoom) =
     OfSplit step.before (λ split. IsMaking split.phase)
     × (step.new ≡ step.old)
     × (map.len step.old.store.pages ≡ step.old.store.max_pages)
-TellsOfSplitting basis step value room_depth (answer.Refused reason) =
+TellsOfSplitting context step value room_depth (answer.Refused reason) =
     (reason ≡ refusal.OutOfMemory)
     × OfSplit step.before (λ split.
-    IsLeft split.phase (aim_of basis step.before room_depth) step.old step.new)
-TellsOfSplitting basis step value room_depth other = ⊥
+    IsLeft split.phase (split_target context step.before room_depth) step.old step.new)
+TellsOfSplitting context step value room_depth other = ⊥
 
 -- what a step tells, by where the walk stood
-abbrev pub TellsAt : Phase → Basis → Moment → Moment → WalkFields → WalkFields → WalkAnswer → Type 0
-TellsAt (at.Adding value bucket room_depth unsplit) basis old new before after told =
-    TellsOfAdding basis (walk_step old new before after) value bucket room_depth told
-TellsAt (at.Splitting value room_depth) basis old new before after told =
-    TellsOfSplitting basis (walk_step old new before after) value room_depth told
-TellsAt other basis old new before after told = TellsOfPath basis old new before after told
+abbrev pub TellsAt : Phase → WalkContext → LocalState → LocalState → WalkFields → WalkFields → WalkAnswer → Type 0
+TellsAt (at.Adding value bucket room_depth unsplit) context old new before after told =
+    TellsOfAdding context (walk_step old new before after) value bucket room_depth told
+TellsAt (at.Splitting value room_depth) context old new before after told =
+    TellsOfSplitting context (walk_step old new before after) value room_depth told
+TellsAt other context old new before after told = TellsOfPath context old new before after told
 
 -- the next step makes a page: it begins a split, or makes a page of the one under way
-abbrev pub HasToMake : Phase → Basis → Moment → WalkFields → Type 0
-HasToMake (at.Adding value bucket room_depth unsplit) basis old before =
-    HasToSplit basis old before value bucket room_depth
-HasToMake (at.Splitting value room_depth) basis old before = OfSplit before (λ split. IsMaking split.phase)
-HasToMake other basis old before = ⊥
+abbrev pub HasToMake : Phase → WalkContext → LocalState → WalkFields → Type 0
+HasToMake (at.Adding value bucket room_depth unsplit) context old before =
+    HasToSplit context old before value bucket room_depth
+HasToMake (at.Splitting value room_depth) context old before = OfSplit before (λ split. IsMaking split.phase)
+HasToMake other context old before = ⊥
 
 -- the walk has a next step: it is on its way to its bucket, or splits it
 abbrev pub IsUnderWay : Phase → Type 0

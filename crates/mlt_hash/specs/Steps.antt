@@ -3,10 +3,10 @@ use Rattle.std.specs.Prelude.{ℕ, ◌≡◌, ◌<◌, ◌+◌, Option}
 use Rattle.mlt_types.specs.declared.mode.Mode.{Mode}
 use Rattle.mlt_types.specs.declared.mode.Mode.TheVariants.{Exclusive}
 use Rattle.mlt_page_locks.specs.Requests.{IsLowest, conflicts}
-use Rattle.mlt_hash_access.specs.Moments.{Moment}
+use Rattle.mlt_hash_access.specs.LocalStates.{LocalState}
 use Rattle.mlt_hash_access.specs.PageSteps.{LocksAtMost}
 use Rattle.mlt_hash.specs.Passes.{bucket_mode, directory_mode, header_mode}
-use Rattle.mlt_hash.specs.Walks.{Basis, IsStanding, WalkFields, view_for}
+use Rattle.mlt_hash.specs.Walks.{WalkContext, IsStanding, WalkFields, view_for}
 use Rattle.mlt_hash.specs.declared.pass.Phase.{Phase}
 use Rattle.mlt_hash.specs.declared.pass.Phase.TheVariants as at
 use Rattle.mlt_hash.specs.declared.answer.WalkAnswer.{WalkAnswer}
@@ -56,24 +56,24 @@ HasFound (at.AtBucket bucket depth found) value = found ≡ value
 HasFound other value = ⊥
 
 -- one step fewer is left to the bucket
-pub record GoesOn (basis : Basis) (new : Moment) (before after : WalkFields) : Type 0 where
+pub record GoesOn (context : WalkContext) (new : LocalState) (before after : WalkFields) : Type 0 where
   pub same : IsSameWalk before after
-  pub stands : IsStanding basis after (view_for basis new)
+  pub stands : IsStanding context after (view_for context new)
   pub fewer : steps_to_bucket after.phase + 1 ≡ steps_to_bucket before.phase
 
 -- A step to the bucket: it goes on, with more to come, or has found the key's value, or waits for the next page, told the
 -- lowest transaction whose lock stands against its own, and nothing has changed.
-abbrev pub TellsOfPath : Basis → Moment → Moment → WalkFields → WalkFields → WalkAnswer → Type 0
-TellsOfPath basis old new before after answer.Going = GoesOn basis new before after × (0 < steps_to_bucket after.phase)
-TellsOfPath basis old new before after (answer.Waiting page by) =
-    (page ≡ next_page basis.root before.phase)
+abbrev pub TellsOfPath : WalkContext → LocalState → LocalState → WalkFields → WalkFields → WalkAnswer → Type 0
+TellsOfPath context old new before after answer.Going = GoesOn context new before after × (0 < steps_to_bucket after.phase)
+TellsOfPath context old new before after (answer.Waiting page by) =
+    (page ≡ next_page context.root before.phase)
     × IsLowest (conflicts old.locks old.running.tx page (next_mode before before.phase)) by
     × (new ≡ old)
     × (after ≡ before)
-TellsOfPath basis old new before after (answer.Found value) = GoesOn basis new before after × HasFound after.phase value
-TellsOfPath basis old new before after other = ⊥
+TellsOfPath context old new before after (answer.Found value) = GoesOn context new before after × HasFound after.phase value
+TellsOfPath context old new before after other = ⊥
 
 -- where the key was found, all that the step did is to lock page q
-abbrev pub LocksIfFound : Moment → Moment → ℕ → WalkAnswer → Type 0
+abbrev pub LocksIfFound : LocalState → LocalState → ℕ → WalkAnswer → Type 0
 LocksIfFound old new q (answer.Found value) = LocksAtMost old new q
 LocksIfFound old new q other = Unit {0}

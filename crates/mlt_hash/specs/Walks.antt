@@ -17,13 +17,13 @@ use Rattle.mlt_hash_form.specs.File.{FilePages, HasForm, bucket_of, depth_of, di
 use Rattle.mlt_hash_form.specs.Changes.{IsHome, slot_change}
 use Rattle.mlt_hash_form.specs.Held.{Agrees, ChangesFile, over}
 use Rattle.mlt_hash_form.specs.declared.root.Root.{Root}
-use Rattle.mlt_hash_access.specs.Moments.{HasFileOver, MayStep, Moment, no_writes}
+use Rattle.mlt_hash_access.specs.LocalStates.{HasFileOver, MayStep, LocalState, no_writes}
 use Rattle.mlt_hash_access.specs.Reading.{HasReadBucket}
 use Rattle.mlt_hash_access.specs.Views.{HasWritten, IsUnwritten, IsUnwrittenSince, View, view_of, view_over}
 use Rattle.mlt_page_locks.specs.LockTables.{Modes}
-use Rattle.mlt_hash_split.specs.Rests.{Aim, HoldsAmong, IsAtRest, held_page}
+use Rattle.mlt_hash_split.specs.Rests.{SplitTarget, HoldsAmong, IsAtRest, held_page}
 use Rattle.mlt_hash_split.specs.Splits.{IsUnderWay, SplitFields}
-use Rattle.mlt_hash_split.specs.declared.setting.Setting.{Setting}
+use Rattle.mlt_hash_split.specs.declared.environment.Environment.{Environment}
 use Rattle.mlt_hash.specs.Passes.{MayHoldMore, bucket_held, bucket_mode, directory_held, directory_mode, header_held, header_mode, slot_after, value_after}
 use Rattle.mlt_hash.specs.declared.pass.Pass.{Pass}
 use Rattle.mlt_hash.specs.declared.pass.Pass.TheVariants as pass
@@ -77,40 +77,40 @@ SlotsStood written tx view =
 
 -- what a walk goes by: the function of keys, who is open, the header's page, how deep the directory may get, whose
 -- walk it is, and what it did before
-pub record Basis : Type 0 where
+pub record WalkContext : Type 0 where
   pub bits : ℕ → ℕ
-  pub opens : set.FinSet nat_cmp
+  pub active : set.FinSet nat_cmp
   pub root : ℕ
   pub max_depth : ℕ
   pub tx : ℕ
   pub before : Before
 
 -- what a walk goes by that did this before
-abbrev pub basis_after : Before → Basis → Basis
-basis_after before basis = record basis { before = before }
+abbrev pub context_after : Before → WalkContext → WalkContext
+context_after before context = record context { before = before }
 
 -- what a walk to its first key goes by: it did nothing before
-abbrev pub one_key : Basis → Basis
-one_key basis = basis_after nothing_before basis
+abbrev pub one_key : WalkContext → WalkContext
+one_key context = context_after nothing_before context
 
 -- what a walk of transaction tx to its first key goes by that has this root, with these transactions open
-abbrev pub basis_by : {P : Type 0} → (P → ℕ → ℕ) → Root P → set.FinSet nat_cmp → ℕ → Basis
-basis_by bits_of root opens tx = record {
+abbrev pub context_by : {P : Type 0} → (P → ℕ → ℕ) → Root P → set.FinSet nat_cmp → ℕ → WalkContext
+context_by bits_of root active tx = record {
   bits = bits_of root.pseudo;
-  opens = opens;
+  active = active;
   root = root.page;
   max_depth = root.max_depth;
   tx = tx;
   before = nothing_before;
 }
 
--- what it goes by in this setting
-abbrev pub basis_in : {P : Type 0} → (P → ℕ → ℕ) → Setting P → ℕ → Basis
-basis_in bits_of setting tx = basis_by bits_of setting.root.now setting.opens.now tx
+-- what it goes by in this environment
+abbrev pub context_in : {P : Type 0} → (P → ℕ → ℕ) → Environment P → ℕ → WalkContext
+context_in bits_of environment tx = context_by bits_of environment.root.now environment.active.now tx
 
 -- what a walk holds and sees, where what it wrote before is taken as seen
-abbrev pub view_for : Basis → Moment → View
-view_for basis m = view_over basis.before.written m
+abbrev pub view_for : WalkContext → LocalState → View
+view_for context m = view_over context.before.written m
 
 -- only a wide pass goes on to another key
 abbrev pub GoesAfter : Pass → Before → Type 0
@@ -130,65 +130,65 @@ pub record IsAtStart (view : View) : Type 0 where
   pub unseen : (q : ℕ) → view.seen q ≡ None
 
 -- nothing was held or written before either
-abbrev pub StartsAnew : Basis → View → Type 0
-StartsAnew basis view = IsAtStart view × (basis.before ≡ nothing_before)
+abbrev pub StartsAnew : WalkContext → View → Type 0
+StartsAnew context view = IsAtStart view × (context.before ≡ nothing_before)
 
 -- the header is held and read
-pub record IsHeaded (basis : Basis) (walk : WalkFields) (view : View) (dir row depth : ℕ) : Type 0 where
-  pub goes_after : GoesAfter walk.pass basis.before
-  pub unwritten : IsUnwrittenSince basis.before.written view
+pub record IsHeaded (context : WalkContext) (walk : WalkFields) (view : View) (dir row depth : ℕ) : Type 0 where
+  pub goes_after : GoesAfter walk.pass context.before
+  pub unwritten : IsUnwrittenSince context.before.written view
   pub header : HeadFields
-  pub held : view.modes ≡ header_held basis.before.held walk.pass basis.root
-  pub among : HoldsBeside view header (basis.before.buckets + 1)
-  pub head : view.seen basis.root ≡ Some (Some (page.Head header))
-  pub dir_is : dir ≡ dir_of header (basis.bits walk.key)
-  pub row_is : row ≡ row_of header (basis.bits walk.key)
+  pub held : view.modes ≡ header_held context.before.held walk.pass context.root
+  pub among : HoldsBeside view header (context.before.buckets + 1)
+  pub head : view.seen context.root ≡ Some (Some (page.Head header))
+  pub dir_is : dir ≡ dir_of header (context.bits walk.key)
+  pub row_is : row ≡ row_of header (context.bits walk.key)
   pub depth_is : depth ≡ header.depth
-  pub shallow : header.depth ≤ basis.max_depth
+  pub shallow : header.depth ≤ context.max_depth
 
 -- so is the directory page of the key's place
-pub record IsPlaced (basis : Basis) (walk : WalkFields) (view : View) (bucket depth : ℕ) : Type 0 where
-  pub goes_after : GoesAfter walk.pass basis.before
-  pub unwritten : IsUnwrittenSince basis.before.written view
+pub record IsPlaced (context : WalkContext) (walk : WalkFields) (view : View) (bucket depth : ℕ) : Type 0 where
+  pub goes_after : GoesAfter walk.pass context.before
+  pub unwritten : IsUnwrittenSince context.before.written view
   pub header : HeadFields
   pub held : view.modes
-      ≡ directory_held basis.before.held walk.pass basis.root (dir_of header (basis.bits walk.key))
-  pub among : HoldsBeside view header (basis.before.buckets + 1)
-  pub head : view.seen basis.root ≡ Some (Some (page.Head header))
+      ≡ directory_held context.before.held walk.pass context.root (dir_of header (context.bits walk.key))
+  pub among : HoldsBeside view header (context.before.buckets + 1)
+  pub head : view.seen context.root ≡ Some (Some (page.Head header))
   pub dir : List ℕ
-  pub listed : view.seen (dir_of header (basis.bits walk.key)) ≡ Some (Some (page.Dir dir))
-  pub bucket_is : bucket ≡ slice_index dir (row_of header (basis.bits walk.key))
+  pub listed : view.seen (dir_of header (context.bits walk.key)) ≡ Some (Some (page.Dir dir))
+  pub bucket_is : bucket ≡ slice_index dir (row_of header (context.bits walk.key))
   pub depth_is : depth ≡ header.depth
-  pub shallow : header.depth ≤ basis.max_depth
+  pub shallow : header.depth ≤ context.max_depth
 
 -- The header, the directory page and the bucket that the key leads to are read, and what the bucket
 -- has of the key is known.
-pub record IsAtBucket (basis : Basis) (walk : WalkFields) (view : View) (bucket depth : ℕ)
+pub record IsAtBucket (context : WalkContext) (walk : WalkFields) (view : View) (bucket depth : ℕ)
     (found : Option ℕ) : Type 0 where
-  pub goes_after : GoesAfter walk.pass basis.before
-  pub unwritten : IsUnwrittenSince basis.before.written view
+  pub goes_after : GoesAfter walk.pass context.before
+  pub unwritten : IsUnwrittenSince context.before.written view
   pub header : HeadFields
   pub held : view.modes
-      ≡ bucket_held basis.before.held walk.pass walk.mode basis.root
-      (dir_of header (basis.bits walk.key)) bucket
-  pub among : HoldsBeside view header (basis.before.buckets + 2)
-  pub head : view.seen basis.root ≡ Some (Some (page.Head header))
+      ≡ bucket_held context.before.held walk.pass walk.mode context.root
+      (dir_of header (context.bits walk.key)) bucket
+  pub among : HoldsBeside view header (context.before.buckets + 2)
+  pub head : view.seen context.root ≡ Some (Some (page.Head header))
   pub dir : List ℕ
-  pub listed : view.seen (dir_of header (basis.bits walk.key)) ≡ Some (Some (page.Dir dir))
-  pub bucket_is : bucket ≡ slice_index dir (row_of header (basis.bits walk.key))
+  pub listed : view.seen (dir_of header (context.bits walk.key)) ≡ Some (Some (page.Dir dir))
+  pub bucket_is : bucket ≡ slice_index dir (row_of header (context.bits walk.key))
   pub depth_is : depth ≡ header.depth
-  pub shallow : header.depth ≤ basis.max_depth
+  pub shallow : header.depth ≤ context.max_depth
   pub fields : BucketFields
   pub at : view.seen bucket ≡ Some (Some (page.Bucket fields))
   pub found_is : found ≡ value_in walk.key fields.slots
 
 -- The header, the key's directory page and its bucket are read and held, and what the bucket has of
 -- the key is known. They stay on the clean pages up to the walk's end.
-pub record HasRead (basis : Basis) (key : ℕ) (view : View) (found : Option ℕ) : Type 0 where
+pub record HasRead (context : WalkContext) (key : ℕ) (view : View) (found : Option ℕ) : Type 0 where
   pub dir : ℕ
   pub bucket : ℕ
-  pub way : HasReadBucket basis.bits basis.root key view dir bucket found
-  pub shallow : way.placed.header.depth ≤ basis.max_depth
+  pub way : HasReadBucket context.bits context.root key view dir bucket found
+  pub shallow : way.placed.header.depth ≤ context.max_depth
 
 -- From its bucket on a walk holds the pages of its way, in the modes of its pass; what it held
 -- before, exclusively where it held that so; and other pages exclusively, as its pass may.
@@ -211,56 +211,56 @@ pub record StaysNarrow (root : ℕ) (view : View) (room_depth l g : ℕ) : Type 
   pub unwritten : view.own root ≡ None
 
 -- what a walk's splits are for
-abbrev pub aim_of : Basis → WalkFields → ℕ → Aim
-aim_of basis walk room_depth = record {
-  bits = basis.bits;
-  opens = basis.opens;
-  root = basis.root;
+abbrev pub split_target : WalkContext → WalkFields → ℕ → SplitTarget
+split_target context walk room_depth = record {
+  bits = context.bits;
+  active = context.active;
+  root = context.root;
   key = walk.key;
-  owner = basis.tx;
+  owner = context.tx;
   room_depth = room_depth;
-  before = basis.before.written;
-  held_before = basis.before.buckets;
+  before = context.before.written;
+  held_before = context.before.buckets;
 }
 
 -- The bucket has no room yet, but has it once it is split down to this depth. Nothing was found of the key.
-pub record IsAdding (basis : Basis) (walk : WalkFields) (view : View) (bucket room_depth : ℕ)
+pub record IsAdding (context : WalkContext) (walk : WalkFields) (view : View) (bucket room_depth : ℕ)
     (unsplit : Bool) : Type 0 where
   pub header : HeadFields
   pub fields : BucketFields
-  pub read : HasRead basis walk.key view None
-  pub holds : HoldsByPass basis.before.held walk.pass walk.mode basis.root read.dir read.bucket view
-  pub shallow : header.depth ≤ basis.max_depth
-  pub rest : IsAtRest (aim_of basis walk room_depth) view bucket header fields
-  pub most : room_depth ≤ basis.max_depth
+  pub read : HasRead context walk.key view None
+  pub holds : HoldsByPass context.before.held walk.pass walk.mode context.root read.dir read.bucket view
+  pub shallow : header.depth ≤ context.max_depth
+  pub rest : IsAtRest (split_target context walk room_depth) view bucket header fields
+  pub most : room_depth ≤ context.max_depth
   pub unsplit_is : unsplit ≡ true → fields.depth < room_depth
   pub later : walk.pass ≡ pass.First → ⊥
-  pub narrow : walk.pass ≡ pass.Narrow → StaysNarrow basis.root view room_depth fields.depth header.depth
-  pub wide : walk.pass ≡ pass.Wide → map.get view.modes basis.root ≡ Some Exclusive
+  pub narrow : walk.pass ≡ pass.Narrow → StaysNarrow context.root view room_depth fields.depth header.depth
+  pub wide : walk.pass ≡ pass.Wide → map.get view.modes context.root ≡ Some Exclusive
 
 -- A split of the bucket is under way, down to this depth, at which there is room. Nothing was found of the key.
-pub record IsSplitting (basis : Basis) (walk : WalkFields) (view : View) (room_depth : ℕ) : Type 0 where
+pub record IsSplitting (context : WalkContext) (walk : WalkFields) (view : View) (room_depth : ℕ) : Type 0 where
   pub split : SplitFields
   pub split_is : walk.split ≡ Some split
-  pub read : HasRead basis walk.key view None
-  pub holds : HoldsByPass basis.before.held walk.pass walk.mode basis.root read.dir read.bucket view
-  pub shallow : split.directory_depth ≤ basis.max_depth
-  pub under_way : IsUnderWay (aim_of basis walk room_depth) view split
-  pub most : room_depth ≤ basis.max_depth
+  pub read : HasRead context walk.key view None
+  pub holds : HoldsByPass context.before.held walk.pass walk.mode context.root read.dir read.bucket view
+  pub shallow : split.directory_depth ≤ context.max_depth
+  pub under_way : IsUnderWay (split_target context walk room_depth) view split
+  pub most : room_depth ≤ context.max_depth
   pub later : walk.pass ≡ pass.First → ⊥
-  pub narrow : walk.pass ≡ pass.Narrow → StaysNarrow basis.root view room_depth split.depth split.directory_depth
-  pub wide : walk.pass ≡ pass.Wide → map.get view.modes basis.root ≡ Some Exclusive
+  pub narrow : walk.pass ≡ pass.Narrow → StaysNarrow context.root view room_depth split.depth split.directory_depth
+  pub wide : walk.pass ≡ pass.Wide → map.get view.modes context.root ≡ Some Exclusive
 
 -- what stood in the slot that a change writes
-abbrev pub StoodBefore : Change → Basis → ℕ → List Slot → Slot → Type 0
-StoodBefore (change.Put value) basis key slots slot =
+abbrev pub StoodBefore : Change → WalkContext → ℕ → List Slot → Slot → Type 0
+StoodBefore (change.Put value) context key slots slot =
     (value_in key slots ≡ None)
-    × (position (is_ghost_of key basis.tx) slots ≡ None)
-    × (is_kept basis.opens slot ≡ false)
-StoodBefore (change.Revive value) basis key slots slot =
-    (value_in key slots ≡ None) × (is_ghost_of key basis.tx slot ≡ true)
-StoodBefore (change.Set value) basis key slots slot = is_live_of key slot ≡ true
-StoodBefore change.Remove basis key slots slot = is_live_of key slot ≡ true
+    × (position (is_ghost_of key context.tx) slots ≡ None)
+    × (is_kept context.active slot ≡ false)
+StoodBefore (change.Revive value) context key slots slot =
+    (value_in key slots ≡ None) × (is_ghost_of key context.tx slot ≡ true)
+StoodBefore (change.Set value) context key slots slot = is_live_of key slot ≡ true
+StoodBefore change.Remove context key slots slot = is_live_of key slot ≡ true
 
 -- what was found of the key where this change is made
 abbrev pub FoundBefore : Change → Option ℕ → Type 0
@@ -272,51 +272,51 @@ FoundBefore change.Remove found = IsSome found
 -- A change is written in the bucket: whatever the clean pages are elsewhere, what the walk has written since it went to its
 -- key are the same slots, rearranged up to `rest`, and then one slot changed, where the walk's key leads. The header is held,
 -- as deep as the walk leaves it.
-pub record IsChanged (basis : Basis) (walk : WalkFields) (view : View) (bucket : ℕ) (done : Change) : Type 0 where
+pub record IsChanged (context : WalkContext) (walk : WalkFields) (view : View) (bucket : ℕ) (done : Change) : Type 0 where
   pub found : Option ℕ
   pub fits : FoundBefore done found
-  pub read : HasRead basis walk.key view found
-  pub holds : HoldsByPass basis.before.held walk.pass walk.mode basis.root read.dir read.bucket view
+  pub read : HasRead context walk.key view found
+  pub holds : HoldsByPass context.before.held walk.pass walk.mode context.root read.dir read.bucket view
   pub header : HeadFields
-  pub head : held_page view basis.root ≡ Some (page.Head header)
-  pub shallow : header.depth ≤ basis.max_depth
+  pub head : held_page view context.root ≡ Some (page.Head header)
+  pub shallow : header.depth ≤ context.max_depth
   pub few : map.len view.modes < 300
-  pub among : HoldsBeside view header (basis.before.buckets + 18)
+  pub among : HoldsBeside view header (context.before.buckets + 18)
   pub rest : ℕ → Option Page
   pub slot : ℕ
   pub within : slot < 8
   pub fields : BucketFields
   pub held : is_some (view.seen bucket) ≡ true
   pub home : (clean : ℕ → Option Page) → Agrees view.seen clean
-      → HasForm basis.bits clean basis.root
-      → IsHome basis.bits (over clean rest) basis.root walk.key bucket fields
-  pub was : StoodBefore done basis walk.key fields.slots (slice_index_or fields.slots slot Free)
-  pub changes : ChangesFile basis.bits basis.opens basis.root view.seen rest view.own
-      (slot_change walk.key (value_after done) bucket slot (slot_after done walk.key basis.tx))
+      → HasForm context.bits clean context.root
+      → IsHome context.bits (over clean rest) context.root walk.key bucket fields
+  pub was : StoodBefore done context walk.key fields.slots (slice_index_or fields.slots slot Free)
+  pub changes : ChangesFile context.bits context.active context.root view.seen rest view.own
+      (slot_change walk.key (value_after done) bucket slot (slot_after done walk.key context.tx))
 
 -- where a walk stands that is in this phase
-abbrev pub Stands : Phase → Basis → WalkFields → View → Type 0
-Stands at.Start basis walk view = StartsAnew basis view
-Stands (at.Headed dir row depth) basis walk view = IsHeaded basis walk view dir row depth
-Stands (at.Placed bucket depth) basis walk view = IsPlaced basis walk view bucket depth
-Stands (at.AtBucket bucket depth found) basis walk view = IsAtBucket basis walk view bucket depth found
-Stands (at.Full next) basis walk view = map.len view.modes ≤ 3
-Stands (at.Adding value bucket room_depth unsplit) basis walk view = IsAdding basis walk view bucket room_depth unsplit
-Stands (at.Splitting value room_depth) basis walk view = IsSplitting basis walk view room_depth
-Stands (at.Changed bucket done) basis walk view = IsChanged basis walk view bucket done
+abbrev pub Stands : Phase → WalkContext → WalkFields → View → Type 0
+Stands at.Start context walk view = StartsAnew context view
+Stands (at.Headed dir row depth) context walk view = IsHeaded context walk view dir row depth
+Stands (at.Placed bucket depth) context walk view = IsPlaced context walk view bucket depth
+Stands (at.AtBucket bucket depth found) context walk view = IsAtBucket context walk view bucket depth found
+Stands (at.Full next) context walk view = map.len view.modes ≤ 3
+Stands (at.Adding value bucket room_depth unsplit) context walk view = IsAdding context walk view bucket room_depth unsplit
+Stands (at.Splitting value room_depth) context walk view = IsSplitting context walk view room_depth
+Stands (at.Changed bucket done) context walk view = IsChanged context walk view bucket done
 
 -- Where a walk stands, by its phase: on its way; at its bucket; at one without room, before another
 -- pass; with the file at rest, or a split under way; or with its change written.
-abbrev pub IsStanding : Basis → WalkFields → View → Type 0
-IsStanding basis walk view = Stands walk.phase basis walk view
+abbrev pub IsStanding : WalkContext → WalkFields → View → Type 0
+IsStanding context walk view = Stands walk.phase context walk view
 
 -- What a step of a walk asks: its transaction may step, and the clean pages, with what it wrote
 -- before over them, are a hash file on which it stands.
-pub record MayWalk (basis : Basis) (m : Moment) (walk : WalkFields) : Type 0 where
-  pub bounded : (k : ℕ) → basis.bits k < 2 ^ 64
-  pub small : basis.max_depth ≤ 16
+pub record MayWalk (context : WalkContext) (m : LocalState) (walk : WalkFields) : Type 0 where
+  pub bounded : (k : ℕ) → context.bits k < 2 ^ 64
+  pub small : context.max_depth ≤ 16
   pub may : MayStep m
-  pub written : HasWritten basis.before.written (view_of m)
-  pub file : HasFileOver basis.bits basis.root basis.before.written m
-  pub shallow : depth_of (over file.clean basis.before.written) basis.root ≤ basis.max_depth
-  pub stands : IsStanding basis walk (view_for basis m)
+  pub written : HasWritten context.before.written (view_of m)
+  pub file : HasFileOver context.bits context.root context.before.written m
+  pub shallow : depth_of (over file.clean context.before.written) context.root ≤ context.max_depth
+  pub stands : IsStanding context walk (view_for context m)

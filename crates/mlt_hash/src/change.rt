@@ -1,12 +1,12 @@
 //! The changes that a walk makes in its bucket.
 
 ghost use Rattle.std.specs.Prelude.{◌≡◌, ◌≢◌, ◌≤◌, ◌↔◌, ℕ, IsTrue, Option, true};
-ghost use Rattle.mlt_hash_access.specs.Moments.{MayStep, moment};
+ghost use Rattle.mlt_hash_access.specs.LocalStates.{MayStep, local};
 ghost use Rattle.mlt_page.specs.Values.{BucketFields};
 ghost use Rattle.mlt_page_locks.specs.LockTables.{can_write};
 ghost use Rattle.mlt_hash_access.specs.PageSteps.{Leaves};
 ghost use Rattle.mlt_hash_access.specs.Views.{ReadsHeldBucket, view_of};
-ghost use Rattle.mlt_hash.specs.Walks.{Basis, basis_in, one_key, view_for};
+ghost use Rattle.mlt_hash.specs.Walks.{WalkContext, context_in, one_key, view_for};
 ghost use Rattle.mlt_hash.specs.declared.pass.Change.TheVariants as change;
 ghost use Rattle.mlt_hash.specs.Changes.{HasOwnGhost, IsAtAbsent, IsAtBucketPhase, IsAtRecord, IsFull, MayChange, MayChangeBy, MayChangeFirst, PlansSlot, RevivesFirst, TakesSlot, TellsOfAddition, TellsOfChange, TellsOfWrite, WritesIfChanged, page_of};
 
@@ -16,7 +16,7 @@ use crate::room::next_pass;
 use crate::walk::Walk;
 use mlt_hash_access::{LockedStore, read_held_bucket, write_slot};
 use mlt_hash_record::SlotWrite;
-use mlt_hash_split::Setting;
+use mlt_hash_split::Environment;
 use mlt_page::Bucket;
 use mlt_page_subtx::Subtx;
 use mlt_types::{PageNo, Pseudo, Refusal, Value};
@@ -28,21 +28,21 @@ impl Walk {
     pub fn insert<P: Pseudo>(
         &mut self,
         value: Value,
-        setting: &Setting<P>,
+        environment: &Environment<P>,
         subtx: &mut Subtx,
         pages: &mut LockedStore,
     ) -> WalkAnswer
-        ghost basis: { Basis }
-        requires basis { basis_in P.bits_of setting.now subtx.old.tx ≡ one_key basis }
-        requires ready { MayChange basis (moment subtx.old pages.old) self.old }
+        ghost context: { WalkContext }
+        requires context { context_in P.bits_of environment.now subtx.old.tx ≡ one_key context }
+        requires ready { MayChange context (local subtx.old pages.old) self.old }
         requires found { IsAtAbsent self.old.phase }
-        ensures writes { WritesIfChanged (moment subtx.old pages.old) (moment subtx.new pages.new)
+        ensures writes { WritesIfChanged (local subtx.old pages.old) (local subtx.new pages.new)
             (page_of self.old.phase) result }
-        ensures leaves { Leaves (moment subtx.old pages.old) (moment subtx.new pages.new) }
-        ensures tells { TellsOfAddition basis
-            (moment subtx.new pages.new) self.old self.new value result }
-        ensures slot { TakesSlot result basis (view_for basis (moment subtx.old pages.old))
-            (view_for basis (moment subtx.new pages.new)) self.old value }
+        ensures leaves { Leaves (local subtx.old pages.old) (local subtx.new pages.new) }
+        ensures tells { TellsOfAddition context
+            (local subtx.new pages.new) self.old self.new value result }
+        ensures slot { TakesSlot result context (view_for context (local subtx.old pages.old))
+            (view_for context (local subtx.new pages.new)) self.old value }
     {
         let (number, bucket) = held_bucket(self, subtx, pages);
         if let Some(write) = mlt_hash_record::revive(number, bucket, self.key, subtx.tx(), value) {
@@ -53,23 +53,23 @@ impl Walk {
             bucket,
             self.key,
             value,
-            setting.opens,
+            environment.active,
         ) {
             return write_change(self, write, Change::Put(value), subtx, pages);
         }
-        without_room(self, value, setting, subtx, pages)
+        without_room(self, value, environment, subtx, pages)
     }
 
     /// Gives the record of the walk's key another value. It takes no memory where the key is the walk's first.
     pub fn update(&mut self, value: Value, subtx: &mut Subtx, pages: &mut LockedStore) -> WalkAnswer
-        requires ready { MayChangeBy subtx.old.tx (moment subtx.old pages.old) self.old }
+        requires ready { MayChangeBy subtx.old.tx (local subtx.old pages.old) self.old }
         requires found { IsAtRecord self.old.phase }
-        ensures writes { WritesIfChanged (moment subtx.old pages.old) (moment subtx.new pages.new)
+        ensures writes { WritesIfChanged (local subtx.old pages.old) (local subtx.new pages.new)
             (page_of self.old.phase) result }
-        ensures leaves { Leaves (moment subtx.old pages.old) (moment subtx.new pages.new) }
-        ensures tells { (basis : Basis) → basis.tx ≡ subtx.old.tx
-            → MayChange basis (moment subtx.old pages.old) self.old
-            → TellsOfChange basis (moment subtx.new pages.new) self.old
+        ensures leaves { Leaves (local subtx.old pages.old) (local subtx.new pages.new) }
+        ensures tells { (context : WalkContext) → context.tx ≡ subtx.old.tx
+            → MayChange context (local subtx.old pages.old) self.old
+            → TellsOfChange context (local subtx.new pages.new) self.old
             self.new (change.Set value) result }
     {
         let (number, bucket) = held_bucket(self, subtx, pages);
@@ -82,14 +82,14 @@ impl Walk {
     /// Removes the record of the walk's key, and leaves a ghost of the transaction. It takes no memory where the key is the
     /// walk's first.
     pub fn remove(&mut self, subtx: &mut Subtx, pages: &mut LockedStore) -> WalkAnswer
-        requires ready { MayChangeBy subtx.old.tx (moment subtx.old pages.old) self.old }
+        requires ready { MayChangeBy subtx.old.tx (local subtx.old pages.old) self.old }
         requires found { IsAtRecord self.old.phase }
-        ensures writes { WritesIfChanged (moment subtx.old pages.old) (moment subtx.new pages.new)
+        ensures writes { WritesIfChanged (local subtx.old pages.old) (local subtx.new pages.new)
             (page_of self.old.phase) result }
-        ensures leaves { Leaves (moment subtx.old pages.old) (moment subtx.new pages.new) }
-        ensures tells { (basis : Basis) → basis.tx ≡ subtx.old.tx
-            → MayChange basis (moment subtx.old pages.old) self.old
-            → TellsOfChange basis (moment subtx.new pages.new) self.old
+        ensures leaves { Leaves (local subtx.old pages.old) (local subtx.new pages.new) }
+        ensures tells { (context : WalkContext) → context.tx ≡ subtx.old.tx
+            → MayChange context (local subtx.old pages.old) self.old
+            → TellsOfChange context (local subtx.new pages.new) self.old
             self.new change.Remove result }
     {
         let (number, bucket) = held_bucket(self, subtx, pages);
@@ -102,19 +102,19 @@ impl Walk {
     /// Makes the ghost that the transaction left of the walk's key a record again, the first one. The key is the walk's
     /// first. It takes no memory.
     pub fn revive(&mut self, value: Value, subtx: &mut Subtx, pages: &mut LockedStore) -> WalkAnswer
-        requires ready { MayChangeFirst subtx.old.tx (moment subtx.old pages.old) self.old }
+        requires ready { MayChangeFirst subtx.old.tx (local subtx.old pages.old) self.old }
         requires found { IsAtAbsent self.old.phase }
         requires ghost_found { HasOwnGhost subtx.old.tx self.old
-            (view_of (moment subtx.old pages.old)) }
-        ensures writes { WritesIfChanged (moment subtx.old pages.old) (moment subtx.new pages.new)
+            (view_of (local subtx.old pages.old)) }
+        ensures writes { WritesIfChanged (local subtx.old pages.old) (local subtx.new pages.new)
             (page_of self.old.phase) result }
-        ensures leaves { Leaves (moment subtx.old pages.old) (moment subtx.new pages.new) }
-        ensures tells { (basis : Basis) → basis.tx ≡ subtx.old.tx
-            → MayChange basis (moment subtx.old pages.old) self.old
-            → TellsOfChange basis (moment subtx.new pages.new) self.old
+        ensures leaves { Leaves (local subtx.old pages.old) (local subtx.new pages.new) }
+        ensures tells { (context : WalkContext) → context.tx ≡ subtx.old.tx
+            → MayChange context (local subtx.old pages.old) self.old
+            → TellsOfChange context (local subtx.new pages.new) self.old
             self.new (change.Revive value) result }
         ensures slot { RevivesFirst subtx.old.tx
-            (view_of (moment subtx.old pages.old)) (view_of (moment subtx.new pages.new))
+            (view_of (local subtx.old pages.old)) (view_of (local subtx.new pages.new))
             self.old (page_of self.old.phase) value }
     {
         let (number, bucket) = held_bucket(self, subtx, pages);
@@ -132,13 +132,13 @@ pub(crate) fn held_bucket<'a>(
     subtx: &Subtx,
     pages: &'a LockedStore,
 ) -> (PageNo, &'a Bucket)
-    requires may { MayStep (moment subtx.now pages.now) }
+    requires may { MayStep (local subtx.now pages.now) }
     requires at { IsAtBucketPhase walk.now.phase }
     requires held { (bucket : BucketFields)
-        × ReadsHeldBucket (view_of (moment subtx.now pages.now)) (page_of walk.now.phase) bucket }
+        × ReadsHeldBucket (view_of (local subtx.now pages.now)) (page_of walk.now.phase) bucket }
     ensures number { result.0 ≡ page_of walk.now.phase }
     ensures bucket { ReadsHeldBucket
-        (view_of (moment subtx.now pages.now)) (page_of walk.now.phase) result.1.now }
+        (view_of (local subtx.now pages.now)) (page_of walk.now.phase) result.1.now }
 {
     let Phase::AtBucket { number, .. } = walk.phase else {
         unreachable!()
@@ -155,13 +155,13 @@ pub(crate) fn write_change(
     subtx: &mut Subtx,
     pages: &mut LockedStore,
 ) -> WalkAnswer
-    requires may { MayStep (moment subtx.old pages.old) }
+    requires may { MayStep (local subtx.old pages.old) }
     requires held { can_write pages.old.locks subtx.old.tx write.number ≡ true }
-    requires planned { PlansSlot (view_of (moment subtx.old pages.old)) write }
-    ensures writes { WritesIfChanged (moment subtx.old pages.old) (moment subtx.new pages.new)
+    requires planned { PlansSlot (view_of (local subtx.old pages.old)) write }
+    ensures writes { WritesIfChanged (local subtx.old pages.old) (local subtx.new pages.new)
         write.number result }
-    ensures leaves { Leaves (moment subtx.old pages.old) (moment subtx.new pages.new) }
-    ensures tells { TellsOfWrite (moment subtx.old pages.old) (moment subtx.new pages.new)
+    ensures leaves { Leaves (local subtx.old pages.old) (local subtx.new pages.new) }
+    ensures tells { TellsOfWrite (local subtx.old pages.old) (local subtx.new pages.new)
         walk.old walk.new write done result }
 {
     match write_slot(subtx, pages, write.number, write.at, write.slot) {
@@ -179,18 +179,18 @@ pub(crate) fn write_change(
 fn without_room<P: Pseudo>(
     walk: &mut Walk,
     value: Value,
-    setting: &Setting<P>,
+    environment: &Environment<P>,
     subtx: &Subtx,
     pages: &LockedStore,
 ) -> WalkAnswer
-    ghost basis: { Basis }
-    requires basis { basis_in P.bits_of setting.now subtx.now.tx ≡ one_key basis }
-    requires ready { MayChange basis (moment subtx.now pages.now) walk.old }
+    ghost context: { WalkContext }
+    requires context { context_in P.bits_of environment.now subtx.now.tx ≡ one_key context }
+    requires ready { MayChange context (local subtx.now pages.now) walk.old }
     requires found { IsAtAbsent walk.old.phase }
     requires full { (fields : BucketFields)
-        × IsFull basis walk.old (view_for basis (moment subtx.now pages.now)) fields }
-    ensures tells { TellsOfAddition basis
-        (moment subtx.now pages.now) walk.old walk.new value result }
+        × IsFull context walk.old (view_for context (local subtx.now pages.now)) fields }
+    ensures tells { TellsOfAddition context
+        (local subtx.now pages.now) walk.old walk.new value result }
     ensures unchanged { result ≢ WalkAnswer.Changed }
 {
     let Phase::AtBucket {
@@ -201,7 +201,7 @@ fn without_room<P: Pseudo>(
         unreachable!()
     };
     let (number, bucket) = held_bucket(walk, subtx, pages);
-    let (next, least) = next_pass(bucket, directory_depth, walk.key, setting);
+    let (next, least) = next_pass(bucket, directory_depth, walk.key, environment);
     if let Pass::First = walk.pass {
         walk.phase = Phase::Full(next);
         return WalkAnswer::NeedSplit;

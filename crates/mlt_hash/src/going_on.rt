@@ -1,16 +1,16 @@
 //! A wide pass goes on to another key.
 
 ghost use Rattle.std.specs.Prelude.{◌≡◌, ℕ, None};
-ghost use Rattle.mlt_hash_access.specs.Moments.{moment};
+ghost use Rattle.mlt_hash_access.specs.LocalStates.{local};
 ghost use Rattle.mlt_hash_access.specs.Views.{view_of};
-ghost use Rattle.mlt_hash.specs.Walks.{Basis, MayWalk, SlotsStood, basis_after, before_of, nothing_before};
+ghost use Rattle.mlt_hash.specs.Walks.{WalkContext, MayWalk, SlotsStood, context_after, before_of, nothing_before};
 ghost use Rattle.mlt_hash.specs.Changes.{IsChangedPhase};
 ghost use Rattle.mlt_hash.specs.declared.pass.Pass.TheVariants as pass;
 
 use crate::pass::Phase;
 use crate::walk::Walk;
 use mlt_hash_access::{LockedStore, read_held_head};
-use mlt_hash_form::{Place, Root};
+use mlt_hash_form::{DirSlot, Root};
 use mlt_page_subtx::Subtx;
 use mlt_types::{Key, Mode, Pseudo};
 
@@ -25,13 +25,13 @@ impl Walk {
         subtx: &Subtx,
         pages: &LockedStore,
     )
-        ghost basis: { Basis }
-        requires root { root.now.page ≡ basis.root }
-        requires bits { P.bits_of root.now.pseudo ≡ basis.bits }
-        requires first { basis.before ≡ nothing_before }
+        ghost context: { WalkContext }
+        requires root { root.now.page ≡ context.root }
+        requires bits { P.bits_of root.now.pseudo ≡ context.bits }
+        requires first { context.before ≡ nothing_before }
         requires wide { self.old.pass ≡ pass.Wide }
         requires changed { IsChangedPhase self.old.phase }
-        requires ready { MayWalk basis (moment subtx.now pages.now) self.old }
+        requires ready { MayWalk context (local subtx.now pages.now) self.old }
         ensures walk { (dir : ℕ) × (row : ℕ) × (depth : ℕ)
             × (self.new ≡ record self.old {
               key = key;
@@ -39,13 +39,13 @@ impl Walk {
               phase = Phase.Headed dir row depth;
               split = None;
             }) }
-        ensures ready { let m = moment subtx.now pages.now in
-            MayWalk (basis_after (before_of (view_of m)) basis) m self.new }
-        ensures stood { let m = moment subtx.now pages.now in
-            SlotsStood (view_of m).own basis.tx (view_of m) }
+        ensures ready { let m = local subtx.now pages.now in
+            MayWalk (context_after (before_of (view_of m)) context) m self.new }
+        ensures stood { let m = local subtx.now pages.now in
+            SlotsStood (view_of m).own context.tx (view_of m) }
     {
         let header = read_held_head(subtx, pages, root.page);
-        let place = Place::of(root.pseudo.bits(&key), header.depth);
+        let place = DirSlot::of(root.pseudo.bits(&key), header.depth);
         self.key = key;
         self.mode = Mode::Exclusive;
         self.phase = Phase::Headed {

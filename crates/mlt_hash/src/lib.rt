@@ -14,7 +14,7 @@ mod walk;
 mod walk_laws;
 
 pub use answer::WalkAnswer;
-pub use mlt_hash_split::Setting;
+pub use mlt_hash_split::Environment;
 pub use opening::open_file;
 pub use pass::{Change, Pass, Phase};
 pub use walk::Walk;

@@ -1,9 +1,9 @@
 //! The way of a walk to its bucket: each step locks one page and reads it.
 
 ghost use Rattle.std.specs.Prelude.{◌≡◌, ℕ, Option};
-ghost use Rattle.mlt_hash_access.specs.Moments.{moment};
+ghost use Rattle.mlt_hash_access.specs.LocalStates.{local};
 ghost use Rattle.mlt_hash_access.specs.PageSteps.{Leaves, LocksAtMost};
-ghost use Rattle.mlt_hash.specs.Walks.{Basis, MayWalk};
+ghost use Rattle.mlt_hash.specs.Walks.{WalkContext, MayWalk};
 ghost use Rattle.mlt_hash.specs.Changes.{page_of};
 ghost use Rattle.mlt_hash.specs.Steps.{TellsOfPath, next_page};
 
@@ -11,7 +11,7 @@ use crate::answer::WalkAnswer;
 use crate::pass::Phase;
 use crate::walk::Walk;
 use mlt_hash_access::{LockedStore, lock, read_held_bucket, read_held_dir, read_held_head};
-use mlt_hash_form::{Place, Root, value_in};
+use mlt_hash_form::{DirSlot, Root, value_in};
 use mlt_page_subtx::Subtx;
 use mlt_types::{PageNo, Pseudo};
 
@@ -23,23 +23,23 @@ pub(crate) fn read_header<P: Pseudo>(
     subtx: &Subtx,
     pages: &mut LockedStore,
 ) -> WalkAnswer
-    ghost basis: { Basis }
-    requires tx { subtx.now.tx ≡ basis.tx }
-    requires root { root.now.page ≡ basis.root }
-    requires bits { P.bits_of root.now.pseudo ≡ basis.bits }
+    ghost context: { WalkContext }
+    requires tx { subtx.now.tx ≡ context.tx }
+    requires root { root.now.page ≡ context.root }
+    requires bits { P.bits_of root.now.pseudo ≡ context.bits }
     requires phase { walk.old.phase ≡ Phase.Start }
-    requires ready { MayWalk basis (moment subtx.now pages.old) walk.old }
-    ensures leaves { Leaves (moment subtx.now pages.old) (moment subtx.now pages.new) }
-    ensures locks { LocksAtMost (moment subtx.now pages.old) (moment subtx.now pages.new)
-        (next_page basis.root walk.old.phase) }
-    ensures tells { TellsOfPath basis
-        (moment subtx.now pages.old) (moment subtx.now pages.new) walk.old walk.new result }
+    requires ready { MayWalk context (local subtx.now pages.old) walk.old }
+    ensures leaves { Leaves (local subtx.now pages.old) (local subtx.now pages.new) }
+    ensures locks { LocksAtMost (local subtx.now pages.old) (local subtx.now pages.new)
+        (next_page context.root walk.old.phase) }
+    ensures tells { TellsOfPath context
+        (local subtx.now pages.old) (local subtx.now pages.new) walk.old walk.new result }
 {
     if let Err(by) = lock(subtx, pages, root.page, walk.pass.header_mode()) {
         return WalkAnswer::Waiting(root.page, by);
     }
     let header = read_held_head(subtx, pages, root.page);
-    let place = Place::of(root.pseudo.bits(&walk.key), header.depth);
+    let place = DirSlot::of(root.pseudo.bits(&walk.key), header.depth);
     walk.phase = Phase::Headed {
         dir: header.dir(place.dir),
         row: place.entry,
@@ -59,17 +59,17 @@ pub(crate) fn read_directory<P: Pseudo>(
     subtx: &Subtx,
     pages: &mut LockedStore,
 ) -> WalkAnswer
-    ghost basis: { Basis }
-    requires tx { subtx.now.tx ≡ basis.tx }
-    requires root { root.now.page ≡ basis.root }
-    requires bits { P.bits_of root.now.pseudo ≡ basis.bits }
+    ghost context: { WalkContext }
+    requires tx { subtx.now.tx ≡ context.tx }
+    requires root { root.now.page ≡ context.root }
+    requires bits { P.bits_of root.now.pseudo ≡ context.bits }
     requires phase { walk.old.phase ≡ Phase.Headed number row depth }
-    requires ready { MayWalk basis (moment subtx.now pages.old) walk.old }
-    ensures leaves { Leaves (moment subtx.now pages.old) (moment subtx.now pages.new) }
-    ensures locks { LocksAtMost (moment subtx.now pages.old) (moment subtx.now pages.new)
-        (next_page basis.root walk.old.phase) }
-    ensures tells { TellsOfPath basis
-        (moment subtx.now pages.old) (moment subtx.now pages.new) walk.old walk.new result }
+    requires ready { MayWalk context (local subtx.now pages.old) walk.old }
+    ensures leaves { Leaves (local subtx.now pages.old) (local subtx.now pages.new) }
+    ensures locks { LocksAtMost (local subtx.now pages.old) (local subtx.now pages.new)
+        (next_page context.root walk.old.phase) }
+    ensures tells { TellsOfPath context
+        (local subtx.now pages.old) (local subtx.now pages.new) walk.old walk.new result }
 {
     if let Err(by) = lock(subtx, pages, number, walk.pass.directory_mode()) {
         return WalkAnswer::Waiting(number, by);
@@ -89,17 +89,17 @@ pub(crate) fn read_bucket<P: Pseudo>(
     subtx: &Subtx,
     pages: &mut LockedStore,
 ) -> WalkAnswer
-    ghost basis: { Basis }
-    requires tx { subtx.now.tx ≡ basis.tx }
-    requires root { root.now.page ≡ basis.root }
-    requires bits { P.bits_of root.now.pseudo ≡ basis.bits }
+    ghost context: { WalkContext }
+    requires tx { subtx.now.tx ≡ context.tx }
+    requires root { root.now.page ≡ context.root }
+    requires bits { P.bits_of root.now.pseudo ≡ context.bits }
     requires phase { walk.old.phase ≡ Phase.Placed number depth }
-    requires ready { MayWalk basis (moment subtx.now pages.old) walk.old }
-    ensures leaves { Leaves (moment subtx.now pages.old) (moment subtx.now pages.new) }
-    ensures locks { LocksAtMost (moment subtx.now pages.old) (moment subtx.now pages.new)
+    requires ready { MayWalk context (local subtx.now pages.old) walk.old }
+    ensures leaves { Leaves (local subtx.now pages.old) (local subtx.now pages.new) }
+    ensures locks { LocksAtMost (local subtx.now pages.old) (local subtx.now pages.new)
         (page_of walk.new.phase) }
-    ensures tells { TellsOfPath basis
-        (moment subtx.now pages.old) (moment subtx.now pages.new) walk.old walk.new result }
+    ensures tells { TellsOfPath context
+        (local subtx.now pages.old) (local subtx.now pages.new) walk.old walk.new result }
 {
     let mode = walk.pass.bucket_mode(walk.mode);
     if let Err(by) = lock(subtx, pages, number, mode) {

@@ -6,7 +6,7 @@ ghost use Rattle.mlt_hash.specs.Passes.{HasRoomFrom, IsNextPass, NeverHasRoom};
 
 use crate::pass::Pass;
 use mlt_hash_form::depth_with_room;
-use mlt_hash_split::Setting;
+use mlt_hash_split::Environment;
 use mlt_page::Bucket;
 use mlt_types::{Key, Pseudo};
 
@@ -17,24 +17,25 @@ pub(crate) fn next_pass<P: Pseudo>(
     bucket: &Bucket,
     directory_depth: u8,
     key: Key,
-    setting: &Setting<P>,
+    environment: &Environment<P>,
 ) -> (Pass, Option<u8>)
-    requires depth { setting.now.root.now.max_depth ≤ 16 }
+    requires depth { environment.now.root.now.max_depth ≤ 16 }
     requires bucket { bucket.now.depth ≤ 16 }
-    ensures pass { IsNextPass (crowded_in P.bits_of setting.now key bucket.now.slots)
-        bucket.now.depth setting.now.root.now.max_depth directory_depth result.0 }
-    ensures depth { let crowded = crowded_in P.bits_of setting.now key bucket.now.slots in
-        MatchOption result.1 (NeverHasRoom crowded bucket.now.depth setting.now.root.now.max_depth)
-        (λ d. HasRoomFrom crowded bucket.now.depth setting.now.root.now.max_depth d) }
+    ensures pass { IsNextPass (crowded_in P.bits_of environment.now key bucket.now.slots)
+        bucket.now.depth environment.now.root.now.max_depth directory_depth result.0 }
+    ensures depth { let crowded = crowded_in P.bits_of environment.now key bucket.now.slots in
+        MatchOption result.1 (NeverHasRoom crowded bucket.now.depth
+        environment.now.root.now.max_depth)
+        (λ d. HasRoomFrom crowded bucket.now.depth environment.now.root.now.max_depth d) }
     ensures narrow { result.0 ≡ Pass.Narrow
         → MatchOption result.1 (bucket.now.depth ≤ directory_depth) (λ d. d ≤ directory_depth) }
 {
     let least = depth_with_room(
         bucket,
-        setting.root.max_depth,
-        setting.root.pseudo.bits(&key),
-        &setting.root.pseudo,
-        setting.opens,
+        environment.root.max_depth,
+        environment.root.pseudo.bits(&key),
+        &environment.root.pseudo,
+        environment.active,
     );
     let needed = least.unwrap_or(bucket.depth);
     let pass = if needed <= directory_depth && directory_depth <= bucket.depth + 8 {

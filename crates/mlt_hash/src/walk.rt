@@ -2,10 +2,10 @@
 
 ghost use Rattle.std.specs.Prelude.{◌≡◌, ◌≤◌, ◌↔◌, ℕ, IsTrue, Option, None};
 ghost use Rattle.std.specs.FinMap as map;
-ghost use Rattle.mlt_hash_access.specs.Moments.{moment};
+ghost use Rattle.mlt_hash_access.specs.LocalStates.{local};
 ghost use Rattle.mlt_hash_access.specs.PageSteps.{HasNoPageLeft, Leaves};
 ghost use Rattle.mlt_hash.specs.Passes.{next_of};
-ghost use Rattle.mlt_hash.specs.Walks.{Basis, MayWalk, basis_in, one_key};
+ghost use Rattle.mlt_hash.specs.Walks.{WalkContext, MayWalk, context_in, one_key};
 ghost use Rattle.mlt_hash.specs.Changes.{page_of};
 ghost use Rattle.mlt_hash.specs.Splitting.{HasToMake, IsUnderWay, TellsAt};
 ghost use Rattle.mlt_hash.specs.Steps.{LocksIfFound};
@@ -15,7 +15,7 @@ use crate::answer::WalkAnswer;
 use crate::pass::{Pass, Phase};
 use crate::path::{read_bucket, read_directory, read_header};
 use mlt_hash_access::LockedStore;
-use mlt_hash_split::{Setting, Split};
+use mlt_hash_split::{Environment, Split};
 use mlt_page_subtx::Subtx;
 use mlt_types::{Key, Mode, Pseudo, Refusal};
 use std::alloc::Global;
@@ -121,34 +121,42 @@ impl Walk {
     #[inline(always)]
     pub fn advance<P: Pseudo>(
         &mut self,
-        setting: &Setting<P>,
+        environment: &Environment<P>,
         subtx: &mut Subtx,
         pages: &mut LockedStore,
     ) -> WalkAnswer
-        ghost basis: { Basis }
-        requires basis { basis_in P.bits_of setting.now subtx.old.tx ≡ one_key basis }
+        ghost context: { WalkContext }
+        requires context { context_in P.bits_of environment.now subtx.old.tx ≡ one_key context }
         requires under_way { IsUnderWay self.old.phase }
-        requires ready { MayWalk basis (moment subtx.old pages.old) self.old }
-        ensures leaves { Leaves (moment subtx.old pages.old) (moment subtx.new pages.new) }
-        ensures locks { LocksIfFound (moment subtx.old pages.old) (moment subtx.new pages.new)
+        requires ready { MayWalk context (local subtx.old pages.old) self.old }
+        ensures leaves { Leaves (local subtx.old pages.old) (local subtx.new pages.new) }
+        ensures locks { LocksIfFound (local subtx.old pages.old) (local subtx.new pages.new)
             (page_of self.new.phase) result }
         ensures no_room { (result ≡ WalkAnswer.Refused Refusal.NoRoom)
-            ↔ (HasToMake self.old.phase basis (moment subtx.old pages.old) self.old
+            ↔ (HasToMake self.old.phase context (local subtx.old pages.old) self.old
             × HasNoPageLeft pages.old.store) }
-        ensures tells { TellsAt self.old.phase basis
-            (moment subtx.old pages.old) (moment subtx.new pages.new) self.old self.new result }
+        ensures tells { TellsAt self.old.phase context
+            (local subtx.old pages.old) (local subtx.new pages.new) self.old self.new result }
     {
         // A copy: matched in place, what the arms take of the walk is not proved.
         let phase = self.phase;
         match phase {
-            Phase::Start => read_header(self, setting.root, subtx, pages),
+            Phase::Start => read_header(self, environment.root, subtx, pages),
             Phase::Headed {
                 dir,
                 row,
                 directory_depth,
-            } => read_directory(self, dir, row, directory_depth, setting.root, subtx, pages),
+            } => read_directory(
+                self,
+                dir,
+                row,
+                directory_depth,
+                environment.root,
+                subtx,
+                pages,
+            ),
             Phase::Placed(bucket, depth) => {
-                read_bucket(self, bucket, depth, setting.root, subtx, pages)
+                read_bucket(self, bucket, depth, environment.root, subtx, pages)
             }
             Phase::Adding {
                 value,
@@ -157,11 +165,18 @@ impl Walk {
                 unsplit,
             } => {
                 add_or_split(
-                    self, value, bucket, room_depth, unsplit, setting, subtx, pages,
+                    self,
+                    value,
+                    bucket,
+                    room_depth,
+                    unsplit,
+                    environment,
+                    subtx,
+                    pages,
                 )
             }
             Phase::Splitting(value, depth) => {
-                go_on_splitting(self, value, depth, setting, subtx, pages)
+                go_on_splitting(self, value, depth, environment, subtx, pages)
             }
             Phase::AtBucket { .. } | Phase::Full(_) | Phase::Changed(_, _) => unreachable!(),
         }

@@ -1,5 +1,5 @@
 pub mod Leaving
-pub mod Moments
+pub mod LocalStates
 pub mod OwnSteps
 pub mod Reading
 pub mod Rebased

@@ -5,9 +5,9 @@ use Rattle.std.proofs.lemmas.Bool.{false≢true}
 use Rattle.mlt_types.specs.declared.mode.Mode.{Mode}
 use Rattle.mlt_page.specs.declared.page.Page.{Page}
 use Rattle.mlt_hash_form.specs.File.{FilePages}
-use Rattle.mlt_hash_form.specs.Held.{Agrees, over, own_or}
+use Rattle.mlt_hash_form.specs.Held.{Agrees, over, own_or_clean}
 use Rattle.mlt_hash_form.proofs.HeldPages.{seen_as}
-use Rattle.mlt_hash_access.specs.Moments.{MayStep, Moment}
+use Rattle.mlt_hash_access.specs.LocalStates.{MayStep, LocalState}
 use Rattle.mlt_hash_access.specs.PageSteps.{TouchesOnePage}
 use Rattle.mlt_hash_access.specs.Views.{HasWritten, MakesPage, ReadsHeldPage, ReadsPage, View, WritesPage, rebased, seen_with, view_of}
 use Rattle.mlt_hash_access.proofs.OwnSteps.{own_step_sees_more, own_step_writes_more}
@@ -20,16 +20,16 @@ pub same_some : {X : Type 0} (x y : X) → Some x ≡ Some y → x ≡ y
 same_some x y same = cc
 
 -- one page, of which `w` was written before
-over_agrees : (w : Option Page) (seen : Option (Option Page)) (clean p : Option Page) → ((first : Option Page) → seen ≡ Some first → clean ≡ first) → seen_with w seen ≡ Some p → own_or w clean ≡ p
+over_agrees : (w : Option Page) (seen : Option (Option Page)) (clean p : Option Page) → ((first : Option Page) → seen ≡ Some first → clean ≡ first) → seen_with w seen ≡ Some p → own_or_clean w clean ≡ p
 over_agrees None seen clean p agree sees = agree p sees
 over_agrees (Some page) seen clean p agree sees = same_some (Some page) p sees
 
-clean_below : (w : Option Page) (seen : Option (Option Page)) (now : Option Page) → ((p : Option Page) → seen_with w seen ≡ Some p → now ≡ p) → own_or w (unwrap_or seen now) ≡ now
+clean_below : (w : Option Page) (seen : Option (Option Page)) (now : Option Page) → ((p : Option Page) → seen_with w seen ≡ Some p → now ≡ p) → own_or_clean w (unwrap_or seen now) ≡ now
 clean_below None None now agree = refl
 clean_below None (Some first) now agree = sym (agree first refl)
 clean_below (Some page) seen now agree = sym (agree (Some page) refl)
 
-seen_first : (w : Option Page) (seen : Option (Option Page)) (first : Option Page) → seen ≡ Some first → seen_with w seen ≡ Some (own_or w first)
+seen_first : (w : Option Page) (seen : Option (Option Page)) (first : Option Page) → seen ≡ Some first → seen_with w seen ≡ Some (own_or_clean w first)
 seen_first None seen first sees = sees
 seen_first (Some page) seen first sees = refl
 
@@ -37,13 +37,13 @@ pub seen_more : (w : Option Page) (old new : Option (Option Page)) (first : Opti
 seen_more None old new first more sees = more sees
 seen_more (Some page) old new first more sees = sees
 
-pub written_over : (w own first : Option Page) → (is_some w ≡ true → is_some own ≡ true) → own_or own (own_or w first) ≡ own_or own first
+pub written_over : (w own first : Option Page) → (is_some w ≡ true → is_some own ≡ true) → own_or_clean own (own_or_clean w first) ≡ own_or_clean own first
 written_over None own first written = refl
 written_over (Some page) None first written = absurd (false≢true (written refl))
 written_over (Some page) (Some own) first written = refl
 
-read_first : (w own : Option Page) (seen : Option (Option Page)) (first : Option Page) (page : Page) → (is_some w ≡ true → (is_some seen ≡ true) × (is_some own ≡ true)) → seen_with w seen ≡ Some first → own_or own first ≡ Some page
-    → (was : Option Page) × (seen ≡ Some was) × (own_or own was ≡ Some page)
+read_first : (w own : Option Page) (seen : Option (Option Page)) (first : Option Page) (page : Page) → (is_some w ≡ true → (is_some seen ≡ true) × (is_some own ≡ true)) → seen_with w seen ≡ Some first → own_or_clean own first ≡ Some page
+    → (was : Option Page) × (seen ≡ Some was) × (own_or_clean own was ≡ Some page)
 read_first None own seen first page written sees reads = (first, sees, reads)
 read_first (Some before) None seen first page written sees reads = absurd (false≢true (written refl).1)
 read_first (Some before) (Some own) seen first page written sees reads = let was = seen_as seen (written refl).0 in (was.0, was.1, reads)
@@ -66,7 +66,7 @@ module _ (before : FilePages) (view : View) where
     pub rebased_reads : (q : ℕ) (page : Page) → ReadsHeldPage (rebased before view) q page ↔ ReadsHeldPage view q page
     rebased_reads q page = (
       λ reads. read_first (before q) (view.own q) (view.seen q) reads.0 page (written q) reads.1 reads.2,
-      λ reads. (own_or (before q) reads.0, seen_first (before q) (view.seen q) reads.0 reads.1, written_over (before q) (view.own q) reads.0 (λ some. (written q some).1) ∙ reads.2),
+      λ reads. (own_or_clean (before q) reads.0, seen_first (before q) (view.seen q) reads.0 reads.1, written_over (before q) (view.own q) reads.0 (λ some. (written q some).1) ∙ reads.2),
     )
 
 -- **Each step on a page is the same step of the rebased view.**
@@ -77,7 +77,7 @@ module _ (before : FilePages) (old new : View) (written : HasWritten before old)
     own = reads.own;
     before = λ p first. seen_more (before p) (old.seen p) (new.seen p) first (reads.before p first);
     others = λ p elsewhere. ap (seen_with (before p)) (reads.others p elsewhere);
-    first = own_or (before q) reads.first;
+    first = own_or_clean (before q) reads.first;
     here = seen_first (before q) (new.seen q) reads.first reads.here;
     reads = written_over (before q) (old.own q) reads.first (λ some. (written q some).1) ∙ reads.reads;
   }
@@ -104,7 +104,7 @@ rebased_writes_page before old new q page writes = record {
 }
 
 -- **What was written before stays held and written through the transaction's own steps.**
-pub written_stays : (before : FilePages) (old new : Moment) → MayStep old → TouchesOnePage old new → HasWritten before (view_of old) → HasWritten before (view_of new)
+pub written_stays : (before : FilePages) (old new : LocalState) → MayStep old → TouchesOnePage old new → HasWritten before (view_of old) → HasWritten before (view_of new)
 written_stays before old new may touches written q some =
     let was = seen_as ((view_of old).seen q) (written q some).0 in
     (ap is_some (own_step_sees_more old new q was.0 may touches was.1), own_step_writes_more old new may touches q (written q some).1)

@@ -10,8 +10,8 @@ use Rattle.mlt_page.specs.declared.slot.Slot.{Slot}
 use Rattle.mlt_page.specs.Pages.{page_with_slot}
 use Rattle.mlt_page_store.specs.Stores.{page_at}
 use Rattle.mlt_hash_form.specs.File.{FilePages}
-use Rattle.mlt_hash_form.specs.Held.{Agrees, over, own_or}
-use Rattle.mlt_hash_access.specs.Moments.{IsCleanFor, MayStep, Moment, no_writes}
+use Rattle.mlt_hash_form.specs.Held.{Agrees, over, own_or_clean}
+use Rattle.mlt_hash_access.specs.LocalStates.{IsCleanFor, MayStep, LocalState, no_writes}
 use Rattle.mlt_hash_access.specs.PageSteps.{TouchesOnePage}
 use Rattle.mlt_hash_access.specs.Views.{HasWritten, IsUnwritten, IsUnwrittenSince, ReadsHeldPage, ReadsPage, View, WritesSlot, rebased, seen_with, view_of, view_over}
 use Rattle.mlt_hash_access.proofs.OwnSteps.{own_step_sees_more}
@@ -26,7 +26,7 @@ pub unwritten_anew : (view : View) → IsUnwritten view → IsUnwrittenSince no_
 unwritten_anew view none = record { own = none; seen = λ q page is. absurd (false≢true (ap is_some is)) }
 
 -- clean pages with these writes over them agree with what is seen
-pub agrees_over : (before : FilePages) (m : Moment) (clean : ℕ → Option Page) → MayStep m → IsCleanFor m clean → Agrees (view_over before m).seen (over clean before)
+pub agrees_over : (before : FilePages) (m : LocalState) (clean : ℕ → Option Page) → MayStep m → IsCleanFor m clean → Agrees (view_over before m).seen (over clean before)
 agrees_over before m clean may is_clean = rebased_agrees before (view_of m) clean (agrees m clean may is_clean)
 
 some_with : (w : Option Page) (o : Option (Option Page)) → is_some o ≡ true → is_some (seen_with w o) ≡ true
@@ -34,12 +34,12 @@ some_with None o held = held
 some_with (Some page) o held = refl
 
 -- one page that is held reads over what was written as it reads
-pub read_over_writes : (w own : Option Page) (seen : Option (Option Page)) → (is_some w ≡ true → is_some own ≡ true) → own_or own (unwrap_or (seen_with w seen) None) ≡ own_or own (unwrap_or seen None)
+pub read_over_writes : (w own : Option Page) (seen : Option (Option Page)) → (is_some w ≡ true → is_some own ≡ true) → own_or_clean own (unwrap_or (seen_with w seen) None) ≡ own_or_clean own (unwrap_or seen None)
 read_over_writes None own seen written = refl
 read_over_writes (Some page) None seen written = absurd (false≢true (written refl))
 read_over_writes (Some page) (Some own) seen written = refl
 
-module _ (before : FilePages) (m : Moment) where
+module _ (before : FilePages) (m : LocalState) where
   -- a page that is held in some mode was seen
   pub seen_over_held : (q : ℕ) (mode : Mode) → map.get (view_of m).modes q ≡ Some mode → is_some ((view_over before m).seen q) ≡ true
   seen_over_held q mode held = some_with (before q) ((view_of m).seen q) (ap is_some (seen_held m q (may_read m q mode held)))
@@ -59,7 +59,7 @@ module _ (before : FilePages) (m : Moment) where
         over_is_there m clean q may is_clean (ap is_some (sym (written_over (before q) ((view_of m).own q) (clean q) (λ some. (written q some).1))) ∙ some)
 
 -- what is seen over what was written before only grows
-pub over_sees_more : (before : FilePages) (old new : Moment) (q : ℕ) (first : Option Page) → MayStep old → TouchesOnePage old new → (view_over before old).seen q ≡ Some first → (view_over before new).seen q ≡ Some first
+pub over_sees_more : (before : FilePages) (old new : LocalState) (q : ℕ) (first : Option Page) → MayStep old → TouchesOnePage old new → (view_over before old).seen q ≡ Some first → (view_over before new).seen q ≡ Some first
 over_sees_more before old new q first may touches = seen_more (before q) ((view_of old).seen q) ((view_of new).seen q) first (own_step_sees_more old new q first may touches)
 
 -- a slot of a held bucket is written over it
@@ -67,17 +67,17 @@ pub rebased_writes_slot : (before : FilePages) (old new : View) (q i : ℕ) (s :
 rebased_writes_slot before old new q i s written writes bucket reads = rebased_writes_page before old new q (page_with_slot bucket i s) (writes bucket ((rebased_reads before old written q (page.Bucket bucket)).0 reads))
 
 -- one page that reads as it was written before
-read_same : (w own : Option Page) (seen : Option (Option Page)) (first : Option Page) → own ≡ w → ((p : Page) → w ≡ Some p → seen ≡ Some (Some p)) → seen ≡ Some first → own_or own first ≡ first
-read_same None own seen first is sees here = ap (λ o. own_or o first) is
-read_same (Some p) own seen first is sees here = ap (λ o. own_or o first) is ∙ (let both : Some (Some p) ≡ Some first = sym (sees p refl) ∙ here in let same : Some p ≡ first = cc in same)
+read_same : (w own : Option Page) (seen : Option (Option Page)) (first : Option Page) → own ≡ w → ((p : Page) → w ≡ Some p → seen ≡ Some (Some p)) → seen ≡ Some first → own_or_clean own first ≡ first
+read_same None own seen first is sees here = ap (λ o. own_or_clean o first) is
+read_same (Some p) own seen first is sees here = ap (λ o. own_or_clean o first) is ∙ (let both : Some (Some p) ≡ Some first = sym (sees p refl) ∙ here in let same : Some p ≡ first = cc in same)
 
-over_same : (w own : Option Page) (seen : Option (Option Page)) (clean : Option Page) → own ≡ w → ((p : Page) → w ≡ Some p → seen ≡ Some (Some p)) → ((p : Option Page) → seen ≡ Some p → clean ≡ p) → own_or own clean ≡ clean
-over_same None own seen clean is sees agree = ap (λ o. own_or o clean) is
-over_same (Some p) own seen clean is sees agree = ap (λ o. own_or o clean) is ∙ sym (agree (Some p) (sees p refl))
+over_same : (w own : Option Page) (seen : Option (Option Page)) (clean : Option Page) → own ≡ w → ((p : Page) → w ≡ Some p → seen ≡ Some (Some p)) → ((p : Option Page) → seen ≡ Some p → clean ≡ p) → own_or_clean own clean ≡ clean
+over_same None own seen clean is sees agree = ap (λ o. own_or_clean o clean) is
+over_same (Some p) own seen clean is sees agree = ap (λ o. own_or_clean o clean) is ∙ sym (agree (Some p) (sees p refl))
 
 -- **Where nothing is written since, what is read is what is seen,**
 module _ (before : FilePages) (view : View) (unwritten : IsUnwrittenSince before view) where
-  pub reads_since : (q : ℕ) (first : Option Page) → view.seen q ≡ Some first → own_or (view.own q) first ≡ first
+  pub reads_since : (q : ℕ) (first : Option Page) → view.seen q ≡ Some first → own_or_clean (view.own q) first ≡ first
   reads_since q first = read_same (before q) (view.own q) (view.seen q) first (unwritten.own q) (unwritten.seen q)
 
   pub over_since : (clean : FilePages) → Agrees view.seen clean → over clean view.own ≡ clean
@@ -96,16 +96,16 @@ still_unwritten before old new q mode page unwritten reads = record {
 }
 
 -- **All that is written so far may be what was written before:** it is held, nothing is written since, and what was read is seen.
-pub all_written : (m : Moment) → MayStep m → HasWritten (view_of m).own (view_of m)
+pub all_written : (m : LocalState) → MayStep m → HasWritten (view_of m).own (view_of m)
 all_written m may q some = (ap is_some (seen_held m q (may_read m q Exclusive (written_is_exclusive m q may some))), some)
 
 pub nothing_since : (view : View) → IsUnwrittenSince view.own (rebased view.own view)
 nothing_since view = record { own = λ q. refl; seen = λ q page is. ap (λ w. seen_with w (view.seen q)) is }
 
-seen_as_read : (own : Option Page) (seen : Option (Option Page)) (page : Page) → is_some seen ≡ true → own_or own (unwrap_or seen None) ≡ Some page → seen_with own seen ≡ Some (Some page)
+seen_as_read : (own : Option Page) (seen : Option (Option Page)) (page : Page) → is_some seen ≡ true → own_or_clean own (unwrap_or seen None) ≡ Some page → seen_with own seen ≡ Some (Some page)
 seen_as_read None None page held reads = absurd (false≢true held)
 seen_as_read None (Some first) page held reads = ap Some reads
 seen_as_read (Some own) seen page held reads = ap Some reads
 
-pub read_is_seen : (view : View) (q : ℕ) (page : Page) → is_some (view.seen q) ≡ true → own_or (view.own q) (unwrap_or (view.seen q) None) ≡ Some page → (rebased view.own view).seen q ≡ Some (Some page)
+pub read_is_seen : (view : View) (q : ℕ) (page : Page) → is_some (view.seen q) ≡ true → own_or_clean (view.own q) (unwrap_or (view.seen q) None) ≡ Some page → (rebased view.own view).seen q ≡ Some (Some page)
 read_is_seen view q page held reads = seen_as_read (view.own q) (view.seen q) page held reads

@@ -1,4 +1,4 @@
--- What the view of a moment has, what each step changes of it, and what follows for the clean pages
+-- What the view of a state has, what each step changes of it, and what follows for the clean pages
 use Rattle.std.proofs.Common.{◌≡◌, ◌≢◌, ℕ, ◌≤◌, ◌+◌, Bool, false, true, cond, Option, None, Some, is_some, refl, sym, ap, subst, ◌∙◌, inl, inr, arith}
 use Rattle.std.specs.Prelude.{◌↔◌}
 use Rattle.std.specs.Cmp.{nat_cmp_total}
@@ -17,42 +17,42 @@ use Rattle.mlt_page_locks.proofs.LockLaws.{can_read-granted, pages_of-granted, w
 use Rattle.mlt_page_subtx.specs.Images.{Images, image_of, or_image, with_image}
 use Rattle.mlt_page_subtx.proofs.ImageLaws.{fresh_has_no_image, image_of-with_image, not_true}
 use Rattle.mlt_hash_form.specs.File.{Writes}
-use Rattle.mlt_hash_form.specs.Held.{Agrees, over, own_or}
+use Rattle.mlt_hash_form.specs.Held.{Agrees, over, own_or_clean}
 use Rattle.mlt_hash_form.proofs.HeldPages.{writes_over}
-use Rattle.mlt_hash_access.specs.Moments.{IsCleanFor, MayStep, Moment, page_before}
+use Rattle.mlt_hash_access.specs.LocalStates.{IsCleanFor, MayStep, LocalState, page_before}
 use Rattle.mlt_hash_access.specs.PageSteps.{LocksPage, MakesLockedPage, WritesHeldPage}
 use Rattle.mlt_hash_access.specs.Views.{MakesPage, ReadsHeldPage, ReadsPage, SeesPage, View, WritesPage, own_at, page_written, seen_at, view_of}
-use Rattle.mlt_hash_access.proofs.Moments.{fresh_is_free, is_locked, is_made, is_written, locked, made, page_before-made, page_before-written, written}
+use Rattle.mlt_hash_access.proofs.LocalStates.{fresh_is_free, is_locked, is_made, is_written, locked, made, page_before-made, page_before-written, written}
 
 some_if : {X : Type 0} (b : Bool) (x y : X) → cond b (Some x) None ≡ Some y → (b ≡ true) × (x ≡ y)
 some_if true x y e = (refl, cc)
 some_if false x y e = let none : None ≡ Some y = e in (cc, cc)
 
 -- a page of the view is held, and the clean page is what the transaction sees with its image put back
-pub seen_is_held : (m : Moment) (q : ℕ) (first : Option Page) → seen_at m q ≡ Some first → (can_read m.locks m.running.tx q ≡ true) × (page_before m.running.images m.store.pages q ≡ first)
+pub seen_is_held : (m : LocalState) (q : ℕ) (first : Option Page) → seen_at m q ≡ Some first → (can_read m.locks m.running.tx q ≡ true) × (page_before m.running.images m.store.pages q ≡ first)
 seen_is_held m q first sees = some_if (can_read m.locks m.running.tx q) (page_before m.running.images m.store.pages q) first sees
 
-pub seen_held : (m : Moment) (q : ℕ) → can_read m.locks m.running.tx q ≡ true → seen_at m q ≡ Some (page_before m.running.images m.store.pages q)
+pub seen_held : (m : LocalState) (q : ℕ) → can_read m.locks m.running.tx q ≡ true → seen_at m q ≡ Some (page_before m.running.images m.store.pages q)
 seen_held m q held = ap (λ b. cond b (Some (page_before m.running.images m.store.pages q)) None) held
 
-pub seen_free : (m : Moment) (q : ℕ) → can_read m.locks m.running.tx q ≡ false → seen_at m q ≡ None
+pub seen_free : (m : LocalState) (q : ℕ) → can_read m.locks m.running.tx q ≡ false → seen_at m q ≡ None
 seen_free m q free = ap (λ b. cond b (Some (page_before m.running.images m.store.pages q)) None) free
 
-pub own_held : (m : Moment) (q : ℕ) → can_read m.locks m.running.tx q ≡ true → own_at m q ≡ page_written (image_of m.running.images q) (page_at m.store.pages q)
+pub own_held : (m : LocalState) (q : ℕ) → can_read m.locks m.running.tx q ≡ true → own_at m q ≡ page_written (image_of m.running.images q) (page_at m.store.pages q)
 own_held m q held = ap (λ b. cond b (page_written (image_of m.running.images q) (page_at m.store.pages q)) None) held
 
-pub own_free : (m : Moment) (q : ℕ) → can_read m.locks m.running.tx q ≡ false → own_at m q ≡ None
+pub own_free : (m : LocalState) (q : ℕ) → can_read m.locks m.running.tx q ≡ false → own_at m q ≡ None
 own_free m q free = ap (λ b. cond b (page_written (image_of m.running.images q) (page_at m.store.pages q)) None) free
 
 -- **What a transaction saw is on the clean pages.**
-pub agrees : (m : Moment) (clean : ℕ → Option Page) → MayStep m → IsCleanFor m clean → Agrees (view_of m).seen clean
+pub agrees : (m : LocalState) (clean : ℕ → Option Page) → MayStep m → IsCleanFor m clean → Agrees (view_of m).seen clean
 agrees m clean may is q first sees =
     let held = seen_is_held m q first sees in
     is.seen q (λ u ne. not_true (can_write m.locks u q) (λ writes. ne (may.compatible u m.running.tx q writes held.0))) ∙ held.1
 
 -- clean pages that agree have, with the transaction's writes, the page that was read
 pub reads_over : (old new : View) (q : ℕ) (mode : Mode) (page : Option Page) (clean : ℕ → Option Page) → ReadsPage old new q mode page → Agrees new.seen clean → over clean old.own q ≡ page
-reads_over old new q mode page clean reads agree = ap (own_or (old.own q)) (agree q reads.first reads.here) ∙ reads.reads
+reads_over old new q mode page clean reads agree = ap (own_or_clean (old.own q)) (agree q reads.first reads.here) ∙ reads.reads
 
 -- a page that was made is on no clean pages that agree,
 pub made_is_not_clean : (old new : View) (q : ℕ) (page : Page) (clean : ℕ → Option Page) → MakesPage old new q page → Agrees new.seen clean → clean q ≡ None
@@ -78,14 +78,14 @@ agrees_through_write old new q page clean writes = (λ agree p first sees. agree
 pub writes_over_clean : (old new : View) (q : ℕ) (page : Page) (clean : ℕ → Option Page) → WritesPage old new q page → Writes (over clean old.own) (over clean new.own) q page
 writes_over_clean old new q page clean writes = writes_over clean old.own new.own q page writes.here writes.others
 
-has_written : (b : Bool) (image : Option (Option Page)) (page clean : Option Page) → (is_some clean ≡ true → is_some page ≡ true) → is_some (own_or (cond b (page_written image page) None) clean) ≡ true → is_some page ≡ true
+has_written : (b : Bool) (image : Option (Option Page)) (page clean : Option Page) → (is_some clean ≡ true → is_some page ≡ true) → is_some (own_or_clean (cond b (page_written image page) None) clean) ≡ true → is_some page ≡ true
 has_written true None page clean there some = there some
 has_written true (Some first) None clean there some = there some
 has_written true (Some first) (Some page) clean there some = refl
 has_written false image page clean there some = there some
 
 -- what clean pages with a transaction's writes have is in the store
-pub over_is_there : (m : Moment) (clean : ℕ → Option Page) (q : ℕ) → MayStep m → IsCleanFor m clean → is_some (over clean (view_of m).own q) ≡ true → is_some (page_at m.store.pages q) ≡ true
+pub over_is_there : (m : LocalState) (clean : ℕ → Option Page) (q : ℕ) → MayStep m → IsCleanFor m clean → is_some (over clean (view_of m).own q) ≡ true → is_some (page_at m.store.pages q) ≡ true
 over_is_there m clean q may is some = has_written (can_read m.locks m.running.tx q) (image_of m.running.images q) (page_at m.store.pages q) (clean q) (is.there q) some
 
 is_exclusively : (held : Option Mode) → allows_write held ≡ true → held ≡ Some Exclusive
@@ -94,17 +94,17 @@ is_exclusively (Some Shared) writes = absurd (false≢true writes)
 is_exclusively (Some Exclusive) writes = refl
 
 -- who may write a page holds it exclusively
-pub holds_exclusively : (m : Moment) (q : ℕ) → can_write m.locks m.running.tx q ≡ true → map.get (view_of m).modes q ≡ Some Exclusive
+pub holds_exclusively : (m : LocalState) (q : ℕ) → can_write m.locks m.running.tx q ≡ true → map.get (view_of m).modes q ≡ Some Exclusive
 holds_exclusively m q writes = is_exclusively (map.get (pages_of m.locks m.running.tx) q) writes
 
-pub may_write : (m : Moment) (q : ℕ) → map.get (view_of m).modes q ≡ Some Exclusive → can_write m.locks m.running.tx q ≡ true
+pub may_write : (m : LocalState) (q : ℕ) → map.get (view_of m).modes q ≡ Some Exclusive → can_write m.locks m.running.tx q ≡ true
 may_write m q held = ap allows_write held
 
 -- who holds a page in any mode may read it
-pub may_read : (m : Moment) (q : ℕ) (mode : Mode) → map.get (view_of m).modes q ≡ Some mode → can_read m.locks m.running.tx q ≡ true
+pub may_read : (m : LocalState) (q : ℕ) (mode : Mode) → map.get (view_of m).modes q ≡ Some mode → can_read m.locks m.running.tx q ≡ true
 may_read m q mode held = ap is_some held
 
-pub page_count_of_view : (m : Moment) → page_count m.locks m.running.tx ≡ map.len (view_of m).modes
+pub page_count_of_view : (m : LocalState) → page_count m.locks m.running.tx ≡ map.len (view_of m).modes
 page_count_of_view m = refl
 
 one_page_more : (old new : Modes) (q : ℕ) (mode : Mode) → new ≡ with_page old q mode → map.len new ≤ map.len old + 1
@@ -115,19 +115,19 @@ pub count_after_read : (old new : View) (q : ℕ) (mode : Mode) (page : Option P
 count_after_read old new q mode page reads = one_page_more old.modes new.modes q mode reads.modes
 
 -- a page with an image is held
-image_is_held : (m : Moment) (q : ℕ) → MayStep m → is_some (image_of m.running.images q) ≡ true → can_read m.locks m.running.tx q ≡ true
+image_is_held : (m : LocalState) (q : ℕ) → MayStep m → is_some (image_of m.running.images q) ≡ true → can_read m.locks m.running.tx q ≡ true
 image_is_held m q may some = writer_reads m.locks m.running.tx q (may.images_locked q some)
 
-reads_back : (b : Bool) (image : Option (Option Page)) (page : Page) → (is_some image ≡ true → b ≡ true) → own_or (cond b (page_written image (Some page)) None) (or_image image (Some page)) ≡ Some page
+reads_back : (b : Bool) (image : Option (Option Page)) (page : Page) → (is_some image ≡ true → b ≡ true) → own_or_clean (cond b (page_written image (Some page)) None) (or_image image (Some page)) ≡ Some page
 reads_back true None page held = refl
 reads_back true (Some first) page held = refl
 reads_back false None page held = refl
 reads_back false (Some first) page held = absurd (false≢true (held refl))
 
 -- over what was there before, a transaction reads its own page
-pub reads_what_is_there : (m : Moment) (q : ℕ) (page : Page) → MayStep m → page_at m.store.pages q ≡ Some page → own_or (own_at m q) (page_before m.running.images m.store.pages q) ≡ Some page
+pub reads_what_is_there : (m : LocalState) (q : ℕ) (page : Page) → MayStep m → page_at m.store.pages q ≡ Some page → own_or_clean (own_at m q) (page_before m.running.images m.store.pages q) ≡ Some page
 reads_what_is_there m q page may is =
-    ap (λ o. own_or (cond (can_read m.locks m.running.tx q) (page_written (image_of m.running.images q) o) None) (or_image (image_of m.running.images q) o)) is
+    ap (λ o. own_or_clean (cond (can_read m.locks m.running.tx q) (page_written (image_of m.running.images q) o) None) (or_image (image_of m.running.images q) o)) is
     ∙ reads_back (can_read m.locks m.running.tx q) (image_of m.running.images q) page (image_is_held m q may)
 
 no_image_no_write : (b : Bool) (image : Option (Option Page)) (page : Option Page) → (is_some image ≡ true → b ≡ true) → page_written image page ≡ cond b (page_written image page) None
@@ -147,7 +147,7 @@ reads_still locks tx q mode p reads = grind (arith, can_read-granted locks tx q 
 reads_elsewhere : (locks : LockTable) (tx q : ℕ) (mode : Mode) (p : ℕ) → p ≢ q → can_read (granted locks tx q mode) tx p ≡ can_read locks tx p
 reads_elsewhere locks tx q mode p ne = grind (arith, nat_tests, can_read-granted locks tx q mode tx p)
 
-own_locked : (m : Moment) (q : ℕ) (mode : Mode) (p : ℕ) → MayStep m → own_at (locked m q mode) p ≡ own_at m p
+own_locked : (m : LocalState) (q : ℕ) (mode : Mode) (p : ℕ) → MayStep m → own_at (locked m q mode) p ≡ own_at m p
 own_locked m q mode p may =
     let own : Option Page = page_written (image_of m.running.images p) (page_at m.store.pages p) in
     elim (cases_eq p q) [
@@ -157,7 +157,7 @@ own_locked m q mode p may =
       | inr elsewhere ↦ ap (λ b. cond b own None) (reads_elsewhere m.locks m.running.tx q mode p elsewhere)
     ]
 
-reads_locked : (m : Moment) (q : ℕ) (mode : Mode) (page : Page) → MayStep m → page_at m.store.pages q ≡ Some page → ReadsPage (view_of m) (view_of (locked m q mode)) q mode (Some page)
+reads_locked : (m : LocalState) (q : ℕ) (mode : Mode) (page : Page) → MayStep m → page_at m.store.pages q ≡ Some page → ReadsPage (view_of m) (view_of (locked m q mode)) q mode (Some page)
 reads_locked m q mode page may is = record {
   modes = own_pages_of-granted m.locks m.running.tx q mode;
   own = λ p. own_locked m q mode p may;
@@ -169,8 +169,8 @@ reads_locked m q mode page may is = record {
 }
 
 -- **A lock of a page that is there makes it readable, and changes nothing else of the view.**
-pub lock_reads : (old new : Moment) (q : ℕ) (mode : Mode) (page : Page) → MayStep old → LocksPage old new q mode → page_at old.store.pages q ≡ Some page → ReadsPage (view_of old) (view_of new) q mode (Some page)
-lock_reads old new q mode page may step is = subst (λ (m : Moment). ReadsPage (view_of old) (view_of m) q mode (Some page)) (sym (is_locked old new q mode step)) (reads_locked old q mode page may is)
+pub lock_reads : (old new : LocalState) (q : ℕ) (mode : Mode) (page : Page) → MayStep old → LocksPage old new q mode → page_at old.store.pages q ≡ Some page → ReadsPage (view_of old) (view_of new) q mode (Some page)
+lock_reads old new q mode page may step is = subst (λ (m : LocalState). ReadsPage (view_of old) (view_of m) q mode (Some page)) (sym (is_locked old new q mode step)) (reads_locked old q mode page may is)
 
 -- a page that was seen as it was locked reads as what is found there
 pub reads_seen : (old new : View) (q : ℕ) (mode : Mode) (page : Page) → SeesPage old new q mode → ReadsHeldPage new q page → ReadsPage old new q mode (Some page)
@@ -180,11 +180,11 @@ reads_seen old new q mode page sees found = subst (λ p. ReadsPage old new q mod
     first = let both : Some sees.1.first ≡ Some found.0 = sym sees.1.here ∙ found.1 in cc
 
     same : sees.0 ≡ Some page
-    same = sym sees.1.reads ∙ ap (λ f. own_or (old.own q) f) first ∙ ap (λ o. own_or o found.0) (sym (sees.1.own q)) ∙ found.2
+    same = sym sees.1.reads ∙ ap (λ f. own_or_clean (old.own q) f) first ∙ ap (λ o. own_or_clean o found.0) (sym (sees.1.own q)) ∙ found.2
 
 -- and so it is held, and reads as it was seen
 pub reads_held_after : (old new : View) (q : ℕ) (mode : Mode) (page : Page) (sees : SeesPage old new q mode) → sees.0 ≡ Some page → ReadsHeldPage new q page
-reads_held_after old new q mode page sees is = (sees.1.first, sees.1.here, ap (λ o. own_or o sees.1.first) (sees.1.own q) ∙ sees.1.reads ∙ is)
+reads_held_after old new q mode page sees is = (sees.1.first, sees.1.here, ap (λ o. own_or_clean o sees.1.first) (sees.1.own q) ∙ sees.1.reads ∙ is)
 
 -- the mode of a page that is locked, and those of all others
 pub mode_of_page : (modes : Modes) (q : ℕ) (mode : Mode) → map.get (with_page modes q mode) q ≡ Some (stronger (map.get modes q) mode)
@@ -210,7 +210,7 @@ other_image images q first p ne = grind (arith, nat_tests, image_of-with_image i
 other_page : (pages : Pages) (q : ℕ) (page : Page) (p : ℕ) → p ≢ q → page_at (map.insert pages q page) p ≡ page_at pages p
 other_page pages q page p ne = grind (arith, nat_tests, get_inserted pages q page p)
 
-writes_written : (m : Moment) (q : ℕ) (page : Page) → can_write m.locks m.running.tx q ≡ true → WritesPage (view_of m) (view_of (written m q page)) q page
+writes_written : (m : LocalState) (q : ℕ) (page : Page) → can_write m.locks m.running.tx q ≡ true → WritesPage (view_of m) (view_of (written m q page)) q page
 writes_written m q page held = record {
   modes = refl;
   seen = λ p. ap (λ first. cond (can_read m.locks m.running.tx p) (Some first) None) (page_before-written m.running.images m.store.pages q page p);
@@ -222,8 +222,8 @@ writes_written m q page held = record {
 }
 
 -- **A write of a held page changes what the transaction has written there, and nothing else of the view.**
-pub write_writes : (old new : Moment) (q : ℕ) (page : Page) → WritesHeldPage old new q page → WritesPage (view_of old) (view_of new) q page
-write_writes old new q page step = subst (λ (m : Moment). WritesPage (view_of old) (view_of m) q page) (sym (is_written old new q page step)) (writes_written old q page step.held)
+pub write_writes : (old new : LocalState) (q : ℕ) (page : Page) → WritesHeldPage old new q page → WritesPage (view_of old) (view_of new) q page
+write_writes old new q page step = subst (λ (m : LocalState). WritesPage (view_of old) (view_of m) q page) (sym (is_written old new q page step)) (writes_written old q page step.held)
 
 image_inserted : (images : Images) (q : ℕ) → image_of (map.insert images q None) q ≡ Some None
 image_inserted images q = grind (arith, nat_tests, get_inserted images q None q)
@@ -231,7 +231,7 @@ image_inserted images q = grind (arith, nat_tests, get_inserted images q None q)
 image_not_inserted : (images : Images) (q p : ℕ) → p ≢ q → image_of (map.insert images q None) p ≡ image_of images p
 image_not_inserted images q p ne = grind (arith, nat_tests, get_inserted images q None p)
 
-makes_made : (m : Moment) (q : ℕ) (page : Page) → MayStep m → page_at m.store.pages q ≡ None → MakesPage (view_of m) (view_of (made m q page)) q page
+makes_made : (m : LocalState) (q : ℕ) (page : Page) → MayStep m → page_at m.store.pages q ≡ None → MakesPage (view_of m) (view_of (made m q page)) q page
 makes_made m q page may fresh =
     let free : can_read m.locks m.running.tx q ≡ false = fresh_is_free m.locks m.store.pages m.running.tx q may.locks_there fresh in
     let none : image_of m.running.images q ≡ None = fresh_has_no_image m.running.images m.store.pages q may.images_there fresh in
@@ -250,8 +250,8 @@ makes_made m q page may fresh =
     }
 
 -- **A page that is made was not in the view, and then is the transaction's own.**
-pub make_makes : (old new : Moment) (q : ℕ) (page : Page) → MayStep old → MakesLockedPage old new q page → MakesPage (view_of old) (view_of new) q page
-make_makes old new q page may step = subst (λ (m : Moment). MakesPage (view_of old) (view_of m) q page) (sym (is_made old new q page step)) (makes_made old q page may step.fresh)
+pub make_makes : (old new : LocalState) (q : ℕ) (page : Page) → MayStep old → MakesLockedPage old new q page → MakesPage (view_of old) (view_of new) q page
+make_makes old new q page may step = subst (λ (m : LocalState). MakesPage (view_of old) (view_of m) q page) (sym (is_made old new q page step)) (makes_made old q page may step.fresh)
 
 -- a page has an image exactly when the view has it as written
 written_has_image : (b : Bool) (image : Option (Option Page)) (page : Option Page) → is_some (cond b (page_written image page) None) ≡ true → is_some image ≡ true
@@ -259,16 +259,16 @@ written_has_image true None page written = absurd (false≢true written)
 written_has_image true (Some first) page written = refl
 written_has_image false image page written = absurd (false≢true written)
 
-pub own_has_image : (m : Moment) (q : ℕ) → is_some ((view_of m).own q) ≡ true → is_some (image_of m.running.images q) ≡ true
+pub own_has_image : (m : LocalState) (q : ℕ) → is_some ((view_of m).own q) ≡ true → is_some (image_of m.running.images q) ≡ true
 own_has_image m q written = written_has_image (can_read m.locks m.running.tx q) (image_of m.running.images q) (page_at m.store.pages q) written
 
 image_is_written : (image : Option (Option Page)) (page : Option Page) → is_some image ≡ true → is_some page ≡ true → is_some (page_written image page) ≡ true
 image_is_written None page image there = absurd (false≢true image)
 image_is_written (Some first) page image there = there
 
-pub image_is_own : (m : Moment) (q : ℕ) → MayStep m → is_some (image_of m.running.images q) ≡ true → is_some ((view_of m).own q) ≡ true
+pub image_is_own : (m : LocalState) (q : ℕ) → MayStep m → is_some (image_of m.running.images q) ≡ true → is_some ((view_of m).own q) ≡ true
 image_is_own m q may image = ap is_some (own_held m q (image_is_held m q may image)) ∙ image_is_written (image_of m.running.images q) (page_at m.store.pages q) image (may.images_there q image)
 
 -- **What a transaction has written or made it holds exclusively.**
-pub written_is_exclusive : (m : Moment) (q : ℕ) → MayStep m → is_some ((view_of m).own q) ≡ true → map.get (view_of m).modes q ≡ Some Exclusive
+pub written_is_exclusive : (m : LocalState) (q : ℕ) → MayStep m → is_some ((view_of m).own q) ≡ true → map.get (view_of m).modes q ≡ Some Exclusive
 written_is_exclusive m q may written = holds_exclusively m q (may.images_locked q (own_has_image m q written))

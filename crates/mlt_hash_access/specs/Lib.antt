@@ -1,4 +1,4 @@
-pub mod Moments
+pub mod LocalStates
 pub mod PageSteps
 pub mod PageTurns
 pub mod Reading

@@ -11,11 +11,11 @@ use Rattle.mlt_page_store.specs.Stores.{PageStore, page_at}
 use Rattle.mlt_page_locks.specs.LockTables.{can_write}
 use Rattle.mlt_page_locks.specs.Requests.{IsNobody, conflicts, granted}
 use Rattle.mlt_page_subtx.specs.Images.{with_image}
-use Rattle.mlt_hash_access.specs.Moments.{IsCleanFor, MayStep, Moment}
+use Rattle.mlt_hash_access.specs.LocalStates.{IsCleanFor, MayStep, LocalState}
 use Rattle.mlt_hash_access.specs.Views.{ReadsHeldBucket, view_of}
 
 -- page q, which is there, is locked in this mode, against which nobody else's lock stands
-pub record LocksPage (old new : Moment) (q : ℕ) (mode : Mode) : Type 0 where
+pub record LocksPage (old new : LocalState) (q : ℕ) (mode : Mode) : Type 0 where
   pub free : IsNobody (conflicts old.locks old.running.tx q mode)
   pub there : is_some (page_at old.store.pages q) ≡ true
   pub locks : new.locks ≡ granted old.locks old.running.tx q mode
@@ -23,7 +23,7 @@ pub record LocksPage (old new : Moment) (q : ℕ) (mode : Mode) : Type 0 where
   pub store : new.store ≡ old.store
 
 -- page q, which the transaction holds exclusively, is written; the first time its image is kept
-pub record WritesHeldPage (old new : Moment) (q : ℕ) (page : Page) : Type 0 where
+pub record WritesHeldPage (old new : LocalState) (q : ℕ) (page : Page) : Type 0 where
   pub held : can_write old.locks old.running.tx q ≡ true
   pub locks : new.locks ≡ old.locks
   pub running : new.running
@@ -31,34 +31,34 @@ pub record WritesHeldPage (old new : Moment) (q : ℕ) (page : Page) : Type 0 wh
   pub store : new.store ≡ record old.store { pages = map.insert old.store.pages q page }
 
 -- slot i of page q, a bucket that the transaction holds exclusively, is set to s; the first time its image is kept
-abbrev pub WritesHeldSlot : Moment → Moment → ℕ → ℕ → Slot → Type 0
+abbrev pub WritesHeldSlot : LocalState → LocalState → ℕ → ℕ → Slot → Type 0
 WritesHeldSlot old new q i s =
     (bucket : BucketFields) → ReadsHeldBucket (view_of old) q bucket
     → WritesHeldPage old new q (page_with_slot bucket i s)
 
 -- page q, which was not there, is made and locked
-pub record MakesLockedPage (old new : Moment) (q : ℕ) (page : Page) : Type 0 where
+pub record MakesLockedPage (old new : LocalState) (q : ℕ) (page : Page) : Type 0 where
   pub fresh : page_at old.store.pages q ≡ None
   pub locks : new.locks ≡ granted old.locks old.running.tx q Exclusive
   pub running : new.running ≡ record old.running { images = map.insert old.running.images q None }
   pub store : new.store ≡ record old.store { pages = map.insert old.store.pages q page }
 
 -- nothing happened, or the page was locked
-abbrev pub LocksAtMost : Moment → Moment → ℕ → Type 0
+abbrev pub LocksAtMost : LocalState → LocalState → ℕ → Type 0
 LocksAtMost old new q = (new ≡ old) ⊎ ((mode : Mode) × LocksPage old new q mode)
 
 -- nothing happened, or the page was written
-abbrev pub WritesAtMost : Moment → Moment → ℕ → Type 0
+abbrev pub WritesAtMost : LocalState → LocalState → ℕ → Type 0
 WritesAtMost old new q = (new ≡ old) ⊎ ((page : Page) × WritesHeldPage old new q page)
 
 -- a step locks and writes one page at most, or makes one
-abbrev pub TouchesOnePage : Moment → Moment → Type 0
+abbrev pub TouchesOnePage : LocalState → LocalState → Type 0
 TouchesOnePage old new =
-    (q : ℕ) × (((mid : Moment) × LocksAtMost old mid q × WritesAtMost mid new q)
+    (q : ℕ) × (((mid : LocalState) × LocksAtMost old mid q × WritesAtMost mid new q)
     ⊎ ((page : Page) × MakesLockedPage old new q page))
 
 -- What each step leaves: one page was touched at most, the transaction may go on, and what was clean is.
-pub record Leaves (old new : Moment) : Type 0 where
+pub record Leaves (old new : LocalState) : Type 0 where
   pub touches : TouchesOnePage old new
   pub may : MayStep new
   pub clean : (clean : ℕ → Option Page) → IsCleanFor old clean → IsCleanFor new clean

@@ -12,8 +12,8 @@ use Rattle.mlt_page_locks.specs.LockTables.{Modes, can_read, pages_of}
 use Rattle.mlt_page_locks.specs.Requests.{with_page}
 use Rattle.mlt_page_subtx.specs.Images.{image_of}
 use Rattle.mlt_hash_form.specs.File.{FilePages}
-use Rattle.mlt_hash_form.specs.Held.{own_or}
-use Rattle.mlt_hash_access.specs.Moments.{Moment, page_before}
+use Rattle.mlt_hash_form.specs.Held.{own_or_clean}
+use Rattle.mlt_hash_access.specs.LocalStates.{LocalState, page_before}
 
 -- What a walk holds, seen apart from all that it does not hold.
 pub record View : Type 0 where
@@ -30,19 +30,19 @@ page_written None page = None
 page_written (Some first) page = page
 
 -- what the clean pages have of page q, if it is held: what it is with its image put back
-abbrev pub seen_at : Moment → ℕ → Option (Option Page)
+abbrev pub seen_at : LocalState → ℕ → Option (Option Page)
 seen_at m q =
     cond (can_read m.locks m.running.tx q)
     (Some (page_before m.running.images m.store.pages q)) None
 
 -- what the transaction has written on page q, if it is held
-abbrev pub own_at : Moment → ℕ → Option Page
+abbrev pub own_at : LocalState → ℕ → Option Page
 own_at m q =
     cond (can_read m.locks m.running.tx q)
     (page_written (image_of m.running.images q) (page_at m.store.pages q)) None
 
 -- the view of the transaction that runs
-abbrev pub view_of : Moment → View
+abbrev pub view_of : LocalState → View
 view_of m = record { modes = pages_of m.locks m.running.tx; seen = seen_at m; own = own_at m }
 
 -- a view that is not changed
@@ -58,7 +58,7 @@ IsUnwritten view = (q : ℕ) → view.own q ≡ None
 -- page q, which is held, reads as this, on whatever clean pages agree with the view
 abbrev pub ReadsHeldPage : View → ℕ → Page → Type 0
 ReadsHeldPage view q page =
-    (first : Option Page) × (view.seen q ≡ Some first) × (own_or (view.own q) first ≡ Some page)
+    (first : Option Page) × (view.seen q ≡ Some first) × (own_or_clean (view.own q) first ≡ Some page)
 
 -- page q, which is held, reads as this bucket, on whatever clean pages agree with the view
 abbrev pub ReadsHeldBucket : View → ℕ → BucketFields → Type 0
@@ -72,7 +72,7 @@ pub record ReadsPage (old new : View) (q : ℕ) (mode : Mode) (page : Option Pag
   pub others : (p : ℕ) → (p ≡ q → ⊥) → new.seen p ≡ old.seen p
   pub first : Option Page
   pub here : new.seen q ≡ Some first
-  pub reads : own_or (old.own q) first ≡ page
+  pub reads : own_or_clean (old.own q) first ≡ page
 
 -- page q is locked in this mode, and is seen from now on
 abbrev pub SeesPage : View → View → ℕ → Mode → Type 0
@@ -111,7 +111,7 @@ abbrev pub rebased : FilePages → View → View
 rebased before view = record view { seen = λ q. seen_with (before q) (view.seen q) }
 
 -- the view of the transaction that runs, with these writes taken as seen
-abbrev pub view_over : FilePages → Moment → View
+abbrev pub view_over : FilePages → LocalState → View
 view_over before m = rebased before (view_of m)
 
 -- nothing is written but these writes, which are taken as seen

@@ -8,7 +8,7 @@ ghost use Rattle.mlt_page_store.specs.Stores.{page_at};
 ghost use Rattle.mlt_page_locks.specs.LockTables.{can_read, can_write, page_count};
 ghost use Rattle.mlt_page_locks.specs.Requests.{IsLowest, conflicts};
 ghost use Rattle.mlt_page_subtx.specs.Images.{image_of};
-ghost use Rattle.mlt_hash_access.specs.Moments.{MayStep, moment};
+ghost use Rattle.mlt_hash_access.specs.LocalStates.{MayStep, local};
 ghost use Rattle.mlt_hash_access.specs.PageSteps.{HasNoPageLeft, Leaves, LocksPage, MakesLockedPage, WritesHeldPage, WritesHeldSlot};
 ghost use Rattle.mlt_hash_access.specs.Views.{MakesPage, ReadsHeldBucket, ReadsHeldPage, SeesPage, WritesPage, WritesSlot, view_of};
 
@@ -24,15 +24,15 @@ use mlt_types::{Mode, PageNo, Refusal, TxId};
 /// The lowest other transaction that holds the page in a mode that does not go with this one. Then nothing has changed.
 #[inline(always)]
 pub fn lock(subtx: &Subtx, pages: &mut LockedStore, number: PageNo, mode: Mode) -> Result<(), TxId>
-    requires may { MayStep (moment subtx.now pages.old) }
+    requires may { MayStep (local subtx.now pages.old) }
     requires few { page_count pages.old.locks subtx.now.tx < 300 }
     requires there { is_some (page_at pages.old.store.pages number) ≡ true }
     ensures locks { OnOk result
-        (LocksPage (moment subtx.now pages.old) (moment subtx.now pages.new) number mode) }
+        (LocksPage (local subtx.now pages.old) (local subtx.now pages.new) number mode) }
     ensures view { OnOk result
-        (SeesPage (view_of (moment subtx.now pages.old)) (view_of (moment subtx.now pages.new))
+        (SeesPage (view_of (local subtx.now pages.old)) (view_of (local subtx.now pages.new))
         number mode) }
-    ensures leaves { Leaves (moment subtx.now pages.old) (moment subtx.now pages.new) }
+    ensures leaves { Leaves (local subtx.now pages.old) (local subtx.now pages.new) }
     ensures waits { IfErr result (λ by.
         IsLowest (conflicts pages.old.locks subtx.now.tx number mode) by
         × (pages.new ≡ pages.old)) }
@@ -46,10 +46,10 @@ pub fn lock(subtx: &Subtx, pages: &mut LockedStore, number: PageNo, mode: Mode) 
 /// Reads a page that is held.
 #[inline(always)]
 pub fn read_held<'a>(subtx: &Subtx, pages: &'a LockedStore, number: PageNo) -> &'a Page
-    requires may { MayStep (moment subtx.now pages.now) }
+    requires may { MayStep (local subtx.now pages.now) }
     requires held { can_read pages.now.locks subtx.now.tx number ≡ true }
     ensures page { page_at pages.now.store.pages number ≡ Some result.now }
-    ensures reads { ReadsHeldPage (view_of (moment subtx.now pages.now)) number result.now }
+    ensures reads { ReadsHeldPage (view_of (local subtx.now pages.now)) number result.now }
 {
     match subtx.read(&pages.store, number) {
         Some(page) => page,
@@ -59,10 +59,10 @@ pub fn read_held<'a>(subtx: &Subtx, pages: &'a LockedStore, number: PageNo) -> &
 
 /// Reads the header, which is held.
 pub fn read_held_head<'a>(subtx: &Subtx, pages: &'a LockedStore, number: PageNo) -> &'a HeadPage
-    requires may { MayStep (moment subtx.now pages.now) }
+    requires may { MayStep (local subtx.now pages.now) }
     requires head { (head : HeadFields)
-        × ReadsHeldPage (view_of (moment subtx.now pages.now)) number (page.Head head) }
-    ensures reads { let view = view_of (moment subtx.now pages.now) in
+        × ReadsHeldPage (view_of (local subtx.now pages.now)) number (page.Head head) }
+    ensures reads { let view = view_of (local subtx.now pages.now) in
         ReadsHeldPage view number (page.Head result.now) }
 {
     match read_held(subtx, pages, number) {
@@ -73,10 +73,10 @@ pub fn read_held_head<'a>(subtx: &Subtx, pages: &'a LockedStore, number: PageNo)
 
 /// Reads a directory page that is held.
 pub fn read_held_dir<'a>(subtx: &Subtx, pages: &'a LockedStore, number: PageNo) -> &'a DirPage
-    requires may { MayStep (moment subtx.now pages.now) }
+    requires may { MayStep (local subtx.now pages.now) }
     requires dir { (entries : List ℕ)
-        × ReadsHeldPage (view_of (moment subtx.now pages.now)) number (page.Dir entries) }
-    ensures reads { let view = view_of (moment subtx.now pages.now) in
+        × ReadsHeldPage (view_of (local subtx.now pages.now)) number (page.Dir entries) }
+    ensures reads { let view = view_of (local subtx.now pages.now) in
         ReadsHeldPage view number (page.Dir result.now) }
 {
     match read_held(subtx, pages, number) {
@@ -87,10 +87,10 @@ pub fn read_held_dir<'a>(subtx: &Subtx, pages: &'a LockedStore, number: PageNo) 
 
 /// Reads a bucket that is held.
 pub fn read_held_bucket<'a>(subtx: &Subtx, pages: &'a LockedStore, number: PageNo) -> &'a Bucket
-    requires may { MayStep (moment subtx.now pages.now) }
+    requires may { MayStep (local subtx.now pages.now) }
     requires bucket { (bucket : BucketFields)
-        × ReadsHeldBucket (view_of (moment subtx.now pages.now)) number bucket }
-    ensures reads { ReadsHeldBucket (view_of (moment subtx.now pages.now)) number result.now }
+        × ReadsHeldBucket (view_of (local subtx.now pages.now)) number bucket }
+    ensures reads { ReadsHeldBucket (view_of (local subtx.now pages.now)) number result.now }
 {
     match read_held(subtx, pages, number) {
         Page::Bucket(bucket) => bucket,
@@ -109,14 +109,14 @@ pub fn write_held(
     number: PageNo,
     page: Page,
 ) -> Result<(), Refusal>
-    requires may { MayStep (moment subtx.old pages.old) }
+    requires may { MayStep (local subtx.old pages.old) }
     requires held { can_write pages.old.locks subtx.old.tx number ≡ true }
     ensures writes { OnOk result
-        (WritesHeldPage (moment subtx.old pages.old) (moment subtx.new pages.new) number page) }
+        (WritesHeldPage (local subtx.old pages.old) (local subtx.new pages.new) number page) }
     ensures view { OnOk result
-        (WritesPage (view_of (moment subtx.old pages.old)) (view_of (moment subtx.new pages.new))
+        (WritesPage (view_of (local subtx.old pages.old)) (view_of (local subtx.new pages.new))
         number page) }
-    ensures leaves { Leaves (moment subtx.old pages.old) (moment subtx.new pages.new) }
+    ensures leaves { Leaves (local subtx.old pages.old) (local subtx.new pages.new) }
     ensures err { OnErr result ((subtx.new ≡ subtx.old) × (pages.new ≡ pages.old)) }
     ensures third { OnErr result
         ((2 ≤ map.len subtx.old.images) × (image_of subtx.old.images number ≡ None)) }
@@ -138,16 +138,16 @@ pub fn write_slot(
     at: usize,
     slot: Slot,
 ) -> Result<(), Refusal>
-    requires may { MayStep (moment subtx.old pages.old) }
+    requires may { MayStep (local subtx.old pages.old) }
     requires held { can_write pages.old.locks subtx.old.tx number ≡ true }
     requires bucket { (bucket : BucketFields)
-        × ReadsHeldBucket (view_of (moment subtx.old pages.old)) number bucket }
+        × ReadsHeldBucket (view_of (local subtx.old pages.old)) number bucket }
     requires at { at < 8 }
     ensures writes { OnOk result
-        (WritesHeldSlot (moment subtx.old pages.old) (moment subtx.new pages.new) number at slot) }
-    ensures view { let old = view_of (moment subtx.old pages.old) in
-        OnOk result (WritesSlot old (view_of (moment subtx.new pages.new)) number at slot) }
-    ensures leaves { Leaves (moment subtx.old pages.old) (moment subtx.new pages.new) }
+        (WritesHeldSlot (local subtx.old pages.old) (local subtx.new pages.new) number at slot) }
+    ensures view { let old = view_of (local subtx.old pages.old) in
+        OnOk result (WritesSlot old (view_of (local subtx.new pages.new)) number at slot) }
+    ensures leaves { Leaves (local subtx.old pages.old) (local subtx.new pages.new) }
     ensures err { OnErr result ((subtx.new ≡ subtx.old) × (pages.new ≡ pages.old)) }
     ensures third { OnErr result
         ((2 ≤ map.len subtx.old.images) × (image_of subtx.old.images number ≡ None)) }
@@ -162,14 +162,14 @@ pub fn write_slot(
 /// `NoRoom` exactly where the store has as many pages as it may have; else `OutOfMemory`, where a growth was refused.
 /// Then nothing has changed.
 pub fn make_page(subtx: &mut Subtx, pages: &mut LockedStore, page: Page) -> Result<PageNo, Refusal>
-    requires may { MayStep (moment subtx.old pages.old) }
+    requires may { MayStep (local subtx.old pages.old) }
     requires few { page_count pages.old.locks subtx.old.tx < 300 }
     ensures makes { IfOk result (λ number.
-        MakesLockedPage (moment subtx.old pages.old) (moment subtx.new pages.new) number page) }
+        MakesLockedPage (local subtx.old pages.old) (local subtx.new pages.new) number page) }
     ensures view { IfOk result (λ number.
-        MakesPage (view_of (moment subtx.old pages.old)) (view_of (moment subtx.new pages.new))
+        MakesPage (view_of (local subtx.old pages.old)) (view_of (local subtx.new pages.new))
         number page) }
-    ensures leaves { Leaves (moment subtx.old pages.old) (moment subtx.new pages.new) }
+    ensures leaves { Leaves (local subtx.old pages.old) (local subtx.new pages.new) }
     ensures err { OnErr result ((subtx.new ≡ subtx.old) × (pages.new ≡ pages.old)) }
     ensures no_room { (result ≡ Err Refusal.NoRoom)
         ↔ HasNoPageLeft pages.old.store }

@@ -7,26 +7,26 @@ ghost use Rattle.mlt_types.specs.declared.mode.Mode.TheVariants.{Exclusive};
 ghost use Rattle.mlt_page.specs.declared.page.Page.{Page};
 ghost use Rattle.mlt_hash_form.specs.File.{FilePages};
 ghost use Rattle.mlt_hash_form.specs.Held.{Agrees, over};
-ghost use Rattle.mlt_hash_access.specs.Moments.{IsCleanFor, MayStep, Moment};
+ghost use Rattle.mlt_hash_access.specs.LocalStates.{IsCleanFor, MayStep, LocalState};
 ghost use Rattle.mlt_hash_access.specs.PageSteps.{TouchesOnePage};
 ghost use Rattle.mlt_hash_access.specs.Views.{HasWritten, MakesPage, ReadsHeldPage, ReadsPage, View, WritesPage, rebased, view_of};
 
 /// What a walk saw is on the clean pages.
 pub fn view_agrees_with_clean_pages()
-    ensures { (m : Moment) (clean : ℕ → Option Page)
+    ensures { (m : LocalState) (clean : ℕ → Option Page)
         → MayStep m → IsCleanFor m clean → Agrees (view_of m).seen clean }
 {}
 
 /// A transaction's own step lets what it sees only grow, so that what was found on its way stays on the clean pages.
 pub fn own_steps_see_more()
-    ensures { (old new : Moment) (q : ℕ) (first : Option Page)
+    ensures { (old new : LocalState) (q : ℕ) (first : Option Page)
         → MayStep old → TouchesOnePage old new
         → (view_of old).seen q ≡ Some first → (view_of new).seen q ≡ Some first }
 {}
 
 /// What a walk has written or made it holds exclusively.
 pub fn written_pages_are_held_exclusively()
-    ensures { (m : Moment) (q : ℕ) → MayStep m
+    ensures { (m : LocalState) (q : ℕ) → MayStep m
         → is_some ((view_of m).own q) ≡ true → map.get (view_of m).modes q ≡ Some Exclusive }
 {}
 
@@ -55,7 +55,7 @@ pub fn rebased_views_step_alike()
     ensures makes { (before : FilePages) (old new : View) (q : ℕ) (page : Page)
         → HasWritten before old → MakesPage old new q page
         → MakesPage (rebased before old) (rebased before new) q page }
-    ensures stays { (before : FilePages) (old new : Moment)
+    ensures stays { (before : FilePages) (old new : LocalState)
         → MayStep old → TouchesOnePage old new
         → HasWritten before (view_of old) → HasWritten before (view_of new) }
 {}

@@ -16,21 +16,21 @@ use Rattle.mlt_hash_form.specs.Room.{is_crowded}
 use Rattle.mlt_hash_form.specs.declared.root.Root.{Root}
 use Rattle.mlt_hash_form.proofs.Crowd.{crowded_in_fewer, crowded_test}
 use Rattle.mlt_hash_form.proofs.InPages.{led_at}
-use Rattle.mlt_hash_access.specs.Moments.{IsCleanFor, MayStep, Moment}
+use Rattle.mlt_hash_access.specs.LocalStates.{IsCleanFor, MayStep, LocalState}
 use Rattle.mlt_hash_access.specs.PageSteps.{TouchesOnePage, WritesAtMost}
 use Rattle.mlt_hash_access.specs.Views.{HasWritten, IsUnwrittenSince, View, view_of, view_over}
 use Rattle.mlt_hash_access.proofs.Rebased.{written_stays}
 use Rattle.mlt_hash_access.proofs.Since.{over_since}
 use Rattle.mlt_hash_split.specs.Rests.{held_page}
 use Rattle.mlt_hash_split.proofs.Closing.{held_page_over}
-use Rattle.mlt_hash_file.specs.Alone.{IsAlone, KeepsBefore, basis_of, pages_since}
+use Rattle.mlt_hash_file.specs.Alone.{IsAlone, KeepsBefore, context_of, pages_since}
 use Rattle.mlt_hash.specs.StepsLeft.{IsPutting}
 use Rattle.mlt_hash_file.specs.AloneWalks.{HasArrived, HasChanged, HasMade, IsFullFor, IsHashFile, IsReadySince, NeedsRoom, NeedsSplits, NeverHasRoomFor, TellsOfPass, added_value}
 use Rattle.mlt_hash.specs.Changes.{HasNoRoom, IsAtAbsent, IsAtRecord, IsFull, Makes, NeedsSplit, TellsOfAddition, WritesIfChanged, crowded_at, page_of}
 use Rattle.mlt_hash.specs.Passes.{HasRoomFrom, IsNextPass, next_of, value_after}
 use Rattle.mlt_hash_file.specs.SplitPages.{HasRoomAt, bucket_for, pages_for, pages_in_the_end, pages_left_at, pages_to_make}
 use Rattle.mlt_hash.specs.Steps.{HasFound, IsSameWalk}
-use Rattle.mlt_hash.specs.Walks.{Basis, Before, IsAtBucket, IsStanding, Stands, WalkFields, view_for}
+use Rattle.mlt_hash.specs.Walks.{WalkContext, Before, IsAtBucket, IsStanding, Stands, WalkFields, view_for}
 use Rattle.mlt_hash.specs.declared.answer.WalkAnswer.{WalkAnswer}
 use Rattle.mlt_hash.specs.declared.answer.WalkAnswer.TheVariants as answer
 use Rattle.mlt_hash.specs.declared.pass.Change.{Change}
@@ -41,19 +41,19 @@ use Rattle.mlt_hash.specs.declared.pass.Phase.{Phase}
 use Rattle.mlt_hash.specs.declared.pass.Phase.TheVariants as at
 use Rattle.mlt_hash_file.proofs.Alone.{alone_after_write, sees_since, unwritten_store, write_keeps_before}
 use Rattle.mlt_hash_file.proofs.AloneChanges.{made_alone, shallow_after_write, writes_at_most}
-use Rattle.mlt_hash_file.proofs.AloneWalks.{file_kept, same_basis, same_since, same_walks}
+use Rattle.mlt_hash_file.proofs.AloneWalks.{file_kept, same_context, same_since, same_walks}
 use Rattle.mlt_hash.proofs.Laws.{found_there, path_taken}
 
 -- a walk that has arrived is at its bucket, with what it has found,
-arrived_at : (basis : Basis) (walk : WalkFields) (view : View) (phase : Phase) (value : Option ℕ) → HasFound phase value → Stands phase basis walk view → (depth : ℕ) × IsAtBucket basis walk view (page_of phase) depth value
-arrived_at basis walk view (at.AtBucket bucket depth found) value is stands = (depth, subst (λ (found : Option ℕ). IsAtBucket basis walk view bucket depth found) is stands)
-arrived_at basis walk view at.Start value is stands = absurd is
-arrived_at basis walk view (at.Headed dir row depth) value is stands = absurd is
-arrived_at basis walk view (at.Placed bucket depth) value is stands = absurd is
-arrived_at basis walk view (at.Full next) value is stands = absurd is
-arrived_at basis walk view (at.Adding own bucket room_depth unsplit) value is stands = absurd is
-arrived_at basis walk view (at.Splitting own room_depth) value is stands = absurd is
-arrived_at basis walk view (at.Changed bucket done) value is stands = absurd is
+arrived_at : (context : WalkContext) (walk : WalkFields) (view : View) (phase : Phase) (value : Option ℕ) → HasFound phase value → Stands phase context walk view → (depth : ℕ) × IsAtBucket context walk view (page_of phase) depth value
+arrived_at context walk view (at.AtBucket bucket depth found) value is stands = (depth, subst (λ (found : Option ℕ). IsAtBucket context walk view bucket depth found) is stands)
+arrived_at context walk view at.Start value is stands = absurd is
+arrived_at context walk view (at.Headed dir row depth) value is stands = absurd is
+arrived_at context walk view (at.Placed bucket depth) value is stands = absurd is
+arrived_at context walk view (at.Full next) value is stands = absurd is
+arrived_at context walk view (at.Adding own bucket room_depth unsplit) value is stands = absurd is
+arrived_at context walk view (at.Splitting own room_depth) value is stands = absurd is
+arrived_at context walk view (at.Changed bucket done) value is stands = absurd is
 
 pub found_absent : (phase : Phase) (value : Option ℕ) → HasFound phase value → value ≡ None → IsAtAbsent phase
 found_absent (at.AtBucket bucket depth found) value is none = is ∙ none
@@ -77,49 +77,49 @@ found_record (at.Splitting own room_depth) value is there = absurd is
 found_record (at.Changed bucket done) value is there = absurd is
 
 -- a walk that has arrived has written nothing
-pub arrived_store : (basis : Basis) (m : Moment) (before walk : WalkFields) (value : Option ℕ) → IsAlone m → HasWritten basis.before.written (view_of m) → HasArrived basis m before walk value → page_at m.store.pages ≡ pages_since basis.before m
-arrived_store basis m before walk value alone written arrived =
-    let here = arrived_at basis walk (view_for basis m) walk.phase value arrived.found arrived.stands in
-    unwritten_store basis.before m alone.may written here.1.unwritten
+pub arrived_store : (context : WalkContext) (m : LocalState) (before walk : WalkFields) (value : Option ℕ) → IsAlone m → HasWritten context.before.written (view_of m) → HasArrived context m before walk value → page_at m.store.pages ≡ pages_since context.before m
+arrived_store context m before walk value alone written arrived =
+    let here = arrived_at context walk (view_for context m) walk.phase value arrived.found arrived.stands in
+    unwritten_store context.before m alone.may written here.1.unwritten
 
 -- **What a walk alone has found is the value of its key.**
-pub found_is_value : (basis : Basis) (m : Moment) (before walk : WalkFields) (value : Option ℕ) → IsAlone m → HasArrived basis m before walk value → look_up basis.bits (pages_since basis.before m) basis.root before.key ≡ value
-found_is_value basis m before walk value alone arrived =
-    let here = arrived_at basis walk (view_for basis m) walk.phase value arrived.found arrived.stands in
-    ap (look_up basis.bits (pages_since basis.before m) basis.root) (sym arrived.same.key) ∙ found_there basis walk (view_for basis m) (page_of walk.phase) here.0 value (pages_since basis.before m) here.1 (sees_since basis.before m alone.may)
+pub found_is_value : (context : WalkContext) (m : LocalState) (before walk : WalkFields) (value : Option ℕ) → IsAlone m → HasArrived context m before walk value → look_up context.bits (pages_since context.before m) context.root before.key ≡ value
+found_is_value context m before walk value alone arrived =
+    let here = arrived_at context walk (view_for context m) walk.phase value arrived.found arrived.stands in
+    ap (look_up context.bits (pages_since context.before m) context.root) (sym arrived.same.key) ∙ found_there context walk (view_for context m) (page_of walk.phase) here.0 value (pages_since context.before m) here.1 (sees_since context.before m alone.may)
 
 -- so it finds none where there is none
-pub finds_none : (basis : Basis) (m : Moment) (before walk : WalkFields) (value : Option ℕ) → IsAlone m → HasArrived basis m before walk value → look_up basis.bits (pages_since basis.before m) basis.root before.key ≡ None → IsAtAbsent walk.phase
-finds_none basis m before walk value alone arrived none = found_absent walk.phase value arrived.found (sym (found_is_value basis m before walk value alone arrived) ∙ none)
+pub finds_none : (context : WalkContext) (m : LocalState) (before walk : WalkFields) (value : Option ℕ) → IsAlone m → HasArrived context m before walk value → look_up context.bits (pages_since context.before m) context.root before.key ≡ None → IsAtAbsent walk.phase
+finds_none context m before walk value alone arrived none = found_absent walk.phase value arrived.found (sym (found_is_value context m before walk value alone arrived) ∙ none)
 
-pub absent_here : (since : Before) (bits : ℕ → ℕ) (root max_depth : ℕ) (first old : Moment) (before walk : WalkFields) (value : Option ℕ) → IsAlone old → KeepsBefore first old → HasArrived (basis_of since bits root max_depth first) old before walk value
+pub absent_here : (since : Before) (bits : ℕ → ℕ) (root max_depth : ℕ) (first old : LocalState) (before walk : WalkFields) (value : Option ℕ) → IsAlone old → KeepsBefore first old → HasArrived (context_of since bits root max_depth first) old before walk value
     → look_up bits (pages_since since first) root before.key ≡ None → IsAtAbsent walk.phase
 absent_here since bits root max_depth first old before walk value alone keeps arrived none =
-    finds_none (basis_of since bits root max_depth first) old before walk value alone arrived (ap (λ (pages : ℕ → Option Page). look_up bits pages root before.key) (same_since since first old keeps) ∙ none)
+    finds_none (context_of since bits root max_depth first) old before walk value alone arrived (ap (λ (pages : ℕ → Option Page). look_up bits pages root before.key) (same_since since first old keeps) ∙ none)
 
 -- a walk that has arrived may go on from there, by what the transaction goes by now,
-pub ready_there : {P : Type 0} (since : Before) (bits_of : P → ℕ → ℕ) (root : Root P) (first mid : Moment) (before walk : WalkFields) (found : Option ℕ) → KeepsBefore first mid → HasWritten since.written (view_of mid) → IsHashFile (bits_of root.pseudo) (pages_since since first) root.page root.max_depth
-    → HasArrived (basis_of since (bits_of root.pseudo) root.page root.max_depth first) mid before walk found → IsReadySince since bits_of root mid walk
+pub ready_there : {P : Type 0} (since : Before) (bits_of : P → ℕ → ℕ) (root : Root P) (first mid : LocalState) (before walk : WalkFields) (found : Option ℕ) → KeepsBefore first mid → HasWritten since.written (view_of mid) → IsHashFile (bits_of root.pseudo) (pages_since since first) root.page root.max_depth
+    → HasArrived (context_of since (bits_of root.pseudo) root.page root.max_depth first) mid before walk found → IsReadySince since bits_of root mid walk
 ready_there since bits_of root first mid before walk found keeps written file arrived = record {
   written = written;
   file = file_kept since (bits_of root.pseudo) root.page root.max_depth first mid keeps file;
-  stands = subst (λ basis. IsStanding basis walk (view_for basis mid)) (sym (same_basis since (bits_of root.pseudo) root.page root.max_depth first mid keeps)) arrived.stands;
+  stands = subst (λ context. IsStanding context walk (view_for context mid)) (sym (same_context since (bits_of root.pseudo) root.page root.max_depth first mid keeps)) arrived.stands;
 }
 
 -- and its bucket is where its key leads
-leads_here : (basis : Basis) (m : Moment) (walk : WalkFields) (bucket depth : ℕ) (found : Option ℕ) (here : IsAtBucket basis walk (view_for basis m) bucket depth found) → MayStep m → lead_of (pages_since basis.before m) basis.root (basis.bits walk.key) ≡ bucket
-leads_here basis m walk bucket depth found here may =
-    (led_at (pages_since basis.before m) basis.root (basis.bits walk.key) here.header here.dir bucket here.fields (path_taken basis walk (view_for basis m) bucket depth found (pages_since basis.before m) here (sees_since basis.before m may))).0
+leads_here : (context : WalkContext) (m : LocalState) (walk : WalkFields) (bucket depth : ℕ) (found : Option ℕ) (here : IsAtBucket context walk (view_for context m) bucket depth found) → MayStep m → lead_of (pages_since context.before m) context.root (context.bits walk.key) ≡ bucket
+leads_here context m walk bucket depth found here may =
+    (led_at (pages_since context.before m) context.root (context.bits walk.key) here.header here.dir bucket here.fields (path_taken context walk (view_for context m) bucket depth found (pages_since context.before m) here (sees_since context.before m may))).0
 
-pub absent_bucket : (basis : Basis) (walk : WalkFields) (view : View) (phase : Phase) → IsAtAbsent phase → Stands phase basis walk view → (depth : ℕ) × (found : Option ℕ) × IsAtBucket basis walk view (page_of phase) depth found
-absent_bucket basis walk view (at.AtBucket bucket depth found) none stands = (depth, found, stands)
-absent_bucket basis walk view at.Start none stands = absurd none
-absent_bucket basis walk view (at.Headed dir row depth) none stands = absurd none
-absent_bucket basis walk view (at.Placed bucket depth) none stands = absurd none
-absent_bucket basis walk view (at.Full next) none stands = absurd none
-absent_bucket basis walk view (at.Adding own bucket room_depth unsplit) none stands = absurd none
-absent_bucket basis walk view (at.Splitting own room_depth) none stands = absurd none
-absent_bucket basis walk view (at.Changed bucket done) none stands = absurd none
+pub absent_bucket : (context : WalkContext) (walk : WalkFields) (view : View) (phase : Phase) → IsAtAbsent phase → Stands phase context walk view → (depth : ℕ) × (found : Option ℕ) × IsAtBucket context walk view (page_of phase) depth found
+absent_bucket context walk view (at.AtBucket bucket depth found) none stands = (depth, found, stands)
+absent_bucket context walk view at.Start none stands = absurd none
+absent_bucket context walk view (at.Headed dir row depth) none stands = absurd none
+absent_bucket context walk view (at.Placed bucket depth) none stands = absurd none
+absent_bucket context walk view (at.Full next) none stands = absurd none
+absent_bucket context walk view (at.Adding own bucket room_depth unsplit) none stands = absurd none
+absent_bucket context walk view (at.Splitting own room_depth) none stands = absurd none
+absent_bucket context walk view (at.Changed bucket done) none stands = absurd none
 
 not_first : (crowded : ℕ → Bool) (l most g : ℕ) (next : Pass) → IsNextPass crowded l most g next → next ≡ pass.First → ⊥
 not_first crowded l most g pass.First is same = is
@@ -130,11 +130,11 @@ not_first crowded l most g pass.Wide is same = cc
 follows : (phase : Phase) (next : Pass) → phase ≡ at.Full next → (next ≡ pass.First → ⊥) → (phase ≡ at.Full (next_of phase)) × (next_of phase ≡ pass.First → ⊥)
 follows phase next is later = subst (λ (phase : Phase). (phase ≡ at.Full (next_of phase)) × (next_of phase ≡ pass.First → ⊥)) (sym is) (refl, later)
 
-module _ (since : Before) (bits : ℕ → ℕ) (root max_depth : ℕ) (first mid new : Moment) (walk after : WalkFields) (value : ℕ) (alone : IsAlone mid) (written : HasWritten since.written (view_of mid)) (file : IsHashFile bits (pages_since since mid) root max_depth) (none : IsAtAbsent walk.phase)
-    (stood : IsStanding (basis_of since bits root max_depth first) walk (view_over since.written mid)) (may : MayStep new) (clean : (clean : ℕ → Option Page) → IsCleanFor mid clean → IsCleanFor new clean) (touches : TouchesOnePage mid new) (step : WritesAtMost mid new (page_of walk.phase))
+module _ (since : Before) (bits : ℕ → ℕ) (root max_depth : ℕ) (first mid new : LocalState) (walk after : WalkFields) (value : ℕ) (alone : IsAlone mid) (written : HasWritten since.written (view_of mid)) (file : IsHashFile bits (pages_since since mid) root max_depth) (none : IsAtAbsent walk.phase)
+    (stood : IsStanding (context_of since bits root max_depth first) walk (view_over since.written mid)) (may : MayStep new) (clean : (clean : ℕ → Option Page) → IsCleanFor mid clean → IsCleanFor new clean) (touches : TouchesOnePage mid new) (step : WritesAtMost mid new (page_of walk.phase))
   where
-    abbrev ours : Basis
-    ours = basis_of since bits root max_depth first
+    abbrev ours : WalkContext
+    ours = context_of since bits root max_depth first
 
     here : (depth : ℕ) × (found : Option ℕ) × IsAtBucket ours walk (view_over since.written mid) (page_of walk.phase) depth found
     here = absent_bucket ours walk (view_over since.written mid) walk.phase none stood
@@ -191,7 +191,7 @@ module _ (since : Before) (bits : ℕ → ℕ) (root max_depth : ℕ) (first mid
 
     -- where nothing is written, the pages are those before
     store_is : new ≡ mid → page_at new.store.pages ≡ pages_since since new
-    store_is same = let h = here in unwritten_store since new may written_new (subst (λ (m : Moment). IsUnwrittenSince since.written (view_over since.written m)) (sym same) h.2.unwritten)
+    store_is same = let h = here in unwritten_store since new may written_new (subst (λ (m : LocalState). IsUnwrittenSince since.written (view_over since.written m)) (sym same) h.2.unwritten)
 
     pages_counted : (d : ℕ) → new ≡ mid → after.phase ≡ at.Adding value (page_of walk.phase) d true → pages_in_the_end root after new ≡ map.len new.store.pages + pages_for bits (pages_since since new) root walk.key d
     pages_counted d same phase =
@@ -235,53 +235,53 @@ module _ (since : Before) (bits : ℕ → ℕ) (root max_depth : ℕ) (first mid
     pass_tells (answer.Refused reason) writes tells = (tells.0, tells.1)
     pass_tells other writes tells = absurd tells
 
-retell_splits : (basis : Basis) (new : Moment) (before walk after : WalkFields) (value : ℕ) → IsSameWalk before walk → NeedsSplits basis new walk after value → NeedsSplits basis new before after value
-retell_splits basis new before walk after value same needs = record {
+retell_splits : (context : WalkContext) (new : LocalState) (before walk after : WalkFields) (value : ℕ) → IsSameWalk before walk → NeedsSplits context new walk after value → NeedsSplits context new before after value
+retell_splits context new before walk after value same needs = record {
   value_is = needs.value_is;
   may = needs.may;
-  ever = subst (λ (key : ℕ). NeverHasRoomFor basis.bits (pages_since basis.before new) basis.max_depth key → ⊥) same.key needs.ever;
+  ever = subst (λ (key : ℕ). NeverHasRoomFor context.bits (pages_since context.before new) context.max_depth key → ⊥) same.key needs.ever;
   d = needs.d;
-  least = subst (λ (key : ℕ). HasRoomAt basis.bits (pages_since basis.before new) basis.root basis.max_depth key needs.d) same.key needs.least;
+  least = subst (λ (key : ℕ). HasRoomAt context.bits (pages_since context.before new) context.root context.max_depth key needs.d) same.key needs.least;
   unwritten = needs.unwritten;
-  pages = subst (λ (key : ℕ). pages_in_the_end basis.root after new ≡ map.len new.store.pages + pages_for basis.bits (pages_since basis.before new) basis.root key needs.d) same.key needs.pages;
+  pages = subst (λ (key : ℕ). pages_in_the_end context.root after new ≡ map.len new.store.pages + pages_for context.bits (pages_since context.before new) context.root key needs.d) same.key needs.pages;
 }
 
-pub retell_made : (basis : Basis) (new : Moment) (before walk after : WalkFields) (value : Option ℕ) → IsSameWalk before walk → HasMade basis new walk after value → HasMade basis new before after value
-retell_made basis new before walk after value same made = record {
-  changed = subst (λ (key : ℕ). HasChanged basis new key value) same.key made.changed;
+pub retell_made : (context : WalkContext) (new : LocalState) (before walk after : WalkFields) (value : Option ℕ) → IsSameWalk before walk → HasMade context new walk after value → HasMade context new before after value
+retell_made context new before walk after value same made = record {
+  changed = subst (λ (key : ℕ). HasChanged context new key value) same.key made.changed;
   same = same_walks before walk after same made.same;
   phase = made.phase;
   stands = made.stands;
 }
 
 -- a pass tells the same of the walk as it was before it went to its bucket
-pub retell : (basis : Basis) (new : Moment) (before walk after : WalkFields) (value : ℕ) (told : WalkAnswer) → IsSameWalk before walk → TellsOfPass basis new walk after value told → TellsOfPass basis new before after value told
-retell basis new before walk after value answer.Changed same tells = retell_made basis new before walk after (Some value) same tells
-retell basis new before walk after value answer.NeedSplit same tells = record {
-  full = subst (λ (key : ℕ). IsFullFor basis.bits (pages_since basis.before new) basis.root key) same.key tells.full;
+pub retell : (context : WalkContext) (new : LocalState) (before walk after : WalkFields) (value : ℕ) (told : WalkAnswer) → IsSameWalk before walk → TellsOfPass context new walk after value told → TellsOfPass context new before after value told
+retell context new before walk after value answer.Changed same tells = retell_made context new before walk after (Some value) same tells
+retell context new before walk after value answer.NeedSplit same tells = record {
+  full = subst (λ (key : ℕ). IsFullFor context.bits (pages_since context.before new) context.root key) same.key tells.full;
   same = same_walks before walk after same tells.same;
   first = λ is. tells.first (same.pass ∙ is);
-  later = λ later. retell_splits basis new before walk after value same (tells.later (λ is. later (sym same.pass ∙ is)));
+  later = λ later. retell_splits context new before walk after value same (tells.later (λ is. later (sym same.pass ∙ is)));
 }
-retell basis new before walk after value answer.Widen same tells = record { same = same_walks before walk after same tells.same; narrow = sym same.pass ∙ tells.narrow; phase = tells.phase }
-retell basis new before walk after value (answer.Refused refusal.NoRoom) same tells = (λ is. tells.0 (same.pass ∙ is), subst (λ (key : ℕ). IsFullFor basis.bits (pages_since basis.before new) basis.root key) same.key tells.1, subst (λ (key : ℕ). NeverHasRoomFor basis.bits (pages_since basis.before new) basis.max_depth key) same.key tells.2)
-retell basis new before walk after value (answer.Refused reason) same tells = tells
-retell basis new before walk after value other same tells = absurd tells
+retell context new before walk after value answer.Widen same tells = record { same = same_walks before walk after same tells.same; narrow = sym same.pass ∙ tells.narrow; phase = tells.phase }
+retell context new before walk after value (answer.Refused refusal.NoRoom) same tells = (λ is. tells.0 (same.pass ∙ is), subst (λ (key : ℕ). IsFullFor context.bits (pages_since context.before new) context.root key) same.key tells.1, subst (λ (key : ℕ). NeverHasRoomFor context.bits (pages_since context.before new) context.max_depth key) same.key tells.2)
+retell context new before walk after value (answer.Refused reason) same tells = tells
+retell context new before walk after value other same tells = absurd tells
 
 -- **A pass alone tells what its addition told at the bucket that it went to.**
-pub addition_tells : (since : Before) (bits : ℕ → ℕ) (opens : set.FinSet nat_cmp) (root max_depth : ℕ) (old mid new : Moment) (walk after : WalkFields) (value : ℕ) (told : WalkAnswer)
-    → opens ≡ set.empty → mid ≡ old → IsAlone mid → HasWritten since.written (view_of old) → IsHashFile bits (pages_since since old) root max_depth → IsStanding (basis_of since bits root max_depth old) walk (view_over since.written old) → IsAtAbsent walk.phase
+pub addition_tells : (since : Before) (bits : ℕ → ℕ) (active : set.FinSet nat_cmp) (root max_depth : ℕ) (old mid new : LocalState) (walk after : WalkFields) (value : ℕ) (told : WalkAnswer)
+    → active ≡ set.empty → mid ≡ old → IsAlone mid → HasWritten since.written (view_of old) → IsHashFile bits (pages_since since old) root max_depth → IsStanding (context_of since bits root max_depth old) walk (view_over since.written old) → IsAtAbsent walk.phase
     → MayStep new → ((clean : ℕ → Option Page) → IsCleanFor mid clean → IsCleanFor new clean) → TouchesOnePage mid new → WritesIfChanged mid new (page_of walk.phase) told
-    → TellsOfAddition (record { bits = bits; opens = opens; root = root; max_depth = max_depth; tx = mid.running.tx; before = since }) new walk after value told
-    → TellsOfPass (basis_of since bits root max_depth old) new walk after value told
-addition_tells since bits opens root max_depth old mid new walk after value told none same alone written was stood absent may clean touches writes tells =
-    let basis : Basis = basis_of since bits root max_depth old in
-    let same_tx : mid.running.tx ≡ old.running.tx = ap (λ (m : Moment). m.running.tx) same in
-    let same_basis : record { bits = bits; opens = opens; root = root; max_depth = max_depth; tx = mid.running.tx; before = since } ≡ basis = λ i. record { bits = bits; opens = none i; root = root; max_depth = max_depth; tx = same_tx i; before = since } in
-    let written_mid : HasWritten since.written (view_of mid) = subst (λ (m : Moment). HasWritten since.written (view_of m)) (sym same) written in
-    let stood_mid : IsStanding basis walk (view_over since.written mid) = subst (λ (m : Moment). IsStanding basis walk (view_over since.written m)) (sym same) stood in
-    let file : IsHashFile bits (pages_since since mid) root max_depth = subst (λ (m : Moment). IsHashFile bits (pages_since since m) root max_depth) (sym same) was in
-    pass_tells since bits root max_depth old mid new walk after value alone written_mid file absent stood_mid may clean touches (writes_at_most mid new (page_of walk.phase) told writes) told writes (subst (λ (basis : Basis). TellsOfAddition basis new walk after value told) same_basis tells)
+    → TellsOfAddition (record { bits = bits; active = active; root = root; max_depth = max_depth; tx = mid.running.tx; before = since }) new walk after value told
+    → TellsOfPass (context_of since bits root max_depth old) new walk after value told
+addition_tells since bits active root max_depth old mid new walk after value told none same alone written was stood absent may clean touches writes tells =
+    let context : WalkContext = context_of since bits root max_depth old in
+    let same_tx : mid.running.tx ≡ old.running.tx = ap (λ (m : LocalState). m.running.tx) same in
+    let same_context : record { bits = bits; active = active; root = root; max_depth = max_depth; tx = mid.running.tx; before = since } ≡ context = λ i. record { bits = bits; active = none i; root = root; max_depth = max_depth; tx = same_tx i; before = since } in
+    let written_mid : HasWritten since.written (view_of mid) = subst (λ (m : LocalState). HasWritten since.written (view_of m)) (sym same) written in
+    let stood_mid : IsStanding context walk (view_over since.written mid) = subst (λ (m : LocalState). IsStanding context walk (view_over since.written m)) (sym same) stood in
+    let file : IsHashFile bits (pages_since since mid) root max_depth = subst (λ (m : LocalState). IsHashFile bits (pages_since since m) root max_depth) (sym same) was in
+    pass_tells since bits root max_depth old mid new walk after value alone written_mid file absent stood_mid may clean touches (writes_at_most mid new (page_of walk.phase) told writes) told writes (subst (λ (context : WalkContext). TellsOfAddition context new walk after value told) same_context tells)
 
-pub basis_before : (since : Before) (bits : ℕ → ℕ) (root max_depth : ℕ) (first now new : Moment) (before after : WalkFields) (value : ℕ) (told : WalkAnswer) → KeepsBefore first now → TellsOfPass (basis_of since bits root max_depth now) new before after value told → TellsOfPass (basis_of since bits root max_depth first) new before after value told
-basis_before since bits root max_depth first now new before after value told keeps tells = subst (λ (basis : Basis). TellsOfPass basis new before after value told) (same_basis since bits root max_depth first now keeps) tells
+pub context_before : (since : Before) (bits : ℕ → ℕ) (root max_depth : ℕ) (first now new : LocalState) (before after : WalkFields) (value : ℕ) (told : WalkAnswer) → KeepsBefore first now → TellsOfPass (context_of since bits root max_depth now) new before after value told → TellsOfPass (context_of since bits root max_depth first) new before after value told
+context_before since bits root max_depth first now new before after value told keeps tells = subst (λ (context : WalkContext). TellsOfPass context new before after value told) (same_context since bits root max_depth first now keeps) tells

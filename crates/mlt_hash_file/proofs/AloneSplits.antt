@@ -14,11 +14,11 @@ use Rattle.mlt_page_locks.specs.LockTables.{can_read}
 use Rattle.mlt_page_locks.proofs.LockLaws.{writer_reads}
 use Rattle.mlt_page_subtx.specs.Images.{image_of, or_image}
 use Rattle.mlt_hash_form.specs.File.{bucket_of, depth_of, header_of}
-use Rattle.mlt_hash_form.specs.Held.{own_or}
-use Rattle.mlt_hash_access.specs.Moments.{HasFileOver, MayStep, Moment}
+use Rattle.mlt_hash_form.specs.Held.{own_or_clean}
+use Rattle.mlt_hash_access.specs.LocalStates.{HasFileOver, MayStep, LocalState}
 use Rattle.mlt_hash_access.specs.PageSteps.{WritesAtMost}
 use Rattle.mlt_hash_access.specs.Views.{HasWritten, View, page_written, view_of, view_over}
-use Rattle.mlt_hash_split.specs.Rests.{Aim, held_page}
+use Rattle.mlt_hash_split.specs.Rests.{SplitTarget, held_page}
 use Rattle.mlt_hash_split.specs.Splits.{SplitFields, directory_steps, steps_left, steps_left_at}
 use Rattle.mlt_hash_split.specs.Steps.{IsDone, IsMaking}
 use Rattle.mlt_hash_split.specs.declared.phase.SplitPhase.{SplitPhase}
@@ -26,14 +26,14 @@ use Rattle.mlt_hash_split.specs.declared.phase.SplitPhase.TheVariants as split_a
 use Rattle.mlt_hash_split.proofs.HeldPages.{clean_now}
 use Rattle.mlt_hash_split.proofs.Later.{begins_now, stands_now}
 use Rattle.mlt_hash_split.proofs.OldBucket.{depths_are_small}
-use Rattle.mlt_hash_file.specs.Alone.{HasNotWaited, IsAlone, KeepsBefore, basis_of, pages_before, pages_since}
+use Rattle.mlt_hash_file.specs.Alone.{HasNotWaited, IsAlone, KeepsBefore, context_of, pages_before, pages_since}
 use Rattle.mlt_hash.specs.StepsLeft.{IsPutting}
 use Rattle.mlt_hash_file.specs.AloneWalks.{HasMade, IsHashFile, MayAdd, TellsOfSplits, added_value}
 use Rattle.mlt_hash.specs.Changes.{Makes}
 use Rattle.mlt_hash_file.specs.SplitPages.{left_from, left_from_split, pages_in_the_end, pages_left_at, pages_to_make}
 use Rattle.mlt_hash.specs.Splitting.{BeginsSplit, HasToSplit, OfSplit, SplitCloses, SplitGoesOn, TellsAt, TellsOfAdding, TellsOfSplitting, walk_step}
 use Rattle.mlt_hash.specs.Splitting.{IsUnderWay as HasNextStep}
-use Rattle.mlt_hash.specs.Walks.{Basis, Before, IsAdding, IsSplitting, IsStanding, Stands, WalkFields, aim_of, view_for}
+use Rattle.mlt_hash.specs.Walks.{WalkContext, Before, IsAdding, IsSplitting, IsStanding, Stands, WalkFields, split_target, view_for}
 use Rattle.mlt_hash.specs.Steps.{IsSameWalk}
 use Rattle.mlt_hash.specs.declared.answer.WalkAnswer.{WalkAnswer}
 use Rattle.mlt_hash.specs.declared.answer.WalkAnswer.TheVariants as answer
@@ -47,22 +47,22 @@ use Rattle.mlt_hash.proofs.Puts.{found_below, kept_is_shallow}
 use Rattle.mlt_hash.proofs.StepsLeft.{one_fewer, some_is_one}
 use Rattle.mlt_hash_file.proofs.AlonePasses.{retell_made}
 use Rattle.mlt_hash_file.proofs.SplitPages.{MayStandAt, begun, one_at_least, one_is_left}
-use Rattle.mlt_hash_file.proofs.AloneWalks.{file_kept, same_basis, same_walks}
+use Rattle.mlt_hash_file.proofs.AloneWalks.{file_kept, same_context, same_walks}
 
 reads_held : (b : Bool) (image : Option (Option Page)) (stored : Option Page) (read : Page) → (is_some image ≡ true → b ≡ true) → (is_some image ≡ true → is_some stored ≡ true)
-    → own_or (cond b (page_written image stored) None) (unwrap_or (cond b (Some (or_image image stored)) None) None) ≡ Some read → stored ≡ Some read
+    → own_or_clean (cond b (page_written image stored) None) (unwrap_or (cond b (Some (or_image image stored)) None) None) ≡ Some read → stored ≡ Some read
 reads_held true image stored read held there reads = sym (reads_image_back true image stored held there) ∙ reads
 reads_held false image stored read held there reads = cc
 
-held_in_store : (m : Moment) (q : ℕ) (read : Page) → MayStep m → held_page (view_of m) q ≡ Some read → page_at m.store.pages q ≡ Some read
+held_in_store : (m : LocalState) (q : ℕ) (read : Page) → MayStep m → held_page (view_of m) q ≡ Some read → page_at m.store.pages q ≡ Some read
 held_in_store m q read may reads = reads_held (can_read m.locks m.running.tx q) (image_of m.running.images q) (page_at m.store.pages q) read (λ some. writer_reads m.locks m.running.tx q (may.images_locked q some)) (may.images_there q) reads
 
 -- what a walk holds is in the store
-pub held_is_stored : (basis : Basis) (m : Moment) (q : ℕ) (read : Page) → MayStep m → HasWritten basis.before.written (view_of m) → held_page (view_for basis m) q ≡ Some read → page_at m.store.pages q ≡ Some read
-held_is_stored basis m q read may written reads = held_in_store m q read may (found_below basis m q (Some read) written reads)
+pub held_is_stored : (context : WalkContext) (m : LocalState) (q : ℕ) (read : Page) → MayStep m → HasWritten context.before.written (view_of m) → held_page (view_for context m) q ≡ Some read → page_at m.store.pages q ≡ Some read
+held_is_stored context m q read may written reads = held_in_store m q read may (found_below context m q (Some read) written reads)
 
 -- there is a clean file, with what was written before over it
-pub clean_file : (since : Before) (bits : ℕ → ℕ) (root max_depth : ℕ) (m : Moment) → MayStep m → IsHashFile bits (pages_since since m) root max_depth → HasFileOver bits root since.written m
+pub clean_file : (since : Before) (bits : ℕ → ℕ) (root max_depth : ℕ) (m : LocalState) → MayStep m → IsHashFile bits (pages_since since m) root max_depth → HasFileOver bits root since.written m
 clean_file since bits root max_depth m may file = record { clean = pages_before m; is_clean = before_is_clean m may; form = file.form }
 
 if_few : (b : Bool) (x y n : ℕ) → x ≤ n → y ≤ n → (if b then x else y) ≤ n
@@ -83,25 +83,25 @@ abbrev pub split_effort : Option SplitFields → ℕ
 split_effort None = 0
 split_effort (Some split) = 1000 * (16 - split.depth) + steps_left split
 
-abbrev pub effort_at : Phase → WalkFields → Moment → ℕ
+abbrev pub effort_at : Phase → WalkFields → LocalState → ℕ
 effort_at (at.Adding value bucket room_depth unsplit) walk m = 1000 * (17 - (bucket_of (page_at m.store.pages bucket)).depth)
 effort_at (at.Splitting value room_depth) walk m = split_effort walk.split
 effort_at other walk m = 0
 
-abbrev pub effort : WalkFields → Moment → ℕ
+abbrev pub effort : WalkFields → LocalState → ℕ
 effort walk m = effort_at walk.phase walk m
 
 split_effort_is : (split : Option SplitFields) (is : SplitFields) → split ≡ Some is → split_effort split ≡ 1000 * (16 - is.depth) + steps_left is
 split_effort_is split is same = ap split_effort same
 
 -- a walk alone that splits
-pub record IsSplittingOn (basis : Basis) (old now : Moment) (before walk : WalkFields) : Type 0 where
+pub record IsSplittingOn (context : WalkContext) (old now : LocalState) (before walk : WalkFields) : Type 0 where
   pub same : IsSameWalk before walk
   pub value : added_value walk.phase ≡ added_value before.phase
-  pub may : MayAdd basis now walk
-  pub written : HasWritten basis.before.written (view_of now)
+  pub may : MayAdd context now walk
+  pub written : HasWritten context.before.written (view_of now)
   pub keeps : KeepsBefore old now
-  pub pages : pages_in_the_end basis.root walk now ≤ pages_in_the_end basis.root before old
+  pub pages : pages_in_the_end context.root walk now ≤ pages_in_the_end context.root before old
 
 next_step : (phase : Phase) → IsPutting phase → HasNextStep phase
 next_step (at.Adding value bucket room_depth unsplit) adds = tt
@@ -113,8 +113,8 @@ next_step (at.AtBucket bucket depth found) adds = absurd adds
 next_step (at.Full next) adds = absurd adds
 next_step (at.Changed bucket done) adds = absurd adds
 
-pub has_next_step : (basis : Basis) (m : Moment) (walk : WalkFields) → MayAdd basis m walk → HasNextStep walk.phase
-has_next_step basis m walk may = next_step walk.phase may.adds
+pub has_next_step : (context : WalkContext) (m : LocalState) (walk : WalkFields) → MayAdd context m walk → HasNextStep walk.phase
+has_next_step context m walk may = next_step walk.phase may.adds
 
 -- sums of pages that are there and pages that are left
 one_made : (now new left left' all all' : ℕ) → new ≡ now + 1 → left' + 1 ≤ all' → left ≡ all → (left'' : ℕ) → left'' ≡ left' → all' ≡ all → new + left'' ≤ now + left
@@ -129,29 +129,29 @@ past_the_limit count most most' left is full same left_is one = omega (arith, fu
 no_more : (x y z : ℕ) → x ≤ y → y ≤ z → x ≤ z
 no_more x y z first next = omega (arith, first, next)
 
-at_most : (basis : Basis) (new : Moment) (before after : WalkFields) (value less most : ℕ) (told : WalkAnswer) → less ≤ most → TellsOfSplits basis new before after value less told → TellsOfSplits basis new before after value most told
-at_most basis new before after value less most answer.Changed within tells = tells
-at_most basis new before after value less most (answer.Refused refusal.NoRoom) within tells = omega (arith, within, tells)
-at_most basis new before after value less most (answer.Refused reason) within tells = tells
-at_most basis new before after value less most other within tells = absurd tells
+at_most : (context : WalkContext) (new : LocalState) (before after : WalkFields) (value less most : ℕ) (told : WalkAnswer) → less ≤ most → TellsOfSplits context new before after value less told → TellsOfSplits context new before after value most told
+at_most context new before after value less most answer.Changed within tells = tells
+at_most context new before after value less most (answer.Refused refusal.NoRoom) within tells = omega (arith, within, tells)
+at_most context new before after value less most (answer.Refused reason) within tells = tells
+at_most context new before after value less most other within tells = absurd tells
 
-retell_splits : (basis : Basis) (new : Moment) (before walk after : WalkFields) (value most : ℕ) (told : WalkAnswer) → IsSameWalk before walk → TellsOfSplits basis new walk after value most told → TellsOfSplits basis new before after value most told
-retell_splits basis new before walk after value most answer.Changed same tells = retell_made basis new before walk after (Some value) same tells
-retell_splits basis new before walk after value most (answer.Refused refusal.NoRoom) same tells = tells
-retell_splits basis new before walk after value most (answer.Refused reason) same tells = tells
-retell_splits basis new before walk after value most other same tells = absurd tells
+retell_splits : (context : WalkContext) (new : LocalState) (before walk after : WalkFields) (value most : ℕ) (told : WalkAnswer) → IsSameWalk before walk → TellsOfSplits context new walk after value most told → TellsOfSplits context new before after value most told
+retell_splits context new before walk after value most answer.Changed same tells = retell_made context new before walk after (Some value) same tells
+retell_splits context new before walk after value most (answer.Refused refusal.NoRoom) same tells = tells
+retell_splits context new before walk after value most (answer.Refused reason) same tells = tells
+retell_splits context new before walk after value most other same tells = absurd tells
 
 -- what a step leads to: the walk goes on with less work, or tells
-record Advances (basis : Basis) (now new : Moment) (walk after : WalkFields) : Type 0 where
+record Advances (context : WalkContext) (now new : LocalState) (walk after : WalkFields) : Type 0 where
   same : IsSameWalk walk after
   value : added_value after.phase ≡ added_value walk.phase
-  may : MayAdd basis new after
+  may : MayAdd context new after
   less : effort after new < effort walk now
-  pages : pages_in_the_end basis.root after new ≤ pages_in_the_end basis.root walk now
+  pages : pages_in_the_end context.root after new ≤ pages_in_the_end context.root walk now
 
-module _ (since : Before) (bits : ℕ → ℕ) (root max_depth : ℕ) (first now new : Moment) (walk after : WalkFields) (alone : IsAlone now) (alone_new : IsAlone new) (written : HasWritten since.written (view_of now)) (written_new : HasWritten since.written (view_of new)) (file : IsHashFile bits (pages_since since now) root max_depth) (keeps : KeepsBefore now new) where
-  abbrev ours : Basis
-  ours = basis_of since bits root max_depth first
+module _ (since : Before) (bits : ℕ → ℕ) (root max_depth : ℕ) (first now new : LocalState) (walk after : WalkFields) (alone : IsAlone now) (alone_new : IsAlone new) (written : HasWritten since.written (view_of now)) (written_new : HasWritten since.written (view_of new)) (file : IsHashFile bits (pages_since since now) root max_depth) (keeps : KeepsBefore now new) where
+  abbrev ours : WalkContext
+  ours = context_of since bits root max_depth first
 
   clean_now_is : HasFileOver bits root since.written now
   clean_now_is = clean_file since bits root max_depth now alone.may file
@@ -183,7 +183,7 @@ module _ (since : Before) (bits : ℕ → ℕ) (root max_depth : ℕ) (first now
         let fits : b.header.depth ≤ max_depth = subst (λ (p : Option Page). (header_of p).depth ≤ max_depth) head shallow in
         let stands : IsSplitting ours after (view_over since.written new) room_depth = subst (λ (phase : Phase). Stands phase ours after (view_over since.written new)) b.phase b.on.stands in
         let same : stands.split ≡ b.split = some_is_one stands.split b.split after.split stands.split_is b.split_is in
-        let deep_there = (begins_now (aim_of ours after room_depth) new stands.split alone_new.may (clean_now (aim_of ours after room_depth) new alone_new.may (clean_file since bits root max_depth new alone_new.may (file_kept since bits root max_depth now new keeps file))) stands.under_way).deep in
+        let deep_there = (begins_now (split_target ours after room_depth) new stands.split alone_new.may (clean_now (split_target ours after room_depth) new alone_new.may (clean_file since bits root max_depth new alone_new.may (file_kept since bits root max_depth now new keeps file))) stands.under_way).deep in
         let deep : b.split.depth < room_depth = subst (λ (s : SplitFields). s.depth < room_depth) same deep_there in
         let steps : directory_steps b.split.depth b.split.directory_depth ≤ 513 = few_steps b.split.depth b.split.directory_depth (omega (arith, fits, b.directory_depth, file.small)) in
         let now_is : effort walk now ≡ 1000 * (17 - b.bucket.depth) = ap (λ (phase : Phase). effort_at phase walk now) phase_is ∙ ap (λ (p : Option Page). 1000 * (17 - (bucket_of p).depth)) bucket in
@@ -211,9 +211,9 @@ module _ (since : Before) (bits : ℕ → ℕ) (root max_depth : ℕ) (first now
     has_to_be_deeper : HasToSplit ours now walk value n room_depth → adding.fields.depth < room_depth
     has_to_be_deeper (inl unsplit_yet) = adding.unsplit_is (let both : at.Adding value n room_depth unsplit ≡ at.Adding value n room_depth true = sym phase_is ∙ unsplit_yet in cc)
     has_to_be_deeper (inr full) =
-        let aim : Aim = aim_of ours walk room_depth in
+        let target : SplitTarget = split_target ours walk room_depth in
         let same : full.0 ≡ adding.fields = (let both : Some (page.Bucket full.0) ≡ Some (page.Bucket adding.fields) = sym full.1 ∙ adding.rest.found in cc) in
-        kept_is_shallow aim (view_over since.written now) n adding.header adding.fields adding.rest (clean_now aim now alone.may clean_now_is) (subst (λ (b : BucketFields). list_all (is_kept set.empty) b.slots ≡ true) same full.2)
+        kept_is_shallow target (view_over since.written now) n adding.header adding.fields adding.rest (clean_now target now alone.may clean_now_is) (subst (λ (b : BucketFields). list_all (is_kept set.empty) b.slots ≡ true) same full.2)
 
     -- where the store is full and a split is to begin, the splits lead to more pages than there may be
     full_at_rest : HasToSplit ours now walk value n room_depth → map.len now.store.pages ≡ now.store.max_pages → new.store.max_pages < pages_in_the_end root walk now
@@ -243,35 +243,35 @@ module _ (since : Before) (bits : ℕ → ℕ) (root max_depth : ℕ) (first now
 
     stands_there : (was : SplitFields) → walk.split ≡ Some was → MayStandAt was.phase was.depth was.directory_depth
     stands_there was is =
-        let aim : Aim = aim_of ours walk room_depth in
-        let stands = stands_now aim now splitting.split splitting.split.phase refl alone.may (clean_now aim now alone.may clean_now_is) splitting.under_way in
-        subst (λ (split : SplitFields). MayStandAt split.phase split.depth split.directory_depth) (split_is was is) (may_stand splitting.split.phase aim _ _ _ splitting.split splitting.under_way.bucket stands)
+        let target : SplitTarget = split_target ours walk room_depth in
+        let stands = stands_now target now splitting.split splitting.split.phase refl alone.may (clean_now target now alone.may clean_now_is) splitting.under_way in
+        subst (λ (split : SplitFields). MayStandAt split.phase split.depth split.directory_depth) (split_is was is) (may_stand splitting.split.phase target _ _ _ splitting.split splitting.under_way.bucket stands)
 
     within : (was : SplitFields) → walk.split ≡ Some was → was.depth ≤ was.directory_depth
     within was is =
-        let aim : Aim = aim_of ours walk room_depth in
-        subst (λ (split : SplitFields). split.depth ≤ split.directory_depth) (split_is was is) (depths_are_small aim _ splitting.split splitting.under_way.bucket (begins_now aim now splitting.split alone.may (clean_now aim now alone.may clean_now_is) splitting.under_way)).0
+        let target : SplitTarget = split_target ours walk room_depth in
+        subst (λ (split : SplitFields). split.depth ≤ split.directory_depth) (split_is was is) (depths_are_small target _ splitting.split splitting.under_way.bucket (begins_now target now splitting.split alone.may (clean_now target now alone.may clean_now_is) splitting.under_way)).0
 
-    done_there : (was : SplitFields) → walk.split ≡ Some was → OfSplit walk (λ (split : SplitFields). IsDone split.phase (aim_of ours walk room_depth) now new split) → IsDone was.phase (aim_of ours walk room_depth) now new was
-    done_there was is done = subst (λ (split : SplitFields). IsDone split.phase (aim_of ours walk room_depth) now new split) (some_is_one done.0 was walk.split done.1 is) done.2
+    done_there : (was : SplitFields) → walk.split ≡ Some was → OfSplit walk (λ (split : SplitFields). IsDone split.phase (split_target ours walk room_depth) now new split) → IsDone was.phase (split_target ours walk room_depth) now new was
+    done_there was is done = subst (λ (split : SplitFields). IsDone split.phase (split_target ours walk room_depth) now new split) (some_is_one done.0 was walk.split done.1 is) done.2
 
     left_now : (was : SplitFields) → walk.split ≡ Some was → pages_left_at walk.phase root walk now ≡ left_from was.depth was.directory_depth room_depth was.phase
     left_now was is = ap (λ (phase : Phase). pages_left_at phase root walk now) phase_is ∙ ap (λ (o : Option SplitFields). left_from_split o room_depth) is
 
-    goes_on_pages : (s : SplitGoesOn ours new walk after value room_depth) → OfSplit walk (λ (split : SplitFields). IsDone split.phase (aim_of ours walk room_depth) now new split) → pages_in_the_end root after new ≤ pages_in_the_end root walk now
+    goes_on_pages : (s : SplitGoesOn ours new walk after value room_depth) → OfSplit walk (λ (split : SplitFields). IsDone split.phase (split_target ours walk room_depth) now new split) → pages_in_the_end root after new ≤ pages_in_the_end root walk now
     goes_on_pages s done =
         let steps : steps_left_at s.was.depth s.was.directory_depth s.is.phase + 1 ≡ steps_left_at s.was.depth s.was.directory_depth s.was.phase = sym (λ i. steps_left_at (s.depth i) (s.directory_depth i) s.is.phase + 1) ∙ s.fewer in
         let new_left : pages_left_at after.phase root after new ≡ left_from s.was.depth s.was.directory_depth room_depth s.is.phase = ap (λ (phase : Phase). pages_left_at phase root after new) s.phase ∙ ap (λ (o : Option SplitFields). left_from_split o room_depth) s.is_is ∙ (λ i. left_from (s.depth i) (s.directory_depth i) room_depth s.is.phase) in
-        as_many _ _ _ _ _ _ (pages_go_on (aim_of ours walk room_depth) now new s.was s.was.depth s.was.directory_depth room_depth alone.may (within s.was s.was_is) s.was.phase s.is.phase (stands_there s.was s.was_is) steps (done_there s.was s.was_is done)) (left_now s.was s.was_is) new_left
+        as_many _ _ _ _ _ _ (pages_go_on (split_target ours walk room_depth) now new s.was s.was.depth s.was.directory_depth room_depth alone.may (within s.was s.was_is) s.was.phase s.is.phase (stands_there s.was s.was_is) steps (done_there s.was s.was_is done)) (left_now s.was s.was_is) new_left
 
     closes_pages : (s : SplitCloses ours new walk after value room_depth) → page_at new.store.pages root ≡ Some (page.Head s.rests.header) → page_at new.store.pages s.bucket ≡ Some (page.Bucket s.rests.bucket)
-        → OfSplit walk (λ (split : SplitFields). IsDone split.phase (aim_of ours walk room_depth) now new split) → pages_in_the_end root after new ≤ pages_in_the_end root walk now
+        → OfSplit walk (λ (split : SplitFields). IsDone split.phase (split_target ours walk room_depth) now new split) → pages_in_the_end root after new ≤ pages_in_the_end root walk now
     closes_pages s head bucket done =
         let new_left : pages_left_at after.phase root after new ≡ pages_to_make (s.was.depth + 1) s.rests.header.depth room_depth =
         ap (λ (phase : Phase). pages_left_at phase root after new) s.phase ∙ (λ i. pages_to_make (bucket_of (bucket i)).depth (header_of (head i)).depth room_depth) ∙ ap (λ l. pages_to_make l s.rests.header.depth room_depth) s.rests.deeper in
-        as_many _ _ _ _ _ _ (pages_close (aim_of ours walk room_depth) now new s.was s.was.depth s.was.directory_depth room_depth alone.may (within s.was s.was_is) s.was.phase s.rests.header.depth (stands_there s.was s.was_is) s.last s.rests.in_place s.rests.doubled (done_there s.was s.was_is done)) (left_now s.was s.was_is) new_left
+        as_many _ _ _ _ _ _ (pages_close (split_target ours walk room_depth) now new s.was s.was.depth s.was.directory_depth room_depth alone.may (within s.was s.was_is) s.was.phase s.rests.header.depth (stands_there s.was s.was_is) s.last s.rests.in_place s.rests.doubled (done_there s.was s.was_is done)) (left_now s.was s.was_is) new_left
 
-    split_goes_on : SplitGoesOn ours new walk after value room_depth → OfSplit walk (λ (split : SplitFields). IsDone split.phase (aim_of ours walk room_depth) now new split) → Advances ours now new walk after
+    split_goes_on : SplitGoesOn ours new walk after value room_depth → OfSplit walk (λ (split : SplitFields). IsDone split.phase (split_target ours walk room_depth) now new split) → Advances ours now new walk after
     split_goes_on s done =
         let now_is = effort_now s.was s.was_is in
         let new_is : effort after new ≡ 1000 * (16 - s.is.depth) + steps_left s.is = ap (λ (phase : Phase). effort_at phase after new) s.phase ∙ split_effort_is after.split s.is s.is_is in
@@ -286,7 +286,7 @@ module _ (since : Before) (bits : ℕ → ℕ) (root max_depth : ℕ) (first now
           pages = goes_on_pages s done;
         }
 
-    split_closes : SplitCloses ours new walk after value room_depth → OfSplit walk (λ (split : SplitFields). IsDone split.phase (aim_of ours walk room_depth) now new split) → Advances ours now new walk after
+    split_closes : SplitCloses ours new walk after value room_depth → OfSplit walk (λ (split : SplitFields). IsDone split.phase (split_target ours walk room_depth) now new split) → Advances ours now new walk after
     split_closes s done =
         let head : page_at new.store.pages root ≡ Some (page.Head s.rests.header) = held_is_stored ours new root (page.Head s.rests.header) alone_new.may written_new s.rests.rest.head in
         let bucket : page_at new.store.pages s.bucket ≡ Some (page.Bucket s.rests.bucket) = held_is_stored ours new s.bucket (page.Bucket s.rests.bucket) alone_new.may written_new s.rests.rest.found in
@@ -338,8 +338,8 @@ module _ (since : Before) (bits : ℕ → ℕ) (root max_depth : ℕ) (first now
   ends_at (at.Splitting value room_depth) is adds stands told not went tells = splitting_ends value room_depth stands is told not went tells
   ends_at other is adds stands told not went tells = absurd adds
 
-splitting_still : (basis : Basis) (first now new : Moment) (before walk after : WalkFields) → IsSplittingOn basis first now before walk → HasWritten basis.before.written (view_of new) → KeepsBefore now new → Advances basis now new walk after → IsSplittingOn basis first new before after
-splitting_still basis first now new before walk after on written keeps step = record {
+splitting_still : (context : WalkContext) (first now new : LocalState) (before walk after : WalkFields) → IsSplittingOn context first now before walk → HasWritten context.before.written (view_of new) → KeepsBefore now new → Advances context now new walk after → IsSplittingOn context first new before after
+splitting_still context first now new before walk after on written keeps step = record {
   same = same_walks before walk after on.same step.same;
   value = step.value ∙ on.value;
   may = step.may;
@@ -348,31 +348,31 @@ splitting_still basis first now new before walk after on written keeps step = re
   pages = no_more _ _ _ step.pages on.pages;
 }
 
-module _ (since : Before) (bits : ℕ → ℕ) (root max_depth : ℕ) (first now new : Moment) (before walk after : WalkFields) (alone : IsAlone now × IsAlone new) (file : IsHashFile bits (pages_since since first) root max_depth) (on : IsSplittingOn (basis_of since bits root max_depth first) first now before walk) (keeps : KeepsBefore now new)
+module _ (since : Before) (bits : ℕ → ℕ) (root max_depth : ℕ) (first now new : LocalState) (before walk after : WalkFields) (alone : IsAlone now × IsAlone new) (file : IsHashFile bits (pages_since since first) root max_depth) (on : IsSplittingOn (context_of since bits root max_depth first) first now before walk) (keeps : KeepsBefore now new)
     (written : HasWritten since.written (view_of new))
   where
-    told_here : (told : WalkAnswer) → TellsAt walk.phase (basis_of since bits root max_depth now) now new walk after told → TellsAt walk.phase (basis_of since bits root max_depth first) now new walk after told
-    told_here told tells = subst (λ (basis : Basis). TellsAt walk.phase basis now new walk after told) (same_basis since bits root max_depth first now on.keeps) tells
+    told_here : (told : WalkAnswer) → TellsAt walk.phase (context_of since bits root max_depth now) now new walk after told → TellsAt walk.phase (context_of since bits root max_depth first) now new walk after told
+    told_here told tells = subst (λ (context : WalkContext). TellsAt walk.phase context now new walk after told) (same_context since bits root max_depth first now on.keeps) tells
 
-    goes_on : TellsAt walk.phase (basis_of since bits root max_depth now) now new walk after answer.Going → Advances (basis_of since bits root max_depth first) now new walk after
+    goes_on : TellsAt walk.phase (context_of since bits root max_depth now) now new walk after answer.Going → Advances (context_of since bits root max_depth first) now new walk after
     goes_on tells =
         advances_at since bits root max_depth first now new walk after alone.0 alone.1 on.written written (file_kept since bits root max_depth first now on.keeps file) keeps walk.phase refl on.may.adds on.may.stands (told_here answer.Going tells)
 
-    pub splits_on : TellsAt walk.phase (basis_of since bits root max_depth now) now new walk after answer.Going → IsSplittingOn (basis_of since bits root max_depth first) first new before after
-    splits_on tells = splitting_still (basis_of since bits root max_depth first) first now new before walk after on written keeps (goes_on tells)
+    pub splits_on : TellsAt walk.phase (context_of since bits root max_depth now) now new walk after answer.Going → IsSplittingOn (context_of since bits root max_depth first) first new before after
+    splits_on tells = splitting_still (context_of since bits root max_depth first) first now new before walk after on written keeps (goes_on tells)
 
-    pub less_effort : TellsAt walk.phase (basis_of since bits root max_depth now) now new walk after answer.Going → effort after new < effort walk now
+    pub less_effort : TellsAt walk.phase (context_of since bits root max_depth now) now new walk after answer.Going → effort after new < effort walk now
     less_effort tells = (goes_on tells).less
 
-    pub splits_end : (told : WalkAnswer) → (told ≡ answer.Going → ⊥) → HasNotWaited told → TellsAt walk.phase (basis_of since bits root max_depth now) now new walk after told
-        → TellsOfSplits (basis_of since bits root max_depth first) new before after (added_value before.phase) (pages_in_the_end root before first) told
+    pub splits_end : (told : WalkAnswer) → (told ≡ answer.Going → ⊥) → HasNotWaited told → TellsAt walk.phase (context_of since bits root max_depth now) now new walk after told
+        → TellsOfSplits (context_of since bits root max_depth first) new before after (added_value before.phase) (pages_in_the_end root before first) told
     splits_end told not went tells =
         let ended = ends_at since bits root max_depth first now new walk after alone.0 alone.1 on.written written (file_kept since bits root max_depth first now on.keeps file) keeps walk.phase refl on.may.adds on.may.stands told not went (told_here told tells) in
-        let retold = retell_splits (basis_of since bits root max_depth first) new before walk after (added_value walk.phase) (pages_in_the_end root walk now) told on.same ended in
-        at_most (basis_of since bits root max_depth first) new before after _ _ _ told on.pages (subst (λ (value : ℕ). TellsOfSplits (basis_of since bits root max_depth first) new before after value (pages_in_the_end root walk now) told) on.value retold)
+        let retold = retell_splits (context_of since bits root max_depth first) new before walk after (added_value walk.phase) (pages_in_the_end root walk now) told on.same ended in
+        at_most (context_of since bits root max_depth first) new before after _ _ _ told on.pages (subst (λ (value : ℕ). TellsOfSplits (context_of since bits root max_depth first) new before after value (pages_in_the_end root walk now) told) on.value retold)
 
-pub splits_start : (basis : Basis) (m : Moment) (walk : WalkFields) → HasWritten basis.before.written (view_of m) → MayAdd basis m walk → IsSplittingOn basis m m walk walk
-splits_start basis m walk written may = record { same = record { key = refl; mode = refl; pass = refl }; value = refl; may = may; written = written; keeps = keeps_same m; pages = omega arith }
+pub splits_start : (context : WalkContext) (m : LocalState) (walk : WalkFields) → HasWritten context.before.written (view_of m) → MayAdd context m walk → IsSplittingOn context m m walk walk
+splits_start context m walk written may = record { same = record { key = refl; mode = refl; pass = refl }; value = refl; may = may; written = written; keeps = keeps_same m; pages = omega arith }
 
-pub stands_to_split : (since : Before) (bits : ℕ → ℕ) (root max_depth : ℕ) (first now : Moment) (before walk : WalkFields) → IsSplittingOn (basis_of since bits root max_depth first) first now before walk → IsStanding (basis_of since bits root max_depth now) walk (view_over since.written now)
-stands_to_split since bits root max_depth first now before walk on = subst (λ (basis : Basis). IsStanding basis walk (view_for basis now)) (sym (same_basis since bits root max_depth first now on.keeps)) on.may.stands
+pub stands_to_split : (since : Before) (bits : ℕ → ℕ) (root max_depth : ℕ) (first now : LocalState) (before walk : WalkFields) → IsSplittingOn (context_of since bits root max_depth first) first now before walk → IsStanding (context_of since bits root max_depth now) walk (view_over since.written now)
+stands_to_split since bits root max_depth first now before walk on = subst (λ (context : WalkContext). IsStanding context walk (view_for context now)) (sym (same_context since bits root max_depth first now on.keeps)) on.may.stands

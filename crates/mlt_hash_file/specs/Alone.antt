@@ -9,42 +9,42 @@ use Rattle.mlt_hash_form.specs.Held.{over}
 use Rattle.mlt_page_locks.specs.LockTables.{LockTable, coded_table, is_holder}
 use Rattle.mlt_page_subtx.specs.Images.{Running, coded_running}
 use Rattle.mlt_hash_form.specs.declared.root.Root.{Root}
-use Rattle.mlt_hash_access.specs.Moments.{MayStep, Moment, page_before}
-use Rattle.mlt_hash.specs.Walks.{Basis, Before}
+use Rattle.mlt_hash_access.specs.LocalStates.{MayStep, LocalState, page_before}
+use Rattle.mlt_hash.specs.Walks.{WalkContext, Before}
 use Rattle.mlt_hash.specs.declared.answer.WalkAnswer.{WalkAnswer}
 use Rattle.mlt_hash.specs.declared.answer.WalkAnswer.TheVariants as answer
 
 -- the transaction may step, and nobody else holds a page
-pub record IsAlone (m : Moment) : Type 0 where
+pub record IsAlone (m : LocalState) : Type 0 where
   pub may : MayStep m
   pub alone : (u : ℕ) → u ≢ m.running.tx → is_holder m.locks u ≡ false
   pub places : 1 ≤ m.locks.max_open
 
 -- it holds no page, and has written none
-pub record IsIdle (m : Moment) : Type 0 where
+pub record IsIdle (m : LocalState) : Type 0 where
   pub unwritten : m.running.images ≡ map.empty
   pub unheld : m.locks.held ≡ map.empty
 
 -- the pages as they were before the transaction wrote any: where it is alone, the clean pages
-abbrev pub pages_before : Moment → ℕ → Option Page
+abbrev pub pages_before : LocalState → ℕ → Option Page
 pages_before m = page_before m.running.images m.store.pages
 
 -- the same with what a walk wrote over them before it went on to its key
-abbrev pub pages_since : Before → Moment → ℕ → Option Page
+abbrev pub pages_since : Before → LocalState → ℕ → Option Page
 pages_since since m = over (pages_before m) since.written
 
 -- what each step keeps: whose it is, how many places and pages there may be, and the clean pages
-pub record KeepsBefore (old new : Moment) : Type 0 where
+pub record KeepsBefore (old new : LocalState) : Type 0 where
   pub tx : new.running.tx ≡ old.running.tx
   pub max_open : new.locks.max_open ≡ old.locks.max_open
   pub max_pages : new.store.max_pages ≡ old.store.max_pages
   pub pages : (q : ℕ) → pages_before new q ≡ pages_before old q
 
 -- what a walk goes by that did this before, where no transaction is open, so that no ghost keeps its room
-abbrev pub basis_of : Before → (ℕ → ℕ) → ℕ → ℕ → Moment → Basis
-basis_of since bits root max_depth m = record {
+abbrev pub context_of : Before → (ℕ → ℕ) → ℕ → ℕ → LocalState → WalkContext
+context_of since bits root max_depth m = record {
   bits = bits;
-  opens = set.empty;
+  active = set.empty;
   root = root;
   max_depth = max_depth;
   tx = m.running.tx;
@@ -52,17 +52,17 @@ basis_of since bits root max_depth m = record {
 }
 
 -- the same of a transaction that has this root
-abbrev pub basis_alone : {P : Type 0} → Before → (P → ℕ → ℕ) → Root P → Moment → Basis
-basis_alone since bits_of root m = basis_of since (bits_of root.pseudo) root.page root.max_depth m
+abbrev pub context_alone : {P : Type 0} → Before → (P → ℕ → ℕ) → Root P → LocalState → WalkContext
+context_alone since bits_of root m = context_of since (bits_of root.pseudo) root.page root.max_depth m
 
 -- the walk was not told to wait
 abbrev pub HasNotWaited : WalkAnswer → Type 0
 HasNotWaited (answer.Waiting page by) = ⊥
 HasNotWaited other = Unit {0}
 
--- a moment is stored as the triple of its parts
-abbrev pub coded_moment : Coded Moment
-coded_moment =
+-- a state is stored as the triple of its parts
+abbrev pub coded_local : Coded LocalState
+coded_local =
     code_by (Running × (LockTable × PageStore))
     (coded× coded_running (coded× coded_table coded_store))
     (λ m. (m.running, (m.locks, m.store)))

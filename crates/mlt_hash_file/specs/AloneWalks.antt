@@ -13,12 +13,12 @@ use Rattle.mlt_hash_form.specs.File.{HasForm, buckets_of, depth_of, look_up}
 use Rattle.mlt_hash_form.specs.Room.{IsCrowded}
 use Rattle.mlt_hash_form.specs.declared.root.Root.{Root}
 use Rattle.mlt_page_subtx.specs.Images.{put_back}
-use Rattle.mlt_hash_access.specs.Moments.{Moment}
+use Rattle.mlt_hash_access.specs.LocalStates.{LocalState}
 use Rattle.mlt_hash_access.specs.Views.{HasWritten, view_of, view_over}
-use Rattle.mlt_hash.specs.Walks.{Basis, Before, IsAtStart, IsStanding, WalkFields, nothing_before, view_for}
+use Rattle.mlt_hash.specs.Walks.{WalkContext, Before, IsAtStart, IsStanding, WalkFields, nothing_before, view_for}
 use Rattle.mlt_hash.specs.Steps.{HasFound, IsSameWalk}
 use Rattle.mlt_hash.specs.StepsLeft.{IsPutting}
-use Rattle.mlt_hash_file.specs.Alone.{basis_alone, pages_before, pages_since}
+use Rattle.mlt_hash_file.specs.Alone.{context_alone, pages_before, pages_since}
 use Rattle.mlt_hash.specs.Passes.{next_of}
 use Rattle.mlt_hash_file.specs.SplitPages.{BoundedFile, HasRoomAt, LacksPages, bucket_for, pages_for, pages_in_the_end}
 use Rattle.mlt_hash.specs.declared.pass.Pass.TheVariants as pass
@@ -35,18 +35,18 @@ pub record IsHashFile (bits : ℕ → ℕ) (pages : ℕ → Option Page) (root m
   pub small : max_depth ≤ 16
 
 -- the pages that a transaction alone began with are a hash file with this root, and have no record of the key
-abbrev pub IsFileBefore : {P : Type 0} → (P → ℕ → ℕ) → Root P → Moment → Type 0
+abbrev pub IsFileBefore : {P : Type 0} → (P → ℕ → ℕ) → Root P → LocalState → Type 0
 IsFileBefore bits_of root m = IsHashFile (bits_of root.pseudo) (pages_before m) root.page root.max_depth
 
-abbrev pub IsAbsentBefore : {P : Type 0} → (P → ℕ → ℕ) → Root P → Moment → ℕ → Type 0
+abbrev pub IsAbsentBefore : {P : Type 0} → (P → ℕ → ℕ) → Root P → LocalState → ℕ → Type 0
 IsAbsentBefore bits_of root m key = look_up (bits_of root.pseudo) (pages_before m) root.page key ≡ None
 
 -- what a walk did before is written, with it the pages are a hash file with this root, and over it the walk stands
 pub record IsReadySince {P : Type 0} (since : Before) (bits_of : P → ℕ → ℕ) (root : Root P)
-    (m : Moment) (walk : WalkFields) : Type 0 where
+    (m : LocalState) (walk : WalkFields) : Type 0 where
   pub written : HasWritten since.written (view_of m)
   pub file : IsHashFile (bits_of root.pseudo) (pages_since since m) root.page root.max_depth
-  pub stands : IsStanding (basis_alone since bits_of root m) walk (view_over since.written m)
+  pub stands : IsStanding (context_alone since bits_of root m) walk (view_over since.written m)
 
 -- another hash file, in which the key has this value, or none, and each other key what it had
 pub record ChangesValue (bits : ℕ → ℕ) (before after : ℕ → Option Page) (root max_depth key : ℕ)
@@ -56,35 +56,35 @@ pub record ChangesValue (bits : ℕ → ℕ) (before after : ℕ → Option Page
   pub others : (k : ℕ) → (k ≡ key → ⊥) → look_up bits after root k ≡ look_up bits before root k
 
 -- the walk is at its key's bucket, and has found this there
-pub record HasArrived (basis : Basis) (new : Moment) (before after : WalkFields) (value : Option ℕ)
+pub record HasArrived (context : WalkContext) (new : LocalState) (before after : WalkFields) (value : Option ℕ)
     : Type 0 where
   pub same : IsSameWalk before after
-  pub stands : IsStanding basis after (view_for basis new)
+  pub stands : IsStanding context after (view_for context new)
   pub found : HasFound after.phase value
 
 -- the change of the walk's key is written
-abbrev pub HasChanged : Basis → Moment → ℕ → Option ℕ → Type 0
-HasChanged basis new key value =
-    ChangesValue basis.bits (pages_since basis.before new) (page_at new.store.pages)
-    basis.root basis.max_depth key value
+abbrev pub HasChanged : WalkContext → LocalState → ℕ → Option ℕ → Type 0
+HasChanged context new key value =
+    ChangesValue context.bits (pages_since context.before new) (page_at new.store.pages)
+    context.root context.max_depth key value
 
 -- so it is, and the walk stands where it wrote it
-pub record HasMade (basis : Basis) (new : Moment) (before after : WalkFields) (value : Option ℕ)
+pub record HasMade (context : WalkContext) (new : LocalState) (before after : WalkFields) (value : Option ℕ)
     : Type 0 where
-  pub changed : HasChanged basis new before.key value
+  pub changed : HasChanged context new before.key value
   pub same : IsSameWalk before after
   pub phase : IsChangedPhase after.phase
-  pub stands : IsStanding basis after (view_for basis new)
+  pub stands : IsStanding context after (view_for context new)
 
 -- a page of the walk wanted memory, which was refused: never that of its first key's one change
-abbrev pub IsRefusedMemory : Basis → Refusal → Type 0
-IsRefusedMemory basis reason = (reason ≡ refusal.OutOfMemory) × (basis.before ≢ nothing_before)
+abbrev pub IsRefusedMemory : WalkContext → Refusal → Type 0
+IsRefusedMemory context reason = (reason ≡ refusal.OutOfMemory) × (context.before ≢ nothing_before)
 
 -- what a change of a record that is there tells
-abbrev pub TellsOfMaking : Basis → Moment → WalkFields → WalkFields → Option ℕ → WalkAnswer → Type 0
-TellsOfMaking basis new before after value answer.Changed = HasMade basis new before after value
-TellsOfMaking basis new before after value (answer.Refused reason) = IsRefusedMemory basis reason
-TellsOfMaking basis new before after value other = ⊥
+abbrev pub TellsOfMaking : WalkContext → LocalState → WalkFields → WalkFields → Option ℕ → WalkAnswer → Type 0
+TellsOfMaking context new before after value answer.Changed = HasMade context new before after value
+TellsOfMaking context new before after value (answer.Refused reason) = IsRefusedMemory context reason
+TellsOfMaking context new before after value other = ⊥
 
 -- the bucket of the key has no slot with room
 abbrev pub IsFullFor : (ℕ → ℕ) → (ℕ → Option Page) → ℕ → ℕ → Type 0
@@ -101,33 +101,33 @@ added_value (at.Splitting value room_depth) = value
 added_value other = 0
 
 -- the walk may go on to split, and to add its record
-pub record MayAdd (basis : Basis) (new : Moment) (walk : WalkFields) : Type 0 where
-  pub stands : IsStanding basis walk (view_for basis new)
+pub record MayAdd (context : WalkContext) (new : LocalState) (walk : WalkFields) : Type 0 where
+  pub stands : IsStanding context walk (view_for context new)
   pub adds : IsPutting walk.phase
 
 -- Some depth makes room, and the walk may go on to split its bucket down to there, which takes so many pages.
-pub record NeedsSplits (basis : Basis) (new : Moment) (before after : WalkFields) (value : ℕ)
+pub record NeedsSplits (context : WalkContext) (new : LocalState) (before after : WalkFields) (value : ℕ)
     : Type 0 where
   pub value_is : added_value after.phase ≡ value
-  pub may : MayAdd basis new after
-  pub ever : NeverHasRoomFor basis.bits (pages_since basis.before new) basis.max_depth before.key
+  pub may : MayAdd context new after
+  pub ever : NeverHasRoomFor context.bits (pages_since context.before new) context.max_depth before.key
       → ⊥
   pub d : ℕ
-  pub least : HasRoomAt basis.bits (pages_since basis.before new)
-      basis.root basis.max_depth before.key d
-  pub unwritten : page_at new.store.pages ≡ pages_since basis.before new
-  pub pages : pages_in_the_end basis.root after new
+  pub least : HasRoomAt context.bits (pages_since context.before new)
+      context.root context.max_depth before.key d
+  pub unwritten : page_at new.store.pages ≡ pages_since context.before new
+  pub pages : pages_in_the_end context.root after new
       ≡ map.len new.store.pages
-      + pages_for basis.bits (pages_since basis.before new) basis.root before.key d
+      + pages_for context.bits (pages_since context.before new) context.root before.key d
 
 -- A split is needed: a first pass says which one follows, and a later one may go on.
-pub record NeedsRoom (basis : Basis) (new : Moment) (before after : WalkFields) (value : ℕ)
+pub record NeedsRoom (context : WalkContext) (new : LocalState) (before after : WalkFields) (value : ℕ)
     : Type 0 where
-  pub full : IsFullFor basis.bits (pages_since basis.before new) basis.root before.key
+  pub full : IsFullFor context.bits (pages_since context.before new) context.root before.key
   pub same : IsSameWalk before after
   pub first : before.pass ≡ pass.First
       → (after.phase ≡ at.Full (next_of after.phase)) × (next_of after.phase ≡ pass.First → ⊥)
-  pub later : (before.pass ≡ pass.First → ⊥) → NeedsSplits basis new before after value
+  pub later : (before.pass ≡ pass.First → ⊥) → NeedsSplits context new before after value
 
 -- A narrow pass has to be wide.
 pub record NeedsWidth (before after : WalkFields) : Type 0 where
@@ -136,27 +136,27 @@ pub record NeedsWidth (before after : WalkFields) : Type 0 where
   pub phase : after.phase ≡ at.Full pass.Wide
 
 -- what a pass tells that adds a record of this value
-abbrev pub TellsOfPass : Basis → Moment → WalkFields → WalkFields → ℕ → WalkAnswer → Type 0
-TellsOfPass basis new before after value answer.Changed =
-    HasMade basis new before after (Some value)
-TellsOfPass basis new before after value answer.NeedSplit = NeedsRoom basis new before after value
-TellsOfPass basis new before after value answer.Widen = NeedsWidth before after
-TellsOfPass basis new before after value (answer.Refused refusal.NoRoom) =
+abbrev pub TellsOfPass : WalkContext → LocalState → WalkFields → WalkFields → ℕ → WalkAnswer → Type 0
+TellsOfPass context new before after value answer.Changed =
+    HasMade context new before after (Some value)
+TellsOfPass context new before after value answer.NeedSplit = NeedsRoom context new before after value
+TellsOfPass context new before after value answer.Widen = NeedsWidth before after
+TellsOfPass context new before after value (answer.Refused refusal.NoRoom) =
     (before.pass ≡ pass.First → ⊥)
-    × IsFullFor basis.bits (pages_since basis.before new) basis.root before.key
-    × NeverHasRoomFor basis.bits (pages_since basis.before new) basis.max_depth before.key
-TellsOfPass basis new before after value (answer.Refused reason) = IsRefusedMemory basis reason
-TellsOfPass basis new before after value other = ⊥
+    × IsFullFor context.bits (pages_since context.before new) context.root before.key
+    × NeverHasRoomFor context.bits (pages_since context.before new) context.max_depth before.key
+TellsOfPass context new before after value (answer.Refused reason) = IsRefusedMemory context reason
+TellsOfPass context new before after value other = ⊥
 
 -- what the splits of a pass tell that lead to this number of pages
-abbrev pub TellsOfSplits : Basis → Moment → WalkFields → WalkFields → ℕ → ℕ → WalkAnswer → Type 0
-TellsOfSplits basis new before after value most answer.Changed =
-    HasMade basis new before after (Some value)
-TellsOfSplits basis new before after value most (answer.Refused refusal.NoRoom) =
+abbrev pub TellsOfSplits : WalkContext → LocalState → WalkFields → WalkFields → ℕ → ℕ → WalkAnswer → Type 0
+TellsOfSplits context new before after value most answer.Changed =
+    HasMade context new before after (Some value)
+TellsOfSplits context new before after value most (answer.Refused refusal.NoRoom) =
     new.store.max_pages < most
-TellsOfSplits basis new before after value most (answer.Refused reason) =
+TellsOfSplits context new before after value most (answer.Refused reason) =
     reason ≡ refusal.OutOfMemory
-TellsOfSplits basis new before after value most other = ⊥
+TellsOfSplits context new before after value most other = ⊥
 
 -- Why an addition is refused. The bucket of the key is full; and no split makes room, or there may not be as many pages as
 -- the splits make that do, or a growth was refused to them.
@@ -170,29 +170,29 @@ RefusesFor file key refusal.OutOfMemory =
 RefusesFor file key other = ⊥
 
 -- the file as it was before an addition under way
-abbrev pub bounded_before : Basis → Moment → BoundedFile
-bounded_before basis new = record {
-  bits = basis.bits;
+abbrev pub bounded_before : WalkContext → LocalState → BoundedFile
+bounded_before context new = record {
+  bits = context.bits;
   has = pages_before new;
   pages = put_back new.running.images new.store.pages;
-  root = basis.root;
-  max_depth = basis.max_depth;
+  root = context.root;
+  max_depth = context.max_depth;
   max_pages = new.store.max_pages;
 }
 
 -- why an addition under way is refused
-abbrev pub TellsRefusal : Basis → Moment → ℕ → Refusal → Type 0
-TellsRefusal basis new key reason = RefusesFor (bounded_before basis new) key reason
+abbrev pub TellsRefusal : WalkContext → LocalState → ℕ → Refusal → Type 0
+TellsRefusal context new key reason = RefusesFor (bounded_before context new) key reason
 
 -- what a later pass tells, with its splits
-abbrev pub TellsOfLater : Basis → Moment → WalkFields → WalkFields → ℕ → WalkAnswer → Type 0
-TellsOfLater basis new before after value answer.Changed = HasChanged basis new before.key (Some value)
-TellsOfLater basis new before after value answer.Widen = NeedsWidth before after
-TellsOfLater basis new before after value (answer.Refused reason) = TellsRefusal basis new before.key reason
-TellsOfLater basis new before after value other = ⊥
+abbrev pub TellsOfLater : WalkContext → LocalState → WalkFields → WalkFields → ℕ → WalkAnswer → Type 0
+TellsOfLater context new before after value answer.Changed = HasChanged context new before.key (Some value)
+TellsOfLater context new before after value answer.Widen = NeedsWidth before after
+TellsOfLater context new before after value (answer.Refused reason) = TellsRefusal context new before.key reason
+TellsOfLater context new before after value other = ⊥
 
 -- what an addition tells with all its passes
-abbrev pub TellsOfInsertion : Basis → Moment → ℕ → ℕ → WalkAnswer → Type 0
-TellsOfInsertion basis new key value answer.Changed = HasChanged basis new key (Some value)
-TellsOfInsertion basis new key value (answer.Refused reason) = TellsRefusal basis new key reason
-TellsOfInsertion basis new key value other = ⊥
+abbrev pub TellsOfInsertion : WalkContext → LocalState → ℕ → ℕ → WalkAnswer → Type 0
+TellsOfInsertion context new key value answer.Changed = HasChanged context new key (Some value)
+TellsOfInsertion context new key value (answer.Refused reason) = TellsRefusal context new key reason
+TellsOfInsertion context new key value other = ⊥

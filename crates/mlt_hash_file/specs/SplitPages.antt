@@ -7,7 +7,7 @@ use Rattle.mlt_page.specs.declared.page.Page.{Page}
 use Rattle.mlt_page_store.specs.Stores.{Pages, page_at}
 use Rattle.mlt_hash_form.specs.File.{bucket_of, buckets_of, depth_of, lead_of}
 use Rattle.mlt_hash_form.specs.Room.{is_crowded}
-use Rattle.mlt_hash_access.specs.Moments.{Moment}
+use Rattle.mlt_hash_access.specs.LocalStates.{LocalState}
 use Rattle.mlt_hash_split.specs.Splits.{SplitFields}
 use Rattle.mlt_hash_split.specs.declared.phase.SplitPhase.{SplitPhase}
 use Rattle.mlt_hash_split.specs.declared.phase.SplitPhase.TheVariants as split_at
@@ -75,7 +75,7 @@ left_from_split None d = 0
 left_from_split (Some split) d = left_from split.depth split.directory_depth d split.phase
 
 -- what a walk that splits has yet to make
-abbrev pub pages_left_at : Phase → ℕ → WalkFields → Moment → ℕ
+abbrev pub pages_left_at : Phase → ℕ → WalkFields → LocalState → ℕ
 pages_left_at (at.Adding value bucket room_depth unsplit) root walk m =
     pages_to_make (bucket_of (page_at m.store.pages bucket)).depth
     (depth_of (page_at m.store.pages) root) room_depth
@@ -83,5 +83,5 @@ pages_left_at (at.Splitting value room_depth) root walk m = left_from_split walk
 pages_left_at other root walk m = 0
 
 -- as many pages as there will be once it is done, at most
-abbrev pub pages_in_the_end : ℕ → WalkFields → Moment → ℕ
+abbrev pub pages_in_the_end : ℕ → WalkFields → LocalState → ℕ
 pages_in_the_end root walk m = map.len m.store.pages + pages_left_at walk.phase root walk m

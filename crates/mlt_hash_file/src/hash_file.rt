@@ -90,7 +90,7 @@ impl<P: Pseudo> HashFile<P> {
             runner: Runner {
                 subtx,
                 pages: LockedStore { store, locks },
-                opens: OpenSet::new(),
+                active: OpenSet::new(),
             },
         })
     }

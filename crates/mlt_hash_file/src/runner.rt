@@ -10,14 +10,14 @@ ghost use Rattle.mlt_hash.specs.Splitting.{IsUnderWay, TellsAt};
 ghost use Rattle.mlt_hash.specs.Changes.{IsAtAbsent, IsAtRecord};
 ghost use Rattle.mlt_hash.specs.Steps.{steps_to_bucket};
 ghost use Rattle.mlt_hash.specs.StepsLeft.{IsPutting, steps_to_put};
-ghost use Rattle.mlt_hash_file.specs.Alone.{HasNotWaited, IsAlone, IsIdle, KeepsBefore, basis_alone};
+ghost use Rattle.mlt_hash_file.specs.Alone.{HasNotWaited, IsAlone, IsIdle, KeepsBefore, context_alone};
 ghost use Rattle.mlt_hash_file.specs.AloneWalks.{HasArrived, IsAbsentBefore, IsFileBefore, IsReadySince, TellsOfMaking, TellsOfInsertion, TellsOfLater, TellsOfPass, TellsOfSplits, added_value};
 ghost use Rattle.mlt_hash.specs.Passes.{next_of};
 ghost use Rattle.mlt_hash_file.specs.SplitPages.{pages_in_the_end};
 ghost use Rattle.mlt_hash.specs.declared.pass.Pass.{Pass};
 ghost use Rattle.mlt_hash.specs.declared.pass.Phase.{Phase};
 
-use mlt_hash::{Setting, Walk, WalkAnswer};
+use mlt_hash::{Environment, Walk, WalkAnswer};
 use mlt_hash_access::LockedStore;
 use mlt_hash_form::Root;
 use mlt_page_store::Store;
@@ -25,30 +25,30 @@ use mlt_page_subtx::Subtx;
 use mlt_types::{OpenSet, Pseudo, Value};
 use std::marker::Model;
 
-/// The one transaction that works on a store, and what it holds there. A contract sees the moment. No other transaction
+/// The one transaction that works on a store, and what it holds there. A contract sees the state. No other transaction
 /// holds a page, so no walk of it waits; and none is open, so no ghost keeps its room.
 #[derive(Drop)]
 pub(crate) struct Runner {
     pub(crate) subtx: Subtx,
     pub(crate) pages: LockedStore,
     /// Nobody: no ghost keeps its room.
-    pub(crate) opens: OpenSet,
+    pub(crate) active: OpenSet,
 }
 
 impl Model for Runner {
     ghost use Rattle.std.specs.Prelude.{◌≡◌};
     ghost use Rattle.std.specs.FinSet as set;
-    ghost use Rattle.mlt_hash_access.specs.Moments.{Moment, moment};
-    ghost use Rattle.mlt_hash_file.specs.Alone.{IsAlone, coded_moment};
+    ghost use Rattle.mlt_hash_access.specs.LocalStates.{LocalState, local};
+    ghost use Rattle.mlt_hash_file.specs.Alone.{IsAlone, coded_local};
 
-    ghost Value = { Moment };
+    ghost Value = { LocalState };
 
-    ghost coded = { coded_moment };
+    ghost coded = { coded_local };
 
-    ghost view = { λ runner. moment runner.subtx runner.pages };
+    ghost view = { λ runner. local runner.subtx runner.pages };
 
-    ghost invariant = { λ runner. IsAlone (moment runner.subtx runner.pages)
-        × (runner.opens ≡ set.empty) };
+    ghost invariant = { λ runner. IsAlone (local runner.subtx runner.pages)
+        × (runner.active ≡ set.empty) };
 }
 
 impl Runner {
@@ -59,16 +59,16 @@ impl Runner {
         requires ready { IsReadySince since P.bits_of root.now self.old walk.old }
         ensures keeps { KeepsBefore self.old self.new }
         ensures written { HasWritten since.written (view_of self.new) }
-        ensures tells { TellsAt walk.old.phase (basis_alone since P.bits_of root.now self.old)
+        ensures tells { TellsAt walk.old.phase (context_alone since P.bits_of root.now self.old)
             self.old self.new walk.old walk.new result }
         ensures goes { HasNotWaited result }
         ensures alone { IsAlone self.old × IsAlone self.new }
     {
-        let setting = Setting {
+        let environment = Environment {
             root,
-            opens: &self.opens,
+            active: &self.active,
         };
-        walk.advance(&setting, &mut self.subtx, &mut self.pages)
+        walk.advance(&environment, &mut self.subtx, &mut self.pages)
     }
 
     /// Goes on to the bucket of the walk's key: the value that the key has there, if it has one.
@@ -78,7 +78,7 @@ impl Runner {
         requires ready { IsReadySince since P.bits_of root.now self.old walk.old }
         ensures keeps { KeepsBefore self.old self.new }
         ensures written { HasWritten since.written (view_of self.new) }
-        ensures arrives { HasArrived (basis_alone since P.bits_of root.now self.old)
+        ensures arrives { HasArrived (context_alone since P.bits_of root.now self.old)
             self.new walk.old walk.new result }
         ensures alone { IsAlone self.new }
     {
@@ -104,15 +104,15 @@ impl Runner {
         requires ready { IsReadySince since P.bits_of root.now self.old walk.old }
         ensures keeps { KeepsBefore self.old self.new }
         ensures written { HasWritten since.written (view_of self.new) }
-        ensures tells { TellsOfPass (basis_alone since P.bits_of root.now self.old)
+        ensures tells { TellsOfPass (context_alone since P.bits_of root.now self.old)
             self.new walk.old walk.new value result }
         ensures alone { IsAlone self.old }
     {
-        let setting = Setting {
+        let environment = Environment {
             root,
-            opens: &self.opens,
+            active: &self.active,
         };
-        walk.insert(value, &setting, &mut self.subtx, &mut self.pages)
+        walk.insert(value, &environment, &mut self.subtx, &mut self.pages)
     }
 
     /// A pass that adds a record of the walk's key, which has none, if its bucket has room.
@@ -128,7 +128,7 @@ impl Runner {
         requires file { IsFileBefore P.bits_of root.now self.old }
         requires absent { IsAbsentBefore P.bits_of root.now self.old walk.old.key }
         ensures keeps { KeepsBefore self.old self.new }
-        ensures tells { TellsOfPass (basis_alone nothing_before P.bits_of root.now self.old)
+        ensures tells { TellsOfPass (context_alone nothing_before P.bits_of root.now self.old)
             self.new walk.old walk.new value result }
     {
         self.find(walk, root);
@@ -147,7 +147,7 @@ impl Runner {
         requires file { IsFileBefore P.bits_of root.now self.old }
         requires absent { IsAbsentBefore P.bits_of root.now self.old walk.old.key }
         ensures keeps { KeepsBefore self.old self.new }
-        ensures tells { TellsOfPass (basis_alone nothing_before P.bits_of root.now self.old)
+        ensures tells { TellsOfPass (context_alone nothing_before P.bits_of root.now self.old)
             self.new (record walk.old { pass = next_of walk.old.phase; phase = Phase.Start })
             walk.new value result }
     {
@@ -162,7 +162,7 @@ impl Runner {
         requires ready { IsReadySince since P.bits_of root.now self.old walk.old }
         requires adds { IsPutting walk.old.phase }
         ensures keeps { KeepsBefore self.old self.new }
-        ensures tells { TellsOfSplits (basis_alone since P.bits_of root.now self.old) self.new
+        ensures tells { TellsOfSplits (context_alone since P.bits_of root.now self.old) self.new
             walk.old walk.new (added_value walk.old.phase)
             (pages_in_the_end root.now.page walk.old self.old) result }
     {
@@ -187,7 +187,7 @@ impl Runner {
         requires file { IsFileBefore P.bits_of root.now self.old }
         requires absent { IsAbsentBefore P.bits_of root.now self.old walk.old.key }
         ensures keeps { KeepsBefore self.old self.new }
-        ensures tells { TellsOfLater (basis_alone nothing_before P.bits_of root.now self.old)
+        ensures tells { TellsOfLater (context_alone nothing_before P.bits_of root.now self.old)
             self.new (record walk.old { pass = next_of walk.old.phase; phase = Phase.Start })
             walk.new value result }
     {
@@ -210,7 +210,7 @@ impl Runner {
         requires file { IsFileBefore P.bits_of root.now self.old }
         requires absent { IsAbsentBefore P.bits_of root.now self.old walk.old.key }
         ensures keeps { KeepsBefore self.old self.new }
-        ensures tells { TellsOfInsertion (basis_alone nothing_before P.bits_of root.now self.old)
+        ensures tells { TellsOfInsertion (context_alone nothing_before P.bits_of root.now self.old)
             self.new walk.old.key value result }
     {
         match self.add_with_splits(walk, value, root) {
@@ -232,7 +232,7 @@ impl Runner {
         requires file { IsFileBefore P.bits_of root.now self.old }
         requires absent { IsAbsentBefore P.bits_of root.now self.old walk.old.key }
         ensures keeps { KeepsBefore self.old self.new }
-        ensures tells { TellsOfInsertion (basis_alone nothing_before P.bits_of root.now self.old)
+        ensures tells { TellsOfInsertion (context_alone nothing_before P.bits_of root.now self.old)
             self.new walk.old.key value result }
     {
         match self.add(walk, value, root) {
@@ -253,7 +253,7 @@ impl Runner {
         requires found { IsAtRecord walk.old.phase }
         requires ready { IsReadySince since P.bits_of root.now self.old walk.old }
         ensures keeps { KeepsBefore self.old self.new }
-        ensures tells { TellsOfMaking (basis_alone since P.bits_of root.now self.old)
+        ensures tells { TellsOfMaking (context_alone since P.bits_of root.now self.old)
             self.new walk.old walk.new (Some value) result }
     {
         walk.update(value, &mut self.subtx, &mut self.pages)
@@ -266,7 +266,7 @@ impl Runner {
         requires found { IsAtRecord walk.old.phase }
         requires ready { IsReadySince since P.bits_of root.now self.old walk.old }
         ensures keeps { KeepsBefore self.old self.new }
-        ensures tells { TellsOfMaking (basis_alone since P.bits_of root.now self.old)
+        ensures tells { TellsOfMaking (context_alone since P.bits_of root.now self.old)
             self.new walk.old walk.new None result }
     {
         walk.remove(&mut self.subtx, &mut self.pages)

@@ -71,15 +71,15 @@ every_value f n m below differ h =
           absurd (omega (arith, long, size))
     ]
 
-module _ (bits : ℕ → ℕ) (opens : set.FinSet nat_cmp) (g : ℕ) (lead : ℕ → ℕ) (buckets : ℕ → BucketFields) (d x : ℕ) (x_ok : x < 2 ^ 64) (bounded : (k : ℕ) → bits k < 2 ^ 64) (form : IsSpread bits g lead buckets) (deep : (buckets (lead x)).depth ≤ d) (small : d ≤ 64) where
+module _ (bits : ℕ → ℕ) (active : set.FinSet nat_cmp) (g : ℕ) (lead : ℕ → ℕ) (buckets : ℕ → BucketFields) (d x : ℕ) (x_ok : x < 2 ^ 64) (bounded : (k : ℕ) → bits k < 2 ^ 64) (form : IsSpread bits g lead buckets) (deep : (buckets (lead x)).depth ≤ d) (small : d ≤ 64) where
   -- an entry that agrees is in the key's bucket
-  crowds_here : (n j : ℕ) → crowds bits opens d x (slot_at buckets n j) ≡ true → n ≡ lead x
+  crowds_here : (n j : ℕ) → crowds bits active d x (slot_at buckets n j) ≡ true → n ≡ lead x
   crowds_here n j e =
       let b = lead x in
       let l = (buckets b).depth in
       let s = slot_at buckets n j in
       let p = and_parts _ _ e in
-      let home = form.home n j (used_from_kept opens s p.0) in
+      let home = form.home n j (used_from_kept active s p.0) in
       let same : first_bits d x ≡ first_bits d (bits (key_of s)) = sym (eqb-true _ _ p.1) in
       let front : first_bits l x ≡ first_bits l (bits (key_of s)) = sym (first_bits-first_bits l d x deep small) ∙ ap (λ y. y / 2 ^ (d - l)) same ∙ first_bits-first_bits l d (bits (key_of s)) deep small in
       sym home ∙ sym (form.together x (bits (key_of s)) x_ok (bounded (key_of s)) front)
@@ -95,16 +95,16 @@ module _ (bits : ℕ → ℕ) (opens : set.FinSet nat_cmp) (g : ℕ) (lead : ℕ
             absurd (both_ways _ refl (rw past at e))
       ]
 
-  pub crowded_just : IsCrowded bits opens buckets d x ↔ ((j : ℕ) → j < 8 → crowds bits opens d x (slot_at buckets (lead x) j) ≡ true)
+  pub crowded_just : IsCrowded bits active buckets d x ↔ ((j : ℕ) → j < 8 → crowds bits active d x (slot_at buckets (lead x) j) ≡ true)
   crowded_just = (
-    (λ (c : IsCrowded bits opens buckets d x) (j : ℕ) (h : j < 8).
+    (λ (c : IsCrowded bits active buckets d x) (j : ℕ) (h : j < 8).
         let b = lead x in
         let page : (i : ℕ) → i < 8 → c.page i ≡ b = λ i k. crowds_here (c.page i) (c.at i) (c.each i k) in
-        let each : (i : ℕ) → i < 8 → crowds bits opens d x (slot_at buckets b (c.at i)) ≡ true = λ i k. rw (page i k) at (c.each i k) in
-        let below : (i : ℕ) → i < 8 → c.at i < 8 = λ i k. used_within (c.at i) (used_from_kept opens _ (and_parts _ _ (each i k)).0) in
+        let each : (i : ℕ) → i < 8 → crowds bits active d x (slot_at buckets b (c.at i)) ≡ true = λ i k. rw (page i k) at (c.each i k) in
+        let below : (i : ℕ) → i < 8 → c.at i < 8 = λ i k. used_within (c.at i) (used_from_kept active _ (and_parts _ _ (each i k)).0) in
         let r = every_value c.at 8 j below (λ i k li lk e. c.differ i k li lk (page i li ∙ sym (page k lk)) e) h in
         rw r.2 at (each r.0 r.1)),
-    (λ (all : (j : ℕ) → j < 8 → crowds bits opens d x (slot_at buckets (lead x) j) ≡ true).
+    (λ (all : (j : ℕ) → j < 8 → crowds bits active d x (slot_at buckets (lead x) j) ≡ true).
         record { page = λ i. lead x; at = λ i. i; differ = λ i j h k p e. e; each = all }),
   )
 
@@ -119,18 +119,18 @@ list_from_all p [] e h = refl
 list_from_all p (x ∷ xs) e h = and_from (p x) (list_all p xs) (h zero (omega arith)) (list_from_all p xs e (λ j lt. h (suc j) (omega arith)))
 
 -- the test that a walk makes of the key's bucket tells it
-pub crowded_test : (bits : ℕ → ℕ) (opens : set.FinSet nat_cmp) (g : ℕ) (lead : ℕ → ℕ) (buckets : ℕ → BucketFields) (d x : ℕ) → x < 2 ^ 64 → ((k : ℕ) → bits k < 2 ^ 64) → IsSpread bits g lead buckets → (buckets (lead x)).depth ≤ d → d ≤ 64 → IsCrowded bits opens buckets d x ↔ (list_all (crowds bits opens d x) (buckets (lead x)).slots ≡ true)
-crowded_test bits opens g lead buckets d x x_ok bounded form deep small =
-    let just = crowded_just bits opens g lead buckets d x x_ok bounded form deep small in
+pub crowded_test : (bits : ℕ → ℕ) (active : set.FinSet nat_cmp) (g : ℕ) (lead : ℕ → ℕ) (buckets : ℕ → BucketFields) (d x : ℕ) → x < 2 ^ 64 → ((k : ℕ) → bits k < 2 ^ 64) → IsSpread bits g lead buckets → (buckets (lead x)).depth ≤ d → d ≤ 64 → IsCrowded bits active buckets d x ↔ (list_all (crowds bits active d x) (buckets (lead x)).slots ≡ true)
+crowded_test bits active g lead buckets d x x_ok bounded form deep small =
+    let just = crowded_just bits active g lead buckets d x x_ok bounded form deep small in
     let full = form.whole x x_ok in
     let slots = (buckets (lead x)).slots in (
-      (λ (c : IsCrowded bits opens buckets d x). list_from_all (crowds bits opens d x) slots Free (λ j lt. just.0 c j (omega arith))),
-      (λ (h : list_all (crowds bits opens d x) slots ≡ true). just.1 (λ j lt. all_from_list (crowds bits opens d x) slots j Free h (omega arith))),
+      (λ (c : IsCrowded bits active buckets d x). list_from_all (crowds bits active d x) slots Free (λ j lt. just.0 c j (omega arith))),
+      (λ (h : list_all (crowds bits active d x) slots ≡ true). just.1 (λ j lt. all_from_list (crowds bits active d x) slots j Free h (omega arith))),
     )
 
 -- slots that agree in more bits agree in fewer
-pub crowds_in_fewer : (bits : ℕ → ℕ) (opens : set.FinSet nat_cmp) (l d x : ℕ) (s : Slot) → l ≤ d → d ≤ 64 → crowds bits opens d x s ≡ true → crowds bits opens l x s ≡ true
-crowds_in_fewer bits opens l d x s h small e =
+pub crowds_in_fewer : (bits : ℕ → ℕ) (active : set.FinSet nat_cmp) (l d x : ℕ) (s : Slot) → l ≤ d → d ≤ 64 → crowds bits active d x s ≡ true → crowds bits active l x s ≡ true
+crowds_in_fewer bits active l d x s h small e =
     let p = and_parts _ _ e in
     let y = bits (key_of s) in
     let same : first_bits l y ≡ first_bits l x = sym (first_bits-first_bits l d y h small) ∙ ap (λ z. z / 2 ^ (d - l)) (eqb-true _ _ p.1) ∙ first_bits-first_bits l d x h small in
@@ -140,45 +140,45 @@ all_from_all : {X : Type 0} (p q : X → Bool) (xs : List X) → ((z : X) → p 
 all_from_all p q [] f h = refl
 all_from_all p q (z ∷ xs) f h = let r = and_parts (p z) (list_all p xs) h in and_from (q z) (list_all q xs) (f z r.0) (all_from_all p q xs f r.1)
 
-pub crowded_in_fewer : (bits : ℕ → ℕ) (opens : set.FinSet nat_cmp) (l d x : ℕ) (slots : List Slot) → l ≤ d → d ≤ 64 → list_all (crowds bits opens d x) slots ≡ true → list_all (crowds bits opens l x) slots ≡ true
-crowded_in_fewer bits opens l d x slots h small = all_from_all (crowds bits opens d x) (crowds bits opens l x) slots (λ s. crowds_in_fewer bits opens l d x s h small)
+pub crowded_in_fewer : (bits : ℕ → ℕ) (active : set.FinSet nat_cmp) (l d x : ℕ) (slots : List Slot) → l ≤ d → d ≤ 64 → list_all (crowds bits active d x) slots ≡ true → list_all (crowds bits active l x) slots ≡ true
+crowded_in_fewer bits active l d x slots h small = all_from_all (crowds bits active d x) (crowds bits active l x) slots (λ s. crowds_in_fewer bits active l d x s h small)
 
 -- in the bucket that x leads to each slot that is kept agrees with x in the bucket's own bits
-module _ (bits : ℕ → ℕ) (opens : set.FinSet nat_cmp) (g : ℕ) (lead : ℕ → ℕ) (buckets : ℕ → BucketFields) (x : ℕ) (x_ok : x < 2 ^ 64) (bounded : (k : ℕ) → bits k < 2 ^ 64) (form : IsSpread bits g lead buckets) where
-  kept_crowds : (j : ℕ) → is_kept opens (slot_at buckets (lead x) j) ≡ true → crowds bits opens (buckets (lead x)).depth x (slot_at buckets (lead x) j) ≡ true
+module _ (bits : ℕ → ℕ) (active : set.FinSet nat_cmp) (g : ℕ) (lead : ℕ → ℕ) (buckets : ℕ → BucketFields) (x : ℕ) (x_ok : x < 2 ^ 64) (bounded : (k : ℕ) → bits k < 2 ^ 64) (form : IsSpread bits g lead buckets) where
+  kept_crowds : (j : ℕ) → is_kept active (slot_at buckets (lead x) j) ≡ true → crowds bits active (buckets (lead x)).depth x (slot_at buckets (lead x) j) ≡ true
   kept_crowds j e =
       let y = bits (key_of (slot_at buckets (lead x) j)) in
-      let home = form.home (lead x) j (used_from_kept opens _ e) in
+      let home = form.home (lead x) j (used_from_kept active _ e) in
       let same = form.apart x y x_ok (bounded _) (sym home) in
       and_from _ _ e (eq-eqb _ _ (sym same))
 
-  pub crowded_at_own_depth : (list_all (crowds bits opens (buckets (lead x)).depth x) (buckets (lead x)).slots ≡ true) ↔ (list_all (is_kept opens) (buckets (lead x)).slots ≡ true)
+  pub crowded_at_own_depth : (list_all (crowds bits active (buckets (lead x)).depth x) (buckets (lead x)).slots ≡ true) ↔ (list_all (is_kept active) (buckets (lead x)).slots ≡ true)
   crowded_at_own_depth =
       let slots = (buckets (lead x)).slots in
       let l = (buckets (lead x)).depth in (
-        (λ (h : list_all (crowds bits opens l x) slots ≡ true). all_from_all (crowds bits opens l x) (is_kept opens) slots (λ s e. (and_parts _ _ e).0) h),
-        (λ (h : list_all (is_kept opens) slots ≡ true). list_from_all (crowds bits opens l x) slots Free (λ j lt. kept_crowds j (all_from_list (is_kept opens) slots j Free h lt))),
+        (λ (h : list_all (crowds bits active l x) slots ≡ true). all_from_all (crowds bits active l x) (is_kept active) slots (λ s e. (and_parts _ _ e).0) h),
+        (λ (h : list_all (is_kept active) slots ≡ true). list_from_all (crowds bits active l x) slots Free (λ j lt. kept_crowds j (all_from_list (is_kept active) slots j Free h lt))),
       )
 
 -- a half has no more slots that agree than the whole
-half_crowds : (bits : ℕ → ℕ) (opens later : set.FinSet nat_cmp) (l bit d x : ℕ) (s : Slot) → crowds bits later d x (half bits opens l bit s) ≡ true → crowds bits later d x s ≡ true
-half_crowds bits opens later l bit d x s e =
-    elim (half_cases bits opens l bit s) [
+half_crowds : (bits : ℕ → ℕ) (active later : set.FinSet nat_cmp) (l bit d x : ℕ) (s : Slot) → crowds bits later d x (half bits active l bit s) ≡ true → crowds bits later d x s ≡ true
+half_crowds bits active later l bit d x s e =
+    elim (half_cases bits active l bit s) [
       | inl h ↦ ap (crowds bits later d x) (sym h.0) ∙ e
       | inr h ↦ absurd (both_ways _ (ap (crowds bits later d x) h) e)
     ]
 
-pub crowded_half : (bits : ℕ → ℕ) (opens later : set.FinSet nat_cmp) (l bit d x : ℕ) (slots : List Slot) → list_all (crowds bits later d x) (map (half bits opens l bit) slots) ≡ true → list_all (crowds bits later d x) slots ≡ true
-crowded_half bits opens later l bit d x [] h = refl
-crowded_half bits opens later l bit d x (s ∷ slots) h =
+pub crowded_half : (bits : ℕ → ℕ) (active later : set.FinSet nat_cmp) (l bit d x : ℕ) (slots : List Slot) → list_all (crowds bits later d x) (map (half bits active l bit) slots) ≡ true → list_all (crowds bits later d x) slots ≡ true
+crowded_half bits active later l bit d x [] h = refl
+crowded_half bits active later l bit d x (s ∷ slots) h =
     let r = and_parts _ _ h in
-    and_from _ _ (half_crowds bits opens later l bit d x s r.0) (crowded_half bits opens later l bit d x slots r.1)
+    and_from _ _ (half_crowds bits active later l bit d x s r.0) (crowded_half bits active later l bit d x slots r.1)
 
 -- nor do slots of which fewer are kept
-pub crowded_with_fewer : (bits : ℕ → ℕ) (opens later : set.FinSet nat_cmp) (d x : ℕ) (slots : List Slot) → ((i : ℕ) → i < length slots → is_kept later (get_or slots i Free) ≡ true → is_kept opens (get_or slots i Free) ≡ true)
-    → list_all (crowds bits later d x) slots ≡ true → list_all (crowds bits opens d x) slots ≡ true
-crowded_with_fewer bits opens later d x slots fewer h =
-    list_from_all (crowds bits opens d x) slots Free
+pub crowded_with_fewer : (bits : ℕ → ℕ) (active later : set.FinSet nat_cmp) (d x : ℕ) (slots : List Slot) → ((i : ℕ) → i < length slots → is_kept later (get_or slots i Free) ≡ true → is_kept active (get_or slots i Free) ≡ true)
+    → list_all (crowds bits later d x) slots ≡ true → list_all (crowds bits active d x) slots ≡ true
+crowded_with_fewer bits active later d x slots fewer h =
+    list_from_all (crowds bits active d x) slots Free
     (λ i lt.
     let p = and_parts _ _ (all_from_list (crowds bits later d x) slots i Free h lt) in
     and_from _ _ (fewer i lt p.0) p.1)

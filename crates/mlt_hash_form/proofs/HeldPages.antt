@@ -13,7 +13,7 @@ use Rattle.mlt_page.specs.declared.page.Page.{Page}
 use Rattle.mlt_hash_form.specs.Changes.{ChangesRecord, IsSplit, slot_change}
 use Rattle.mlt_hash_form.specs.Form.{HasSlot, is_used, slot_at}
 use Rattle.mlt_hash_form.specs.File.{bucket_of, buckets_of, lead_of, look_up, HasForm, Writes}
-use Rattle.mlt_hash_form.specs.Held.{own_or, over, Agrees, StoodOnHeld, KeepsFile, ChangesFile}
+use Rattle.mlt_hash_form.specs.Held.{own_or_clean, over, Agrees, StoodOnHeld, KeepsFile, ChangesFile}
 use Rattle.mlt_hash_form.proofs.InPages.{same_option}
 use Rattle.mlt_hash_form.proofs.Lookup.{found}
 use Rattle.mlt_hash_form.proofs.RecordMap.{tied, tied_itself}
@@ -24,17 +24,17 @@ seen_as None h = absurd (both_ways _ refl h)
 seen_as (Some p) h = (p, refl)
 
 -- a slot whose room is kept is not lost
-not_lost : (opens : set.FinSet nat_cmp) (t : Slot) (L S : Type 0) → is_kept opens t ≡ true → L ⊎ ((is_kept opens t ≡ false) × S) → L
-not_lost opens t L S k (inl there) = there
-not_lost opens t L S k (inr gone) = absurd (both_ways _ gone.0 k)
+not_lost : (active : set.FinSet nat_cmp) (t : Slot) (L S : Type 0) → is_kept active t ≡ true → L ⊎ ((is_kept active t ≡ false) × S) → L
+not_lost active t L S k (inl there) = there
+not_lost active t L S k (inr gone) = absurd (both_ways _ gone.0 k)
 
 -- a walk that wrote nothing
-pub keeps_none : (bits : ℕ → ℕ) (opens : set.FinSet nat_cmp) (root : ℕ) (seen : ℕ → Option (Option Page)) → KeepsFile bits opens root seen (λ _. None)
-keeps_none bits opens root seen clean a f = record { form = f; lost = λ t k h. inl h; stood = λ m i k. (m, refl, inl refl) }
+pub keeps_none : (bits : ℕ → ℕ) (active : set.FinSet nat_cmp) (root : ℕ) (seen : ℕ → Option (Option Page)) → KeepsFile bits active root seen (λ _. None)
+keeps_none bits active root seen clean a f = record { form = f; lost = λ t k h. inl h; stood = λ m i k. (m, refl, inl refl) }
 
-module _ (bits : ℕ → ℕ) (opens : set.FinSet nat_cmp) (root : ℕ) (seen : ℕ → Option (Option Page)) where
+module _ (bits : ℕ → ℕ) (active : set.FinSet nat_cmp) (root : ℕ) (seen : ℕ → Option (Option Page)) where
   -- one more page held: what it saw before it still saw
-  pub keeps_more : (more : ℕ → Option (Option Page)) (own : ℕ → Option Page) → ((n : ℕ) (p : Option Page) → seen n ≡ Some p → more n ≡ Some p) → KeepsFile bits opens root seen own → KeepsFile bits opens root more own
+  pub keeps_more : (more : ℕ → Option (Option Page)) (own : ℕ → Option Page) → ((n : ℕ) (p : Option Page) → seen n ≡ Some p → more n ≡ Some p) → KeepsFile bits active root seen own → KeepsFile bits active root more own
   keeps_more more own grows keeps clean a f =
       let r = keeps clean (λ n p e. a n p (grows n p e)) f in
       let still = λ (n : ℕ) (h : is_some (seen n) ≡ true). let p = seen_as (seen n) h in ap is_some (grows n p.0 p.1) in
@@ -49,8 +49,8 @@ module _ (bits : ℕ → ℕ) (opens : set.FinSet nat_cmp) (root : ℕ) (seen : 
 
   -- other owners are open: what was lost on a held page is not kept for them either
   pub keeps_fewer : (fewer : set.FinSet nat_cmp) (own : ℕ → Option Page)
-      → ((n : ℕ) (p : Option Page) → seen n ≡ Some p → (i : ℕ) → is_kept fewer (slice_index_or (bucket_of p).slots i Free) ≡ true → is_kept opens (slice_index_or (bucket_of p).slots i Free) ≡ true)
-      → KeepsFile bits opens root seen own → KeepsFile bits fewer root seen own
+      → ((n : ℕ) (p : Option Page) → seen n ≡ Some p → (i : ℕ) → is_kept fewer (slice_index_or (bucket_of p).slots i Free) ≡ true → is_kept active (slice_index_or (bucket_of p).slots i Free) ≡ true)
+      → KeepsFile bits active root seen own → KeepsFile bits fewer root seen own
   keeps_fewer fewer own kept keeps clean a f =
       let r = keeps clean a f in
       record {
@@ -62,14 +62,14 @@ module _ (bits : ℕ → ℕ) (opens : set.FinSet nat_cmp) (root : ℕ) (seen : 
                 let p = seen_as (seen gone.1.0) gone.1.2 in
                 let here : slot_at (buckets_of clean) gone.1.0 gone.1.1 ≡ slice_index_or (bucket_of p.0).slots gone.1.1 Free = ap (λ q. slice_index_or (bucket_of q).slots gone.1.1 Free) (a gone.1.0 p.0 p.1) in
                 let same = sym here ∙ gone.1.3 in
-                absurd (both_ways _ gone.0 (ap (is_kept opens) (sym same) ∙ kept gone.1.0 p.0 p.1 gone.1.1 (ap (is_kept fewer) same ∙ e)))
+                absurd (both_ways _ gone.0 (ap (is_kept active) (sym same) ∙ kept gone.1.0 p.0 p.1 gone.1.1 (ap (is_kept fewer) same ∙ e)))
             | inr e ↦ inr (e, gone.1)
           ]
         ];
         stood = r.stood;
       }
 
-  module _ (own : ℕ → Option Page) (keeps : KeepsFile bits opens root seen own) where
+  module _ (own : ℕ → Option Page) (keeps : KeepsFile bits active root seen own) where
     -- a file that is kept has the values that it had
     pub kept_values : (clean : ℕ → Option Page) → Agrees seen clean → HasForm bits clean root → (key : ℕ) → look_up bits (over clean own) root key ≡ look_up bits clean root key
     kept_values clean a file key =
@@ -78,13 +78,13 @@ module _ (bits : ℕ → ℕ) (opens : set.FinSet nat_cmp) (root : ℕ) (seen : 
         let was_found = λ (v : ℕ). found bits _ (lead_of clean root) (buckets_of clean) file.form key v in
         let back = λ (v : ℕ) (h : HasSlot (buckets_of (over clean own)) (Live key v)). let b = r.stood h.0 h.1 (rw h.2 refl) in
         let was : HasSlot (buckets_of clean) (Live key v) = (b.0, h.1, b.1 ∙ h.2) in was in
-        let on = λ (v : ℕ) (h : HasSlot (buckets_of clean) (Live key v)). not_lost opens (Live key v) _ _ refl (r.lost (Live key v) refl h) in
+        let on = λ (v : ℕ) (h : HasSlot (buckets_of clean) (Live key v)). not_lost active (Live key v) _ _ refl (r.lost (Live key v) refl h) in
         same_option _ _ (λ v e. (was_found v).0 (back v ((now_found v).1 e))) (λ v e. (now_found v).0 (on v ((was_found v).1 e)))
 
     -- a change of what is written, at a moment of rest, changes the file
     pub change_of_kept : (own' : ℕ → Option Page) (key n i : ℕ) (value : Option ℕ) (after : Slot)
         → ((clean : ℕ → Option Page) → Agrees seen clean → HasForm bits clean root → HasForm bits (over clean own) root → ChangesRecord bits (over clean own) (over clean own') root (slot_change key value n i after))
-        → ChangesFile bits opens root seen own own' (slot_change key value n i after)
+        → ChangesFile bits active root seen own own' (slot_change key value n i after)
     change_of_kept own' key n i value after step = record { keeps = keeps; changes = λ clean a f. step clean a f (keeps clean a f).form }
 
     -- what stands on a held page of what is written stood on a held page
@@ -98,8 +98,8 @@ module _ (bits : ℕ → ℕ) (opens : set.FinSet nat_cmp) (root : ℕ) (seen : 
         → is_some (seen n) ≡ true
         → ((clean : ℕ → Option Page) → Agrees seen clean → HasForm bits clean root → HasForm bits (over clean own) root
         → IsSplit bits splitters (over clean own) (over clean own') root n new
-        × ((i : ℕ) → is_kept opens (slot_at (buckets_of (over clean own)) n i) ≡ true → is_kept splitters (slot_at (buckets_of (over clean own)) n i) ≡ true))
-        → KeepsFile bits opens root seen own'
+        × ((i : ℕ) → is_kept active (slot_at (buckets_of (over clean own)) n i) ≡ true → is_kept splitters (slot_at (buckets_of (over clean own)) n i) ≡ true))
+        → KeepsFile bits active root seen own'
     split_keeps own' splitters n new held step clean a f =
         let r = keeps clean a f in
         let s = step clean a f r.form in
@@ -109,8 +109,8 @@ module _ (bits : ℕ → ℕ) (opens : set.FinSet nat_cmp) (root : ℕ) (seen : 
           lost = λ t k h. elim (r.lost t k h) [
             | inl there ↦ elim (split.lost t k there) [
               | inl here ↦ inl here
-              | inr gone ↦ elim (cases_Bool (is_kept opens t)) [
-                | inl e ↦ absurd (both_ways _ gone.0 (ap (is_kept splitters) (sym gone.2) ∙ s.1 gone.1 (ap (is_kept opens) gone.2 ∙ e)))
+              | inr gone ↦ elim (cases_Bool (is_kept active t)) [
+                | inl e ↦ absurd (both_ways _ gone.0 (ap (is_kept splitters) (sym gone.2) ∙ s.1 gone.1 (ap (is_kept active) gone.2 ∙ e)))
                 | inr e ↦ inr (e, stood_on_held clean a f n gone.1 t held k gone.2)
               ]
             ]
@@ -129,30 +129,30 @@ module _ (bits : ℕ → ℕ) (opens : set.FinSet nat_cmp) (root : ℕ) (seen : 
         }
 
 -- a file that is changed has its form, the new value, and the other values that it had
-pub changed_values : (bits : ℕ → ℕ) (opens : set.FinSet nat_cmp) (root key n i : ℕ) (value : Option ℕ) (after : Slot) (seen : ℕ → Option (Option Page)) (rest own clean : ℕ → Option Page)
-    → ChangesFile bits opens root seen rest own (slot_change key value n i after) → Agrees seen clean → HasForm bits clean root
+pub changed_values : (bits : ℕ → ℕ) (active : set.FinSet nat_cmp) (root key n i : ℕ) (value : Option ℕ) (after : Slot) (seen : ℕ → Option (Option Page)) (rest own clean : ℕ → Option Page)
+    → ChangesFile bits active root seen rest own (slot_change key value n i after) → Agrees seen clean → HasForm bits clean root
     → HasForm bits (over clean own) root × (look_up bits (over clean own) root key ≡ value) × ((k : ℕ) → (k ≡ key → ⊥) → look_up bits (over clean own) root k ≡ look_up bits clean root k)
-changed_values bits opens root key n i value after seen rest own clean changes a f =
+changed_values bits active root key n i value after seen rest own clean changes a f =
     let c = changes.changes clean a f in
-    (c.form, c.here, λ k ne. c.others k ne ∙ kept_values bits opens root seen rest changes.keeps clean a f k)
+    (c.form, c.here, λ k ne. c.others k ne ∙ kept_values bits active root seen rest changes.keeps clean a f k)
 
 -- the end of one walk makes its writes clean; a walk that holds none of those pages still agrees
 pub agrees_after : (clean own : ℕ → Option Page) (seen : ℕ → Option (Option Page)) → ((n : ℕ) → (seen n ≡ None) ⊎ (own n ≡ None)) → Agrees seen clean → Agrees seen (over clean own)
 agrees_after clean own seen apart a n p e =
     elim (apart n) [
       | inl none ↦ let q : None ≡ Some p = sym none ∙ e in cc
-      | inr none ↦ ap (λ o. own_or o (clean n)) none ∙ a n p e
+      | inr none ↦ ap (λ o. own_or_clean o (clean n)) none ∙ a n p e
     ]
 
 -- what a walk reads of a page that it holds is the same over any clean pages that agree
 pub reads_same : (clean clean2 own : ℕ → Option Page) (seen : ℕ → Option (Option Page)) (n : ℕ) (p : Option Page) → seen n ≡ Some p → Agrees seen clean → Agrees seen clean2 → over clean own n ≡ over clean2 own n
-reads_same clean clean2 own seen n p h a a2 = ap (own_or (own n)) (a n p h ∙ sym (a2 n p h))
+reads_same clean clean2 own seen n p h a a2 = ap (own_or_clean (own n)) (a n p h ∙ sym (a2 n p h))
 
 -- and a write of its own is the same write over any of them
 pub writes_over : (clean own own' : ℕ → Option Page) (n : ℕ) (p : Page) → own' n ≡ Some p → ((m : ℕ) → (m ≡ n → ⊥) → own' m ≡ own m) → Writes (over clean own) (over clean own') n p
 writes_over clean own own' n p here others = record {
-  here = ap (λ o. own_or o (clean n)) here;
-  others = λ m ne. ap (λ o. own_or o (clean m)) (others m ne);
+  here = ap (λ o. own_or_clean o (clean n)) here;
+  others = λ m ne. ap (λ o. own_or_clean o (clean m)) (others m ne);
 }
 
 -- an insertion into a map of pages writes a page

@@ -67,22 +67,22 @@ removed bits pages pages' root key n i after bounded file changes =
     changed_map bits pages pages' root key None bounded file changes.form changes.here changes.others
 
 -- a walk's change of the file, where its pages become clean
-pub changed_file_map : (bits : ℕ → ℕ) (opens : set.FinSet nat_cmp) (root key n i : ℕ) (value : Option ℕ) (after : Slot) (seen : SeenPages) (rest own : FilePages) (pages pages' : map.FinMap nat_cmp Page)
-    → ChangesFile bits opens root seen rest own (slot_change key value n i after)
+pub changed_file_map : (bits : ℕ → ℕ) (active : set.FinSet nat_cmp) (root key n i : ℕ) (value : Option ℕ) (after : Slot) (seen : SeenPages) (rest own : FilePages) (pages pages' : map.FinMap nat_cmp Page)
+    → ChangesFile bits active root seen rest own (slot_change key value n i after)
     → Agrees seen (map.get pages) → GivesPseudokeys bits → HasForm bits (map.get pages) root
     → ((q : ℕ) → map.get pages' q ≡ over (map.get pages) own q)
     → HasForm bits (map.get pages') root × (live_records pages' ≡ with_entry (live_records pages) key value)
-changed_file_map bits opens root key n i value after seen rest own pages pages' changes agrees bounded file ends =
-    let values = changed_values bits opens root key n i value after seen rest own (map.get pages) changes agrees file in
+changed_file_map bits active root key n i value after seen rest own pages pages' changes agrees bounded file ends =
+    let values = changed_values bits active root key n i value after seen rest own (map.get pages) changes agrees file in
     let same : over (map.get pages) own ≡ map.get pages' = λ j q. sym (ends q) j in
     let file' = subst (λ (p : FilePages). HasForm bits p root) same values.0 in
     let here = subst (λ (p : FilePages). look_up bits p root key ≡ value) same values.1 in
     let others = subst (λ (p : FilePages). (k : ℕ) → (k ≡ key → ⊥) → look_up bits p root k ≡ look_up bits (map.get pages) root k) same values.2 in
     (file', changed_map bits pages pages' root key value bounded file file' here others)
 
-pub left_by_split : (bits : ℕ → ℕ) (opens : set.FinSet nat_cmp) (pages pages' : map.FinMap nat_cmp Page) (root n new : ℕ) → ((k : ℕ) → bits k < 2 ^ 64) → HasForm bits (map.get pages) root
-    → IsSplit bits opens (map.get pages) (map.get pages') root n new → live_records pages' ≡ live_records pages
-left_by_split bits opens pages pages' root n new bounded file split =
+pub left_by_split : (bits : ℕ → ℕ) (active : set.FinSet nat_cmp) (pages pages' : map.FinMap nat_cmp Page) (root n new : ℕ) → ((k : ℕ) → bits k < 2 ^ 64) → HasForm bits (map.get pages) root
+    → IsSplit bits active (map.get pages) (map.get pages') root n new → live_records pages' ≡ live_records pages
+left_by_split bits active pages pages' root n new bounded file split =
     map.same_map nat_cmp_total nat_cmp-IsAntisymmetric _ _ (λ q. map_is_look_up bits pages' root bounded split.form q ∙ split.values q ∙ sym (map_is_look_up bits pages root bounded file q))
 
 -- the opening file has no live slot, so its map is empty

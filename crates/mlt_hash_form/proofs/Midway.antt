@@ -34,11 +34,11 @@ differ_at pages m n c e f h same =
     omega (arith, none, h)
 
 -- one more directory page: an old one rewritten in its new place, or a new one
-module _ (bits : ℕ → ℕ) (opens : set.FinSet nat_cmp) (base pages pages' : ℕ → Option Page) (root b new seed g' : ℕ) (made made' : List ℕ) (j k n : ℕ) (d : List ℕ) (before : IsMidway (bucket_split bits opens base root b new seed) g' pages made j k) (file : HasForm bits base root) (full : length (buckets_of base b).slots ≡ 8) (writes : Writes pages pages' n (page.Dir d)) (longer : IsLonger made made' j n) (size : length d ≡ 256)
+module _ (bits : ℕ → ℕ) (active : set.FinSet nat_cmp) (base pages pages' : ℕ → Option Page) (root b new seed g' : ℕ) (made made' : List ℕ) (j k n : ℕ) (d : List ℕ) (before : IsMidway (bucket_split bits active base root b new seed) g' pages made j k) (file : HasForm bits base root) (full : length (buckets_of base b).slots ≡ 8) (writes : Writes pages pages' n (page.Dir d)) (longer : IsLonger made made' j n) (size : length d ≡ 256)
     (right : (r : ℕ) → r < 256 → slice_index d r ≡ target (entry base (header_of (base root)).dirs) (header_of (base root)).depth g' (buckets_of base b).depth (2 * first_bits (buckets_of base b).depth seed + 1) new (256 * j + r)) where
   -- the page written was no bucket, and is none
   module _ (no_bucket : buckets_of pages n ≡ record { depth = 0; slots = [] }) (no_head : root ≡ n → ⊥) where
-    midway' : (k' : ℕ) → IsFilling (directory_change (header_of (base root)).dirs (target (entry base (header_of (base root)).dirs) (header_of (base root)).depth g' (buckets_of base b).depth (2 * first_bits (buckets_of base b).depth seed + 1) new) (entry base (header_of (base root)).dirs) (2 ^ ((header_of (base root)).depth - 8))) pages' made' (j + 1) k' → IsMidway (bucket_split bits opens base root b new seed) g' pages' made' (j + 1) k'
+    midway' : (k' : ℕ) → IsFilling (directory_change (header_of (base root)).dirs (target (entry base (header_of (base root)).dirs) (header_of (base root)).depth g' (buckets_of base b).depth (2 * first_bits (buckets_of base b).depth seed + 1) new) (entry base (header_of (base root)).dirs) (2 ^ ((header_of (base root)).depth - 8))) pages' made' (j + 1) k' → IsMidway (bucket_split bits active base root b new seed) g' pages' made' (j + 1) k'
     midway' k' f = record {
       header = writes.others root no_head ∙ before.header;
       zeros = writes.others b (differ_at pages b n _ before.zeros no_bucket (simp length-map full)) ∙ before.zeros;
@@ -55,7 +55,7 @@ module _ (bits : ℕ → ℕ) (opens : set.FinSet nat_cmp) (base pages pages' : 
   root_is : pages root ≡ Some (page.Head (header_of (base root)))
   root_is = before.header ∙ file.head
 
-  pub midway_over : k < 2 ^ ((header_of (base root)).depth - 8) → slice_index (header_of (base root)).dirs k ≡ n → IsMidway (bucket_split bits opens base root b new seed) g' pages' made' (j + 1) (k + 1)
+  pub midway_over : k < 2 ^ ((header_of (base root)).depth - 8) → slice_index (header_of (base root)).dirs k ≡ n → IsMidway (bucket_split bits active base root b new seed) g' pages' made' (j + 1) (k + 1)
   midway_over in_list at =
       let fill = before.filling in
       let sized = rw at at (fill.rest_sized k (omega arith) in_list) in
@@ -64,7 +64,7 @@ module _ (bits : ℕ → ℕ) (opens : set.FinSet nat_cmp) (base pages pages' : 
       let once : (r : ℕ) → k < r → r < 2 ^ ((header_of (base root)).depth - 8) → slice_index (header_of (base root)).dirs r ≡ n → ⊥ = λ r h o e. let s = file.listed.once r k o in_list (e ∙ sym at) in omega arith in
       midway' (ap bucket_of dir.1) no_head (k + 1) (fill_over pages pages' made made' _ _ _ j k _ n d fill writes longer size right in_list at once)
 
-  pub midway_made : pages n ≡ None → IsMidway (bucket_split bits opens base root b new seed) g' pages' made' (j + 1) k
+  pub midway_made : pages n ≡ None → IsMidway (bucket_split bits active base root b new seed) g' pages' made' (j + 1) k
   midway_made none =
       let no_head : root ≡ n → ⊥ = λ e. let q : Some (page.Head (header_of (base root))) ≡ None = sym root_is ∙ ap pages e ∙ none in cc in
       midway' (ap bucket_of none) no_head k (fill_made pages pages' made made' _ _ _ j k _ n d before.filling writes longer size right none)

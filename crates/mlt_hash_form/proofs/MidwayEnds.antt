@@ -16,9 +16,9 @@ use Rattle.mlt_hash_form.proofs.Midway.{fill_beside}
 use Rattle.mlt_hash_form.proofs.SplitDone.{file_is_split}
 use Rattle.mlt_hash_form.specs.Changes.{IsSplit}
 
-module _ (bits : ℕ → ℕ) (opens : set.FinSet nat_cmp) (base one two : ℕ → Option Page) (root b new seed : ℕ) (file : HasForm bits base root) (full : length (buckets_of base b).slots ≡ 8) (fresh : base new ≡ None)
-    (first_write : Writes base one new (page.Bucket (record { depth = (buckets_of base b).depth + 1; slots = map (half bits opens (buckets_of base b).depth 1) (buckets_of base b).slots })))
-    (second_write : Writes one two b (page.Bucket (record { depth = (buckets_of base b).depth + 1; slots = map (half bits opens (buckets_of base b).depth 0) (buckets_of base b).slots }))) where
+module _ (bits : ℕ → ℕ) (active : set.FinSet nat_cmp) (base one two : ℕ → Option Page) (root b new seed : ℕ) (file : HasForm bits base root) (full : length (buckets_of base b).slots ≡ 8) (fresh : base new ≡ None)
+    (first_write : Writes base one new (page.Bucket (record { depth = (buckets_of base b).depth + 1; slots = map (half bits active (buckets_of base b).depth 1) (buckets_of base b).slots })))
+    (second_write : Writes one two b (page.Bucket (record { depth = (buckets_of base b).depth + 1; slots = map (half bits active (buckets_of base b).depth 0) (buckets_of base b).slots }))) where
   new_not_b : new ≡ b → ⊥
   new_not_b e =
       let none : length (buckets_of base b).slots ≡ 0 = ap (λ p. length (bucket_of p).slots) (ap base (sym e) ∙ fresh) in
@@ -46,7 +46,7 @@ module _ (bits : ℕ → ℕ) (opens : set.FinSet nat_cmp) (base one two : ℕ �
       (λ e. let c = data_from_slots (base b) full in let at = rw (e, c.1) at sized in absurd (omega (arith, at)))
       (λ e. let at = rw (e, fresh) at sized in absurd (omega (arith, at)))
 
-  begun : (g' : ℕ) (made : List ℕ) (j k : ℕ) → IsFilling (directory_change (header_of (base root)).dirs (target (entry base (header_of (base root)).dirs) (header_of (base root)).depth g' (buckets_of base b).depth (2 * first_bits (buckets_of base b).depth seed + 1) new) (entry base (header_of (base root)).dirs) (2 ^ ((header_of (base root)).depth - 8))) two made j k → IsMidway (bucket_split bits opens base root b new seed) g' two made j k
+  begun : (g' : ℕ) (made : List ℕ) (j k : ℕ) → IsFilling (directory_change (header_of (base root)).dirs (target (entry base (header_of (base root)).dirs) (header_of (base root)).depth g' (buckets_of base b).depth (2 * first_bits (buckets_of base b).depth seed + 1) new) (entry base (header_of (base root)).dirs) (2 ^ ((header_of (base root)).depth - 8))) two made j k → IsMidway (bucket_split bits active base root b new seed) g' two made j k
   begun g' made j k f = record {
     header = root_same;
     zeros = second_write.here;
@@ -56,15 +56,15 @@ module _ (bits : ℕ → ℕ) (opens : set.FinSet nat_cmp) (base one two : ℕ �
   }
 
   -- a directory that is to be doubled
-  pub midway_double : (g' : ℕ) (made : List ℕ) → IsMidway (bucket_split bits opens base root b new seed) g' two made 0 0
+  pub midway_double : (g' : ℕ) (made : List ℕ) → IsMidway (bucket_split bits active base root b new seed) g' two made 0 0
   midway_double g' made = begun g' made 0 0 (double_none base two made _ _ _ file.listed dirs_same)
 
   -- a directory that is written in place, from the page of the run's first place on
-  pub midway_place : (q0 : ℕ) → 256 * q0 ≤ (2 * first_bits (buckets_of base b).depth seed + 1) * 2 ^ ((header_of (base root)).depth - ((buckets_of base b).depth + 1)) → q0 ≤ 2 ^ ((header_of (base root)).depth - 8) → IsMidway (bucket_split bits opens base root b new seed) (header_of (base root)).depth two (header_of (base root)).dirs q0 q0
+  pub midway_place : (q0 : ℕ) → 256 * q0 ≤ (2 * first_bits (buckets_of base b).depth seed + 1) * 2 ^ ((header_of (base root)).depth - ((buckets_of base b).depth + 1)) → q0 ≤ 2 ^ ((header_of (base root)).depth - 8) → IsMidway (bucket_split bits active base root b new seed) (header_of (base root)).depth two (header_of (base root)).dirs q0 q0
   midway_place q0 h m = begun _ _ q0 q0 (place_none base two _ _ (buckets_of base b).depth (2 * first_bits (buckets_of base b).depth seed + 1) new file.listed q0 dirs_same h m)
 
-module _ (bits : ℕ → ℕ) (opens : set.FinSet nat_cmp) (base pages : ℕ → Option Page) (root b new seed : ℕ) (bounded : (k : ℕ) → bits k < 2 ^ 64) (file : HasForm bits base root) (seed_ok : seed < 2 ^ 64) (at_b : lead_of base root seed ≡ b) (fresh : base new ≡ None) where
-  module _ (pages' : ℕ → Option Page) (made : List ℕ) (g' k : ℕ) (h' : HeadFields) (before : IsMidway (bucket_split bits opens base root b new seed) g' pages made (2 ^ (g' - 8)) k) (writes : Writes pages pages' root (page.Head h')) (depth : h'.depth ≡ g') (dirs : h'.dirs ≡ made) (small : g' ≤ 16) (deeper : (header_of (base root)).depth ≤ g') (room : (buckets_of base b).depth < g') where
+module _ (bits : ℕ → ℕ) (active : set.FinSet nat_cmp) (base pages : ℕ → Option Page) (root b new seed : ℕ) (bounded : (k : ℕ) → bits k < 2 ^ 64) (file : HasForm bits base root) (seed_ok : seed < 2 ^ 64) (at_b : lead_of base root seed ≡ b) (fresh : base new ≡ None) where
+  module _ (pages' : ℕ → Option Page) (made : List ℕ) (g' k : ℕ) (h' : HeadFields) (before : IsMidway (bucket_split bits active base root b new seed) g' pages made (2 ^ (g' - 8)) k) (writes : Writes pages pages' root (page.Head h')) (depth : h'.depth ≡ g') (dirs : h'.dirs ≡ made) (small : g' ≤ 16) (deeper : (header_of (base root)).depth ≤ g') (room : (buckets_of base b).depth < g') where
     root_is : pages root ≡ Some (page.Head (header_of (base root)))
     root_is = before.header ∙ file.head
 
@@ -88,7 +88,7 @@ module _ (bits : ℕ → ℕ) (opens : set.FinSet nat_cmp) (base pages : ℕ →
         ]
 
     -- the header is written last: the file has its form, and lost nothing
-    pub split_closes : IsSplit bits opens base pages' root b new
+    pub split_closes : IsSplit bits active base pages' root b new
     split_closes =
         let head' : pages' root ≡ Some (page.Head (header_of (pages' root))) = rw header_is writes.here in
         let listed' : IsDirectory pages' (header_of (pages' root)).depth (header_of (pages' root)).dirs = rw (header_is, depth, dirs) (filled_listed pages' made _ _ _ g' k _ small filling') in
@@ -98,10 +98,10 @@ module _ (bits : ℕ → ℕ) (opens : set.FinSet nat_cmp) (base pages : ℕ →
         let ones' = writes.others new (not_data new _ before.ones) ∙ before.ones in
         let reads' : (i : ℕ) → i < 2 ^ (header_of (pages' root)).depth → entry pages' (header_of (pages' root)).dirs i ≡ target (entry base (header_of (base root)).dirs) (header_of (base root)).depth (header_of (pages' root)).depth (buckets_of base b).depth (2 * first_bits (buckets_of base b).depth seed + 1) new i
         = rw (header_is, depth, dirs) (filled_reads pages' made _ _ _ g' k _ filling') in
-        file_is_split bits opens base pages' root b new seed bounded file head' listed' deeper' room' seed_ok at_b fresh zeros' ones' others' reads'
+        file_is_split bits active base pages' root b new seed bounded file head' listed' deeper' room' seed_ok at_b fresh zeros' ones' others' reads'
 
   -- in place there is no header to write: the last directory page closes the split
-  pub split_closes_in_place : (q1 : ℕ) → IsMidway (bucket_split bits opens base root b new seed) (header_of (base root)).depth pages (header_of (base root)).dirs q1 q1 → (2 * first_bits (buckets_of base b).depth seed + 1) * 2 ^ ((header_of (base root)).depth - ((buckets_of base b).depth + 1)) + 2 ^ ((header_of (base root)).depth - ((buckets_of base b).depth + 1)) ≤ 256 * q1 → (buckets_of base b).depth < (header_of (base root)).depth → IsSplit bits opens base pages root b new
+  pub split_closes_in_place : (q1 : ℕ) → IsMidway (bucket_split bits active base root b new seed) (header_of (base root)).depth pages (header_of (base root)).dirs q1 q1 → (2 * first_bits (buckets_of base b).depth seed + 1) * 2 ^ ((header_of (base root)).depth - ((buckets_of base b).depth + 1)) + 2 ^ ((header_of (base root)).depth - ((buckets_of base b).depth + 1)) ≤ 256 * q1 → (buckets_of base b).depth < (header_of (base root)).depth → IsSplit bits active base pages root b new
   split_closes_in_place q1 m h room =
       let f = place_all base pages _ _ (buckets_of base b).depth (2 * first_bits (buckets_of base b).depth seed + 1) new file.listed q1 m.filling h in
       let same : header_of (pages root) ≡ header_of (base root) = ap header_of m.header in
@@ -111,4 +111,4 @@ module _ (bits : ℕ → ℕ) (opens : set.FinSet nat_cmp) (base pages : ℕ →
       let room' : (buckets_of base b).depth < (header_of (pages root)).depth = rw same room in
       let reads' : (i : ℕ) → i < 2 ^ (header_of (pages root)).depth → entry pages (header_of (pages root)).dirs i ≡ target (entry base (header_of (base root)).dirs) (header_of (base root)).depth (header_of (pages root)).depth (buckets_of base b).depth (2 * first_bits (buckets_of base b).depth seed + 1) new i
       = rw same (filled_reads pages _ _ _ _ _ _ _ f) in
-      file_is_split bits opens base pages root b new seed bounded file head' listed' deeper' room' seed_ok at_b fresh m.zeros m.ones m.others reads'
+      file_is_split bits active base pages root b new seed bounded file head' listed' deeper' room' seed_ok at_b fresh m.zeros m.ones m.others reads'

@@ -95,20 +95,20 @@ module _ (bits : ℕ → ℕ) (pages : ℕ → Option Page) (root : ℕ) (bounde
       let f' : slot_at (buckets_of pages) n j ≡ Live key w = rw same f in
       (same, file.form.once n i j key v w e f')
 
-  pub prefix_form : (opens : set.FinSet nat_cmp) → IsExtendibleHashFile bits opens pages root
-  prefix_form opens = record {
+  pub prefix_form : (active : set.FinSet nat_cmp) → IsExtendibleHashFile bits active pages root
+  prefix_form active = record {
     header = file.head;
     small = file.listed.small;
     directory = dir_page;
     apart = file.listed.once;
     named = named_page;
     prefix = λ n bucket is. (shallow n bucket is, one_prefix n bucket is);
-    home = λ n i k. file.form.home n i (used_from_kept opens _ k);
+    home = λ n i k. file.form.home n i (used_from_kept active _ k);
     once = once_live;
   }
 
 -- and back, where the ghosts of closed owners lie where their keys lead, too
-module _ (bits : ℕ → ℕ) (opens : set.FinSet nat_cmp) (pages : ℕ → Option Page) (root : ℕ) (file : IsExtendibleHashFile bits opens pages root) (home : (n i : ℕ) → is_used (slot_at (buckets_of pages) n i) ≡ true → lead_of pages root (bits (key_of (slot_at (buckets_of pages) n i))) ≡ n) where
+module _ (bits : ℕ → ℕ) (active : set.FinSet nat_cmp) (pages : ℕ → Option Page) (root : ℕ) (file : IsExtendibleHashFile bits active pages root) (home : (n i : ℕ) → is_used (slot_at (buckets_of pages) n i) ≡ true → lead_of pages root (bits (key_of (slot_at (buckets_of pages) n i))) ≡ n) where
   abbrev depth : ℕ
   depth = (header_of (pages root)).depth
 

@@ -85,11 +85,11 @@ module _ (bits : ℕ → ℕ) (pages pages' : ℕ → Option Page) (root key n i
   ghost_changes : (owner : ℕ) → Writes pages pages' n (page.Bucket (record was { slots = set was.slots i (Ghost key 0 owner) })) → MaySet bits (lead_of pages root) (buckets_of pages) n i (Ghost key 0 owner) → ChangesRecord bits pages pages' root (slot_change key None n i (Ghost key 0 owner))
   ghost_changes owner writes fits = changes (Ghost key 0 owner) refl writes fits None (none_from _ (λ v e. let q : Ghost key 0 owner ≡ Live key v = (found_now (Ghost key 0 owner) refl writes fits v).0 e in cc))
 
-pub put_changes : (bits : ℕ → ℕ) (opens : fin.FinSet nat_cmp) (pages pages' : ℕ → Option Page) (root key value n i : ℕ) (was : BucketFields)
-    → IsHome bits pages root key n was → value_in key was.slots ≡ None → i < 8 → is_kept opens (get_or was.slots i Free) ≡ false
+pub put_changes : (bits : ℕ → ℕ) (active : fin.FinSet nat_cmp) (pages pages' : ℕ → Option Page) (root key value n i : ℕ) (was : BucketFields)
+    → IsHome bits pages root key n was → value_in key was.slots ≡ None → i < 8 → is_kept active (get_or was.slots i Free) ≡ false
     → Writes pages pages' n (page.Bucket (record was { slots = set was.slots i (Live key value) })) → ChangesRecord bits pages pages' root (slot_change key (Some value) n i (Live key value))
-put_changes bits opens pages pages' root key value n i was home none lt free writes =
-    live_changes bits pages pages' root key n i was home lt value writes (may_add bits pages pages' root key n i was home lt (Live key value) refl none (λ q w e. both_ways _ free (ap (is_kept opens) e)))
+put_changes bits active pages pages' root key value n i was home none lt free writes =
+    live_changes bits pages pages' root key n i was home lt value writes (may_add bits pages pages' root key n i was home lt (Live key value) refl none (λ q w e. both_ways _ free (ap (is_kept active) e)))
 
 pub set_value_changes : (bits : ℕ → ℕ) (pages pages' : ℕ → Option Page) (root key value n i : ℕ) (was : BucketFields)
     → IsHome bits pages root key n was → i < 8 → is_live_of key (get_or was.slots i Free) ≡ true

@@ -25,12 +25,12 @@ use Rattle.mlt_hash_form.specs.File.{look_up}
 abbrev old_of : (ℕ → Option Page) → ℕ → ℕ → ℕ
 old_of pages root = entry pages (header_of (pages root)).dirs
 
-module _ (bits : ℕ → ℕ) (opens : set.FinSet nat_cmp) (pages pages' : ℕ → Option Page) (root b new seed : ℕ) (bounded : (k : ℕ) → bits k < 2 ^ 64) (file : HasForm bits pages root)
+module _ (bits : ℕ → ℕ) (active : set.FinSet nat_cmp) (pages pages' : ℕ → Option Page) (root b new seed : ℕ) (bounded : (k : ℕ) → bits k < 2 ^ 64) (file : HasForm bits pages root)
     (head' : pages' root ≡ Some (page.Head (header_of (pages' root)))) (listed' : IsDirectory pages' (header_of (pages' root)).depth (header_of (pages' root)).dirs)
     (deeper : (header_of (pages root)).depth ≤ (header_of (pages' root)).depth) (room : (buckets_of pages b).depth < (header_of (pages' root)).depth)
     (seed_ok : seed < 2 ^ 64) (at_b : lead_of pages root seed ≡ b) (fresh : pages new ≡ None)
-    (zeros : pages' b ≡ Some (page.Bucket (record { depth = (buckets_of pages b).depth + 1; slots = map (half bits opens (buckets_of pages b).depth 0) (buckets_of pages b).slots })))
-    (ones : pages' new ≡ Some (page.Bucket (record { depth = (buckets_of pages b).depth + 1; slots = map (half bits opens (buckets_of pages b).depth 1) (buckets_of pages b).slots })))
+    (zeros : pages' b ≡ Some (page.Bucket (record { depth = (buckets_of pages b).depth + 1; slots = map (half bits active (buckets_of pages b).depth 0) (buckets_of pages b).slots })))
+    (ones : pages' new ≡ Some (page.Bucket (record { depth = (buckets_of pages b).depth + 1; slots = map (half bits active (buckets_of pages b).depth 1) (buckets_of pages b).slots })))
     (others : (m : ℕ) → (m ≡ b → ⊥) → (m ≡ new → ⊥) → buckets_of pages' m ≡ buckets_of pages m)
     (reads : (i : ℕ) → i < 2 ^ (header_of (pages' root)).depth → entry pages' (header_of (pages' root)).dirs i ≡ target (old_of pages root) (header_of (pages root)).depth (header_of (pages' root)).depth (buckets_of pages b).depth (2 * first_bits (buckets_of pages b).depth seed + 1) new i) where
   lead_is : (x : ℕ) → x < 2 ^ 64 → lead_of pages' root x ≡ cond (first_bits ((buckets_of pages b).depth + 1) x == 2 * first_bits (buckets_of pages b).depth seed + 1) new (lead_of pages root x)
@@ -67,7 +67,7 @@ module _ (bits : ℕ → ℕ) (opens : set.FinSet nat_cmp) (pages pages' : ℕ �
       not_both (sym (deep.together seed x seed_ok h q) ∙ at_b) (omega (arith, n, e)) in
       lead_is x h ∙ cond-false _ new _ (ne_eqb _ _ off)
 
-  split : SplitsBucket bits opens (spread (lead_of pages root) (buckets_of pages)) (spread (lead_of pages' root) (buckets_of pages')) b new
+  split : SplitsBucket bits active (spread (lead_of pages root) (buckets_of pages)) (spread (lead_of pages' root) (buckets_of pages')) b new
   split = record { zeros = ap bucket_of zeros; ones = ap bucket_of ones; others = others; goes = goes; stays = stays }
 
   no_slots : (buckets_of pages new).slots ≡ []
@@ -80,11 +80,11 @@ module _ (bits : ℕ → ℕ) (opens : set.FinSet nat_cmp) (pages pages' : ℕ �
   file_split = record {
     head = head';
     listed = listed';
-    form = form_split bits opens _ (lead_of pages root) (lead_of pages' root) (buckets_of pages) (buckets_of pages') b new bounded deep split no_slots seed seed_ok at_b room small;
+    form = form_split bits active _ (lead_of pages root) (lead_of pages' root) (buckets_of pages) (buckets_of pages') b new bounded deep split no_slots seed seed_ok at_b room small;
   }
 
-  pub file_split_holds : (t : Slot) → is_kept opens t ≡ true → HasSlot (buckets_of pages') t ↔ HasSlot (buckets_of pages) t
-  file_split_holds = split_holds bits opens _ (lead_of pages root) (lead_of pages' root) (buckets_of pages) (buckets_of pages') b new bounded deep split no_slots seed seed_ok at_b room small
+  pub file_split_holds : (t : Slot) → is_kept active t ≡ true → HasSlot (buckets_of pages') t ↔ HasSlot (buckets_of pages) t
+  file_split_holds = split_holds bits active _ (lead_of pages root) (lead_of pages' root) (buckets_of pages) (buckets_of pages') b new bounded deep split no_slots seed seed_ok at_b room small
 
   values : (key : ℕ) → look_up bits pages' root key ≡ look_up bits pages root key
   values key =
@@ -93,12 +93,12 @@ module _ (bits : ℕ → ℕ) (opens : set.FinSet nat_cmp) (pages pages' : ℕ �
       let kept = λ (v : ℕ). file_split_holds (Live key v) refl in
       same_option _ _ (λ v e. (was_found v).0 ((kept v).0 ((now_found v).1 e))) (λ v e. (now_found v).0 ((kept v).1 ((was_found v).1 e)))
 
-  pub file_is_split : IsSplit bits opens pages pages' root b new
+  pub file_is_split : IsSplit bits active pages pages' root b new
   file_is_split = record {
     form = file_split;
     values = values;
     kept = file_split_holds;
-    lost = split_lost bits opens _ (lead_of pages root) (lead_of pages' root) (buckets_of pages) (buckets_of pages') b new bounded deep split no_slots seed seed_ok at_b room small;
-    before = split_before bits opens _ (lead_of pages root) (lead_of pages' root) (buckets_of pages) (buckets_of pages') b new bounded deep split no_slots seed seed_ok at_b room small;
-    dropped = split_dropped bits opens _ (lead_of pages root) (lead_of pages' root) (buckets_of pages) (buckets_of pages') b new bounded deep split no_slots seed seed_ok at_b room small;
+    lost = split_lost bits active _ (lead_of pages root) (lead_of pages' root) (buckets_of pages) (buckets_of pages') b new bounded deep split no_slots seed seed_ok at_b room small;
+    before = split_before bits active _ (lead_of pages root) (lead_of pages' root) (buckets_of pages) (buckets_of pages') b new bounded deep split no_slots seed seed_ok at_b room small;
+    dropped = split_dropped bits active _ (lead_of pages root) (lead_of pages' root) (buckets_of pages) (buckets_of pages') b new bounded deep split no_slots seed seed_ok at_b room small;
   }

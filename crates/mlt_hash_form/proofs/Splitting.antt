@@ -15,35 +15,35 @@ use Rattle.std.proofs.Math.Nat.{pow-suc}
 use Rattle.std.proofs.Math.Numerals.{add-one}
 use Rattle.mlt_hash_form.proofs.Bits.{first_bits_next, first_bits_below, side_cases, next_same, front_same, with_first_bits, first_bits-with_first_bits, with_first_bits_below}
 
-pub used_from_kept : (opens : set.FinSet nat_cmp) (t : Slot) → is_kept opens t ≡ true → is_used t ≡ true
-used_from_kept opens Free k = k
-used_from_kept opens (Live q v) k = refl
-used_from_kept opens (Ghost q v tx) k = refl
+pub used_from_kept : (active : set.FinSet nat_cmp) (t : Slot) → is_kept active t ≡ true → is_used t ≡ true
+used_from_kept active Free k = k
+used_from_kept active (Live q v) k = refl
+used_from_kept active (Ghost q v tx) k = refl
 
 -- a half has a slot as it was, or a free one
-half_same : (bits : ℕ → ℕ) (opens : set.FinSet nat_cmp) (l side : ℕ) (s : Slot) → is_kept opens s ≡ true → bit_at l (bits (key_of s)) ≡ side → half bits opens l side s ≡ s
-half_same bits opens l side s k e = ap (λ t. kept_if t s) (and_from _ _ k (eq-eqb _ _ e))
+half_same : (bits : ℕ → ℕ) (active : set.FinSet nat_cmp) (l side : ℕ) (s : Slot) → is_kept active s ≡ true → bit_at l (bits (key_of s)) ≡ side → half bits active l side s ≡ s
+half_same bits active l side s k e = ap (λ t. kept_if t s) (and_from _ _ k (eq-eqb _ _ e))
 
-pub half_cases : (bits : ℕ → ℕ) (opens : set.FinSet nat_cmp) (l side : ℕ) (s : Slot) → ((half bits opens l side s ≡ s) × (is_kept opens s ≡ true) × (bit_at l (bits (key_of s)) ≡ side)) ⊎ (half bits opens l side s ≡ Free)
-half_cases bits opens l side s =
-    let test = is_kept opens s && (bit_at l (bits (key_of s)) == side) in
+pub half_cases : (bits : ℕ → ℕ) (active : set.FinSet nat_cmp) (l side : ℕ) (s : Slot) → ((half bits active l side s ≡ s) × (is_kept active s ≡ true) × (bit_at l (bits (key_of s)) ≡ side)) ⊎ (half bits active l side s ≡ Free)
+half_cases bits active l side s =
+    let test = is_kept active s && (bit_at l (bits (key_of s)) == side) in
     elim (cases_Bool test) [
       | inl e ↦ let p = and_parts _ _ e in inl (ap (λ t. kept_if t s) e, p.0, eqb-true _ _ p.1)
       | inr e ↦ inr (ap (λ t. kept_if t s) e)
     ]
 
-kept_half : (bits : ℕ → ℕ) (opens : set.FinSet nat_cmp) (l side : ℕ) (s t : Slot) → half bits opens l side s ≡ t → is_used t ≡ true → (s ≡ t) × (bit_at l (bits (key_of t)) ≡ side)
-kept_half bits opens l side s t e k =
-    elim (half_cases bits opens l side s) [
+kept_half : (bits : ℕ → ℕ) (active : set.FinSet nat_cmp) (l side : ℕ) (s t : Slot) → half bits active l side s ≡ t → is_used t ≡ true → (s ≡ t) × (bit_at l (bits (key_of t)) ≡ side)
+kept_half bits active l side s t e k =
+    elim (half_cases bits active l side s) [
       | inl h ↦
           let same : s ≡ t = sym h.0 ∙ e in
           (same, rw same at h.2)
       | inr h ↦ let f : t ≡ Free = sym e ∙ h in absurd (both_ways _ refl (rw f at k))
     ]
 
-half_at : (bits : ℕ → ℕ) (opens : set.FinSet nat_cmp) (l side : ℕ) (ss : List Slot) (j : ℕ) → get_or (map (half bits opens l side) ss) j Free ≡ half bits opens l side (get_or ss j Free)
-half_at bits opens l side ss j =
-    let f = half bits opens l side in
+half_at : (bits : ℕ → ℕ) (active : set.FinSet nat_cmp) (l side : ℕ) (ss : List Slot) (j : ℕ) → get_or (map (half bits active l side) ss) j Free ≡ half bits active l side (get_or ss j Free)
+half_at bits active l side ss j =
+    let f = half bits active l side in
     elim (cases_lt j (length ss)) [
       | inl h ↦ get_or-map f ss j Free Free h
       | inr h ↦
@@ -51,7 +51,7 @@ half_at bits opens l side ss j =
           get_or_past (map f ss) j Free long ∙ sym (ap f (get_or_past ss j Free h))
     ]
 
-module _ (bits : ℕ → ℕ) (opens : set.FinSet nat_cmp) (g : ℕ) (lead lead' : ℕ → ℕ) (buckets buckets' : ℕ → BucketFields) (b new : ℕ) (bounded : (k : ℕ) → bits k < 2 ^ 64) (form : IsSpread bits g lead buckets) (split : SplitsBucket bits opens (spread lead buckets) (spread lead' buckets') b new) (fresh : (buckets new).slots ≡ []) (seed : ℕ) (seed_ok : seed < 2 ^ 64) (at_b : lead seed ≡ b) (room : (buckets b).depth < g) (small : g ≤ 64) where
+module _ (bits : ℕ → ℕ) (active : set.FinSet nat_cmp) (g : ℕ) (lead lead' : ℕ → ℕ) (buckets buckets' : ℕ → BucketFields) (b new : ℕ) (bounded : (k : ℕ) → bits k < 2 ^ 64) (form : IsSpread bits g lead buckets) (split : SplitsBucket bits active (spread lead buckets) (spread lead' buckets') b new) (fresh : (buckets new).slots ≡ []) (seed : ℕ) (seed_ok : seed < 2 ^ 64) (at_b : lead seed ≡ b) (room : (buckets b).depth < g) (small : g ≤ 64) where
   -- the new page was no bucket
   not_new : (x : ℕ) → x < 2 ^ 64 → lead x ≡ new → ⊥
   not_new x h e =
@@ -75,11 +75,11 @@ module _ (bits : ℕ → ℕ) (opens : set.FinSet nat_cmp) (g : ℕ) (lead lead'
         | inr ne ↦ inr (inr (ne, split.stays x h (λ e _. ne e)))
       ]
 
-  slot_zero : (j : ℕ) → slot_at buckets' b j ≡ half bits opens (buckets b).depth 0 (slot_at buckets b j)
-  slot_zero j = rw split.zeros (half_at bits opens (buckets b).depth 0 (buckets b).slots j)
+  slot_zero : (j : ℕ) → slot_at buckets' b j ≡ half bits active (buckets b).depth 0 (slot_at buckets b j)
+  slot_zero j = rw split.zeros (half_at bits active (buckets b).depth 0 (buckets b).slots j)
 
-  slot_one : (j : ℕ) → slot_at buckets' new j ≡ half bits opens (buckets b).depth 1 (slot_at buckets b j)
-  slot_one j = rw split.ones (half_at bits opens (buckets b).depth 1 (buckets b).slots j)
+  slot_one : (j : ℕ) → slot_at buckets' new j ≡ half bits active (buckets b).depth 1 (slot_at buckets b j)
+  slot_one j = rw split.ones (half_at bits active (buckets b).depth 1 (buckets b).slots j)
 
   -- a kept slot after the split: where it was before
   from_kept : (m j : ℕ) (t : Slot) → slot_at buckets' m j ≡ t → is_used t ≡ true →
@@ -88,12 +88,12 @@ module _ (bits : ℕ → ℕ) (opens : set.FinSet nat_cmp) (g : ℕ) (lead lead'
       elim (cases_eq m b) [
         | inl h ↦
             let e' : slot_at buckets' b j ≡ t = rw h at e in
-            let p = kept_half bits opens (buckets b).depth 0 _ t (sym (slot_zero j) ∙ e') k in
+            let p = kept_half bits active (buckets b).depth 0 _ t (sym (slot_zero j) ∙ e') k in
             inl (h, p.0, p.1)
         | inr nb ↦ elim (cases_eq m new) [
           | inl h ↦
               let e' : slot_at buckets' new j ≡ t = rw h at e in
-              let p = kept_half bits opens (buckets b).depth 1 _ t (sym (slot_one j) ∙ e') k in
+              let p = kept_half bits active (buckets b).depth 1 _ t (sym (slot_one j) ∙ e') k in
               inr (inl (h, p.0, p.1))
           | inr nn ↦ inr (inr (nb, nn, sym (ap (λ c. get_or c.slots j Free) (split.others m nb nn)) ∙ e))
         ]
@@ -287,15 +287,15 @@ module _ (bits : ℕ → ℕ) (opens : set.FinSet nat_cmp) (g : ℕ) (lead lead'
       ]
 
   -- and loses no record, and no ghost of an open transaction
-  pub split_holds : (t : Slot) → is_kept opens t ≡ true → HasSlot buckets' t ↔ HasSlot buckets t
+  pub split_holds : (t : Slot) → is_kept active t ≡ true → HasSlot buckets' t ↔ HasSlot buckets t
   split_holds t k = (
-    split_from t (used_from_kept opens t k),
+    split_from t (used_from_kept active t k),
     (λ (h : HasSlot buckets t). elim (cases_eq h.0 b) [
       | inl e ↦
           let here : slot_at buckets b h.1 ≡ t = rw e at h.2 in
           elim (side_cases (buckets b).depth (bits (key_of t))) [
-            | inl z ↦ (b, h.1, slot_zero h.1 ∙ rw here (half_same bits opens (buckets b).depth 0 t k z))
-            | inr o ↦ (new, h.1, slot_one h.1 ∙ rw here (half_same bits opens (buckets b).depth 1 t k o))
+            | inl z ↦ (b, h.1, slot_zero h.1 ∙ rw here (half_same bits active (buckets b).depth 0 t k z))
+            | inr o ↦ (new, h.1, slot_one h.1 ∙ rw here (half_same bits active (buckets b).depth 1 t k o))
           ]
       | inr nb ↦ elim (cases_eq h.0 new) [
         | inl e ↦
@@ -308,9 +308,9 @@ module _ (bits : ℕ → ℕ) (opens : set.FinSet nat_cmp) (g : ℕ) (lead lead'
   )
 
   -- what is lost stood in the bucket, and was not kept
-  pub split_lost : (t : Slot) → is_used t ≡ true → HasSlot buckets t → HasSlot buckets' t ⊎ ((is_kept opens t ≡ false) × (i : ℕ) × (slot_at buckets b i ≡ t))
+  pub split_lost : (t : Slot) → is_used t ≡ true → HasSlot buckets t → HasSlot buckets' t ⊎ ((is_kept active t ≡ false) × (i : ℕ) × (slot_at buckets b i ≡ t))
   split_lost t k h =
-      elim (cases_Bool (is_kept opens t)) [
+      elim (cases_Bool (is_kept active t)) [
         | inl e ↦ inl ((split_holds t e).1 h)
         | inr e ↦ elim (cases_eq h.0 b) [
           | inl f ↦ inr (e, h.1, rw f at h.2)
@@ -332,15 +332,15 @@ module _ (bits : ℕ → ℕ) (opens : set.FinSet nat_cmp) (g : ℕ) (lead lead'
         | inr q ↦ elim q [ inl p ↦ (b, p.1, inr refl) | inr p ↦ (m, p.2, inl refl) ]
       ]
 
-  half_kept : (bit : ℕ) (s t : Slot) → t ≡ half bits opens (buckets b).depth bit s → is_used t ≡ true → is_kept opens t ≡ true
+  half_kept : (bit : ℕ) (s t : Slot) → t ≡ half bits active (buckets b).depth bit s → is_used t ≡ true → is_kept active t ≡ true
   half_kept bit s t e k =
-      elim (half_cases bits opens (buckets b).depth bit s) [
+      elim (half_cases bits active (buckets b).depth bit s) [
         | inl h ↦ rw (e ∙ h.0) h.1
         | inr h ↦ absurd (both_ways _ refl (rw (e ∙ h) at k))
       ]
 
   -- the halves keep no ghost of a closed owner
-  pub split_dropped : (m i : ℕ) → (m ≡ b) ⊎ (m ≡ new) → is_used (slot_at buckets' m i) ≡ true → is_kept opens (slot_at buckets' m i) ≡ true
+  pub split_dropped : (m i : ℕ) → (m ≡ b) ⊎ (m ≡ new) → is_used (slot_at buckets' m i) ≡ true → is_kept active (slot_at buckets' m i) ≡ true
   split_dropped m i at k =
       elim at [
         | inl e ↦ half_kept 0 (slot_at buckets b i) _ (ap (λ n. slot_at buckets' n i) e ∙ slot_zero i) k

@@ -78,21 +78,21 @@ pub record MaySplit (bits : ℕ → ℕ) (pages : FilePages) (root x n new : ℕ
 -- What a split of the bucket on page n leaves, with page new made: the form, each record and each ghost of an
 -- open owner. What is lost stood in the bucket and was not kept, and what is there stood before at the same place
 -- of the same page, or of the bucket.
-pub record IsSplit (bits : ℕ → ℕ) (opens : set.FinSet nat_cmp) (pages pages' : FilePages)
+pub record IsSplit (bits : ℕ → ℕ) (active : set.FinSet nat_cmp) (pages pages' : FilePages)
     (root n new : ℕ) : Type 0 where
   pub form : HasForm bits pages' root
   pub values : (key : ℕ) → look_up bits pages' root key ≡ look_up bits pages root key
-  pub kept : (t : Slot) → is_kept opens t ≡ true
+  pub kept : (t : Slot) → is_kept active t ≡ true
       → HasSlot (buckets_of pages') t ↔ HasSlot (buckets_of pages) t
   pub lost : (t : Slot) → is_used t ≡ true → HasSlot (buckets_of pages) t
       → HasSlot (buckets_of pages') t
-      ⊎ ((is_kept opens t ≡ false) × (i : ℕ) × (slot_at (buckets_of pages) n i ≡ t))
+      ⊎ ((is_kept active t ≡ false) × (i : ℕ) × (slot_at (buckets_of pages) n i ≡ t))
   pub before : (m i : ℕ) → is_used (slot_at (buckets_of pages') m i) ≡ true
       → (o : ℕ) × (slot_at (buckets_of pages) o i ≡ slot_at (buckets_of pages') m i)
       × ((o ≡ m) ⊎ (o ≡ n))
   -- both halves have no ghost of a closed owner
   pub dropped : (m i : ℕ) → (m ≡ n) ⊎ (m ≡ new) → is_used (slot_at (buckets_of pages') m i) ≡ true
-      → is_kept opens (slot_at (buckets_of pages') m i) ≡ true
+      → is_kept active (slot_at (buckets_of pages') m i) ≡ true
 
 -- a file as it is opened: its header names the directory page d, whose entries all name page n, an empty bucket
 pub record IsOpening (pages : FilePages) (root d n : ℕ) : Type 0 where

@@ -77,9 +77,9 @@ pub record MaySet (bits : ℕ → ℕ) (lead : ℕ → ℕ) (buckets : ℕ → B
 
 -- one half of a bucket that is split by the bit behind its depth
 abbrev pub half_of : (ℕ → ℕ) → set.FinSet nat_cmp → BucketFields → ℕ → BucketFields
-half_of bits opens bucket bit = record {
+half_of bits active bucket bit = record {
   depth = bucket.depth + 1;
-  slots = map (half bits opens bucket.depth bit) bucket.slots;
+  slots = map (half bits active bucket.depth bit) bucket.slots;
 }
 
 -- a file apart from its directory
@@ -92,10 +92,10 @@ spread lead buckets = record { lead = lead; buckets = buckets }
 
 -- The bucket on page n is split: the half of the bit 0 stays there, and the half of the bit 1 goes to page new.
 -- The pseudokeys of the second half lead to page new, and all others as before.
-pub record SplitsBucket (bits : ℕ → ℕ) (opens : set.FinSet nat_cmp) (before after : Spread)
+pub record SplitsBucket (bits : ℕ → ℕ) (active : set.FinSet nat_cmp) (before after : Spread)
     (n new : ℕ) : Type 0 where
-  pub zeros : after.buckets n ≡ half_of bits opens (before.buckets n) 0
-  pub ones : after.buckets new ≡ half_of bits opens (before.buckets n) 1
+  pub zeros : after.buckets n ≡ half_of bits active (before.buckets n) 0
+  pub ones : after.buckets new ≡ half_of bits active (before.buckets n) 1
   pub others : (m : ℕ) → (m ≡ n → ⊥) → (m ≡ new → ⊥) → after.buckets m ≡ before.buckets m
   pub goes : (x : ℕ) → x < 2 ^ 64
       → before.lead x ≡ n → bit_at (before.buckets n).depth x ≡ 1 → after.lead x ≡ new

@@ -17,13 +17,13 @@ abbrev pub SeenPages : Type 0
 SeenPages = ℕ → Option (Option Page)
 
 -- the walk's own page, where it wrote one, and else the clean page
-abbrev pub own_or : Option Page → Option Page → Option Page
-own_or None clean = clean
-own_or (Some own) clean = Some own
+abbrev pub own_or_clean : Option Page → Option Page → Option Page
+own_or_clean None clean = clean
+own_or_clean (Some own) clean = Some own
 
 -- the clean pages with the walk's writes in place
 abbrev pub over : FilePages → FilePages → FilePages
-over clean own n = own_or (own n) (clean n)
+over clean own n = own_or_clean (own n) (clean n)
 
 -- the clean pages are as the walk saw each page that it holds
 abbrev pub Agrees : SeenPages → FilePages → Type 0
@@ -37,11 +37,11 @@ StoodOnHeld seen before t =
 -- The file has its form. A record or a ghost is lost only from a page that the walk holds, where
 -- its room was not kept; and each that is there stood before at the same place of the same page, or
 -- of one that the walk holds.
-pub record RearrangesSlots (bits : ℕ → ℕ) (opens : set.FinSet nat_cmp) (seen : SeenPages)
+pub record RearrangesSlots (bits : ℕ → ℕ) (active : set.FinSet nat_cmp) (seen : SeenPages)
     (before after : FilePages) (root : ℕ) : Type 0 where
   pub form : HasForm bits after root
   pub lost : (t : Slot) → is_used t ≡ true → HasSlot (buckets_of before) t
-      → HasSlot (buckets_of after) t ⊎ ((is_kept opens t ≡ false) × StoodOnHeld seen before t)
+      → HasSlot (buckets_of after) t ⊎ ((is_kept active t ≡ false) × StoodOnHeld seen before t)
   pub stood : (m i : ℕ) → is_used (slot_at (buckets_of after) m i) ≡ true
       → (o : ℕ) × (slot_at (buckets_of before) o i ≡ slot_at (buckets_of after) m i)
       × ((o ≡ m) ⊎ (is_some (seen o) ≡ true))
@@ -61,14 +61,14 @@ WhereverClean bits root seen own Fact =
 -- Whatever the clean pages are elsewhere, the walk's writes only rearrange slots. This remains true whatever other
 -- walks do, since it names no state of theirs.
 abbrev pub KeepsFile : (ℕ → ℕ) → set.FinSet nat_cmp → ℕ → SeenPages → FilePages → Type 0
-KeepsFile bits opens root seen own =
+KeepsFile bits active root seen own =
     (clean : FilePages) → Agrees seen clean → HasForm bits clean root
-    → RearrangesSlots bits opens seen clean (over clean own) root
+    → RearrangesSlots bits active seen clean (over clean own) root
 
 -- Whatever the clean pages are elsewhere, the walk's writes rearrange slots (those up to `rest`), and then change one
 -- record, by setting one slot.
-pub record ChangesFile (bits : ℕ → ℕ) (opens : set.FinSet nat_cmp) (root : ℕ) (seen : SeenPages)
+pub record ChangesFile (bits : ℕ → ℕ) (active : set.FinSet nat_cmp) (root : ℕ) (seen : SeenPages)
     (rest own : FilePages) (change : SlotChange) : Type 0 where
-  pub keeps : KeepsFile bits opens root seen rest
+  pub keeps : KeepsFile bits active root seen rest
   pub changes : (clean : FilePages) → Agrees seen clean → HasForm bits clean root
       → ChangesRecord bits (over clean rest) (over clean own) root change

@@ -30,7 +30,7 @@ named_at pages root place = entry pages (dirs_of pages root) place
 
 -- An extendible hash file: its header, its directory, and where its records and ghosts lie.
 -- `HasForm` says nearly the same, of pseudokeys.
-pub record IsExtendibleHashFile (bits : ℕ → ℕ) (opens : set.FinSet nat_cmp) (pages : FilePages)
+pub record IsExtendibleHashFile (bits : ℕ → ℕ) (active : set.FinSet nat_cmp) (pages : FilePages)
     (root : ℕ) : Type 0 where
   -- the header names the depth g, at most 16, and the directory's pages: one where g is at most 8, and above
   -- that 2^(g-8); each is of 256 entries, and none stands twice
@@ -49,7 +49,7 @@ pub record IsExtendibleHashFile (bits : ℕ → ℕ) (opens : set.FinSet nat_cmp
       × HasOnePrefix (named_at pages root) (depth_of pages root) bucket.depth n
   -- each record, and each ghost of an open owner, lies in the bucket that the first g bits of its key lead to
   pub home : (n i : ℕ) → let slot = slot_at (buckets_of pages) n i in
-      is_kept opens slot ≡ true
+      is_kept active slot ≡ true
       → named_at pages root (first_bits (depth_of pages root) (bits (key_of slot))) ≡ n
   -- no key has two live slots
   pub once : IsOnceLive pages

@@ -12,16 +12,16 @@ use Rattle.mlt_hash_form.specs.Form.{slot_at}
 -- a record or an open transaction's ghost, whose key agrees with the pseudokey x in the first d bits: it takes room
 -- from x in a bucket of depth d
 abbrev pub crowds : (ℕ → ℕ) → set.FinSet nat_cmp → ℕ → ℕ → Slot → Bool
-crowds bits opens d x s = is_kept opens s && (first_bits d (bits (key_of s)) == first_bits d x)
+crowds bits active d x s = is_kept active s && (first_bits d (bits (key_of s)) == first_bits d x)
 
 -- the slots would leave no room for x in a bucket of depth d
 abbrev pub is_crowded : (ℕ → ℕ) → set.FinSet nat_cmp → ℕ → ℕ → List Slot → Bool
-is_crowded bits opens d x slots = list_all (crowds bits opens d x) slots
+is_crowded bits active d x slots = list_all (crowds bits active d x) slots
 
 -- eight slots of the file agree with x in d bits: the i-th is slot `at i` of page `page i`
-pub record IsCrowded (bits : ℕ → ℕ) (opens : set.FinSet nat_cmp) (buckets : ℕ → BucketFields)
+pub record IsCrowded (bits : ℕ → ℕ) (active : set.FinSet nat_cmp) (buckets : ℕ → BucketFields)
     (d x : ℕ) : Type 0 where
   pub page : ℕ → ℕ
   pub at : ℕ → ℕ
   pub differ : (i j : ℕ) → i < 8 → j < 8 → page i ≡ page j → at i ≡ at j → i ≡ j
-  pub each : (i : ℕ) → i < 8 → crowds bits opens d x (slot_at buckets (page i) (at i)) ≡ true
+  pub each : (i : ℕ) → i < 8 → crowds bits active d x (slot_at buckets (page i) (at i)) ≡ true

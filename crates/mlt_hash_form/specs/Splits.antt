@@ -90,7 +90,7 @@ pub record IsLonger (made made' : List ℕ) (j n : ℕ) : Type 0 where
 -- to the old one.
 pub record BucketSplit : Type 0 where
   pub bits : ℕ → ℕ
-  pub opens : set.FinSet nat_cmp
+  pub active : set.FinSet nat_cmp
   pub before : FilePages
   pub root : ℕ
   pub old_page : ℕ
@@ -99,9 +99,9 @@ pub record BucketSplit : Type 0 where
 
 abbrev pub bucket_split
     : (ℕ → ℕ) → set.FinSet nat_cmp → FilePages → ℕ → ℕ → ℕ → ℕ → BucketSplit
-bucket_split bits opens before root old_page new_page seed = record {
+bucket_split bits active before root old_page new_page seed = record {
   bits = bits;
-  opens = opens;
+  active = active;
   before = before;
   root = root;
   old_page = old_page;
@@ -136,11 +136,11 @@ CanBegin split =
 
 abbrev pub Completes : BucketSplit → FilePages → Type 0
 Completes split pages =
-    IsSplit split.bits split.opens split.before pages split.root split.old_page split.new_page
+    IsSplit split.bits split.active split.before pages split.root split.old_page split.new_page
 
 -- one half of the old bucket
 abbrev pub half_in : BucketSplit → ℕ → BucketFields
-half_in split bit = half_of split.bits split.opens (buckets_of split.before split.old_page) bit
+half_in split bit = half_of split.bits split.active (buckets_of split.before split.old_page) bit
 
 -- what is left at a place of the directory, which goes to depth g'
 abbrev pub target_in : BucketSplit → ℕ → ℕ → ℕ

@@ -11,10 +11,10 @@ ghost use Rattle.mlt_hash_form.specs.Changes.{ChangesRecord, IsAtHome, Spot, Wri
 
 /// To put an absent key into a slot of its bucket that is not kept adds its record, and changes nothing else.
 pub fn put_adds_the_record()
-    ensures { (bits : ℕ → ℕ) (opens : set.FinSet nat_cmp) (pages pages' : FilePages)
+    ensures { (bits : ℕ → ℕ) (active : set.FinSet nat_cmp) (pages pages' : FilePages)
         (root key value : ℕ) (spot : Spot)
         → IsAtHome bits pages root key spot → value_in key spot.bucket.slots ≡ None
-        → is_kept opens (slot_of spot) ≡ false → WritesSpot pages pages' spot (Live key value)
+        → is_kept active (slot_of spot) ≡ false → WritesSpot pages pages' spot (Live key value)
         → ChangesRecord bits pages pages' root
         (slot_change key (Some value) spot.number spot.at (Live key value)) }
 {}

@@ -14,15 +14,15 @@ ghost use Rattle.mlt_hash_form.specs.Prefixes.{IsExtendibleHashFile};
 
 /// Where the file has its form, its entries are those of an extendible hash file.
 pub fn form_is_extendible_hashing()
-    ensures { (bits : ℕ → ℕ) (opens : set.FinSet nat_cmp) (pages : FilePages) (root : ℕ)
+    ensures { (bits : ℕ → ℕ) (active : set.FinSet nat_cmp) (pages : FilePages) (root : ℕ)
         → GivesPseudokeys bits → HasForm bits pages root
-        → IsExtendibleHashFile bits opens pages root }
+        → IsExtendibleHashFile bits active pages root }
 {}
 
 /// And the other way round, where each slot that is not free lies where its key leads: those of closed owners too.
 pub fn extendible_hashing_is_the_form()
-    ensures { (bits : ℕ → ℕ) (opens : set.FinSet nat_cmp) (pages : FilePages) (root : ℕ)
-        → IsExtendibleHashFile bits opens pages root
+    ensures { (bits : ℕ → ℕ) (active : set.FinSet nat_cmp) (pages : FilePages) (root : ℕ)
+        → IsExtendibleHashFile bits active pages root
         → ((n i : ℕ) → is_used (slot_at (buckets_of pages) n i) ≡ true
         → lead_of pages root (bits (key_of (slot_at (buckets_of pages) n i))) ≡ n)
         → HasForm bits pages root }

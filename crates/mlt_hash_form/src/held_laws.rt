@@ -13,65 +13,65 @@ ghost use Rattle.mlt_hash_form.specs.Held.{Agrees, AreKeptToo, ChangesFile, Keep
 
 /// A walk that wrote nothing keeps the file.
 pub fn walk_without_writes_keeps_the_file()
-    ensures { (bits : ℕ → ℕ) (opens : set.FinSet nat_cmp) (root : ℕ) (seen : SeenPages)
-        → KeepsFile bits opens root seen (λ _. None) }
+    ensures { (bits : ℕ → ℕ) (active : set.FinSet nat_cmp) (root : ℕ) (seen : SeenPages)
+        → KeepsFile bits active root seen (λ _. None) }
 {}
 
 /// A walk that holds a further page still keeps the file.
 pub fn further_page_keeps_the_file()
-    ensures { (bits : ℕ → ℕ) (opens : set.FinSet nat_cmp) (root : ℕ) (seen more : SeenPages)
+    ensures { (bits : ℕ → ℕ) (active : set.FinSet nat_cmp) (root : ℕ) (seen more : SeenPages)
         (own : FilePages)
         → ((n : ℕ) (p : Option Page) → seen n ≡ Some p → more n ≡ Some p)
-        → KeepsFile bits opens root seen own → KeepsFile bits opens root more own }
+        → KeepsFile bits active root seen own → KeepsFile bits active root more own }
 {}
 
 /// Owners may close, and others begin, while the walk runs: it keeps the file for those who are open now, if each
 /// slot of a held page whose room they keep had its room kept for those who were open before.
 pub fn fewer_open_owners_keep_the_file()
-    ensures { (bits : ℕ → ℕ) (opens fewer : set.FinSet nat_cmp) (root : ℕ) (seen : SeenPages)
+    ensures { (bits : ℕ → ℕ) (active fewer : set.FinSet nat_cmp) (root : ℕ) (seen : SeenPages)
         (own : FilePages)
-        → ((n : ℕ) (p : Option Page) → seen n ≡ Some p → AreKeptToo fewer opens (bucket_of p))
-        → KeepsFile bits opens root seen own → KeepsFile bits fewer root seen own }
+        → ((n : ℕ) (p : Option Page) → seen n ≡ Some p → AreKeptToo fewer active (bucket_of p))
+        → KeepsFile bits active root seen own → KeepsFile bits fewer root seen own }
 {}
 
 /// A split of what is written keeps the file, if the walk holds the bucket's page, and the split keeps each slot of
 /// the bucket whose room is kept. The walk may have made the page itself, in an earlier split.
 pub fn split_keeps_the_file()
-    ensures { (bits : ℕ → ℕ) (opens splitters : set.FinSet nat_cmp) (root n new : ℕ)
+    ensures { (bits : ℕ → ℕ) (active splitters : set.FinSet nat_cmp) (root n new : ℕ)
         (seen : SeenPages) (own own' : FilePages)
-        → KeepsFile bits opens root seen own
+        → KeepsFile bits active root seen own
         → is_some (seen n) ≡ true
         → WhereverClean bits root seen own (λ clean.
         IsSplit bits splitters (over clean own) (over clean own') root n new
-        × AreKeptToo opens splitters (buckets_of (over clean own) n))
-        → KeepsFile bits opens root seen own' }
+        × AreKeptToo active splitters (buckets_of (over clean own) n))
+        → KeepsFile bits active root seen own' }
 {}
 
 /// A file that is kept has the values that it had.
 pub fn kept_file_has_its_values()
-    ensures { (bits : ℕ → ℕ) (opens : set.FinSet nat_cmp) (root : ℕ) (seen : SeenPages)
+    ensures { (bits : ℕ → ℕ) (active : set.FinSet nat_cmp) (root : ℕ) (seen : SeenPages)
         (own clean : FilePages)
-        → KeepsFile bits opens root seen own
+        → KeepsFile bits active root seen own
         → Agrees seen clean → HasForm bits clean root
         → (key : ℕ) → look_up bits (over clean own) root key ≡ look_up bits clean root key }
 {}
 
 /// A change of one record in what is written, at the end of a walk that kept the file, changes the file.
 pub fn change_of_a_kept_file()
-    ensures { (bits : ℕ → ℕ) (opens : set.FinSet nat_cmp) (root key n i : ℕ) (value : Option ℕ)
+    ensures { (bits : ℕ → ℕ) (active : set.FinSet nat_cmp) (root key n i : ℕ) (value : Option ℕ)
         (after : Slot) (seen : SeenPages) (rest own : FilePages)
-        → KeepsFile bits opens root seen rest
+        → KeepsFile bits active root seen rest
         → WhereverClean bits root seen rest (λ clean.
         ChangesRecord bits (over clean rest) (over clean own) root
         (slot_change key value n i after))
-        → ChangesFile bits opens root seen rest own (slot_change key value n i after) }
+        → ChangesFile bits active root seen rest own (slot_change key value n i after) }
 {}
 
 /// A file that is changed has its form, the new value at the key, and at each other key the value that it had.
 pub fn changed_file_has_its_values()
-    ensures { (bits : ℕ → ℕ) (opens : set.FinSet nat_cmp) (root key n i : ℕ) (value : Option ℕ)
+    ensures { (bits : ℕ → ℕ) (active : set.FinSet nat_cmp) (root key n i : ℕ) (value : Option ℕ)
         (after : Slot) (seen : SeenPages) (rest own clean : FilePages)
-        → ChangesFile bits opens root seen rest own (slot_change key value n i after)
+        → ChangesFile bits active root seen rest own (slot_change key value n i after)
         → Agrees seen clean → HasForm bits clean root
         → HasForm bits (over clean own) root
         × (look_up bits (over clean own) root key ≡ value)

@@ -33,7 +33,7 @@ pub use held_laws::{
     walk_without_writes_keeps_the_file,
 };
 pub use look_up::{home_bucket, value_in};
-pub use place::{NewPlaces, Place, first_bits};
+pub use place::{DirSlot, NewPlaces, first_bits};
 pub use record_laws::{
     change_to_a_value_inserts, change_to_no_value_removes, changed_file_changes_the_map,
     look_up_is_the_map, opening_file_has_the_empty_map, records_are_a_map, split_leaves_the_map,

@@ -7,7 +7,7 @@ ghost use Rattle.mlt_hash_form.specs.Changes.{IsHome};
 ghost use Rattle.mlt_hash_form.specs.File.{HasForm, LeadsTo};
 ghost use Rattle.mlt_hash_form.specs.Form.{value_in};
 
-use crate::place::Place;
+use crate::place::DirSlot;
 use crate::root::Root;
 use mlt_page::{Bucket, Page, Slot};
 use mlt_page_store::Store;
@@ -35,7 +35,7 @@ pub fn home_bucket<'a, P: Pseudo>(
     if head.depth > 16 {
         return None;
     }
-    let place = Place::of(root.pseudo.bits(&key), head.depth);
+    let place = DirSlot::of(root.pseudo.bits(&key), head.depth);
     let Some(Page::Dir(dir)) = store.read(head.dir(place.dir)) else {
         return None;
     };

@@ -14,16 +14,16 @@ pub fn first_bits(bits: u64, count: u8) -> u64
 
 /// The place of a pseudokey in a directory: which of its pages, and which entry there. Both are below 256.
 #[derive(Clone, Copy, Debug, PartialEq, Eq)]
-pub struct Place {
+pub struct DirSlot {
     /// The page, counted from 0.
     pub dir: usize,
     /// The entry of the page, counted from 0.
     pub entry: usize,
 }
 
-impl Place {
+impl DirSlot {
     /// The place of a pseudokey in a directory of this depth, 0 to 16.
-    pub fn of(bits: u64, depth: u8) -> Place
+    pub fn of(bits: u64, depth: u8) -> DirSlot
         requires { depth ≤ 16 }
         ensures dir { result.dir ≡ first_bits depth bits / 256 }
         ensures entry { result.entry ≡ first_bits depth bits % 256 }
@@ -31,7 +31,7 @@ impl Place {
             × (result.entry < 256) }
     {
         let place = first_bits(bits, depth) as usize;
-        Place {
+        DirSlot {
             dir: place / 256,
             entry: place % 256,
         }

@@ -48,10 +48,10 @@ pub fn change_to_no_value_removes()
 /// Where a walk that changed the file ends, what it wrote becomes clean: the pages have the form, and the map of
 /// their records changes at the walk's key alone.
 pub fn changed_file_changes_the_map()
-    ensures { (bits : ℕ → ℕ) (opens : set.FinSet nat_cmp) (root key n i : ℕ) (value : Option ℕ)
+    ensures { (bits : ℕ → ℕ) (active : set.FinSet nat_cmp) (root key n i : ℕ) (value : Option ℕ)
         (after : Slot) (seen : SeenPages) (rest own : FilePages)
         (pages pages' : map.FinMap nat_cmp Page)
-        → ChangesFile bits opens root seen rest own (slot_change key value n i after)
+        → ChangesFile bits active root seen rest own (slot_change key value n i after)
         → Agrees seen (map.get pages) → GivesPseudokeys bits → HasForm bits (map.get pages) root
         → ((q : ℕ) → map.get pages' q ≡ over (map.get pages) own q)
         → HasForm bits (map.get pages') root
@@ -66,9 +66,9 @@ pub fn opening_file_has_the_empty_map()
 
 /// A split leaves the map as it is.
 pub fn split_leaves_the_map()
-    ensures { (bits : ℕ → ℕ) (opens : set.FinSet nat_cmp) (pages pages' : map.FinMap nat_cmp Page)
+    ensures { (bits : ℕ → ℕ) (active : set.FinSet nat_cmp) (pages pages' : map.FinMap nat_cmp Page)
         (root n new : ℕ)
         → GivesPseudokeys bits → HasForm bits (map.get pages) root
-        → IsSplit bits opens (map.get pages) (map.get pages') root n new
+        → IsSplit bits active (map.get pages) (map.get pages') root n new
         → live_records pages' ≡ live_records pages }
 {}

@@ -38,8 +38,8 @@ module _ (ledger : Ledger) (pages' : FilePages) (key n i : ℕ) (bucket : Bucket
   old_ghost : (owner : ℕ) → is_ghost_of key owner (get_or bucket.slots i Free) ≡ true → (v : ℕ) × (slot_at (buckets_of ledger.pages) n i ≡ Ghost key v owner)
   old_ghost owner test = let r = ghost_from key owner _ test in (r.0, slot_is ∙ r.1)
 
-  old_not_kept : (s : Slot) → is_kept ledger.opens (get_or bucket.slots i Free) ≡ false → slot_at (buckets_of ledger.pages) n i ≡ s → is_kept ledger.opens s ≡ true → ⊥
-  old_not_kept s free is kept = both_ways _ (ap (is_kept ledger.opens) (sym is ∙ slot_is) ∙ free) kept
+  old_not_kept : (s : Slot) → is_kept ledger.active (get_or bucket.slots i Free) ≡ false → slot_at (buckets_of ledger.pages) n i ≡ s → is_kept ledger.active s ≡ true → ⊥
+  old_not_kept s free is kept = both_ways _ (ap (is_kept ledger.active) (sym is ∙ slot_is) ∙ free) kept
 
   absent : value_in key bucket.slots ≡ None → (v : ℕ) → HasRecord ledger.pages key v → ⊥
   absent none v r =
@@ -54,14 +54,14 @@ module _ (ledger : Ledger) (pages' : FilePages) (key n i : ℕ) (bucket : Bucket
       no_ghost key owner bucket.slots j g.0 none (sym (ap (λ ss. get_or ss j Free) same_slots) ∙ there)
 
   -- while a record of the key stands, no open transaction's last operation is a removal, and while none does, an addition
-  not_removed : (v : ℕ) → slot_at (buckets_of ledger.pages) n i ≡ Live key v → (t : ℕ) → fin.contains ledger.opens t ≡ true → last_of (ledger.standing t key) ≡ Some Removed → ⊥
+  not_removed : (v : ℕ) → slot_at (buckets_of ledger.pages) n i ≡ Live key v → (t : ℕ) → fin.contains ledger.active t ≡ true → last_of (ledger.standing t key) ≡ Some Removed → ⊥
   not_removed v live t is_open e = (matches.step t key is_open).absent e v (n, i, live)
 
-  not_added : value_in key bucket.slots ≡ None → (t : ℕ) → fin.contains ledger.opens t ≡ true → last_of (ledger.standing t key) ≡ Some Added → ⊥
+  not_added : value_in key bucket.slots ≡ None → (t : ℕ) → fin.contains ledger.active t ≡ true → last_of (ledger.standing t key) ≡ Some Added → ⊥
   not_added none t is_open e = let r = (matches.step t key is_open).present e in absent none r.0 r.1
 
   -- where one open transaction has standing operations on the key, no other has
-  others_none : (owner : ℕ) → fin.contains ledger.opens owner ≡ true → (ledger.standing owner key ≡ [] → ⊥) → (t : ℕ) → fin.contains ledger.opens t ≡ true → (t ≡ owner → ⊥) → last_of (ledger.standing t key) ≡ None
+  others_none : (owner : ℕ) → fin.contains ledger.active owner ≡ true → (ledger.standing owner key ≡ [] → ⊥) → (t : ℕ) → fin.contains ledger.active t ≡ true → (t ≡ owner → ⊥) → last_of (ledger.standing t key) ≡ None
   others_none owner owner_open some t is_open differs =
       let stands : (p : Presence) → last_of (ledger.standing t key) ≡ Some p → ⊥ = λ p e.
       differs (matches.alone t owner key is_open owner_open (λ empty. let f : None ≡ Some p = sym (ap last_of empty) ∙ e in cc) some) in
@@ -77,23 +77,23 @@ module _ (ledger : Ledger) (pages' : FilePages) (key n i : ℕ) (bucket : Bucket
         | inr e ↦ elim e [ inl f ↦ absurd (not_one f) | inr f ↦ absurd (not_other f) ]
       ]
 
-  module _ (standing' : Standing) (owner : ℕ) (value : Option ℕ) (s : Slot) (change : ChangesRecord ledger.bits ledger.pages pages' ledger.root (slot_change key value n i s)) (owner_open : fin.contains ledger.opens owner ≡ true)
+  module _ (standing' : Standing) (owner : ℕ) (value : Option ℕ) (s : Slot) (change : ChangesRecord ledger.bits ledger.pages pages' ledger.root (slot_change key value n i s)) (owner_open : fin.contains ledger.active owner ≡ true)
       (others : (t k : ℕ) → (t ≡ owner → k ≡ key → ⊥) → standing' t k ≡ ledger.standing t k)
-      (alone : (t : ℕ) → fin.contains ledger.opens t ≡ true → (t ≡ owner → ⊥) → last_of (ledger.standing t key) ≡ None)
+      (alone : (t : ℕ) → fin.contains ledger.active t ≡ true → (t ≡ owner → ⊥) → last_of (ledger.standing t key) ≡ None)
       (new_ghost : (k v t : ℕ) → s ≡ Ghost k v t → (k ≡ key) × (t ≡ owner))
       (new_live : (k v : ℕ) → s ≡ Live k v → k ≡ key)
-      (was_ghost : (k v t : ℕ) → fin.contains ledger.opens t ≡ true → slot_at (buckets_of ledger.pages) n i ≡ Ghost k v t → (k ≡ key) × (t ≡ owner))
+      (was_ghost : (k v t : ℕ) → fin.contains ledger.active t ≡ true → slot_at (buckets_of ledger.pages) n i ≡ Ghost k v t → (k ≡ key) × (t ≡ owner))
       (was_live : (k v : ℕ) → slot_at (buckets_of ledger.pages) n i ≡ Live k v → k ≡ key)
       (turns' : TakeTurns None (standing' owner key))
       (step' : IsInStep ledger.bits (ledger.undoing owner) (last_of (standing' owner key)) pages' ledger.root owner key) where
     -- of the key itself, the others have no standing operation
-    idle : (t k : ℕ) (p : Presence) → fin.contains ledger.opens t ≡ true → (t ≡ owner → k ≡ key → ⊥) → k ≡ key → last_of (ledger.standing t k) ≡ Some p → ⊥
+    idle : (t k : ℕ) (p : Presence) → fin.contains ledger.active t ≡ true → (t ≡ owner → k ≡ key → ⊥) → k ≡ key → last_of (ledger.standing t k) ≡ Some p → ⊥
     idle t k p is_open pair e last =
         let none = alone t is_open (λ f. pair f e) in
         let last' : last_of (ledger.standing t key) ≡ Some p = rw e at last in
         none-some p (sym none ∙ last')
 
-    step_beside : (t k : ℕ) → fin.contains ledger.opens t ≡ true → (t ≡ owner → k ≡ key → ⊥) → IsInStep ledger.bits (ledger.undoing t) (last_of (standing' t k)) pages' ledger.root t k
+    step_beside : (t k : ℕ) → fin.contains ledger.active t ≡ true → (t ≡ owner → k ≡ key → ⊥) → IsInStep ledger.bits (ledger.undoing t) (last_of (standing' t k)) pages' ledger.root t k
     step_beside t k is_open pair =
         rw (others t k pair) (frame ledger.bits ledger.pages pages' ledger.root n i s home.form change.form change.sets within (ledger.undoing t) (last_of (ledger.standing t k)) t k
         (λ v q. let g = new_ghost k v t q in pair g.1 g.0)
@@ -102,28 +102,28 @@ module _ (ledger : Ledger) (pages' : FilePages) (key n i : ℕ) (bucket : Bucket
         (λ e v q. absurd (idle t k Added is_open pair (was_live k v q) e))
         (matches.step t k is_open))
 
-    step_each : (t k : ℕ) → fin.contains ledger.opens t ≡ true → IsInStep ledger.bits (ledger.undoing t) (last_of (standing' t k)) pages' ledger.root t k
+    step_each : (t k : ℕ) → fin.contains ledger.active t ≡ true → IsInStep ledger.bits (ledger.undoing t) (last_of (standing' t k)) pages' ledger.root t k
     step_each t k is_open =
         elim (cases_eq t owner) [
           | inl e ↦ elim (cases_eq k key) [ inl f ↦ rw (e, f) step' | inr f ↦ step_beside t k is_open (λ _. f) ]
           | inr e ↦ step_beside t k is_open (λ q. absurd (e q))
         ]
 
-    turns_each : (t k : ℕ) → fin.contains ledger.opens t ≡ true → TakeTurns None (standing' t k)
+    turns_each : (t k : ℕ) → fin.contains ledger.active t ≡ true → TakeTurns None (standing' t k)
     turns_each t k is_open =
         elim (cases_eq t owner) [
           | inl e ↦ elim (cases_eq k key) [ inl f ↦ rw (e, f) turns' | inr f ↦ rw (others t k (λ _. f)) (matches.turns t k is_open) ]
           | inr e ↦ rw (others t k (λ q. absurd (e q))) (matches.turns t k is_open)
         ]
 
-    only_owner : (t : ℕ) → fin.contains ledger.opens t ≡ true → (standing' t key ≡ [] → ⊥) → t ≡ owner
+    only_owner : (t : ℕ) → fin.contains ledger.active t ≡ true → (standing' t key ≡ [] → ⊥) → t ≡ owner
     only_owner t is_open some =
         elim (cases_eq t owner) [
           | inl e ↦ e
           | inr e ↦ absurd (some (others t key (λ q. absurd (e q)) ∙ none_last _ (alone t is_open e)))
         ]
 
-    alone_each : (one two k : ℕ) → fin.contains ledger.opens one ≡ true → fin.contains ledger.opens two ≡ true → (standing' one k ≡ [] → ⊥) → (standing' two k ≡ [] → ⊥) → one ≡ two
+    alone_each : (one two k : ℕ) → fin.contains ledger.active one ≡ true → fin.contains ledger.active two ≡ true → (standing' one k ≡ [] → ⊥) → (standing' two k ≡ [] → ⊥) → one ≡ two
     alone_each one two k one_open two_open some_one some_two =
         elim (cases_eq k key) [
           | inl e ↦ only_owner one one_open (rw e at some_one) ∙ sym (only_owner two two_open (rw e at some_two))
@@ -144,7 +144,7 @@ module _ (ledger : Ledger) (pages' : FilePages) (key n i : ℕ) (bucket : Bucket
     assembled = record { step = step_each; turns = turns_each; alone = alone_each; opened = matches.opened; left = left_each }
 
   -- with one operation more, or one less, on the key alone
-  module _ (standing' : Standing) (owner : ℕ) (owner_open : fin.contains ledger.opens owner ≡ true) where
+  module _ (standing' : Standing) (owner : ℕ) (owner_open : fin.contains ledger.active owner ≡ true) where
     appended_others : (p : Presence) → Appends ledger.standing standing' owner key p → (t k : ℕ) → (t ≡ owner → k ≡ key → ⊥) → standing' t k ≡ ledger.standing t k
     appended_others p more = more.others
 
@@ -163,13 +163,13 @@ module _ (ledger : Ledger) (pages' : FilePages) (key n i : ℕ) (bucket : Bucket
     taken_last : (p : Presence) → Appends standing' ledger.standing owner key p → last_of (ledger.standing owner key) ≡ Some p
     taken_last p less = ap last_of less.here ∙ last_append (standing' owner key) p
 
-    taken_alone : (p : Presence) → Appends standing' ledger.standing owner key p → (t : ℕ) → fin.contains ledger.opens t ≡ true → (t ≡ owner → ⊥) → last_of (ledger.standing t key) ≡ None
+    taken_alone : (p : Presence) → Appends standing' ledger.standing owner key p → (t : ℕ) → fin.contains ledger.active t ≡ true → (t ≡ owner → ⊥) → last_of (ledger.standing t key) ≡ None
     taken_alone p less = others_none owner owner_open (λ empty. not_empty (standing' owner key) p (sym less.here ∙ empty))
 
     -- a record that becomes a ghost, and a slot that becomes a record
     ghost_made : (w : ℕ) → slot_at (buckets_of ledger.pages) n i ≡ Live key w → ChangesRecord ledger.bits ledger.pages pages' ledger.root (slot_change key None n i (Ghost key 0 owner))
         → ((t k : ℕ) → (t ≡ owner → k ≡ key → ⊥) → standing' t k ≡ ledger.standing t k)
-        → ((t : ℕ) → fin.contains ledger.opens t ≡ true → (t ≡ owner → ⊥) → last_of (ledger.standing t key) ≡ None)
+        → ((t : ℕ) → fin.contains ledger.active t ≡ true → (t ≡ owner → ⊥) → last_of (ledger.standing t key) ≡ None)
         → TakeTurns None (standing' owner key)
         → ((m j : ℕ) → IsGhostAt ledger.pages owner key m j → ⊥)
         → (last_of (standing' owner key) ≡ Some Added → ⊥)
@@ -186,8 +186,8 @@ module _ (ledger : Ledger) (pages' : FilePages) (key n i : ℕ) (bucket : Bucket
 
     record_made : (value : ℕ) → ChangesRecord ledger.bits ledger.pages pages' ledger.root (slot_change key (Some value) n i (Live key value))
         → ((t k : ℕ) → (t ≡ owner → k ≡ key → ⊥) → standing' t k ≡ ledger.standing t k)
-        → ((t : ℕ) → fin.contains ledger.opens t ≡ true → (t ≡ owner → ⊥) → last_of (ledger.standing t key) ≡ None)
-        → ((k v t : ℕ) → fin.contains ledger.opens t ≡ true → slot_at (buckets_of ledger.pages) n i ≡ Ghost k v t → (k ≡ key) × (t ≡ owner))
+        → ((t : ℕ) → fin.contains ledger.active t ≡ true → (t ≡ owner → ⊥) → last_of (ledger.standing t key) ≡ None)
+        → ((k v t : ℕ) → fin.contains ledger.active t ≡ true → slot_at (buckets_of ledger.pages) n i ≡ Ghost k v t → (k ≡ key) × (t ≡ owner))
         → ((k v : ℕ) → slot_at (buckets_of ledger.pages) n i ≡ Live k v → k ≡ key)
         → TakeTurns None (standing' owner key)
         → ((m j : ℕ) → IsGhostAt ledger.pages owner key m j → (m ≡ n) × (j ≡ i))
@@ -204,7 +204,7 @@ module _ (ledger : Ledger) (pages' : FilePages) (key n i : ℕ) (bucket : Bucket
     only_here : (v : ℕ) → slot_at (buckets_of ledger.pages) n i ≡ Ghost key v owner → (m j : ℕ) → IsGhostAt ledger.pages owner key m j → (m ≡ n) × (j ≡ i)
     only_here v e m j g = (matches.step owner key owner_open).once m j n i g (v, e)
 
-    same_ghost : (v : ℕ) → slot_at (buckets_of ledger.pages) n i ≡ Ghost key v owner → (k w t : ℕ) → fin.contains ledger.opens t ≡ true → slot_at (buckets_of ledger.pages) n i ≡ Ghost k w t → (k ≡ key) × (t ≡ owner)
+    same_ghost : (v : ℕ) → slot_at (buckets_of ledger.pages) n i ≡ Ghost key v owner → (k w t : ℕ) → fin.contains ledger.active t ≡ true → slot_at (buckets_of ledger.pages) n i ≡ Ghost k w t → (k ≡ key) × (t ≡ owner)
     same_ghost v e k w t _ f = let g : Ghost key v owner ≡ Ghost k w t = sym e ∙ f in (let q : k ≡ key = cc in q, let q : t ≡ owner = cc in q)
 
     no_record : (v : ℕ) → slot_at (buckets_of ledger.pages) n i ≡ Ghost key v owner → (k w : ℕ) → slot_at (buckets_of ledger.pages) n i ≡ Live k w → k ≡ key
@@ -247,7 +247,7 @@ module _ (ledger : Ledger) (pages' : FilePages) (key n i : ℕ) (bucket : Bucket
         (only_here ghost.0 ghost.1)
         (λ e. let f : Some Added ≡ Some Removed = sym last ∙ e in cc)
 
-    pub addition_by_put : (value : ℕ) → NoOtherLast ledger owner key Removed → value_in key bucket.slots ≡ None → position (is_ghost_of key owner) bucket.slots ≡ None → is_kept ledger.opens (get_or bucket.slots i Free) ≡ false
+    pub addition_by_put : (value : ℕ) → NoOtherLast ledger owner key Removed → value_in key bucket.slots ≡ None → position (is_ghost_of key owner) bucket.slots ≡ None → is_kept ledger.active (get_or bucket.slots i Free) ≡ false
         → ChangesRecord ledger.bits ledger.pages pages' ledger.root (slot_change key (Some value) n i (Live key value)) → Appends ledger.standing standing' owner key Added
         → PagesMatchOperations (record ledger { standing = standing'; pages = pages' })
     addition_by_put value unopposed none no_own free change more =
@@ -273,13 +273,13 @@ module _ (ledger : Ledger) (pages' : FilePages) (key n i : ℕ) (bucket : Bucket
 
   -- a slot that becomes a record, or gets another value, for no operation on the key's presence
   module _ (value : ℕ) (change : ChangesRecord ledger.bits ledger.pages pages' ledger.root (slot_change key (Some value) n i (Live key value)))
-      (was_ghost : (k v t : ℕ) → fin.contains ledger.opens t ≡ true → slot_at (buckets_of ledger.pages) n i ≡ Ghost k v t → ⊥)
+      (was_ghost : (k v t : ℕ) → fin.contains ledger.active t ≡ true → slot_at (buckets_of ledger.pages) n i ≡ Ghost k v t → ⊥)
       (was_live : (k v : ℕ) → slot_at (buckets_of ledger.pages) n i ≡ Live k v → k ≡ key)
-      (unopposed : (t : ℕ) → fin.contains ledger.opens t ≡ true → last_of (ledger.standing t key) ≡ Some Removed → ⊥) where
+      (unopposed : (t : ℕ) → fin.contains ledger.active t ≡ true → last_of (ledger.standing t key) ≡ Some Removed → ⊥) where
     now_live : slot_at (buckets_of pages') n i ≡ Live key value
     now_live = slot_here (buckets_of ledger.pages) (buckets_of pages') n i (Live key value) change.sets within
 
-    plain_step : (t k : ℕ) → fin.contains ledger.opens t ≡ true → IsInStep ledger.bits (ledger.undoing t) (last_of (ledger.standing t k)) pages' ledger.root t k
+    plain_step : (t k : ℕ) → fin.contains ledger.active t ≡ true → IsInStep ledger.bits (ledger.undoing t) (last_of (ledger.standing t k)) pages' ledger.root t k
     plain_step t k is_open =
         frame ledger.bits ledger.pages pages' ledger.root n i (Live key value) home.form change.form change.sets within (ledger.undoing t) (last_of (ledger.standing t k)) t k
         (λ v e. cc)
@@ -309,7 +309,7 @@ module _ (ledger : Ledger) (pages' : FilePages) (key n i : ℕ) (bucket : Bucket
       (λ k v e. let f : Live key live.0 ≡ Live k v = sym live.1 ∙ e in cc)
       (not_removed live.0 live.1)
 
-  pub plain_put : (value : ℕ) → ((t : ℕ) → fin.contains ledger.opens t ≡ true → last_of (ledger.standing t key) ≡ Some Removed → ⊥) → is_kept ledger.opens (get_or bucket.slots i Free) ≡ false → ChangesRecord ledger.bits ledger.pages pages' ledger.root (slot_change key (Some value) n i (Live key value)) → PagesMatchOperations (record ledger { pages = pages' })
+  pub plain_put : (value : ℕ) → ((t : ℕ) → fin.contains ledger.active t ≡ true → last_of (ledger.standing t key) ≡ Some Removed → ⊥) → is_kept ledger.active (get_or bucket.slots i Free) ≡ false → ChangesRecord ledger.bits ledger.pages pages' ledger.root (slot_change key (Some value) n i (Live key value)) → PagesMatchOperations (record ledger { pages = pages' })
   plain_put value unopposed free change =
       plain value change
       (λ k v t is_open e. old_not_kept (Ghost k v t) free e is_open)
@@ -330,7 +330,7 @@ module _ (ledger : Ledger) (standing' : Standing) (pages' : FilePages) (spot : S
   ghost_addition_law owner key value matches may none ghost change =
       addition_by_ghost ledger pages' key spot.number spot.at spot.bucket matches change.at_home.home change.at_home.within standing' owner may.is_open value may.unopposed none ghost change.changes
 
-  pub put_addition_law : (owner key value : ℕ) → PagesMatchOperations ledger → MayAddKey ledger owner key → IsRoomFor ledger.opens spot owner key
+  pub put_addition_law : (owner key value : ℕ) → PagesMatchOperations ledger → MayAddKey ledger owner key → IsRoomFor ledger.active spot owner key
       → ChangesSlot ledger pages' spot key (Some value) (Live key value) → Appends ledger.standing standing' owner key Added
       → PagesMatchOperations (record ledger { standing = standing'; pages = pages' })
   put_addition_law owner key value matches may room change =
@@ -354,7 +354,7 @@ plain_update_law ledger pages' spot key value matches live change =
     plain_update ledger pages' key spot.number spot.at spot.bucket matches change.at_home.home change.at_home.within value live change.changes
 
 pub plain_put_law : (ledger : Ledger) (pages' : FilePages) (spot : Spot) (key value : ℕ) → PagesMatchOperations ledger
-    → ((owner : ℕ) → IsOpenIn ledger owner → last_by ledger owner key ≡ Some Removed → ⊥) → is_kept ledger.opens (slot_of spot) ≡ false
+    → ((owner : ℕ) → IsOpenIn ledger owner → last_by ledger owner key ≡ Some Removed → ⊥) → is_kept ledger.active (slot_of spot) ≡ false
     → ChangesSlot ledger pages' spot key (Some value) (Live key value) → PagesMatchOperations (record ledger { pages = pages' })
 plain_put_law ledger pages' spot key value matches unopposed free change =
     plain_put ledger pages' key spot.number spot.at spot.bucket matches change.at_home.home change.at_home.within value unopposed free change.changes

@@ -25,15 +25,15 @@ moves_joined bits stays one two three root first second = record {
   stood = λ m i u. let b = second.stood m i u in let a = first.stood b.0 i (ap is_used b.1 ∙ u) in (a.0, a.1 ∙ b.1);
 }
 
-pub rearranged_moved : (bits : ℕ → ℕ) (opens : fin.FinSet nat_cmp) (seen : SeenPages) (before after : FilePages) (root : ℕ)
-    → RearrangesSlots bits opens seen before after root → MovesSlots bits (is_kept opens) before after root
-rearranged_moved bits opens seen before after root rearranged = record {
+pub rearranged_moved : (bits : ℕ → ℕ) (active : fin.FinSet nat_cmp) (seen : SeenPages) (before after : FilePages) (root : ℕ)
+    → RearrangesSlots bits active seen before after root → MovesSlots bits (is_kept active) before after root
+rearranged_moved bits active seen before after root rearranged = record {
   form = rearranged.form;
-  kept = λ t k h. elim (rearranged.lost t (used_from_kept opens t k) h) [ inl there ↦ there | inr gone ↦ absurd (both_ways _ gone.0 k) ];
+  kept = λ t k h. elim (rearranged.lost t (used_from_kept active t k) h) [ inl there ↦ there | inr gone ↦ absurd (both_ways _ gone.0 k) ];
   stood = λ m i u. let b = rearranged.stood m i u in (b.0, b.1);
 }
 
-module _ (ledger : Ledger) (pages' : FilePages) (matches : PagesMatchOperations ledger) (moves : MovesSlots ledger.bits (is_kept ledger.opens) ledger.pages pages' ledger.root) where
+module _ (ledger : Ledger) (pages' : FilePages) (matches : PagesMatchOperations ledger) (moves : MovesSlots ledger.bits (is_kept ledger.active) ledger.pages pages' ledger.root) where
   -- what is there stood there before, on some page
   slot_back : (m j : ℕ) (s : Slot) → slot_at (buckets_of pages') m j ≡ s → is_used s ≡ true → (o : ℕ) × (slot_at (buckets_of ledger.pages) o j ≡ s)
   slot_back m j s e used = let back = moves.stood m j (rw e used) in (back.0, back.1 ∙ e)
@@ -44,7 +44,7 @@ module _ (ledger : Ledger) (pages' : FilePages) (matches : PagesMatchOperations 
   record_back : (k v : ℕ) → HasRecord pages' k v → HasRecord ledger.pages k v
   record_back k v r = let back = slot_back r.0 r.1 (Live k v) r.2 refl in (back.0, r.1, back.1)
 
-  moved_step : (t k : ℕ) → fin.contains ledger.opens t ≡ true → IsInStep ledger.bits (ledger.undoing t) (last_of (ledger.standing t k)) pages' ledger.root t k
+  moved_step : (t k : ℕ) → fin.contains ledger.active t ≡ true → IsInStep ledger.bits (ledger.undoing t) (last_of (ledger.standing t k)) pages' ledger.root t k
   moved_step t k is_open =
       let step = matches.step t k is_open in
       record {
@@ -72,9 +72,9 @@ module _ (ledger : Ledger) (pages' : FilePages) (matches : PagesMatchOperations 
 
 -- a walk at rest, on the clean pages with its writes
 pub kept_moved : (ledger : Ledger) (seen : SeenPages) (rest : FilePages) → PagesMatchOperations ledger → HasForm ledger.bits ledger.pages ledger.root → Agrees seen ledger.pages
-    → KeepsFile ledger.bits ledger.opens ledger.root seen rest → PagesMatchOperations (record ledger { pages = over ledger.pages rest })
+    → KeepsFile ledger.bits ledger.active ledger.root seen rest → PagesMatchOperations (record ledger { pages = over ledger.pages rest })
 kept_moved ledger seen rest matches form agrees keeps =
-    moved ledger (over ledger.pages rest) matches (rearranged_moved ledger.bits ledger.opens seen ledger.pages (over ledger.pages rest) ledger.root (keeps ledger.pages agrees form))
+    moved ledger (over ledger.pages rest) matches (rearranged_moved ledger.bits ledger.active seen ledger.pages (over ledger.pages rest) ledger.root (keeps ledger.pages agrees form))
 
 -- pages that are the same, number by number
 pub same_matched : (ledger : Ledger) (pages' : FilePages) → PagesMatchOperations ledger → ((n : ℕ) → pages' n ≡ ledger.pages n) → PagesMatchOperations (record ledger { pages = pages' })

@@ -15,25 +15,25 @@ use Rattle.mlt_hash_ghosts.specs.Ledgers.{IsOpenIn, Ledger}
 use Rattle.mlt_hash_ghosts.specs.Operations.{Standing, TakeTurns, last_of}
 
 -- members of a set with one number more, and with one less
-inserted : (opens : fin.FinSet nat_cmp) (x q : ℕ) → fin.contains (fin.insert opens x) q ≡ (nat_eq q x || fin.contains opens q)
-inserted opens x q = fin.contains-insert nat_cmp_total opens x q ∙ ap (λ b. b || fin.contains opens q) (unsigned_tied q x)
+inserted : (active : fin.FinSet nat_cmp) (x q : ℕ) → fin.contains (fin.insert active x) q ≡ (nat_eq q x || fin.contains active q)
+inserted active x q = fin.contains-insert nat_cmp_total active x q ∙ ap (λ b. b || fin.contains active q) (unsigned_tied q x)
 
-removed : (opens : fin.FinSet nat_cmp) (x q : ℕ) → fin.contains (fin.remove opens x) q ≡ (not (nat_eq q x) && fin.contains opens q)
-removed opens x q = fin.contains-remove nat_cmp_total opens x q ∙ ap (λ b. not b && fin.contains opens q) (unsigned_tied q x)
+removed : (active : fin.FinSet nat_cmp) (x q : ℕ) → fin.contains (fin.remove active x) q ≡ (not (nat_eq q x) && fin.contains active q)
+removed active x q = fin.contains-remove nat_cmp_total active x q ∙ ap (λ b. not b && fin.contains active q) (unsigned_tied q x)
 
-open_beside : (opens : fin.FinSet nat_cmp) (x q : ℕ) → fin.contains (fin.insert opens x) q ≡ true → (q ≡ x → ⊥) → fin.contains opens q ≡ true
-open_beside opens x q is_open differs = sym (ap (λ b. b || fin.contains opens q) (ne_eqb q x differs)) ∙ sym (inserted opens x q) ∙ is_open
+open_beside : (active : fin.FinSet nat_cmp) (x q : ℕ) → fin.contains (fin.insert active x) q ≡ true → (q ≡ x → ⊥) → fin.contains active q ≡ true
+open_beside active x q is_open differs = sym (ap (λ b. b || fin.contains active q) (ne_eqb q x differs)) ∙ sym (inserted active x q) ∙ is_open
 
-not_closed : (opens : fin.FinSet nat_cmp) (x : ℕ) → fin.contains (fin.remove opens x) x ≡ false
-not_closed opens x = removed opens x x ∙ ap (λ b. not b && fin.contains opens x) (eq-eqb x x refl)
+not_closed : (active : fin.FinSet nat_cmp) (x : ℕ) → fin.contains (fin.remove active x) x ≡ false
+not_closed active x = removed active x x ∙ ap (λ b. not b && fin.contains active x) (eq-eqb x x refl)
 
-kept_open : (opens : fin.FinSet nat_cmp) (x q : ℕ) → (q ≡ x → ⊥) → fin.contains (fin.remove opens x) q ≡ fin.contains opens q
-kept_open opens x q differs = removed opens x q ∙ ap (λ b. not b && fin.contains opens q) (ne_eqb q x differs)
+kept_open : (active : fin.FinSet nat_cmp) (x q : ℕ) → (q ≡ x → ⊥) → fin.contains (fin.remove active x) q ≡ fin.contains active q
+kept_open active x q differs = removed active x q ∙ ap (λ b. not b && fin.contains active q) (ne_eqb q x differs)
 
-still_open : (opens : fin.FinSet nat_cmp) (x q : ℕ) → fin.contains (fin.remove opens x) q ≡ true → (q ≡ x → ⊥) × (fin.contains opens q ≡ true)
-still_open opens x q is_open =
-    let differs : q ≡ x → ⊥ = λ e. both_ways _ (not_closed opens x) (rw e at is_open) in
-    (differs, sym (kept_open opens x q differs) ∙ is_open)
+still_open : (active : fin.FinSet nat_cmp) (x q : ℕ) → fin.contains (fin.remove active x) q ≡ true → (q ≡ x → ⊥) × (fin.contains active q ≡ true)
+still_open active x q is_open =
+    let differs : q ≡ x → ⊥ = λ e. both_ways _ (not_closed active x) (rw e at is_open) in
+    (differs, sym (kept_open active x q differs) ∙ is_open)
 
 pub kept_by_match : (ledger : Ledger) → PagesMatchOperations ledger → GhostsAreKept ledger
 kept_by_match ledger matches = record {
@@ -42,7 +42,7 @@ kept_by_match ledger matches = record {
   once = λ owner key o. (matches.step owner key o).once;
 }
 
-pub free_file : (ledger : Ledger) → ledger.opens ≡ fin.empty → ((n i : ℕ) → slot_at (buckets_of ledger.pages) n i ≡ Free) → PagesMatchOperations ledger
+pub free_file : (ledger : Ledger) → ledger.active ≡ fin.empty → ((n i : ℕ) → slot_at (buckets_of ledger.pages) n i ≡ Free) → PagesMatchOperations ledger
 free_file ledger none free =
     let closed : (t : ℕ) → IsOpenIn ledger t → ⊥ = λ t o. both_ways _ (ap (λ s. fin.contains s t) none ∙ fin.contains-empty nat_cmp t) o in
     record {
@@ -66,8 +66,8 @@ step_of_none bits undoing pages root t k none = record {
 
 module _ (ledger : Ledger) (matches : PagesMatchOperations ledger) where
   module _ (standing' : Standing) (new : (k : ℕ) → standing' (ledger.begun + 1) k ≡ []) (others : (t k : ℕ) → (t ≡ ledger.begun + 1 → ⊥) → standing' t k ≡ ledger.standing t k) where
-    old_open : (t : ℕ) → fin.contains (fin.insert ledger.opens (ledger.begun + 1)) t ≡ true → (t ≡ ledger.begun + 1 → ⊥) → fin.contains ledger.opens t ≡ true
-    old_open t = open_beside ledger.opens (ledger.begun + 1) t
+    old_open : (t : ℕ) → fin.contains (fin.insert ledger.active (ledger.begun + 1)) t ≡ true → (t ≡ ledger.begun + 1 → ⊥) → fin.contains ledger.active t ≡ true
+    old_open t = open_beside ledger.active (ledger.begun + 1) t
 
     no_ghosts : (k n i : ℕ) → IsGhostAt ledger.pages (ledger.begun + 1) k n i → ⊥
     no_ghosts k n i g = let low = matches.left (ledger.begun + 1) k n i g in absurd (omega arith)
@@ -75,32 +75,32 @@ module _ (ledger : Ledger) (matches : PagesMatchOperations ledger) where
     new_step : (t k : ℕ) → t ≡ ledger.begun + 1 → IsInStep ledger.bits (ledger.undoing t) (last_of (standing' t k)) ledger.pages ledger.root t k
     new_step t k e = rw (e, new) (step_of_none ledger.bits (ledger.undoing (ledger.begun + 1)) ledger.pages ledger.root (ledger.begun + 1) k (no_ghosts k))
 
-    begun_step : (t k : ℕ) → fin.contains (fin.insert ledger.opens (ledger.begun + 1)) t ≡ true → IsInStep ledger.bits (ledger.undoing t) (last_of (standing' t k)) ledger.pages ledger.root t k
+    begun_step : (t k : ℕ) → fin.contains (fin.insert ledger.active (ledger.begun + 1)) t ≡ true → IsInStep ledger.bits (ledger.undoing t) (last_of (standing' t k)) ledger.pages ledger.root t k
     begun_step t k is_open = elim (cases_eq t (ledger.begun + 1)) [ inl e ↦ new_step t k e | inr e ↦ rw (others t k e) (matches.step t k (old_open t is_open e)) ]
 
-    begun_turns : (t k : ℕ) → fin.contains (fin.insert ledger.opens (ledger.begun + 1)) t ≡ true → TakeTurns None (standing' t k)
+    begun_turns : (t k : ℕ) → fin.contains (fin.insert ledger.active (ledger.begun + 1)) t ≡ true → TakeTurns None (standing' t k)
     begun_turns t k is_open = elim (cases_eq t (ledger.begun + 1)) [ inl e ↦ rw (e, new) tt | inr e ↦ rw (others t k e) (matches.turns t k (old_open t is_open e)) ]
 
     some_old : (t k : ℕ) → (standing' t k ≡ [] → ⊥) → t ≡ ledger.begun + 1 → ⊥
     some_old t k some e = some (ap (λ x. standing' x k) e ∙ new k)
 
-    begun_alone : (one two k : ℕ) → fin.contains (fin.insert ledger.opens (ledger.begun + 1)) one ≡ true → fin.contains (fin.insert ledger.opens (ledger.begun + 1)) two ≡ true → (standing' one k ≡ [] → ⊥) → (standing' two k ≡ [] → ⊥) → one ≡ two
+    begun_alone : (one two k : ℕ) → fin.contains (fin.insert ledger.active (ledger.begun + 1)) one ≡ true → fin.contains (fin.insert ledger.active (ledger.begun + 1)) two ≡ true → (standing' one k ≡ [] → ⊥) → (standing' two k ≡ [] → ⊥) → one ≡ two
     begun_alone one two k one_open two_open some_one some_two =
         let old_one = some_old one k some_one in
         let old_two = some_old two k some_two in
         matches.alone one two k (old_open one one_open old_one) (old_open two two_open old_two) (λ q. some_one (others one k old_one ∙ q)) (λ q. some_two (others two k old_two ∙ q))
 
-    begun_opened : (t : ℕ) → fin.contains (fin.insert ledger.opens (ledger.begun + 1)) t ≡ true → t ≤ ledger.begun + 1
+    begun_opened : (t : ℕ) → fin.contains (fin.insert ledger.active (ledger.begun + 1)) t ≡ true → t ≤ ledger.begun + 1
     begun_opened t is_open = elim (cases_eq t (ledger.begun + 1)) [ inl e ↦ omega arith | inr e ↦ let low = matches.opened t (old_open t is_open e) in omega arith ]
 
     begun_left : (t k n i : ℕ) → IsGhostAt ledger.pages t k n i → t ≤ ledger.begun + 1
     begun_left t k n i g = let low = matches.left t k n i g in omega arith
 
-    begin : PagesMatchOperations (record ledger { begun = ledger.begun + 1; opens = fin.insert ledger.opens (ledger.begun + 1); standing = standing' })
+    begin : PagesMatchOperations (record ledger { begun = ledger.begun + 1; active = fin.insert ledger.active (ledger.begun + 1); standing = standing' })
     begin = record { step = begun_step; turns = begun_turns; alone = begun_alone; opened = begun_opened; left = begun_left }
 
   module _ (undoing' : ℕ → Bool) (fewer : (t : ℕ) → undoing' t ≡ false → ledger.undoing t ≡ false) where
-    abort_step : (t k : ℕ) → fin.contains ledger.opens t ≡ true → IsInStep ledger.bits (undoing' t) (last_of (ledger.standing t k)) ledger.pages ledger.root t k
+    abort_step : (t k : ℕ) → fin.contains ledger.active t ≡ true → IsInStep ledger.bits (undoing' t) (last_of (ledger.standing t k)) ledger.pages ledger.root t k
     abort_step t k is_open =
         let step = matches.step t k is_open in
         record {
@@ -116,38 +116,38 @@ module _ (ledger : Ledger) (matches : PagesMatchOperations ledger) where
     abort = record { step = abort_step; turns = matches.turns; alone = matches.alone; opened = matches.opened; left = matches.left }
 
   module _ (standing' : Standing) (owner : ℕ) (others : (t k : ℕ) → (t ≡ owner → ⊥) → standing' t k ≡ ledger.standing t k) where
-    closed_step : (t k : ℕ) → fin.contains (fin.remove ledger.opens owner) t ≡ true → IsInStep ledger.bits (ledger.undoing t) (last_of (standing' t k)) ledger.pages ledger.root t k
-    closed_step t k is_open = let still = still_open ledger.opens owner t is_open in rw (others t k still.0) (matches.step t k still.1)
+    closed_step : (t k : ℕ) → fin.contains (fin.remove ledger.active owner) t ≡ true → IsInStep ledger.bits (ledger.undoing t) (last_of (standing' t k)) ledger.pages ledger.root t k
+    closed_step t k is_open = let still = still_open ledger.active owner t is_open in rw (others t k still.0) (matches.step t k still.1)
 
-    closed_turns : (t k : ℕ) → fin.contains (fin.remove ledger.opens owner) t ≡ true → TakeTurns None (standing' t k)
-    closed_turns t k is_open = let still = still_open ledger.opens owner t is_open in rw (others t k still.0) (matches.turns t k still.1)
+    closed_turns : (t k : ℕ) → fin.contains (fin.remove ledger.active owner) t ≡ true → TakeTurns None (standing' t k)
+    closed_turns t k is_open = let still = still_open ledger.active owner t is_open in rw (others t k still.0) (matches.turns t k still.1)
 
-    closed_alone : (one two k : ℕ) → fin.contains (fin.remove ledger.opens owner) one ≡ true → fin.contains (fin.remove ledger.opens owner) two ≡ true → (standing' one k ≡ [] → ⊥) → (standing' two k ≡ [] → ⊥) → one ≡ two
+    closed_alone : (one two k : ℕ) → fin.contains (fin.remove ledger.active owner) one ≡ true → fin.contains (fin.remove ledger.active owner) two ≡ true → (standing' one k ≡ [] → ⊥) → (standing' two k ≡ [] → ⊥) → one ≡ two
     closed_alone one two k one_open two_open some_one some_two =
-        let still_one = still_open ledger.opens owner one one_open in
-        let still_two = still_open ledger.opens owner two two_open in
+        let still_one = still_open ledger.active owner one one_open in
+        let still_two = still_open ledger.active owner two two_open in
         matches.alone one two k still_one.1 still_two.1 (λ q. some_one (others one k still_one.0 ∙ q)) (λ q. some_two (others two k still_two.0 ∙ q))
 
-    closed : PagesMatchOperations (record ledger { opens = fin.remove ledger.opens owner; standing = standing' })
-    closed = record { step = closed_step; turns = closed_turns; alone = closed_alone; opened = λ t o. matches.opened t (still_open ledger.opens owner t o).1; left = matches.left }
+    closed : PagesMatchOperations (record ledger { active = fin.remove ledger.active owner; standing = standing' })
+    closed = record { step = closed_step; turns = closed_turns; alone = closed_alone; opened = λ t o. matches.opened t (still_open ledger.active owner t o).1; left = matches.left }
 
 -- whose room is kept when a transaction is closed
-freed : (opens : fin.FinSet nat_cmp) (owner key value : ℕ) → is_kept (fin.remove opens owner) (Ghost key value owner) ≡ false
-freed opens owner key value = not_closed opens owner
+freed : (active : fin.FinSet nat_cmp) (owner key value : ℕ) → is_kept (fin.remove active owner) (Ghost key value owner) ≡ false
+freed active owner key value = not_closed active owner
 
-kept_beside : (opens : fin.FinSet nat_cmp) (owner : ℕ) (s : Slot) → ((key value : ℕ) → s ≡ Ghost key value owner → ⊥) → is_kept (fin.remove opens owner) s ≡ is_kept opens s
-kept_beside opens owner Free other = refl
-kept_beside opens owner (Live k v) other = refl
-kept_beside opens owner (Ghost k v t) other = kept_open opens owner t (λ e. other k v (ap (Ghost k v) e))
+kept_beside : (active : fin.FinSet nat_cmp) (owner : ℕ) (s : Slot) → ((key value : ℕ) → s ≡ Ghost key value owner → ⊥) → is_kept (fin.remove active owner) s ≡ is_kept active s
+kept_beside active owner Free other = refl
+kept_beside active owner (Live k v) other = refl
+kept_beside active owner (Ghost k v t) other = kept_open active owner t (λ e. other k v (ap (Ghost k v) e))
 
 pub close_law : (ledger : Ledger) (standing' : Standing) (owner : ℕ) → PagesMatchOperations ledger → ((t key : ℕ) → (t ≡ owner → ⊥) → standing' t key ≡ ledger.standing t key)
-    → PagesMatchOperations (record ledger { opens = fin.remove ledger.opens owner; standing = standing' })
-    × ((key value : ℕ) → is_kept (fin.remove ledger.opens owner) (Ghost key value owner) ≡ false)
-    × ((s : Slot) → ((key value : ℕ) → s ≡ Ghost key value owner → ⊥) → is_kept (fin.remove ledger.opens owner) s ≡ is_kept ledger.opens s)
-close_law ledger standing' owner matches others = (closed ledger matches standing' owner others, freed ledger.opens owner, kept_beside ledger.opens owner)
+    → PagesMatchOperations (record ledger { active = fin.remove ledger.active owner; standing = standing' })
+    × ((key value : ℕ) → is_kept (fin.remove ledger.active owner) (Ghost key value owner) ≡ false)
+    × ((s : Slot) → ((key value : ℕ) → s ≡ Ghost key value owner → ⊥) → is_kept (fin.remove ledger.active owner) s ≡ is_kept ledger.active s)
+close_law ledger standing' owner matches others = (closed ledger matches standing' owner others, freed ledger.active owner, kept_beside ledger.active owner)
 
 pub begin_law : (ledger : Ledger) (standing' : Standing) → PagesMatchOperations ledger → ((key : ℕ) → standing' (ledger.begun + 1) key ≡ []) → ((owner key : ℕ) → (owner ≡ ledger.begun + 1 → ⊥) → standing' owner key ≡ ledger.standing owner key)
-    → PagesMatchOperations (record ledger { begun = ledger.begun + 1; opens = fin.insert ledger.opens (ledger.begun + 1); standing = standing' })
+    → PagesMatchOperations (record ledger { begun = ledger.begun + 1; active = fin.insert ledger.active (ledger.begun + 1); standing = standing' })
 begin_law ledger standing' matches = begin ledger matches standing'
 
 pub abort_law : (ledger : Ledger) (undoing' : ℕ → Bool) → PagesMatchOperations ledger → ((owner : ℕ) → undoing' owner ≡ false → ledger.undoing owner ≡ false) → PagesMatchOperations (record ledger { undoing = undoing' })

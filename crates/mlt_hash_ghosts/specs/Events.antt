@@ -30,7 +30,7 @@ pub record MayAddKey (ledger : Ledger) (owner key : ℕ) : Type 0 where
   pub unopposed : NoOtherLast ledger owner key Removed
 
 -- the slot is not kept, and its bucket has no record of the key and no ghost that the transaction left of it
-pub record IsRoomFor (opens : set.FinSet nat_cmp) (spot : Spot) (owner key : ℕ) : Type 0 where
+pub record IsRoomFor (active : set.FinSet nat_cmp) (spot : Spot) (owner key : ℕ) : Type 0 where
   pub absent : value_in key spot.bucket.slots ≡ None
   pub ghostless : position (is_ghost_of key owner) spot.bucket.slots ≡ None
-  pub free : is_kept opens (slot_of spot) ≡ false
+  pub free : is_kept active (slot_of spot) ≡ false

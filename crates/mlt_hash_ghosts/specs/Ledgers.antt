@@ -13,17 +13,17 @@ pub record Ledger : Type 0 where
   pub bits : ℕ → ℕ
   pub root : ℕ
   pub pages : FilePages
-  -- The transactions: the numbers up to `begun` were given out, `opens` are open, and `undoing` tells those whose
+  -- The transactions: the numbers up to `begun` were given out, `active` are open, and `undoing` tells those whose
   -- abort has begun.
   pub begun : ℕ
-  pub opens : set.FinSet nat_cmp
+  pub active : set.FinSet nat_cmp
   pub undoing : ℕ → Bool
   -- their operations on keys' presence that stand
   pub standing : Standing
 
 -- the transaction is open
 abbrev pub IsOpenIn : Ledger → ℕ → Type 0
-IsOpenIn ledger owner = set.contains ledger.opens owner ≡ true
+IsOpenIn ledger owner = set.contains ledger.active owner ≡ true
 
 -- the bucket page that a key leads to
 abbrev pub home_of : Ledger → ℕ → ℕ

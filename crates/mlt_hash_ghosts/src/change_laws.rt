@@ -44,7 +44,7 @@ pub fn addition_puts_a_record()
     ensures { (ledger : Ledger) (standing : Standing) (pages : FilePages)
         (spot : Spot) (owner key value : ℕ)
         → PagesMatchOperations ledger → MayAddKey ledger owner key
-        → IsRoomFor ledger.opens spot owner key
+        → IsRoomFor ledger.active spot owner key
         → ChangesSlot ledger pages spot key (Some value) (Live key value)
         → Appends ledger.standing standing owner key Added
         → PagesMatchOperations (record ledger { standing = standing; pages = pages }) }
@@ -87,7 +87,7 @@ pub fn plain_put_keeps_ghosts()
     ensures { (ledger : Ledger) (pages : FilePages) (spot : Spot) (key value : ℕ)
         → PagesMatchOperations ledger
         → ((owner : ℕ) → IsOpenIn ledger owner → last_by ledger owner key ≡ Some Removed → ⊥)
-        → is_kept ledger.opens (slot_of spot) ≡ false
+        → is_kept ledger.active (slot_of spot) ≡ false
         → ChangesSlot ledger pages spot key (Some value) (Live key value)
         → PagesMatchOperations (record ledger { pages = pages }) }
 {}

@@ -16,12 +16,12 @@ ghost use Rattle.mlt_hash_ghosts.specs.Moves.{MovesSlots};
 /// A split of the bucket on page `n` moves slots. Those that are to stay are kept, if those of them that were in the
 /// bucket had their room kept when it was split: who is open may have changed since.
 pub fn split_moves_slots()
-    ensures { (bits : ℕ → ℕ) (opens : set.FinSet nat_cmp) (stays : Slot → Bool)
+    ensures { (bits : ℕ → ℕ) (active : set.FinSet nat_cmp) (stays : Slot → Bool)
         (pages pages' : FilePages) (root n new : ℕ)
-        → IsSplit bits opens pages pages' root n new
+        → IsSplit bits active pages pages' root n new
         → ((t : Slot) → stays t ≡ true → is_used t ≡ true)
         → ((i : ℕ) → let slot = slot_at (buckets_of pages) n i in
-        stays slot ≡ true → is_kept opens slot ≡ true)
+        stays slot ≡ true → is_kept active slot ≡ true)
         → MovesSlots bits stays pages pages' root }
 {}
 
@@ -34,17 +34,17 @@ pub fn moves_join()
 
 /// What a walk rearranged is moved: records and ghosts of open owners stay.
 pub fn rearranged_slots_are_moved()
-    ensures { (bits : ℕ → ℕ) (opens : set.FinSet nat_cmp) (seen : SeenPages)
+    ensures { (bits : ℕ → ℕ) (active : set.FinSet nat_cmp) (seen : SeenPages)
         (before after : FilePages) (root : ℕ)
-        → RearrangesSlots bits opens seen before after root
-        → MovesSlots bits (is_kept opens) before after root }
+        → RearrangesSlots bits active seen before after root
+        → MovesSlots bits (is_kept active) before after root }
 {}
 
 /// What a walk wrote before its change of a record, by splits, keeps the ghosts.
 pub fn kept_file_keeps_ghosts()
     ensures { (ledger : Ledger) (seen : SeenPages) (rest : FilePages)
         → PagesMatchOperations ledger → HasForm ledger.bits ledger.pages ledger.root
-        → Agrees seen ledger.pages → KeepsFile ledger.bits ledger.opens ledger.root seen rest
+        → Agrees seen ledger.pages → KeepsFile ledger.bits ledger.active ledger.root seen rest
         → PagesMatchOperations (record ledger { pages = over ledger.pages rest }) }
 {}
 
@@ -59,6 +59,6 @@ pub fn same_pages_keep_ghosts()
 pub fn ghosts_move_with_their_keys()
     ensures { (ledger : Ledger) (pages : FilePages)
         → PagesMatchOperations ledger
-        → MovesSlots ledger.bits (is_kept ledger.opens) ledger.pages pages ledger.root
+        → MovesSlots ledger.bits (is_kept ledger.active) ledger.pages pages ledger.root
         → PagesMatchOperations (record ledger { pages = pages }) }
 {}

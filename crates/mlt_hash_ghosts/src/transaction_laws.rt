@@ -19,7 +19,7 @@ pub fn operations_keep_ghosts()
 /// In a file of free slots they match where no transaction is open, as in a file that was just made.
 pub fn file_without_ghosts()
     ensures { (ledger : Ledger)
-        → ledger.opens ≡ set.empty → ((n i : ℕ) → slot_at (buckets_of ledger.pages) n i ≡ Free)
+        → ledger.active ≡ set.empty → ((n i : ℕ) → slot_at (buckets_of ledger.pages) n i ≡ Free)
         → PagesMatchOperations ledger }
 {}
 
@@ -29,8 +29,8 @@ pub fn begin_keeps_ghosts()
         PagesMatchOperations ledger
         → ((key : ℕ) → standing new key ≡ [])
         → ((owner key : ℕ) → (owner ≡ new → ⊥) → standing owner key ≡ ledger.standing owner key)
-        → let opens = set.insert ledger.opens new in
-        PagesMatchOperations (record ledger { begun = new; opens = opens; standing = standing }) }
+        → let active = set.insert ledger.active new in
+        PagesMatchOperations (record ledger { begun = new; active = active; standing = standing }) }
 {}
 
 /// And when the abort of a transaction begins.
@@ -47,9 +47,9 @@ pub fn close_frees_the_room()
     ensures { (ledger : Ledger) (standing : Standing) (owner : ℕ)
         → PagesMatchOperations ledger
         → ((t key : ℕ) → (t ≡ owner → ⊥) → standing t key ≡ ledger.standing t key)
-        → let opens = set.remove ledger.opens owner in
-        PagesMatchOperations (record ledger { opens = opens; standing = standing })
-        × ((key value : ℕ) → is_kept opens (Ghost key value owner) ≡ false)
+        → let active = set.remove ledger.active owner in
+        PagesMatchOperations (record ledger { active = active; standing = standing })
+        × ((key value : ℕ) → is_kept active (Ghost key value owner) ≡ false)
         × ((s : Slot) → ((key value : ℕ) → s ≡ Ghost key value owner → ⊥)
-        → is_kept opens s ≡ is_kept ledger.opens s) }
+        → is_kept active s ≡ is_kept ledger.active s) }
 {}

@@ -7,23 +7,23 @@ use Rattle.mlt_types.specs.declared.mode.Mode.TheVariants.{Exclusive}
 use Rattle.mlt_page.specs.declared.page.Page.TheVariants as page
 use Rattle.mlt_page.specs.Values.{BucketFields}
 use Rattle.mlt_page_locks.specs.LockTables.{Modes, can_write}
-use Rattle.mlt_hash_form.specs.Held.{own_or}
-use Rattle.mlt_hash_access.specs.Moments.{MayStep, Moment}
+use Rattle.mlt_hash_form.specs.Held.{own_or_clean}
+use Rattle.mlt_hash_access.specs.LocalStates.{MayStep, LocalState}
 use Rattle.mlt_hash_access.specs.PageSteps.{WritesAtMost}
 use Rattle.mlt_hash_access.specs.Views.{IsUnwritten, ReadsHeldBucket, View, WritesSlot, view_of}
 use Rattle.mlt_hash_access.proofs.Views.{may_write, write_writes}
 use Rattle.mlt_hash_record.specs.Plans.{WriteFields}
 use Rattle.mlt_hash_pair.specs.Changes.{FitsBoth, HasChanged, HoldsOn, IsHolding, IsSide, MakesOwed, MayWriteEarlier, Owes, OwesChange, OwesIf, StandsBehind, TellsOfTwo, task_in, task_of}
-use Rattle.mlt_hash_pair.specs.Pairs.{HoldsWays, IsFinding, IsFound, PairFields, later_of, later_page}
+use Rattle.mlt_hash_pair.specs.Pairs.{HoldsDescents, IsFinding, IsFound, PairFields, later_of, later_page}
 use Rattle.mlt_hash_pair.specs.Plans.{FitsFound, IsPlan}
-use Rattle.mlt_hash_pair.specs.Ways.{HasRead, IsLocked, IsThere, found_of, page_of}
+use Rattle.mlt_hash_pair.specs.Descents.{HasRead, IsLocked, IsThere, found_of, page_of}
 use Rattle.mlt_hash_pair.specs.Writing.{MayPlan, TellsOfOne}
-use Rattle.mlt_hash_pair.specs.declared.way.Way.{Way}
-use Rattle.mlt_hash_pair.specs.declared.way.Way.TheVariants as at
+use Rattle.mlt_hash_pair.specs.declared.descent.Descent.{Descent}
+use Rattle.mlt_hash_pair.specs.declared.descent.Descent.TheVariants as at
 use Rattle.mlt_hash_pair.specs.declared.answer.ChangeAnswer.{ChangeAnswer}
 use Rattle.mlt_hash_pair.specs.declared.answer.ChangeAnswer.TheVariants as answer
 use Rattle.mlt_hash_pair.specs.declared.answer.Side.TheVariants as side
-use Rattle.mlt_hash_pair.specs.declared.asked.Changes.{Changes}
+use Rattle.mlt_hash_pair.specs.declared.asked.PairChanges.{PairChanges}
 use Rattle.mlt_hash_pair.specs.declared.asked.RecordChange.{RecordChange}
 use Rattle.mlt_hash_pair.proofs.Makes.{second_is_not_third}
 use Rattle.mlt_hash_pair.proofs.Together.{later_left, later_right}
@@ -31,28 +31,28 @@ use Rattle.mlt_hash_pair.proofs.Readings.{read_still}
 use Rattle.mlt_hash_pair.proofs.Slots.{fits_slots, plan_number}
 
 -- **A pair that has found its keys may plan the changes that fit what was found.**
-pub may_plan : (bits : ℕ → ℕ) (root key : ℕ) (view : View) (way : Way) (asked : Option RecordChange) → IsThere way → HasRead bits root key view way → IsUnwritten view → FitsFound asked (found_of way) → MayPlan asked key (page_of way) view
-may_plan bits root key view (at.AtBucket dir bucket found) asked there read none fits = (read.fields, (Some (page.Bucket read.fields), read.at, ap (λ own. own_or own (Some (page.Bucket read.fields))) (none bucket)), fits_slots asked key read.fields.slots found read.found_is fits)
-may_plan bits root key view way asked there read none fits = absurd there
+pub may_plan : (bits : ℕ → ℕ) (root key : ℕ) (view : View) (descent : Descent) (asked : Option RecordChange) → IsThere descent → HasRead bits root key view descent → IsUnwritten view → FitsFound asked (found_of descent) → MayPlan asked key (page_of descent) view
+may_plan bits root key view (at.AtBucket dir bucket found) asked there read none fits = (read.fields, (Some (page.Bucket read.fields), read.at, ap (λ own. own_or_clean own (Some (page.Bucket read.fields))) (none bucket)), fits_slots asked key read.fields.slots found read.found_is fits)
+may_plan bits root key view descent asked there read none fits = absurd there
 
 -- it holds both buckets exclusively
-there_locked : (root : ℕ) (way : Way) → IsThere way → IsLocked root way (page_of way) Exclusive
+there_locked : (root : ℕ) (descent : Descent) → IsThere descent → IsLocked root descent (page_of descent) Exclusive
 there_locked root (at.AtBucket dir bucket found) there = inr (refl, refl)
-there_locked root way there = absurd there
+there_locked root descent there = absurd there
 
-pub left_held : (root : ℕ) (left right : Way) (m : Moment) → IsThere left → HoldsWays root left right (view_of m) → can_write m.locks m.running.tx (page_of left) ≡ true
+pub left_held : (root : ℕ) (left right : Descent) (m : LocalState) → IsThere left → HoldsDescents root left right (view_of m) → can_write m.locks m.running.tx (page_of left) ≡ true
 left_held root left right m there holds = may_write m (page_of left) ((holds (page_of left) Exclusive).1 (inl (there_locked root left there)))
 
-pub right_held : (root : ℕ) (left right : Way) (m : Moment) → IsThere right → HoldsWays root left right (view_of m) → can_write m.locks m.running.tx (page_of right) ≡ true
+pub right_held : (root : ℕ) (left right : Descent) (m : LocalState) → IsThere right → HoldsDescents root left right (view_of m) → can_write m.locks m.running.tx (page_of right) ≡ true
 right_held root left right m there holds = may_write m (page_of right) ((holds (page_of right) Exclusive).1 (inr (there_locked root right there)))
 
 -- what one bucket tells, told of the pair
-pub one_tells : (told : ChangeAnswer) (opens : set.FinSet nat_cmp) (old new : Moment) (before after : PairFields) (q left_page right_page : ℕ) (changes : Changes) → q ≡ left_page → q ≡ right_page → after ≡ before
-    → TellsOfOne (task_in opens before.left before.right q changes) old new told → TellsOfTwo (task_of opens before left_page right_page changes) old new before after told
-one_tells told opens old new before after q left_page right_page changes is_left is_right stays tells =
-    subst (λ p. TellsOfTwo (task_of opens before p right_page changes) old new before after told) is_left (subst (λ p. TellsOfTwo (task_of opens before q p changes) old new before after told) is_right (go told tells))
+pub one_tells : (told : ChangeAnswer) (active : set.FinSet nat_cmp) (old new : LocalState) (before after : PairFields) (q left_page right_page : ℕ) (changes : PairChanges) → q ≡ left_page → q ≡ right_page → after ≡ before
+    → TellsOfOne (task_in active before.left before.right q changes) old new told → TellsOfTwo (task_of active before left_page right_page changes) old new before after told
+one_tells told active old new before after q left_page right_page changes is_left is_right stays tells =
+    subst (λ p. TellsOfTwo (task_of active before p right_page changes) old new before after told) is_left (subst (λ p. TellsOfTwo (task_of active before q p changes) old new before after told) is_right (go told tells))
   where
-    go : (told : ChangeAnswer) → TellsOfOne (task_in opens before.left before.right q changes) old new told → TellsOfTwo (task_of opens before q q changes) old new before after told
+    go : (told : ChangeAnswer) → TellsOfOne (task_in active before.left before.right q changes) old new told → TellsOfTwo (task_of active before q q changes) old new before after told
     go answer.Changed tells = (record { mid = tells.0; left = tells.1; right = tells.2; no_left = λ lt. absurd (omega (arith, lt)); no_right = λ lt. absurd (omega (arith, lt)) }, stays)
     go answer.OneLeft tells = absurd tells
     go (answer.Full side.Left) tells = (tells.0, tells.1, stays)
@@ -67,22 +67,22 @@ record WritesOne (old new : View) (q : ℕ) : Type 0 where
   pub seen : (p : ℕ) → new.seen p ≡ old.seen p
   pub others : (p : ℕ) → p ≢ q → new.own p ≡ old.own p
 
-writes_one : (old new : Moment) (q : ℕ) → WritesAtMost old new q → WritesOne (view_of old) (view_of new) q
+writes_one : (old new : LocalState) (q : ℕ) → WritesAtMost old new q → WritesOne (view_of old) (view_of new) q
 writes_one old new q (inl same) = record { modes = ap (λ m. (view_of m).modes) same; seen = λ p. ap (λ m. (view_of m).seen p) same; others = λ p ne. ap (λ m. (view_of m).own p) same }
 writes_one old new q (inr write) = let writes = write_writes old new q write.0 write.1 in record { modes = writes.modes; seen = writes.seen; others = writes.others }
 
 -- what is read of a page that is not written is what was seen
 read_is_seen : (view : View) (q : ℕ) (bucket : BucketFields) → IsUnwritten view → ReadsHeldBucket view q bucket → view.seen q ≡ Some (Some (page.Bucket bucket))
-read_is_seen view q bucket none reads = reads.1 ∙ ap Some (sym (ap (λ own. own_or own reads.0) (none q)) ∙ reads.2)
+read_is_seen view q bucket none reads = reads.1 ∙ ap Some (sym (ap (λ own. own_or_clean own reads.0) (none q)) ∙ reads.2)
 
-module _ (bits : ℕ → ℕ) (root : ℕ) (opens : set.FinSet nat_cmp) (old new : Moment) (before : PairFields) (finding : IsFinding bits root before (view_of old)) (found : IsFound before) (writes : WritesAtMost old new (later_page before)) where
+module _ (bits : ℕ → ℕ) (root : ℕ) (active : set.FinSet nat_cmp) (old new : LocalState) (before : PairFields) (finding : IsFinding bits root before (view_of old)) (found : IsFound before) (writes : WritesAtMost old new (later_page before)) where
   one : WritesOne (view_of old) (view_of new) (later_page before)
   one = writes_one old new (later_page before) writes
 
   holding : IsHolding bits root before (view_of new)
   holding = record {
-    left = read_still bits root before.left (view_of old) (view_of new) before.left_way (λ q first sees. one.seen q ∙ sees) finding.left;
-    right = read_still bits root before.right (view_of old) (view_of new) before.right_way (λ q first sees. one.seen q ∙ sees) finding.right;
+    left = read_still bits root before.left (view_of old) (view_of new) before.left_descent (λ q first sees. one.seen q ∙ sees) finding.left;
+    right = read_still bits root before.right (view_of old) (view_of new) before.right_descent (λ q first sees. one.seen q ∙ sees) finding.right;
     holds = λ q mode. (λ held. (finding.holds q mode).0 (sym (ap (λ (modes : Modes). map.get modes q) one.modes) ∙ held), λ locked. ap (λ (modes : Modes). map.get modes q) one.modes ∙ (finding.holds q mode).1 locked);
     few = let same = ap map.len one.modes in let few = finding.few in omega (arith, same, few);
   }
@@ -90,71 +90,71 @@ module _ (bits : ℕ → ℕ) (root : ℕ) (opens : set.FinSet nat_cmp) (old new
   unwritten : (q : ℕ) → q ≢ later_page before → (view_of new).own q ≡ None
   unwritten q ne = one.others q ne ∙ finding.unwritten q
 
-  stands_with : (owed : Option WriteFields) → OwesIf owed opens old.running.tx before (view_of new) → HasChanged bits root opens old.running.tx (record before { owed = owed }) (view_of new)
+  stands_with : (owed : Option WriteFields) → OwesIf owed active old.running.tx before (view_of new) → HasChanged bits root active old.running.tx (record before { owed = owed }) (view_of new)
   stands_with owed owes = record { found = found; holding = record { left = holding.left; right = holding.right; holds = holding.holds; few = holding.few }; unwritten = unwritten; owes = owes_as owed owes }
     where
-      owes_as : (o : Option WriteFields) → OwesIf o opens old.running.tx before (view_of new) → OwesIf o opens old.running.tx (record before { owed = owed }) (view_of new)
+      owes_as : (o : Option WriteFields) → OwesIf o active old.running.tx before (view_of new) → OwesIf o active old.running.tx (record before { owed = owed }) (view_of new)
       owes_as None owes = tt
       owes_as (Some write) owes = record { key = owes.key; change = owes.change; planners = owes.planners; bucket = owes.bucket; side = owes.side; earlier = owes.earlier; seen = owes.seen; plan = owes.plan; fewer = owes.fewer }
 
-  stands_done : HasChanged bits root opens old.running.tx before (view_of new)
-  stands_done = subst (λ o. HasChanged bits root opens old.running.tx (record before { owed = o }) (view_of new)) (sym finding.none_owed) (stands_with None tt)
+  stands_done : HasChanged bits root active old.running.tx before (view_of new)
+  stands_done = subst (λ o. HasChanged bits root active old.running.tx (record before { owed = o }) (view_of new)) (sym finding.none_owed) (stands_with None tt)
 
   -- the change that is owed
-  owes_it : (asked : Option RecordChange) (key q : ℕ) (owed : Option WriteFields) → ((key ≡ before.left) × (q ≡ page_of before.left_way)) ⊎ ((key ≡ before.right) × (q ≡ page_of before.right_way)) → q ≢ later_page before → OwesChange asked opens old.running.tx key q (view_of old) owed
-      → HasChanged bits root opens old.running.tx (record before { owed = owed }) (view_of new)
+  owes_it : (asked : Option RecordChange) (key q : ℕ) (owed : Option WriteFields) → ((key ≡ before.left) × (q ≡ page_of before.left_descent)) ⊎ ((key ≡ before.right) × (q ≡ page_of before.right_descent)) → q ≢ later_page before → OwesChange asked active old.running.tx key q (view_of old) owed
+      → HasChanged bits root active old.running.tx (record before { owed = owed }) (view_of new)
   owes_it asked key q owed own ne owes =
-      let number = (plan_number owes.change opens old.running.tx key q owes.bucket owes.write owes.plan).0 in
-      subst (λ o. HasChanged bits root opens old.running.tx (record before { owed = o }) (view_of new)) (sym owes.owed_is)
+      let number = (plan_number owes.change active old.running.tx key q owes.bucket owes.write owes.plan).0 in
+      subst (λ o. HasChanged bits root active old.running.tx (record before { owed = o }) (view_of new)) (sym owes.owed_is)
       (stands_with (Some owes.write) (record {
         key = key;
         change = owes.change;
-        planners = opens;
+        planners = active;
         bucket = owes.bucket;
-        side = subst (λ n. ((key ≡ before.left) × (n ≡ page_of before.left_way)) ⊎ ((key ≡ before.right) × (n ≡ page_of before.right_way))) (sym number) own;
+        side = subst (λ n. ((key ≡ before.left) × (n ≡ page_of before.left_descent)) ⊎ ((key ≡ before.right) × (n ≡ page_of before.right_descent))) (sym number) own;
         earlier = λ same. ne (sym number ∙ same);
         seen = one.seen owes.write.number ∙ ap (view_of old).seen number ∙ read_is_seen (view_of old) q owes.bucket finding.unwritten owes.reads;
-        plan = subst (λ n. IsPlan owes.change opens old.running.tx key n owes.bucket owes.write) (sym number) owes.plan;
+        plan = subst (λ n. IsPlan owes.change active old.running.tx key n owes.bucket owes.write) (sym number) owes.plan;
         fewer = λ i kept. kept;
       }))
 
   -- **A pair that has made its changes stands where it stood, with the change of the earlier bucket owed or nothing.**
-  pub stands_behind : (told : ChangeAnswer) (after : PairFields) (changes : Changes) → TellsOfTwo (task_of opens before (page_of before.left_way) (page_of before.right_way) changes) old new before after told → StandsBehind told bits root opens old.running.tx after (view_of new)
-  stands_behind answer.Changed after changes tells = subst (λ p. HasChanged bits root opens old.running.tx p (view_of new)) (sym tells.1) stands_done
+  pub stands_behind : (told : ChangeAnswer) (after : PairFields) (changes : PairChanges) → TellsOfTwo (task_of active before (page_of before.left_descent) (page_of before.right_descent) changes) old new before after told → StandsBehind told bits root active old.running.tx after (view_of new)
+  stands_behind answer.Changed after changes tells = subst (λ p. HasChanged bits root active old.running.tx p (view_of new)) (sym tells.1) stands_done
   stands_behind answer.OneLeft after changes tells =
-      subst (λ p. HasChanged bits root opens old.running.tx p (view_of new)) (sym tells.1)
+      subst (λ p. HasChanged bits root active old.running.tx p (view_of new)) (sym tells.1)
       (elim tells.0 [
-        | inl leaves ↦ owes_it changes.left before.left (page_of before.left_way) after.owed (inl (refl, refl))
-            (λ same. let later = later_right (page_of before.left_way) (page_of before.right_way) leaves.earlier in let low = leaves.earlier in let both : page_of before.left_way ≡ page_of before.right_way = same ∙ later in omega (arith, low, both)) leaves.owes
-        | inr leaves ↦ owes_it changes.right before.right (page_of before.right_way) after.owed (inr (refl, refl))
-            (λ same. let low = leaves.earlier in let le : page_of before.right_way ≤ page_of before.left_way = omega (arith, low) in let both : page_of before.right_way ≡ page_of before.left_way = same ∙ later_left (page_of before.left_way) (page_of before.right_way) le in omega (arith, low, both)) leaves.owes
+        | inl leaves ↦ owes_it changes.left before.left (page_of before.left_descent) after.owed (inl (refl, refl))
+            (λ same. let later = later_right (page_of before.left_descent) (page_of before.right_descent) leaves.earlier in let low = leaves.earlier in let both : page_of before.left_descent ≡ page_of before.right_descent = same ∙ later in omega (arith, low, both)) leaves.owes
+        | inr leaves ↦ owes_it changes.right before.right (page_of before.right_descent) after.owed (inr (refl, refl))
+            (λ same. let low = leaves.earlier in let le : page_of before.right_descent ≤ page_of before.left_descent = omega (arith, low) in let both : page_of before.right_descent ≡ page_of before.left_descent = same ∙ later_left (page_of before.left_descent) (page_of before.right_descent) le in omega (arith, low, both)) leaves.owes
       ])
   stands_behind (answer.Full which) after changes tells = tt
 
 -- what is asked of both buckets, by their pages
-module _ (bits : ℕ → ℕ) (root : ℕ) (pair : PairFields) (m : Moment) (finding : IsFinding bits root pair (view_of m)) (found : IsFound pair) where
-  pub left_fits : (changes : Changes) (q : ℕ) → q ≡ page_of pair.left_way → FitsBoth changes pair → MayPlan changes.left pair.left q (view_of m)
-  left_fits changes q is fits = subst (λ q. MayPlan changes.left pair.left q (view_of m)) (sym is) (may_plan bits root pair.left (view_of m) pair.left_way changes.left found.0 finding.left finding.unwritten fits.0)
+module _ (bits : ℕ → ℕ) (root : ℕ) (pair : PairFields) (m : LocalState) (finding : IsFinding bits root pair (view_of m)) (found : IsFound pair) where
+  pub left_fits : (changes : PairChanges) (q : ℕ) → q ≡ page_of pair.left_descent → FitsBoth changes pair → MayPlan changes.left pair.left q (view_of m)
+  left_fits changes q is fits = subst (λ q. MayPlan changes.left pair.left q (view_of m)) (sym is) (may_plan bits root pair.left (view_of m) pair.left_descent changes.left found.0 finding.left finding.unwritten fits.0)
 
-  pub right_fits : (changes : Changes) (q : ℕ) → q ≡ page_of pair.right_way → FitsBoth changes pair → MayPlan changes.right pair.right q (view_of m)
-  right_fits changes q is fits = subst (λ q. MayPlan changes.right pair.right q (view_of m)) (sym is) (may_plan bits root pair.right (view_of m) pair.right_way changes.right found.1 finding.right finding.unwritten fits.1)
+  pub right_fits : (changes : PairChanges) (q : ℕ) → q ≡ page_of pair.right_descent → FitsBoth changes pair → MayPlan changes.right pair.right q (view_of m)
+  right_fits changes q is fits = subst (λ q. MayPlan changes.right pair.right q (view_of m)) (sym is) (may_plan bits root pair.right (view_of m) pair.right_descent changes.right found.1 finding.right finding.unwritten fits.1)
 
-  pub left_writes : (q : ℕ) → q ≡ page_of pair.left_way → can_write m.locks m.running.tx q ≡ true
-  left_writes q is = ap (can_write m.locks m.running.tx) is ∙ left_held root pair.left_way pair.right_way m found.0 finding.holds
+  pub left_writes : (q : ℕ) → q ≡ page_of pair.left_descent → can_write m.locks m.running.tx q ≡ true
+  left_writes q is = ap (can_write m.locks m.running.tx) is ∙ left_held root pair.left_descent pair.right_descent m found.0 finding.holds
 
-  pub right_writes : (q : ℕ) → q ≡ page_of pair.right_way → can_write m.locks m.running.tx q ≡ true
-  right_writes q is = ap (can_write m.locks m.running.tx) is ∙ right_held root pair.left_way pair.right_way m found.1 finding.holds
+  pub right_writes : (q : ℕ) → q ≡ page_of pair.right_descent → can_write m.locks m.running.tx q ≡ true
+  right_writes q is = ap (can_write m.locks m.running.tx) is ∙ right_held root pair.left_descent pair.right_descent m found.1 finding.holds
 
 -- the change that is owed, where one is
-owes_some : (owed : Option WriteFields) (write : WriteFields) (opens : set.FinSet nat_cmp) (tx : ℕ) (pair : PairFields) (view : View) → owed ≡ Some write → OwesIf owed opens tx pair view → Owes opens tx pair view write
-owes_some owed write opens tx pair view is owes = subst (λ o. OwesIf o opens tx pair view) is owes
+owes_some : (owed : Option WriteFields) (write : WriteFields) (active : set.FinSet nat_cmp) (tx : ℕ) (pair : PairFields) (view : View) → owed ≡ Some write → OwesIf owed active tx pair view → Owes active tx pair view write
+owes_some owed write active tx pair view is owes = subst (λ o. OwesIf o active tx pair view) is owes
 
-side_held : (pair : PairFields) (m : Moment) (bits : ℕ → ℕ) (root key q : ℕ) → IsFound pair → IsHolding bits root pair (view_of m) → IsSide pair key q → can_write m.locks m.running.tx q ≡ true
-side_held pair m bits root key q found holding (inl left) = ap (can_write m.locks m.running.tx) left.1 ∙ left_held root pair.left_way pair.right_way m found.0 holding.holds
-side_held pair m bits root key q found holding (inr right) = ap (can_write m.locks m.running.tx) right.1 ∙ right_held root pair.left_way pair.right_way m found.1 holding.holds
+side_held : (pair : PairFields) (m : LocalState) (bits : ℕ → ℕ) (root key q : ℕ) → IsFound pair → IsHolding bits root pair (view_of m) → IsSide pair key q → can_write m.locks m.running.tx q ≡ true
+side_held pair m bits root key q found holding (inl left) = ap (can_write m.locks m.running.tx) left.1 ∙ left_held root pair.left_descent pair.right_descent m found.0 holding.holds
+side_held pair m bits root key q found holding (inr right) = ap (can_write m.locks m.running.tx) right.1 ∙ right_held root pair.left_descent pair.right_descent m found.1 holding.holds
 
 -- The last step
-module _ (m : Moment) (pair : PairFields) (write : WriteFields) (is : pair.owed ≡ Some write) (ready : MayWriteEarlier m.running.tx pair (view_of m)) where
+module _ (m : LocalState) (pair : PairFields) (write : WriteFields) (is : pair.owed ≡ Some write) (ready : MayWriteEarlier m.running.tx pair (view_of m)) where
   owes : Owes ready.2 m.running.tx pair (view_of m) write
   owes = owes_some pair.owed write ready.2 m.running.tx pair (view_of m) is ready.3.owes
 
@@ -163,8 +163,8 @@ module _ (m : Moment) (pair : PairFields) (write : WriteFields) (is : pair.owed 
   earlier_held = side_held pair m ready.0 ready.1 owes.key write.number ready.3.found ready.3.holding owes.side
 
   -- and reads as it was read
-  reads_as : (opens : set.FinSet nat_cmp) (this : Owes opens m.running.tx pair (view_of m) write) → ReadsHeldBucket (view_of m) write.number this.bucket
-  reads_as opens this = (Some (page.Bucket this.bucket), this.seen, ap (λ own. own_or own (Some (page.Bucket this.bucket))) (ready.3.unwritten write.number this.earlier))
+  reads_as : (active : set.FinSet nat_cmp) (this : Owes active m.running.tx pair (view_of m) write) → ReadsHeldBucket (view_of m) write.number this.bucket
+  reads_as active this = (Some (page.Bucket this.bucket), this.seen, ap (λ own. own_or_clean own (Some (page.Bucket this.bucket))) (ready.3.unwritten write.number this.earlier))
 
   pub earlier_reads : (bucket : BucketFields) × ReadsHeldBucket (view_of m) write.number bucket
   earlier_reads = (owes.bucket, reads_as ready.2 owes)
@@ -178,16 +178,16 @@ module _ (m : Moment) (pair : PairFields) (write : WriteFields) (is : pair.owed 
 
   -- and makes the change that is owed
   pub earlier_makes : (new : View) → WritesSlot (view_of m) new write.number write.at write.slot → MakesOwed m.running.tx pair (view_of m) new
-  earlier_makes new writes opens other other_is this =
+  earlier_makes new writes active other other_is this =
       let same : Some write ≡ Some other = sym is ∙ other_is in
       let one : write ≡ other = cc in
-      let mine : Owes opens m.running.tx pair (view_of m) write = subst (Owes opens m.running.tx pair (view_of m)) (sym one) this in
+      let mine : Owes active m.running.tx pair (view_of m) write = subst (Owes active m.running.tx pair (view_of m)) (sym one) this in
       record {
         bucket = this.bucket;
-        reads = (Some (page.Bucket this.bucket), this.seen, ap (λ own. own_or own (Some (page.Bucket this.bucket))) (ready.3.unwritten other.number this.earlier));
+        reads = (Some (page.Bucket this.bucket), this.seen, ap (λ own. own_or_clean own (Some (page.Bucket this.bucket))) (ready.3.unwritten other.number this.earlier));
         write = other;
         plan = this.plan;
-        writes = subst (λ (w : WriteFields). WritesSlot (view_of m) new w.number w.at w.slot) one writes this.bucket (Some (page.Bucket this.bucket), this.seen, ap (λ own. own_or own (Some (page.Bucket this.bucket))) (ready.3.unwritten other.number this.earlier));
+        writes = subst (λ (w : WriteFields). WritesSlot (view_of m) new w.number w.at w.slot) one writes this.bucket (Some (page.Bucket this.bucket), this.seen, ap (λ own. own_or_clean own (Some (page.Bucket this.bucket))) (ready.3.unwritten other.number this.earlier));
       }
 
   -- while what was read and held stays so
@@ -195,8 +195,8 @@ module _ (m : Moment) (pair : PairFields) (write : WriteFields) (is : pair.owed 
   earlier_holds new writes bits root holding =
       let one = writes owes.bucket (reads_as ready.2 owes) in
       record {
-        left = read_still bits root pair.left (view_of m) new pair.left_way (λ q first sees. one.seen q ∙ sees) holding.left;
-        right = read_still bits root pair.right (view_of m) new pair.right_way (λ q first sees. one.seen q ∙ sees) holding.right;
+        left = read_still bits root pair.left (view_of m) new pair.left_descent (λ q first sees. one.seen q ∙ sees) holding.left;
+        right = read_still bits root pair.right (view_of m) new pair.right_descent (λ q first sees. one.seen q ∙ sees) holding.right;
         holds = λ q mode. (λ held. (holding.holds q mode).0 (sym (ap (λ (modes : Modes). map.get modes q) one.modes) ∙ held), λ locked. ap (λ (modes : Modes). map.get modes q) one.modes ∙ (holding.holds q mode).1 locked);
         few = let same = ap map.len one.modes in let few = holding.few in omega (arith, same, few);
       }

@@ -8,59 +8,59 @@ use Rattle.mlt_page_store.specs.Stores.{page_at}
 use Rattle.mlt_page_locks.specs.LockTables.{page_count}
 use Rattle.mlt_hash_form.specs.File.{HasForm, header_of}
 use Rattle.mlt_hash_form.specs.Held.{Agrees}
-use Rattle.mlt_hash_access.specs.Moments.{Moment}
+use Rattle.mlt_hash_access.specs.LocalStates.{LocalState}
 use Rattle.mlt_hash_access.specs.PageSteps.{Leaves, LocksPage}
 use Rattle.mlt_hash_access.specs.Views.{ReadsHeldPage, ReadsPage, SeesPage, view_of}
 use Rattle.mlt_hash_access.proofs.Unwritten.{sees_page, unwritten_still}
 use Rattle.mlt_hash_access.proofs.Views.{agrees, count_after_read, page_count_of_view, reads_seen}
 use Rattle.mlt_hash_pair.specs.Pairs.{GoTogether, IsFinding, IsUnderWay, MayFind, PairFields, later_of, mode_next, most_steps, page_next}
-use Rattle.mlt_hash_pair.specs.Reading.{next_page, next_way, way_after}
+use Rattle.mlt_hash_pair.specs.Reading.{next_page, next_descent, descent_after}
 use Rattle.mlt_hash_pair.specs.Steps.{GoesOn, HasFound, TellsOfStep, told_by}
-use Rattle.mlt_hash_pair.specs.Ways.{IsThere, page_of, pages_to_read}
-use Rattle.mlt_hash_pair.specs.declared.way.Way.{Way}
-use Rattle.mlt_hash_pair.specs.declared.way.Way.TheVariants as at
+use Rattle.mlt_hash_pair.specs.Descents.{IsThere, page_of, pages_to_read}
+use Rattle.mlt_hash_pair.specs.declared.descent.Descent.{Descent}
+use Rattle.mlt_hash_pair.specs.declared.descent.Descent.TheVariants as at
 use Rattle.mlt_hash_pair.specs.declared.answer.PairAnswer.{PairAnswer}
 use Rattle.mlt_hash_pair.proofs.Locks.{holds_after}
 use Rattle.mlt_hash_pair.proofs.Nexts.{KindIs, NextIs, has_next, kind_of_next, next_is, next_there, reads_on}
 use Rattle.mlt_hash_pair.proofs.Readings.{read_after}
 use Rattle.mlt_hash_pair.proofs.Together.{IsFurther, either_way, goes_further, lead_goes_on, more_to_come}
 
--- a header that a way reads is no deeper than 16 bits
-small_header : (bits : ℕ → ℕ) (clean : ℕ → Option Page) (root : ℕ) (lead : Way) (read : Page) (header : HeadFields) → HasForm bits clean root → clean (next_page root lead) ≡ Some read → KindIs lead read → read ≡ page.Head header → header.depth ≤ 16
+-- a header that a descent reads is no deeper than 16 bits
+small_header : (bits : ℕ → ℕ) (clean : ℕ → Option Page) (root : ℕ) (lead : Descent) (read : Page) (header : HeadFields) → HasForm bits clean root → clean (next_page root lead) ≡ Some read → KindIs lead read → read ≡ page.Head header → header.depth ≤ 16
 small_header bits clean root at.Start read header form sees kind is = subst (λ (h : HeadFields). h.depth ≤ 16) (ap header_of (sees ∙ ap Some is)) form.listed.small
 small_header bits clean root (at.Headed place dir row) read header form sees kind is = let both : page.Dir kind.0 ≡ page.Head header = sym kind.1 ∙ is in let none : ⊥ = cc in absurd none
 small_header bits clean root (at.Placed dir bucket) read header form sees kind is = let both : page.Bucket kind.0 ≡ page.Head header = sym kind.1 ∙ is in let none : ⊥ = cc in absurd none
 small_header bits clean root (at.AtBucket dir bucket found) read header form sees kind is = absurd kind
 
 -- what a pair is told that went on, by where it is now
-tells_by : (bits : ℕ → ℕ) (root : ℕ) (old new : Moment) (before after : PairFields) (left right : Way) → GoTogether left right → (IsThere left → IsThere right → page_next root before ≡ later_of (page_of left) (page_of right)) → after.left_way ≡ left → after.right_way ≡ right → GoesOn bits root old new before after → TellsOfStep bits root old new before after (told_by left right)
+tells_by : (bits : ℕ → ℕ) (root : ℕ) (old new : LocalState) (before after : PairFields) (left right : Descent) → GoTogether left right → (IsThere left → IsThere right → page_next root before ≡ later_of (page_of left) (page_of right)) → after.left_descent ≡ left → after.right_descent ≡ right → GoesOn bits root old new before after → TellsOfStep bits root old new before after (told_by left right)
 tells_by bits root old new before after (at.AtBucket d b found) (at.AtBucket d' b' found') together last left_is right_is on = (
   on,
   subst (λ w. HasFound w found) (sym left_is) refl,
   subst (λ w. HasFound w found') (sym right_is) refl,
   last tt tt ∙ (λ i. later_of (page_of (sym left_is i)) (page_of (sym right_is i))),
 )
-tells_by bits root old new before after left right together last left_is right_is on = (on, subst (λ w. 0 < most_steps w after.right_way) (sym left_is) (subst (λ w. 0 < most_steps left w) (sym right_is) (more_to_come left right together refl)))
+tells_by bits root old new before after left right together last left_is right_is on = (on, subst (λ w. 0 < most_steps w after.right_descent) (sym left_is) (subst (λ w. 0 < most_steps left w) (sym right_is) (more_to_come left right together refl)))
 
-module _ (bits : ℕ → ℕ) (root : ℕ) (old : Moment) (before : PairFields) (ready : MayFind bits root old before) (under : IsUnderWay before) where
-  abbrev lead : Way
-  lead = next_way before.left_way before.right_way
+module _ (bits : ℕ → ℕ) (root : ℕ) (old : LocalState) (before : PairFields) (ready : MayFind bits root old before) (under : IsUnderWay before) where
+  abbrev lead : Descent
+  lead = next_descent before.left_descent before.right_descent
 
   agree : Agrees (view_of old).seen ready.file.clean
   agree = agrees old ready.file.clean ready.may ready.file.is_clean
 
   goes : 0 < pages_to_read lead
-  goes = lead_goes_on before.left_way before.right_way ready.finding.together under
+  goes = lead_goes_on before.left_descent before.right_descent ready.finding.together under
 
-  left_is : NextIs ready.file.clean root before.left_way
-  left_is = next_is bits ready.file.clean root before.left (view_of old) before.left_way (ready.bounded before.left) agree ready.file.form ready.finding.left
+  left_is : NextIs ready.file.clean root before.left_descent
+  left_is = next_is bits ready.file.clean root before.left (view_of old) before.left_descent (ready.bounded before.left) agree ready.file.form ready.finding.left
 
-  right_is : NextIs ready.file.clean root before.right_way
-  right_is = next_is bits ready.file.clean root before.right (view_of old) before.right_way (ready.bounded before.right) agree ready.file.form ready.finding.right
+  right_is : NextIs ready.file.clean root before.right_descent
+  right_is = next_is bits ready.file.clean root before.right (view_of old) before.right_descent (ready.bounded before.right) agree ready.file.form ready.finding.right
 
   lead_is : NextIs ready.file.clean root lead
   lead_is =
-      elim (either_way before.left_way before.right_way) [
+      elim (either_way before.left_descent before.right_descent) [
         | inl one ↦ subst (NextIs ready.file.clean root) (sym one) left_is
         | inr other ↦ subst (NextIs ready.file.clean root) (sym other) right_is
       ]
@@ -73,7 +73,7 @@ module _ (bits : ℕ → ℕ) (root : ℕ) (old : Moment) (before : PairFields) 
   pub few_held : page_count old.locks old.running.tx < 300
   few_held = let few = ready.finding.few in omega (arith, page_count_of_view old, few)
 
-  module _ (new : Moment) (n : ℕ) (mode : Mode) (n_is : n ≡ page_next root before) (mode_is : mode ≡ mode_next before) (read : Page) (locks : LocksPage old new n mode) (leaves : Leaves old new) (view : SeesPage (view_of old) (view_of new) n mode) (held : ReadsHeldPage (view_of new) n read) where
+  module _ (new : LocalState) (n : ℕ) (mode : Mode) (n_is : n ≡ page_next root before) (mode_is : mode ≡ mode_next before) (read : Page) (locks : LocksPage old new n mode) (leaves : Leaves old new) (view : SeesPage (view_of old) (view_of new) n mode) (held : ReadsHeldPage (view_of new) n read) where
     reads : ReadsPage (view_of old) (view_of new) (page_next root before) (mode_next before) (Some read)
     reads = subst (λ n. ReadsPage (view_of old) (view_of new) n (mode_next before) (Some read)) n_is
         (subst (λ mode. ReadsPage (view_of old) (view_of new) n mode (Some read)) mode_is (reads_seen (view_of old) (view_of new) n mode read view held))
@@ -93,22 +93,22 @@ module _ (bits : ℕ → ℕ) (root : ℕ) (old : Moment) (before : PairFields) 
 
     abbrev after : PairFields
     after = record before {
-      left_way = way_after bits root before.left before.left_way (page_next root before) read;
-      right_way = way_after bits root before.right before.right_way (page_next root before) read;
+      left_descent = descent_after bits root before.left before.left_descent (page_next root before) read;
+      right_descent = descent_after bits root before.right before.right_descent (page_next root before) read;
     }
 
-    further : IsFurther before.left_way before.right_way after.left_way after.right_way (page_next root before)
-    further = goes_further bits root before.left before.right before.left_way before.right_way read ready.finding.together under kind
+    further : IsFurther before.left_descent before.right_descent after.left_descent after.right_descent (page_next root before)
+    further = goes_further bits root before.left before.right before.left_descent before.right_descent read ready.finding.together under kind
 
     finding : IsFinding bits root after (view_of new)
     finding = record {
       apart = ready.finding.apart;
       none_owed = ready.finding.none_owed;
       together = further.together;
-      left = read_after bits root before.left (view_of old) (view_of new) reads.before before.left_way (page_next root before) read sees ready.finding.left;
-      right = read_after bits root before.right (view_of old) (view_of new) reads.before before.right_way (page_next root before) read sees ready.finding.right;
+      left = read_after bits root before.left (view_of old) (view_of new) reads.before before.left_descent (page_next root before) read sees ready.finding.left;
+      right = read_after bits root before.right (view_of old) (view_of new) reads.before before.right_descent (page_next root before) read sees ready.finding.right;
       unwritten = unwritten_still (view_of old) (view_of new) (page_next root before) (mode_next before) (Some read) ready.finding.unwritten reads;
-      holds = holds_after bits root before.left before.right (view_of old) (view_of new) before.left_way before.right_way lead (page_next root before) read reads.before ready.finding.left ready.finding.right ready.finding.holds (either_way before.left_way before.right_way) kind refl (has_next root lead goes) reads.modes sees;
+      holds = holds_after bits root before.left before.right (view_of old) (view_of new) before.left_descent before.right_descent lead (page_next root before) read reads.before ready.finding.left ready.finding.right ready.finding.holds (either_way before.left_descent before.right_descent) kind refl (has_next root lead goes) reads.modes sees;
       few = let was = ready.finding.few in let one = count_after_read (view_of old) (view_of new) (page_next root before) (mode_next before) (Some read) reads in let most = further.most in omega (arith, was, one, most);
     }
 
@@ -118,16 +118,16 @@ module _ (bits : ℕ → ℕ) (root : ℕ) (old : Moment) (before : PairFields) 
       left_key = refl;
       right_key = refl;
       locks = subst (λ n. LocksPage old new n (mode_next before)) n_is (subst (λ mode. LocksPage old new n mode) mode_is locks);
-      left = reads_on bits ready.file.clean root before.left before.left_way (page_next root before) read left_is clean_has;
-      right = reads_on bits ready.file.clean root before.right before.right_way (page_next root before) read right_is clean_has;
+      left = reads_on bits ready.file.clean root before.left before.left_descent (page_next root before) read left_is clean_has;
+      right = reads_on bits ready.file.clean root before.right before.right_descent (page_next root before) read right_is clean_has;
       finding = finding;
       least = further.least;
       most = further.most;
     }
 
-    -- what is known of the ways that a step leaves
+    -- what is known of the descents that a step leaves
     abbrev Tells : PairFields → Type 0
-    Tells pair = TellsOfStep bits root old new before pair (told_by pair.left_way pair.right_way)
+    Tells pair = TellsOfStep bits root old new before pair (told_by pair.left_descent pair.right_descent)
 
-    pub tells : (pair : PairFields) (told : PairAnswer) → pair ≡ after → told ≡ told_by pair.left_way pair.right_way → TellsOfStep bits root old new before pair told
-    tells pair told pair_is told_is = subst (λ told. TellsOfStep bits root old new before pair told) (sym told_is) (subst Tells (sym pair_is) (tells_by bits root old new before after after.left_way after.right_way further.together further.last refl refl goes_on))
+    pub tells : (pair : PairFields) (told : PairAnswer) → pair ≡ after → told ≡ told_by pair.left_descent pair.right_descent → TellsOfStep bits root old new before pair told
+    tells pair told pair_is told_is = subst (λ told. TellsOfStep bits root old new before pair told) (sym told_is) (subst Tells (sym pair_is) (tells_by bits root old new before after after.left_descent after.right_descent further.together further.last refl refl goes_on))

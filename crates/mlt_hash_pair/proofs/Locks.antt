@@ -1,4 +1,4 @@
--- Which pages the two ways hold, as one more is locked
+-- Which pages the two descents hold, as one more is locked
 use Rattle.std.proofs.Common.{◌≡◌, ◌≢◌, ◌⊎◌, ℕ, Option, None, Some, refl, sym, ap, subst, ◌∙◌, inl, inr}
 use Rattle.std.specs.Prelude.{◌==◌}
 use Rattle.std.specs.FinMap as map
@@ -12,11 +12,11 @@ use Rattle.mlt_hash_access.specs.Reading.{HasReadPlace}
 use Rattle.mlt_hash_access.specs.Views.{View}
 use Rattle.mlt_hash_access.proofs.Views.{mode_of_others, mode_of_page}
 use Rattle.mlt_hash_access.proofs.Reading.{SeesMore}
-use Rattle.mlt_hash_pair.specs.Pairs.{HoldsWays}
-use Rattle.mlt_hash_pair.specs.Reading.{next_mode, next_page, way_after, way_by}
-use Rattle.mlt_hash_pair.specs.Ways.{HasRead, IsLocked, IsNext}
-use Rattle.mlt_hash_pair.specs.declared.way.Way.{Way}
-use Rattle.mlt_hash_pair.specs.declared.way.Way.TheVariants as at
+use Rattle.mlt_hash_pair.specs.Pairs.{HoldsDescents}
+use Rattle.mlt_hash_pair.specs.Reading.{next_mode, next_page, descent_after, descent_by}
+use Rattle.mlt_hash_pair.specs.Descents.{HasRead, IsLocked, IsNext}
+use Rattle.mlt_hash_pair.specs.declared.descent.Descent.{Descent}
+use Rattle.mlt_hash_pair.specs.declared.descent.Descent.TheVariants as at
 use Rattle.mlt_hash_pair.proofs.Nexts.{KindIs, after_next}
 use Rattle.mlt_hash_pair.proofs.Readings.{read_after}
 
@@ -30,7 +30,7 @@ mode_for (page.Bucket fields) = Exclusive
 abbrev SeenIn : View → ℕ → Mode → Type 0
 SeenIn view q mode = (read : Page) × (view.seen q ≡ Some (Some read)) × (mode ≡ mode_for read)
 
--- each page of a way is
+-- each page of a descent is
 placed_kind : (bits : ℕ → ℕ) (root key : ℕ) (view : View) (dir bucket q : ℕ) (mode : Mode) → HasReadPlace bits root key view dir bucket → IsLocked root (at.Placed dir bucket) q mode → SeenIn view q mode
 placed_kind bits root key view dir bucket q mode read locked =
     elim locked.0 [
@@ -38,7 +38,7 @@ placed_kind bits root key view dir bucket q mode read locked =
       | inr here ↦ (page.Dir read.entries, ap view.seen here ∙ read.listed, locked.1)
     ]
 
-locked_kind : (bits : ℕ → ℕ) (root key : ℕ) (view : View) (way : Way) (q : ℕ) (mode : Mode) → HasRead bits root key view way → IsLocked root way q mode → SeenIn view q mode
+locked_kind : (bits : ℕ → ℕ) (root key : ℕ) (view : View) (descent : Descent) (q : ℕ) (mode : Mode) → HasRead bits root key view descent → IsLocked root descent q mode → SeenIn view q mode
 locked_kind bits root key view at.Start q mode read locked = absurd locked
 locked_kind bits root key view (at.Headed place dir row) q mode read locked = (page.Head read.header, ap view.seen locked.0 ∙ read.head, locked.1)
 locked_kind bits root key view (at.Placed dir bucket) q mode read locked = placed_kind bits root key view dir bucket q mode read locked
@@ -49,7 +49,7 @@ locked_kind bits root key view (at.AtBucket dir bucket found) q mode read locked
     ]
 
 module _ (bits : ℕ → ℕ) (root key : ℕ) (q : ℕ) (mode : Mode) where
-  locked_by : (way : Way) (read : Page) → IsLocked root way q mode → IsLocked root (way_by bits key way read) q mode
+  locked_by : (descent : Descent) (read : Page) → IsLocked root descent q mode → IsLocked root (descent_by bits key descent read) q mode
   locked_by at.Start read locked = absurd locked
   locked_by (at.Headed place dir row) (page.Dir entries) locked = (inl locked.0, locked.1)
   locked_by (at.Headed place dir row) (page.Head header) locked = locked
@@ -61,11 +61,11 @@ module _ (bits : ℕ → ℕ) (root key : ℕ) (q : ℕ) (mode : Mode) where
   locked_by (at.AtBucket dir bucket found) (page.Dir entries) locked = locked
   locked_by (at.AtBucket dir bucket found) (page.Bucket fields) locked = locked
 
-  -- a way keeps its pages as it goes on,
-  locked_on : (way : Way) (n : ℕ) (read : Page) → IsLocked root way q mode → IsLocked root (way_after bits root key way n read) q mode
-  locked_on way n read locked = cond_both (n == next_page root way) (way_by bits key way read) way (λ w. IsLocked root w q mode) (λ here. locked_by way read locked) (λ elsewhere. locked)
+  -- a descent keeps its pages as it goes on,
+  locked_on : (descent : Descent) (n : ℕ) (read : Page) → IsLocked root descent q mode → IsLocked root (descent_after bits root key descent n read) q mode
+  locked_on descent n read locked = cond_both (n == next_page root descent) (descent_by bits key descent read) descent (λ w. IsLocked root w q mode) (λ here. locked_by descent read locked) (λ elsewhere. locked)
 
-  back_by : (way : Way) (read : Page) → q ≢ next_page root way → IsLocked root (way_by bits key way read) q mode → IsLocked root way q mode
+  back_by : (descent : Descent) (read : Page) → q ≢ next_page root descent → IsLocked root (descent_by bits key descent read) q mode → IsLocked root descent q mode
   back_by at.Start (page.Head header) ne locked = absurd (ne locked.0)
   back_by at.Start (page.Dir entries) ne locked = locked
   back_by at.Start (page.Bucket fields) ne locked = locked
@@ -88,18 +88,18 @@ module _ (bits : ℕ → ℕ) (root key : ℕ) (q : ℕ) (mode : Mode) where
   back_by (at.AtBucket dir bucket found) (page.Bucket fields) ne locked = locked
 
   -- and gets no other than the page that is read
-  locked_back : (way : Way) (n : ℕ) (read : Page) → q ≢ n → IsLocked root (way_after bits root key way n read) q mode → IsLocked root way q mode
-  locked_back way n read ne = cond_both (n == next_page root way) (way_by bits key way read) way (λ w. IsLocked root w q mode → IsLocked root way q mode)
-      (λ here. back_by way read (λ e. ne (e ∙ sym (eqb-true n (next_page root way) here)))) (λ elsewhere locked. locked)
+  locked_back : (descent : Descent) (n : ℕ) (read : Page) → q ≢ n → IsLocked root (descent_after bits root key descent n read) q mode → IsLocked root descent q mode
+  locked_back descent n read ne = cond_both (n == next_page root descent) (descent_by bits key descent read) descent (λ w. IsLocked root w q mode → IsLocked root descent q mode)
+      (λ here. back_by descent read (λ e. ne (e ∙ sym (eqb-true n (next_page root descent) here)))) (λ elsewhere locked. locked)
 
--- the page that is read is locked for the way, in the mode of its kind
-locked_here : (bits : ℕ → ℕ) (root key : ℕ) (way : Way) (read : Page) → KindIs way read → IsLocked root (way_by bits key way read) (next_page root way) (next_mode way)
-locked_here bits root key at.Start read kind = subst (λ p. IsLocked root (way_by bits key at.Start p) root Shared) (sym kind.1) (refl, refl)
-locked_here bits root key (at.Headed place dir row) read kind = subst (λ p. IsLocked root (way_by bits key (at.Headed place dir row) p) dir Shared) (sym kind.1) (inr refl, refl)
-locked_here bits root key (at.Placed dir bucket) read kind = subst (λ p. IsLocked root (way_by bits key (at.Placed dir bucket) p) bucket Exclusive) (sym kind.1) (inr (refl, refl))
+-- the page that is read is locked for the descent, in the mode of its kind
+locked_here : (bits : ℕ → ℕ) (root key : ℕ) (descent : Descent) (read : Page) → KindIs descent read → IsLocked root (descent_by bits key descent read) (next_page root descent) (next_mode descent)
+locked_here bits root key at.Start read kind = subst (λ p. IsLocked root (descent_by bits key at.Start p) root Shared) (sym kind.1) (refl, refl)
+locked_here bits root key (at.Headed place dir row) read kind = subst (λ p. IsLocked root (descent_by bits key (at.Headed place dir row) p) dir Shared) (sym kind.1) (inr refl, refl)
+locked_here bits root key (at.Placed dir bucket) read kind = subst (λ p. IsLocked root (descent_by bits key (at.Placed dir bucket) p) bucket Exclusive) (sym kind.1) (inr (refl, refl))
 locked_here bits root key (at.AtBucket dir bucket found) read kind = absurd kind
 
-mode_is : (way : Way) (read : Page) → KindIs way read → next_mode way ≡ mode_for read
+mode_is : (descent : Descent) (read : Page) → KindIs descent read → next_mode descent ≡ mode_for read
 mode_is at.Start read kind = sym (ap mode_for kind.1)
 mode_is (at.Headed place dir row) read kind = sym (ap mode_for kind.1)
 mode_is (at.Placed dir bucket) read kind = sym (ap mode_for kind.1)
@@ -116,16 +116,16 @@ one_mode view q mode read sees seen =
     let same : seen.0 ≡ read = cc in
     seen.2 ∙ ap mode_for same
 
-module _ (bits : ℕ → ℕ) (root left_key right_key : ℕ) (old new : View) (left right lead : Way) (n : ℕ) (read : Page)
+module _ (bits : ℕ → ℕ) (root left_key right_key : ℕ) (old new : View) (left right lead : Descent) (n : ℕ) (read : Page)
     (more : SeesMore old new) (left_read : HasRead bits root left_key old left) (right_read : HasRead bits root right_key old right)
-    (holds : HoldsWays root left right old)
+    (holds : HoldsDescents root left right old)
     (leads : (lead ≡ left) ⊎ (lead ≡ right)) (kind : KindIs lead read) (next : n ≡ next_page root lead) (is_next : IsNext root lead n)
     (modes : new.modes ≡ with_page old.modes n (next_mode lead)) (sees : new.seen n ≡ Some (Some read)) where
-  abbrev left_after : Way
-  left_after = way_after bits root left_key left n read
+  abbrev left_after : Descent
+  left_after = descent_after bits root left_key left n read
 
-  abbrev right_after : Way
-  right_after = way_after bits root right_key right n read
+  abbrev right_after : Descent
+  right_after = descent_after bits root right_key right n read
 
   -- the page has the mode of its kind,
   mode_of_kind : next_mode lead ≡ mode_for read
@@ -152,11 +152,11 @@ module _ (bits : ℕ → ℕ) (root left_key right_key : ℕ) (old new : View) (
   elsewhere : (q : ℕ) → q ≢ n → map.get new.modes q ≡ map.get old.modes q
   elsewhere q ne = ap (λ modes. map.get modes q) modes ∙ mode_of_others old.modes n (next_mode lead) q ne
 
-  -- it is locked for the way that leads,
-  lead_locks : (key : ℕ) (way : Way) → lead ≡ way → IsLocked root (way_after bits root key way n read) n (next_mode lead)
-  lead_locks key way same = subst (λ w. IsLocked root (way_after bits root key w n read) n (next_mode lead)) same
+  -- it is locked for the descent that leads,
+  lead_locks : (key : ℕ) (descent : Descent) → lead ≡ descent → IsLocked root (descent_after bits root key descent n read) n (next_mode lead)
+  lead_locks key descent same = subst (λ w. IsLocked root (descent_after bits root key w n read) n (next_mode lead)) same
       (subst (λ w. IsLocked root w n (next_mode lead)) (sym (after_next bits root key lead n read is_next))
-      (subst (λ q. IsLocked root (way_by bits key lead read) q (next_mode lead)) (sym next) (locked_here bits root key lead read kind)))
+      (subst (λ q. IsLocked root (descent_by bits key lead read) q (next_mode lead)) (sym next) (locked_here bits root key lead read kind)))
 
   locks_it : IsLocked root left_after n (next_mode lead) ⊎ IsLocked root right_after n (next_mode lead)
   locks_it =
@@ -165,8 +165,8 @@ module _ (bits : ℕ → ℕ) (root left_key right_key : ℕ) (old new : View) (
         | inr same ↦ inr (lead_locks right_key right same)
       ]
 
-  to_ways : (q : ℕ) (mode : Mode) → map.get new.modes q ≡ Some mode → IsLocked root left_after q mode ⊎ IsLocked root right_after q mode
-  to_ways q mode held =
+  to_descents : (q : ℕ) (mode : Mode) → map.get new.modes q ≡ Some mode → IsLocked root left_after q mode ⊎ IsLocked root right_after q mode
+  to_descents q mode held =
       elim (cases_eq q n) [
         | inl same ↦
             let both : Some (next_mode lead) ≡ Some mode = sym here ∙ sym (ap (map.get new.modes) same) ∙ held in
@@ -183,13 +183,13 @@ module _ (bits : ℕ → ℕ) (root left_key right_key : ℕ) (old new : View) (
   was_locked q mode ne (inl locked) = inl (locked_back bits root left_key q mode left n read ne locked)
   was_locked q mode ne (inr locked) = inr (locked_back bits root right_key q mode right n read ne locked)
 
-  from_ways : (q : ℕ) (mode : Mode) → IsLocked root left_after q mode ⊎ IsLocked root right_after q mode → map.get new.modes q ≡ Some mode
-  from_ways q mode locked =
+  from_descents : (q : ℕ) (mode : Mode) → IsLocked root left_after q mode ⊎ IsLocked root right_after q mode → map.get new.modes q ≡ Some mode
+  from_descents q mode locked =
       elim (cases_eq q n) [
         | inl same ↦ ap (map.get new.modes) same ∙ here ∙ ap Some (mode_of_kind ∙ sym (one_mode new q mode read (ap new.seen same ∙ sees) (is_seen q mode locked)))
         | inr ne ↦ elsewhere q ne ∙ (holds q mode).1 (was_locked q mode ne locked)
       ]
 
-  -- **Once a page is locked, exactly the pages of the two ways are held.**
-  pub holds_after : HoldsWays root left_after right_after new
-  holds_after q mode = (to_ways q mode, from_ways q mode)
+  -- **Once a page is locked, exactly the pages of the two descents are held.**
+  pub holds_after : HoldsDescents root left_after right_after new
+  holds_after q mode = (to_descents q mode, from_descents q mode)

@@ -11,8 +11,8 @@ use Rattle.mlt_page.specs.declared.page.Page.TheVariants as page
 use Rattle.mlt_page.specs.Values.{BucketFields}
 use Rattle.mlt_page_locks.proofs.Maps.{get_removed, same_entries}
 use Rattle.mlt_page_subtx.specs.Images.{Images, image_of}
-use Rattle.mlt_hash_form.specs.Held.{own_or}
-use Rattle.mlt_hash_access.specs.Moments.{MayStep, Moment}
+use Rattle.mlt_hash_form.specs.Held.{own_or_clean}
+use Rattle.mlt_hash_access.specs.LocalStates.{MayStep, LocalState}
 use Rattle.mlt_hash_access.specs.PageSteps.{WritesAtMost}
 use Rattle.mlt_hash_access.specs.Views.{IsSameView, ReadsHeldBucket, View, WritesPage, view_of}
 use Rattle.mlt_hash_access.proofs.Unwritten.{unwritten_image}
@@ -25,7 +25,7 @@ use Rattle.mlt_hash_pair.specs.Writing.{HasPlan, MayWrite, OwesPlan, TellsOfOne,
 use Rattle.mlt_hash_pair.specs.declared.answer.ChangeAnswer.{ChangeAnswer}
 use Rattle.mlt_hash_pair.specs.declared.answer.ChangeAnswer.TheVariants as answer
 use Rattle.mlt_hash_pair.specs.declared.answer.Side.TheVariants as side
-use Rattle.mlt_hash_pair.specs.declared.asked.Changes.{Changes}
+use Rattle.mlt_hash_pair.specs.declared.asked.PairChanges.{PairChanges}
 use Rattle.mlt_hash_pair.specs.declared.asked.RecordChange.{RecordChange}
 use Rattle.mlt_hash_pair.specs.declared.plan.SlotPlan.{SlotPlan}
 use Rattle.mlt_hash_pair.specs.declared.plan.SlotPlan.TheVariants as plan
@@ -33,7 +33,7 @@ use Rattle.mlt_hash_pair.proofs.Together.{later_left, later_right}
 use Rattle.mlt_hash_pair.proofs.Slots.{fits_after, plan_number}
 
 -- **The write of a transaction that has written one page alone is not its third.**
-pub second_is_not_third : (m : Moment) (n : ℕ) → MayStep m → ((q : ℕ) → q ≢ n → (view_of m).own q ≡ None) → 2 ≤ map.len m.running.images → ⊥
+pub second_is_not_third : (m : LocalState) (n : ℕ) → MayStep m → ((q : ℕ) → q ≢ n → (view_of m).own q ≡ None) → 2 ≤ map.len m.running.images → ⊥
 second_is_not_third m n may none third =
     let others : (q : ℕ) → map.get (map.remove m.running.images n) q ≡ None = λ q. elim (cases_eq q n) [
       | inl here ↦ get_removed m.running.images n q ∙ cond-true (q == n) None (image_of m.running.images q) (eq-eqb q n here)
@@ -44,7 +44,7 @@ second_is_not_third m n may none third =
     grind (arith, few, third, map.len-remove nat_cmp_total m.running.images n)
 
 -- the same view
-pub same_view : (old new : Moment) → new ≡ old → IsSameView (view_of old) (view_of new)
+pub same_view : (old new : LocalState) → new ≡ old → IsSameView (view_of old) (view_of new)
 same_view old new same = record { modes = ap (λ m. (view_of m).modes) same; seen = λ q. ap (λ m. (view_of m).seen q) same; own = λ q. ap (λ m. (view_of m).own q) same }
 
 unchanged : (view : View) → IsSameView view view
@@ -54,13 +54,13 @@ unchanged view = record { modes = refl; seen = λ q. refl; own = λ q. refl }
 abbrev IsRoomy : SlotPlan → Type 0
 IsRoomy this = this ≡ plan.Full → ⊥
 
-module _ (opens : set.FinSet nat_cmp) (tx key q : ℕ) (asked : Option RecordChange) (bucket : BucketFields) where
+module _ (active : set.FinSet nat_cmp) (tx key q : ℕ) (asked : Option RecordChange) (bucket : BucketFields) where
   -- **What is planned and written makes what is asked for.**
-  pub makes_asked : (this : SlotPlan) (old new : Moment) → IsRoomy this → IsPlanned this asked opens tx key q bucket → ReadsHeldBucket (view_of old) q bucket → WritesPlan this old new → MakesAsked asked opens tx key q (view_of old) (view_of new)
-  makes_asked plan.Nothing old new roomy none reads same = subst (λ asked. MakesAsked asked opens tx key q (view_of old) (view_of new)) (sym none) (same_view old new same)
+  pub makes_asked : (this : SlotPlan) (old new : LocalState) → IsRoomy this → IsPlanned this asked active tx key q bucket → ReadsHeldBucket (view_of old) q bucket → WritesPlan this old new → MakesAsked asked active tx key q (view_of old) (view_of new)
+  makes_asked plan.Nothing old new roomy none reads same = subst (λ asked. MakesAsked asked active tx key q (view_of old) (view_of new)) (sym none) (same_view old new same)
   makes_asked (plan.Set write) old new roomy planned reads writes =
-      let number = (plan_number planned.0 opens tx key q bucket write planned.2).0 in
-      subst (λ asked. MakesAsked asked opens tx key q (view_of old) (view_of new)) (sym planned.1) (record {
+      let number = (plan_number planned.0 active tx key q bucket write planned.2).0 in
+      subst (λ asked. MakesAsked asked active tx key q (view_of old) (view_of new)) (sym planned.1) (record {
         bucket = bucket;
         reads = reads;
         write = write;
@@ -70,10 +70,10 @@ module _ (opens : set.FinSet nat_cmp) (tx key q : ℕ) (asked : Option RecordCha
   makes_asked plan.Full old new roomy none reads same = absurd (roomy refl)
 
   -- and one that is not written is owed
-  owes_asked : (write : WriteFields) (view : View) → IsPlanned (plan.Set write) asked opens tx key q bucket → ReadsHeldBucket view q bucket → OwesChange asked opens tx key q view (Some write)
+  owes_asked : (write : WriteFields) (view : View) → IsPlanned (plan.Set write) asked active tx key q bucket → ReadsHeldBucket view q bucket → OwesChange asked active tx key q view (Some write)
   owes_asked write view planned reads = record { change = planned.0; asked_is = planned.1; bucket = bucket; reads = reads; write = write; owed_is = refl; plan = planned.2 }
 
-  pub full_asked : (view : View) → IsPlanned plan.Full asked opens tx key q bucket → ReadsHeldBucket view q bucket → IsFull asked opens tx key q view
+  pub full_asked : (view : View) → IsPlanned plan.Full asked active tx key q bucket → ReadsHeldBucket view q bucket → IsFull asked active tx key q view
   full_asked view planned reads = record { change = planned.0; asked_is = planned.1; bucket = bucket; reads = reads; none = planned.2 }
 
   -- the view with the plan in it
@@ -88,9 +88,9 @@ module _ (opens : set.FinSet nat_cmp) (tx key q : ℕ) (asked : Option RecordCha
   others_are : (write : WriteFields) (view : View) (p : ℕ) → p ≢ q → (mid_of (plan.Set write) view).own p ≡ view.own p
   others_are write view p ne = cond-false (p == q) (Some (planned_page bucket write)) (view.own p) (ne_eqb p q ne)
 
-  pub makes_mid : (this : SlotPlan) (view : View) → IsRoomy this → IsPlanned this asked opens tx key q bucket → ReadsHeldBucket view q bucket → MakesAsked asked opens tx key q view (mid_of this view)
-  makes_mid plan.Nothing view roomy none reads = subst (λ asked. MakesAsked asked opens tx key q view view) (sym none) (unchanged view)
-  makes_mid (plan.Set write) view roomy planned reads = subst (λ asked. MakesAsked asked opens tx key q view (mid_of (plan.Set write) view)) (sym planned.1) (record {
+  pub makes_mid : (this : SlotPlan) (view : View) → IsRoomy this → IsPlanned this asked active tx key q bucket → ReadsHeldBucket view q bucket → MakesAsked asked active tx key q view (mid_of this view)
+  makes_mid plan.Nothing view roomy none reads = subst (λ asked. MakesAsked asked active tx key q view view) (sym none) (unchanged view)
+  makes_mid (plan.Set write) view roomy planned reads = subst (λ asked. MakesAsked asked active tx key q view (mid_of (plan.Set write) view)) (sym planned.1) (record {
     bucket = bucket;
     reads = reads;
     write = write;
@@ -101,12 +101,12 @@ module _ (opens : set.FinSet nat_cmp) (tx key q : ℕ) (asked : Option RecordCha
 
   pub mid_reads_here : (this : SlotPlan) (view : View) → ReadsHeldBucket view q bucket → ReadsHeldBucket (mid_of this view) q (bucket_after bucket this)
   mid_reads_here plan.Nothing view reads = reads
-  mid_reads_here (plan.Set write) view reads = (reads.0, reads.1, ap (λ own. own_or own reads.0) (here_is write view))
+  mid_reads_here (plan.Set write) view reads = (reads.0, reads.1, ap (λ own. own_or_clean own reads.0) (here_is write view))
   mid_reads_here plan.Full view reads = reads
 
   mid_reads_other : (this : SlotPlan) (view : View) (p : ℕ) (other : BucketFields) → p ≢ q → ReadsHeldBucket view p other → ReadsHeldBucket (mid_of this view) p other
   mid_reads_other plan.Nothing view p other ne reads = reads
-  mid_reads_other (plan.Set write) view p other ne reads = (reads.0, reads.1, ap (λ own. own_or own reads.0) (others_are write view p ne) ∙ reads.2)
+  mid_reads_other (plan.Set write) view p other ne reads = (reads.0, reads.1, ap (λ own. own_or_clean own reads.0) (others_are write view p ne) ∙ reads.2)
   mid_reads_other plan.Full view p other ne reads = reads
 
   -- a write of the page, on top of the plan
@@ -127,71 +127,71 @@ module _ (opens : set.FinSet nat_cmp) (tx key q : ℕ) (asked : Option RecordCha
   }
 
 -- a plan of what is asked for is a write
-set_if_asked : (this : SlotPlan) (asked : Option RecordChange) (opens : set.FinSet nat_cmp) (tx key q : ℕ) (bucket : BucketFields) → IsRoomy this → IsPlanned this asked opens tx key q bucket → IsSome asked → (write : WriteFields) × (this ≡ plan.Set write)
-set_if_asked plan.Nothing asked opens tx key q bucket roomy none some = absurd (false≢true (subst IsSome none some))
-set_if_asked (plan.Set write) asked opens tx key q bucket roomy planned some = (write, refl)
-set_if_asked plan.Full asked opens tx key q bucket roomy none some = absurd (roomy refl)
+set_if_asked : (this : SlotPlan) (asked : Option RecordChange) (active : set.FinSet nat_cmp) (tx key q : ℕ) (bucket : BucketFields) → IsRoomy this → IsPlanned this asked active tx key q bucket → IsSome asked → (write : WriteFields) × (this ≡ plan.Set write)
+set_if_asked plan.Nothing asked active tx key q bucket roomy none some = absurd (false≢true (subst IsSome none some))
+set_if_asked (plan.Set write) asked active tx key q bucket roomy planned some = (write, refl)
+set_if_asked plan.Full asked active tx key q bucket roomy none some = absurd (roomy refl)
 
 -- Both changes in one bucket
-module _ (opens : set.FinSet nat_cmp) (old : Moment) (left right q : ℕ) (changes : Changes) (bucket : BucketFields) (reads : ReadsHeldBucket (view_of old) q bucket) (left_plan : SlotPlan) (left_roomy : IsRoomy left_plan)
-    (left_planned : IsPlanned left_plan changes.left opens old.running.tx left q bucket) where
+module _ (active : set.FinSet nat_cmp) (old : LocalState) (left right q : ℕ) (changes : PairChanges) (bucket : BucketFields) (reads : ReadsHeldBucket (view_of old) q bucket) (left_plan : SlotPlan) (left_roomy : IsRoomy left_plan)
+    (left_planned : IsPlanned left_plan changes.left active old.running.tx left q bucket) where
   abbrev mid : View
-  mid = mid_of opens old.running.tx left q changes.left bucket left_plan (view_of old)
+  mid = mid_of active old.running.tx left q changes.left bucket left_plan (view_of old)
 
-  left_made : MakesAsked changes.left opens old.running.tx left q (view_of old) mid
-  left_made = makes_mid opens old.running.tx left q changes.left bucket left_plan (view_of old) left_roomy left_planned reads
+  left_made : MakesAsked changes.left active old.running.tx left q (view_of old) mid
+  left_made = makes_mid active old.running.tx left q changes.left bucket left_plan (view_of old) left_roomy left_planned reads
 
   mid_reads : ReadsHeldBucket mid q (bucket_after bucket left_plan)
-  mid_reads = mid_reads_here opens old.running.tx left q changes.left bucket left_plan (view_of old) reads
+  mid_reads = mid_reads_here active old.running.tx left q changes.left bucket left_plan (view_of old) reads
 
-  pub one_full : (new : Moment) → new ≡ old → IsPlanned plan.Full changes.right opens old.running.tx right q (bucket_after bucket left_plan) → TellsOfOne (task_in opens left right q changes) old new (answer.Full side.Right)
-  one_full new same planned = ((mid, left_made, full_asked opens old.running.tx right q changes.right (bucket_after bucket left_plan) mid planned mid_reads), same)
+  pub one_full : (new : LocalState) → new ≡ old → IsPlanned plan.Full changes.right active old.running.tx right q (bucket_after bucket left_plan) → TellsOfOne (task_in active left right q changes) old new (answer.Full side.Right)
+  one_full new same planned = ((mid, left_made, full_asked active old.running.tx right q changes.right (bucket_after bucket left_plan) mid planned mid_reads), same)
 
-  right_made : (right_plan : SlotPlan) (new : View) → IsRoomy right_plan → IsPlanned right_plan changes.right opens old.running.tx right q (bucket_after bucket left_plan) → (IsSome changes.left ⊎ IsSome changes.right)
-      → WritesPage (view_of old) new q (page.Bucket (bucket_after (bucket_after bucket left_plan) right_plan)) → MakesAsked changes.right opens old.running.tx right q mid new
+  right_made : (right_plan : SlotPlan) (new : View) → IsRoomy right_plan → IsPlanned right_plan changes.right active old.running.tx right q (bucket_after bucket left_plan) → (IsSome changes.left ⊎ IsSome changes.right)
+      → WritesPage (view_of old) new q (page.Bucket (bucket_after (bucket_after bucket left_plan) right_plan)) → MakesAsked changes.right active old.running.tx right q mid new
   right_made plan.Nothing new roomy none asked writes =
-      subst (λ asked. MakesAsked asked opens old.running.tx right q mid new) (sym none)
+      subst (λ asked. MakesAsked asked active old.running.tx right q mid new) (sym none)
       (let some : IsSome changes.left = elim asked [
         | inl left ↦ left
         | inr right ↦ absurd (false≢true (subst IsSome none right))
       ] in
-      let set = set_if_asked left_plan changes.left opens old.running.tx left q bucket left_roomy left_planned some in
-      subst (λ this. WritesPage (view_of old) new q (page.Bucket (bucket_after bucket this)) → IsSameView (mid_of opens old.running.tx left q changes.left bucket this (view_of old)) new) (sym set.1)
-      (mid_same opens old.running.tx left q changes.left bucket set.0 (view_of old) new) writes)
+      let set = set_if_asked left_plan changes.left active old.running.tx left q bucket left_roomy left_planned some in
+      subst (λ this. WritesPage (view_of old) new q (page.Bucket (bucket_after bucket this)) → IsSameView (mid_of active old.running.tx left q changes.left bucket this (view_of old)) new) (sym set.1)
+      (mid_same active old.running.tx left q changes.left bucket set.0 (view_of old) new) writes)
   right_made (plan.Set write) new roomy planned asked writes =
-      subst (λ asked. MakesAsked asked opens old.running.tx right q mid new) (sym planned.1) (record {
+      subst (λ asked. MakesAsked asked active old.running.tx right q mid new) (sym planned.1) (record {
         bucket = bucket_after bucket left_plan;
         reads = mid_reads;
         write = write;
         plan = planned.2;
-        writes = mid_writes opens old.running.tx left q changes.left bucket left_plan (view_of old) new (planned_page (bucket_after bucket left_plan) write) writes;
+        writes = mid_writes active old.running.tx left q changes.left bucket left_plan (view_of old) new (planned_page (bucket_after bucket left_plan) write) writes;
       })
   right_made plan.Full new roomy planned asked writes = absurd (roomy refl)
 
-  pub one_changed : (new : Moment) (right_plan : SlotPlan) → IsRoomy right_plan → IsPlanned right_plan changes.right opens old.running.tx right q (bucket_after bucket left_plan) → (IsSome changes.left ⊎ IsSome changes.right)
-      → WritesPage (view_of old) (view_of new) q (page.Bucket (bucket_after (bucket_after bucket left_plan) right_plan)) → TellsOfOne (task_in opens left right q changes) old new answer.Changed
+  pub one_changed : (new : LocalState) (right_plan : SlotPlan) → IsRoomy right_plan → IsPlanned right_plan changes.right active old.running.tx right q (bucket_after bucket left_plan) → (IsSome changes.left ⊎ IsSome changes.right)
+      → WritesPage (view_of old) (view_of new) q (page.Bucket (bucket_after (bucket_after bucket left_plan) right_plan)) → TellsOfOne (task_in active left right q changes) old new answer.Changed
   one_changed new right_plan roomy planned asked writes = (mid, left_made, right_made right_plan (view_of new) roomy planned asked writes)
 
 -- a plan that is written writes its page at most
-writes_at_most : (this : SlotPlan) (asked : Option RecordChange) (opens : set.FinSet nat_cmp) (tx key q : ℕ) (old new : Moment) (bucket : BucketFields) → ReadsHeldBucket (view_of old) q bucket → IsRoomy this → IsPlanned this asked opens tx key q bucket → WritesPlan this old new → WritesAtMost old new q
-writes_at_most plan.Nothing asked opens tx key q old new bucket reads roomy none same = inl same
-writes_at_most (plan.Set write) asked opens tx key q old new bucket reads roomy planned writes =
-    let number = (plan_number planned.0 opens tx key q bucket write planned.2).0 in
+writes_at_most : (this : SlotPlan) (asked : Option RecordChange) (active : set.FinSet nat_cmp) (tx key q : ℕ) (old new : LocalState) (bucket : BucketFields) → ReadsHeldBucket (view_of old) q bucket → IsRoomy this → IsPlanned this asked active tx key q bucket → WritesPlan this old new → WritesAtMost old new q
+writes_at_most plan.Nothing asked active tx key q old new bucket reads roomy none same = inl same
+writes_at_most (plan.Set write) asked active tx key q old new bucket reads roomy planned writes =
+    let number = (plan_number planned.0 active tx key q bucket write planned.2).0 in
     subst (WritesAtMost old new) number (inr (planned_page bucket write, writes.0 bucket (subst (λ n. ReadsHeldBucket (view_of old) n bucket) (sym number) reads)))
-writes_at_most plan.Full asked opens tx key q old new bucket reads roomy none same = inl same
+writes_at_most plan.Full asked active tx key q old new bucket reads roomy none same = inl same
 
 -- The changes in two buckets
-module _ (opens : set.FinSet nat_cmp) (old new : Moment) (before after : PairFields) (left_page right_page : ℕ) (changes : Changes) (left_plan right_plan : SlotPlan)
-    (left_has : HasPlan left_plan changes.left opens old.running.tx before.left left_page (view_of old)) (right_has : HasPlan right_plan changes.right opens old.running.tx before.right right_page (view_of old)) where
+module _ (active : set.FinSet nat_cmp) (old new : LocalState) (before after : PairFields) (left_page right_page : ℕ) (changes : PairChanges) (left_plan right_plan : SlotPlan)
+    (left_has : HasPlan left_plan changes.left active old.running.tx before.left left_page (view_of old)) (right_has : HasPlan right_plan changes.right active old.running.tx before.right right_page (view_of old)) where
   module _ (apart : left_page ≢ right_page) (left_roomy : IsRoomy left_plan) where
-    pub right_full : right_plan ≡ plan.Full → new ≡ old → after ≡ before → TellsOfTwo (task_of opens before left_page right_page changes) old new before after (answer.Full side.Right)
+    pub right_full : right_plan ≡ plan.Full → new ≡ old → after ≡ before → TellsOfTwo (task_of active before left_page right_page changes) old new before after (answer.Full side.Right)
     right_full full same stays = (
       record {
-        mid = mid_of opens old.running.tx before.left left_page changes.left left_has.0 left_plan (view_of old);
-        left = makes_mid opens old.running.tx before.left left_page changes.left left_has.0 left_plan (view_of old) left_roomy left_has.2 left_has.1;
-        right = full_asked opens old.running.tx before.right right_page changes.right right_has.0 (mid_of opens old.running.tx before.left left_page changes.left left_has.0 left_plan (view_of old))
-            (subst (λ this. IsPlanned this changes.right opens old.running.tx before.right right_page right_has.0) full right_has.2)
-            (mid_reads_other opens old.running.tx before.left left_page changes.left left_has.0 left_plan (view_of old) right_page right_has.0 (λ e. apart (sym e)) right_has.1);
+        mid = mid_of active old.running.tx before.left left_page changes.left left_has.0 left_plan (view_of old);
+        left = makes_mid active old.running.tx before.left left_page changes.left left_has.0 left_plan (view_of old) left_roomy left_has.2 left_has.1;
+        right = full_asked active old.running.tx before.right right_page changes.right right_has.0 (mid_of active old.running.tx before.left left_page changes.left left_has.0 left_plan (view_of old))
+            (subst (λ this. IsPlanned this changes.right active old.running.tx before.right right_page right_has.0) full right_has.2)
+            (mid_reads_other active old.running.tx before.left left_page changes.left left_has.0 left_plan (view_of old) right_page right_has.0 (λ e. apart (sym e)) right_has.1);
       },
       same,
       stays,
@@ -200,90 +200,90 @@ module _ (opens : set.FinSet nat_cmp) (old new : Moment) (before after : PairFie
     module _ (right_roomy : IsRoomy right_plan) (told : ChangeAnswer) where
       -- the right bucket is the later one
       module _ (low : left_page < right_page) (writes : WritesPlan right_plan old new) (owes : OwesPlan left_plan before after told) where
-        right_is_made : MakesAsked changes.right opens old.running.tx before.right right_page (view_of old) (view_of new)
-        right_is_made = makes_asked opens old.running.tx before.right right_page changes.right right_has.0 right_plan old new right_roomy right_has.2 right_has.1 writes
+        right_is_made : MakesAsked changes.right active old.running.tx before.right right_page (view_of old) (view_of new)
+        right_is_made = makes_asked active old.running.tx before.right right_page changes.right right_has.0 right_plan old new right_roomy right_has.2 right_has.1 writes
 
-        tells_left : (this : SlotPlan) → this ≡ left_plan → IsPlanned this changes.left opens old.running.tx before.left left_page left_has.0 → OwesPlan this before after told → TellsOfTwo (task_of opens before left_page right_page changes) old new before after told
-        tells_left plan.Nothing is none owes = subst (TellsOfTwo (task_of opens before left_page right_page changes) old new before after) (sym owes.1) (
+        tells_left : (this : SlotPlan) → this ≡ left_plan → IsPlanned this changes.left active old.running.tx before.left left_page left_has.0 → OwesPlan this before after told → TellsOfTwo (task_of active before left_page right_page changes) old new before after told
+        tells_left plan.Nothing is none owes = subst (TellsOfTwo (task_of active before left_page right_page changes) old new before after) (sym owes.1) (
           record {
             mid = view_of old;
-            left = subst (λ asked. MakesAsked asked opens old.running.tx before.left left_page (view_of old) (view_of old)) (sym none) (unchanged (view_of old));
+            left = subst (λ asked. MakesAsked asked active old.running.tx before.left left_page (view_of old) (view_of old)) (sym none) (unchanged (view_of old));
             right = right_is_made;
             no_left = λ lt. none;
             no_right = λ lt. absurd (omega (arith, low, lt));
           },
           owes.0,
         )
-        tells_left (plan.Set write) is planned owes = subst (TellsOfTwo (task_of opens before left_page right_page changes) old new before after) (sym owes.1) (
+        tells_left (plan.Set write) is planned owes = subst (TellsOfTwo (task_of active before left_page right_page changes) old new before after) (sym owes.1) (
           inl (record {
             earlier = low;
             right = right_is_made;
-            owes = subst (OwesChange changes.left opens old.running.tx before.left left_page (view_of old)) (sym (ap (λ (p : PairFields). p.owed) owes.0)) (owes_asked opens old.running.tx before.left left_page changes.left left_has.0 write (view_of old) planned left_has.1);
+            owes = subst (OwesChange changes.left active old.running.tx before.left left_page (view_of old)) (sym (ap (λ (p : PairFields). p.owed) owes.0)) (owes_asked active old.running.tx before.left left_page changes.left left_has.0 write (view_of old) planned left_has.1);
           }),
           owes.0 ∙ ap (λ (o : Option WriteFields). record before { owed = o }) (sym (ap (λ (p : PairFields). p.owed) owes.0)),
         )
         tells_left plan.Full is none owes = absurd (left_roomy (sym is))
 
-        pub tells_right_later : TellsOfTwo (task_of opens before left_page right_page changes) old new before after told
+        pub tells_right_later : TellsOfTwo (task_of active before left_page right_page changes) old new before after told
         tells_right_later = tells_left left_plan refl left_has.2 owes
 
         pub writes_right_later : WritesAtMost old new (later_of left_page right_page)
-        writes_right_later = subst (WritesAtMost old new) (sym (later_right left_page right_page low)) (writes_at_most right_plan changes.right opens old.running.tx before.right right_page old new right_has.0 right_has.1 right_roomy right_has.2 writes)
+        writes_right_later = subst (WritesAtMost old new) (sym (later_right left_page right_page low)) (writes_at_most right_plan changes.right active old.running.tx before.right right_page old new right_has.0 right_has.1 right_roomy right_has.2 writes)
 
       -- the left one is
       module _ (low : right_page < left_page) (writes : WritesPlan left_plan old new) (owes : OwesPlan right_plan before after told) where
-        left_is_made : MakesAsked changes.left opens old.running.tx before.left left_page (view_of old) (view_of new)
-        left_is_made = makes_asked opens old.running.tx before.left left_page changes.left left_has.0 left_plan old new left_roomy left_has.2 left_has.1 writes
+        left_is_made : MakesAsked changes.left active old.running.tx before.left left_page (view_of old) (view_of new)
+        left_is_made = makes_asked active old.running.tx before.left left_page changes.left left_has.0 left_plan old new left_roomy left_has.2 left_has.1 writes
 
-        tells_right : (this : SlotPlan) → this ≡ right_plan → IsPlanned this changes.right opens old.running.tx before.right right_page right_has.0 → OwesPlan this before after told → TellsOfTwo (task_of opens before left_page right_page changes) old new before after told
-        tells_right plan.Nothing is none owes = subst (TellsOfTwo (task_of opens before left_page right_page changes) old new before after) (sym owes.1) (
+        tells_right : (this : SlotPlan) → this ≡ right_plan → IsPlanned this changes.right active old.running.tx before.right right_page right_has.0 → OwesPlan this before after told → TellsOfTwo (task_of active before left_page right_page changes) old new before after told
+        tells_right plan.Nothing is none owes = subst (TellsOfTwo (task_of active before left_page right_page changes) old new before after) (sym owes.1) (
           record {
             mid = view_of new;
             left = left_is_made;
-            right = subst (λ asked. MakesAsked asked opens old.running.tx before.right right_page (view_of new) (view_of new)) (sym none) (unchanged (view_of new));
+            right = subst (λ asked. MakesAsked asked active old.running.tx before.right right_page (view_of new) (view_of new)) (sym none) (unchanged (view_of new));
             no_left = λ lt. absurd (omega (arith, low, lt));
             no_right = λ lt. none;
           },
           owes.0,
         )
-        tells_right (plan.Set write) is planned owes = subst (TellsOfTwo (task_of opens before left_page right_page changes) old new before after) (sym owes.1) (
+        tells_right (plan.Set write) is planned owes = subst (TellsOfTwo (task_of active before left_page right_page changes) old new before after) (sym owes.1) (
           inr (record {
             earlier = low;
             left = left_is_made;
-            owes = subst (OwesChange changes.right opens old.running.tx before.right right_page (view_of old)) (sym (ap (λ (p : PairFields). p.owed) owes.0)) (owes_asked opens old.running.tx before.right right_page changes.right right_has.0 write (view_of old) planned right_has.1);
+            owes = subst (OwesChange changes.right active old.running.tx before.right right_page (view_of old)) (sym (ap (λ (p : PairFields). p.owed) owes.0)) (owes_asked active old.running.tx before.right right_page changes.right right_has.0 write (view_of old) planned right_has.1);
           }),
           owes.0 ∙ ap (λ (o : Option WriteFields). record before { owed = o }) (sym (ap (λ (p : PairFields). p.owed) owes.0)),
         )
         tells_right plan.Full is none owes = absurd (right_roomy (sym is))
 
-        pub tells_left_later : TellsOfTwo (task_of opens before left_page right_page changes) old new before after told
+        pub tells_left_later : TellsOfTwo (task_of active before left_page right_page changes) old new before after told
         tells_left_later = tells_right right_plan refl right_has.2 owes
 
         pub writes_left_later : WritesAtMost old new (later_of left_page right_page)
-        writes_left_later = let le : right_page ≤ left_page = omega (arith, low) in subst (WritesAtMost old new) (sym (later_left left_page right_page le)) (writes_at_most left_plan changes.left opens old.running.tx before.left left_page old new left_has.0 left_has.1 left_roomy left_has.2 writes)
+        writes_left_later = let le : right_page ≤ left_page = omega (arith, low) in subst (WritesAtMost old new) (sym (later_left left_page right_page le)) (writes_at_most left_plan changes.left active old.running.tx before.left left_page old new left_has.0 left_has.1 left_roomy left_has.2 writes)
 
 -- the same plan, of a key that is known otherwise
-pub plan_for : (this : SlotPlan) (asked : Option RecordChange) (opens : set.FinSet nat_cmp) (tx key key' q : ℕ) (view : View) → key ≡ key' → HasPlan this asked opens tx key q view → HasPlan this asked opens tx key' q view
-plan_for this asked opens tx key key' q view same has = subst (λ key. HasPlan this asked opens tx key q view) same has
+pub plan_for : (this : SlotPlan) (asked : Option RecordChange) (active : set.FinSet nat_cmp) (tx key key' q : ℕ) (view : View) → key ≡ key' → HasPlan this asked active tx key q view → HasPlan this asked active tx key' q view
+plan_for this asked active tx key key' q view same has = subst (λ key. HasPlan this asked active tx key q view) same has
 
 -- **What is planned on a page that is held exclusively may be written.**
-pub may_write_plan : (this : SlotPlan) (asked : Option RecordChange) (opens : set.FinSet nat_cmp) (key q : ℕ) (m : Moment) → can_write m.locks m.running.tx q ≡ true → HasPlan this asked opens m.running.tx key q (view_of m) → MayWrite this m
-may_write_plan plan.Nothing asked opens key q m held has = tt
-may_write_plan (plan.Set write) asked opens key q m held has =
-    let number = (plan_number has.2.0 opens m.running.tx key q has.0 write has.2.2).0 in
+pub may_write_plan : (this : SlotPlan) (asked : Option RecordChange) (active : set.FinSet nat_cmp) (key q : ℕ) (m : LocalState) → can_write m.locks m.running.tx q ≡ true → HasPlan this asked active m.running.tx key q (view_of m) → MayWrite this m
+may_write_plan plan.Nothing asked active key q m held has = tt
+may_write_plan (plan.Set write) asked active key q m held has =
+    let number = (plan_number has.2.0 active m.running.tx key q has.0 write has.2.2).0 in
     (ap (can_write m.locks m.running.tx) number ∙ held, (has.0, subst (λ n. ReadsHeldBucket (view_of m) n has.0) (sym number) has.1))
-may_write_plan plan.Full asked opens key q m held has = tt
+may_write_plan plan.Full asked active key q m held has = tt
 
 -- a page that is held reads as one bucket
 pub one_reading : (view : View) (q : ℕ) (a b : BucketFields) → ReadsHeldBucket view q a → ReadsHeldBucket view q b → a ≡ b
 one_reading view q a b reads reads' =
     let firsts : ◌≡◌ {A = Option (Option Page)} (Some reads.0) (Some reads'.0) = sym reads.1 ∙ reads'.1 in
     let first : reads.0 ≡ reads'.0 = cc in
-    let pages : Some (page.Bucket a) ≡ Some (page.Bucket b) = sym reads.2 ∙ ap (own_or (view.own q)) first ∙ reads'.2 in
+    let pages : Some (page.Bucket a) ≡ Some (page.Bucket b) = sym reads.2 ∙ ap (own_or_clean (view.own q)) first ∙ reads'.2 in
     cc
 
 -- **What fits the bucket of the right key fits it with the left one's plan in it.**
-pub fits_between : (this : SlotPlan) (asked other : Option RecordChange) (opens : set.FinSet nat_cmp) (tx left right q : ℕ) (bucket : BucketFields) → left ≢ right → IsPlanned this asked opens tx left q bucket → FitsSlots other right bucket.slots → FitsSlots other right (bucket_after bucket this).slots
-fits_between plan.Nothing asked other opens tx left right q bucket apart none fits = fits
-fits_between (plan.Set write) asked other opens tx left right q bucket apart planned fits = fits_after other planned.0 opens tx left right q bucket write apart planned.2 fits
-fits_between plan.Full asked other opens tx left right q bucket apart none fits = fits
+pub fits_between : (this : SlotPlan) (asked other : Option RecordChange) (active : set.FinSet nat_cmp) (tx left right q : ℕ) (bucket : BucketFields) → left ≢ right → IsPlanned this asked active tx left q bucket → FitsSlots other right bucket.slots → FitsSlots other right (bucket_after bucket this).slots
+fits_between plan.Nothing asked other active tx left right q bucket apart none fits = fits
+fits_between (plan.Set write) asked other active tx left right q bucket apart planned fits = fits_after other planned.0 active tx left right q bucket write apart planned.2 fits
+fits_between plan.Full asked other active tx left right q bucket apart none fits = fits

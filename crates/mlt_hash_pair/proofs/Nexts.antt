@@ -1,4 +1,4 @@
--- What the next page of a way is on the clean pages, and how far the way is once it is read
+-- What the next page of a descent is on the clean pages, and how far the descent is once it is read
 use Rattle.std.proofs.Common.{◌≡◌, ◌≢◌, ℕ, ◌<◌, ◌+◌, ◌^◌, true, List, Option, Some, is_some, refl, sym, ap, ◌∙◌, inl, inr, arith}
 use Rattle.std.specs.Prelude.{◌==◌}
 use Rattle.std.proofs.lemmas.Bool.{cases_eq, cond-false, cond-true, eq-eqb, ne_eqb}
@@ -9,21 +9,21 @@ use Rattle.mlt_hash_form.specs.File.{HasForm, header_of}
 use Rattle.mlt_hash_form.specs.Held.{Agrees}
 use Rattle.mlt_hash_form.proofs.Paths.{one_page, path_from_dir, path_from_header}
 use Rattle.mlt_hash_access.specs.Views.{View}
-use Rattle.mlt_hash_pair.specs.Reading.{next_page, way_after, way_by}
+use Rattle.mlt_hash_pair.specs.Reading.{next_page, descent_after, descent_by}
 use Rattle.mlt_hash_pair.specs.Steps.{ReadsOn}
-use Rattle.mlt_hash_pair.specs.Ways.{HasRead, IsNext, pages_to_read}
-use Rattle.mlt_hash_pair.specs.declared.way.Way.{Way}
-use Rattle.mlt_hash_pair.specs.declared.way.Way.TheVariants as at
+use Rattle.mlt_hash_pair.specs.Descents.{HasRead, IsNext, pages_to_read}
+use Rattle.mlt_hash_pair.specs.declared.descent.Descent.{Descent}
+use Rattle.mlt_hash_pair.specs.declared.descent.Descent.TheVariants as at
 
--- the clean pages have the next page of the way, and it is of the kind that the way reads
-abbrev pub NextIs : (ℕ → Option Page) → ℕ → Way → Type 0
+-- the clean pages have the next page of the descent, and it is of the kind that the descent reads
+abbrev pub NextIs : (ℕ → Option Page) → ℕ → Descent → Type 0
 NextIs clean root at.Start = (header : HeadFields) × (clean root ≡ Some (page.Head header))
 NextIs clean root (at.Headed place dir row) = (entries : List ℕ) × (clean dir ≡ Some (page.Dir entries))
 NextIs clean root (at.Placed dir bucket) = (fields : BucketFields) × (clean bucket ≡ Some (page.Bucket fields))
 NextIs clean root (at.AtBucket dir bucket found) = Unit {0}
 
--- **The next page of a way is on the clean pages.**
-pub next_is : (bits : ℕ → ℕ) (clean : ℕ → Option Page) (root key : ℕ) (view : View) (way : Way) → bits key < 2 ^ 64 → Agrees view.seen clean → HasForm bits clean root → HasRead bits root key view way → NextIs clean root way
+-- **The next page of a descent is on the clean pages.**
+pub next_is : (bits : ℕ → ℕ) (clean : ℕ → Option Page) (root key : ℕ) (view : View) (descent : Descent) → bits key < 2 ^ 64 → Agrees view.seen clean → HasForm bits clean root → HasRead bits root key view descent → NextIs clean root descent
 next_is bits clean root key view at.Start below agree form read = (header_of (clean root), form.head)
 next_is bits clean root key view (at.Headed place dir row) below agree form read =
     let path = path_from_header bits clean root (bits key) read.header below form (agree root (Some (page.Head read.header)) read.head) in
@@ -33,71 +33,71 @@ next_is bits clean root key view (at.Placed dir bucket) below agree form read =
     (path.0, ap clean read.bucket_is ∙ path.1.found)
 next_is bits clean root key view (at.AtBucket dir bucket found) below agree form read = tt
 
--- a way that is not done has a next page,
-pub has_next : (root : ℕ) (way : Way) → 0 < pages_to_read way → IsNext root way (next_page root way)
+-- a descent that is not done has a next page,
+pub has_next : (root : ℕ) (descent : Descent) → 0 < pages_to_read descent → IsNext root descent (next_page root descent)
 has_next root at.Start more = refl
 has_next root (at.Headed place dir row) more = refl
 has_next root (at.Placed dir bucket) more = refl
 has_next root (at.AtBucket dir bucket found) more = let none : ⊥ = omega (arith, more) in absurd none
 
-pub next_is_page : (root : ℕ) (way : Way) (q : ℕ) → IsNext root way q → q ≡ next_page root way
+pub next_is_page : (root : ℕ) (descent : Descent) (q : ℕ) → IsNext root descent q → q ≡ next_page root descent
 next_is_page root at.Start q next = next
 next_is_page root (at.Headed place dir row) q next = next
 next_is_page root (at.Placed dir bucket) q next = next
 next_is_page root (at.AtBucket dir bucket found) q next = absurd next
 
 -- which is there
-pub next_there : (clean : ℕ → Option Page) (root : ℕ) (way : Way) → 0 < pages_to_read way → NextIs clean root way → is_some (clean (next_page root way)) ≡ true
+pub next_there : (clean : ℕ → Option Page) (root : ℕ) (descent : Descent) → 0 < pages_to_read descent → NextIs clean root descent → is_some (clean (next_page root descent)) ≡ true
 next_there clean root at.Start more next = ap is_some next.1
 next_there clean root (at.Headed place dir row) more next = ap is_some next.1
 next_there clean root (at.Placed dir bucket) more next = ap is_some next.1
 next_there clean root (at.AtBucket dir bucket found) more next = let none : ⊥ = omega (arith, more) in absurd none
 
--- a way reads its next page, and no other
-pub after_next : (bits : ℕ → ℕ) (root key : ℕ) (way : Way) (q : ℕ) (read : Page) → IsNext root way q → way_after bits root key way q read ≡ way_by bits key way read
-after_next bits root key way q read next = cond-true (q == next_page root way) (way_by bits key way read) way (eq-eqb q (next_page root way) (next_is_page root way q next))
+-- a descent reads its next page, and no other
+pub after_next : (bits : ℕ → ℕ) (root key : ℕ) (descent : Descent) (q : ℕ) (read : Page) → IsNext root descent q → descent_after bits root key descent q read ≡ descent_by bits key descent read
+after_next bits root key descent q read next = cond-true (q == next_page root descent) (descent_by bits key descent read) descent (eq-eqb q (next_page root descent) (next_is_page root descent q next))
 
-pub after_other : (bits : ℕ → ℕ) (root key : ℕ) (way : Way) (q : ℕ) (read : Page) → (q ≢ next_page root way) → way_after bits root key way q read ≡ way
-after_other bits root key way q read other = cond-false (q == next_page root way) (way_by bits key way read) way (ne_eqb q (next_page root way) other)
+pub after_other : (bits : ℕ → ℕ) (root key : ℕ) (descent : Descent) (q : ℕ) (read : Page) → (q ≢ next_page root descent) → descent_after bits root key descent q read ≡ descent
+after_other bits root key descent q read other = cond-false (q == next_page root descent) (descent_by bits key descent read) descent (ne_eqb q (next_page root descent) other)
 
--- a way that is done reads no more
-pub done_stays : (bits : ℕ → ℕ) (root key dir bucket : ℕ) (found : Option ℕ) (q : ℕ) (read : Page) → way_after bits root key (at.AtBucket dir bucket found) q read ≡ at.AtBucket dir bucket found
+-- a descent that is done reads no more
+pub done_stays : (bits : ℕ → ℕ) (root key dir bucket : ℕ) (found : Option ℕ) (q : ℕ) (read : Page) → descent_after bits root key (at.AtBucket dir bucket found) q read ≡ at.AtBucket dir bucket found
 done_stays bits root key dir bucket found q read =
     elim (cases_eq q bucket) [
       | inl here ↦ cond-true (q == bucket) _ (at.AtBucket dir bucket found) (eq-eqb q bucket here)
       | inr elsewhere ↦ after_other bits root key (at.AtBucket dir bucket found) q read elsewhere
     ]
 
-pub stays : (bits : ℕ → ℕ) (root key : ℕ) (way : Way) (q : ℕ) (read : Page) → (IsNext root way q → ⊥) → way_after bits root key way q read ≡ way
+pub stays : (bits : ℕ → ℕ) (root key : ℕ) (descent : Descent) (q : ℕ) (read : Page) → (IsNext root descent q → ⊥) → descent_after bits root key descent q read ≡ descent
 stays bits root key at.Start q read other = after_other bits root key at.Start q read other
 stays bits root key (at.Headed place dir row) q read other = after_other bits root key (at.Headed place dir row) q read other
 stays bits root key (at.Placed dir bucket) q read other = after_other bits root key (at.Placed dir bucket) q read other
 stays bits root key (at.AtBucket dir bucket found) q read other = done_stays bits root key dir bucket found q read
 
--- a page is of the kind that a way reads next
-abbrev pub KindIs : Way → Page → Type 0
+-- a page is of the kind that a descent reads next
+abbrev pub KindIs : Descent → Page → Type 0
 KindIs at.Start read = (header : HeadFields) × (read ≡ page.Head header)
 KindIs (at.Headed place dir row) read = (entries : List ℕ) × (read ≡ page.Dir entries)
 KindIs (at.Placed dir bucket) read = (fields : BucketFields) × (read ≡ page.Bucket fields)
 KindIs (at.AtBucket dir bucket found) read = ⊥
 
 -- its next page is of the kind that it reads,
-pub kind_of_next : (clean : ℕ → Option Page) (root : ℕ) (way : Way) (q : ℕ) (read : Page) → NextIs clean root way → clean q ≡ Some read → IsNext root way q → KindIs way read
+pub kind_of_next : (clean : ℕ → Option Page) (root : ℕ) (descent : Descent) (q : ℕ) (read : Page) → NextIs clean root descent → clean q ≡ Some read → IsNext root descent q → KindIs descent read
 kind_of_next clean root at.Start q read next is here = (next.0, one_page (clean root) read (page.Head next.0) (ap clean (sym here) ∙ is) next.1)
 kind_of_next clean root (at.Headed place dir row) q read next is here = (next.0, one_page (clean dir) read (page.Dir next.0) (ap clean (sym here) ∙ is) next.1)
 kind_of_next clean root (at.Placed dir bucket) q read next is here = (next.0, one_page (clean bucket) read (page.Bucket next.0) (ap clean (sym here) ∙ is) next.1)
 kind_of_next clean root (at.AtBucket dir bucket found) q read next is here = absurd here
 
 -- so that it is one page further
-one_fewer : (bits : ℕ → ℕ) (key : ℕ) (way : Way) (read : Page) → KindIs way read → pages_to_read (way_by bits key way read) + 1 ≡ pages_to_read way
-one_fewer bits key at.Start read kind = ap (λ p. pages_to_read (way_by bits key at.Start p) + 1) kind.1
-one_fewer bits key (at.Headed place dir row) read kind = ap (λ p. pages_to_read (way_by bits key (at.Headed place dir row) p) + 1) kind.1
-one_fewer bits key (at.Placed dir bucket) read kind = ap (λ p. pages_to_read (way_by bits key (at.Placed dir bucket) p) + 1) kind.1
+one_fewer : (bits : ℕ → ℕ) (key : ℕ) (descent : Descent) (read : Page) → KindIs descent read → pages_to_read (descent_by bits key descent read) + 1 ≡ pages_to_read descent
+one_fewer bits key at.Start read kind = ap (λ p. pages_to_read (descent_by bits key at.Start p) + 1) kind.1
+one_fewer bits key (at.Headed place dir row) read kind = ap (λ p. pages_to_read (descent_by bits key (at.Headed place dir row) p) + 1) kind.1
+one_fewer bits key (at.Placed dir bucket) read kind = ap (λ p. pages_to_read (descent_by bits key (at.Placed dir bucket) p) + 1) kind.1
 one_fewer bits key (at.AtBucket dir bucket found) read kind = absurd kind
 
--- **A way reads its next page, and stays where it is when another is read.**
-pub reads_on : (bits : ℕ → ℕ) (clean : ℕ → Option Page) (root key : ℕ) (way : Way) (q : ℕ) (read : Page) → NextIs clean root way → clean q ≡ Some read → ReadsOn root q way (way_after bits root key way q read)
-reads_on bits clean root key way q read next is = record {
-  next = λ here. ap (λ w. pages_to_read w + 1) (after_next bits root key way q read here) ∙ one_fewer bits key way read (kind_of_next clean root way q read next is here);
-  other = stays bits root key way q read;
+-- **A descent reads its next page, and stays where it is when another is read.**
+pub reads_on : (bits : ℕ → ℕ) (clean : ℕ → Option Page) (root key : ℕ) (descent : Descent) (q : ℕ) (read : Page) → NextIs clean root descent → clean q ≡ Some read → ReadsOn root q descent (descent_after bits root key descent q read)
+reads_on bits clean root key descent q read next is = record {
+  next = λ here. ap (λ w. pages_to_read w + 1) (after_next bits root key descent q read here) ∙ one_fewer bits key descent read (kind_of_next clean root descent q read next is here);
+  other = stays bits root key descent q read;
 }

@@ -1,4 +1,4 @@
--- What a way has read, as more pages are read
+-- What a descent has read, as more pages are read
 use Rattle.std.proofs.Common.{◌≡◌, ℕ, Some, slice_index, refl, sym, ap, ◌∙◌}
 use Rattle.std.specs.Prelude.{◌==◌}
 use Rattle.std.proofs.lemmas.Bool.{cond_both, eqb-true}
@@ -6,25 +6,25 @@ use Rattle.mlt_page.specs.declared.page.Page.{Page}
 use Rattle.mlt_page.specs.declared.page.Page.TheVariants as page
 use Rattle.mlt_hash_access.specs.Views.{View}
 use Rattle.mlt_hash_access.proofs.Reading.{SeesMore, bucket_still, place_still}
-use Rattle.mlt_hash_pair.specs.Reading.{next_page, way_after, way_by}
-use Rattle.mlt_hash_pair.specs.Ways.{HasRead, IsHeaded}
-use Rattle.mlt_hash_pair.specs.declared.way.Way.{Way}
-use Rattle.mlt_hash_pair.specs.declared.way.Way.TheVariants as at
+use Rattle.mlt_hash_pair.specs.Reading.{next_page, descent_after, descent_by}
+use Rattle.mlt_hash_pair.specs.Descents.{HasRead, IsHeaded}
+use Rattle.mlt_hash_pair.specs.declared.descent.Descent.{Descent}
+use Rattle.mlt_hash_pair.specs.declared.descent.Descent.TheVariants as at
 
 -- what the header says stays read as more is seen
 headed_still : (bits : ℕ → ℕ) (root key : ℕ) (old new : View) (place dir row : ℕ) → SeesMore old new → IsHeaded bits root key old place dir row → IsHeaded bits root key new place dir row
 headed_still bits root key old new place dir row more read = record { header = read.header; head = more root (Some (page.Head read.header)) read.head; place_is = read.place_is; dir_is = read.dir_is; row_is = read.row_is }
 
--- **What a way has read stays so as more is seen.**
-pub read_still : (bits : ℕ → ℕ) (root key : ℕ) (old new : View) (way : Way) → SeesMore old new → HasRead bits root key old way → HasRead bits root key new way
+-- **What a descent has read stays so as more is seen.**
+pub read_still : (bits : ℕ → ℕ) (root key : ℕ) (old new : View) (descent : Descent) → SeesMore old new → HasRead bits root key old descent → HasRead bits root key new descent
 read_still bits root key old new at.Start more read = tt
 read_still bits root key old new (at.Headed place dir row) more read = headed_still bits root key old new place dir row more read
 read_still bits root key old new (at.Placed dir bucket) more read = place_still bits root key old new dir bucket more read
 read_still bits root key old new (at.AtBucket dir bucket found) more read = bucket_still bits root key old new dir bucket found more read
 
 module _ (bits : ℕ → ℕ) (root key : ℕ) (old new : View) (more : SeesMore old new) where
-  -- a way that reads its next page has read it
-  read_by : (way : Way) (read : Page) → new.seen (next_page root way) ≡ Some (Some read) → HasRead bits root key old way → HasRead bits root key new (way_by bits key way read)
+  -- a descent that reads its next page has read it
+  read_by : (descent : Descent) (read : Page) → new.seen (next_page root descent) ≡ Some (Some read) → HasRead bits root key old descent → HasRead bits root key new (descent_by bits key descent read)
   read_by at.Start (page.Head header) sees was = record { header = header; head = sees; place_is = refl; dir_is = refl; row_is = refl }
   read_by at.Start (page.Dir entries) sees was = tt
   read_by at.Start (page.Bucket fields) sees was = tt
@@ -36,14 +36,14 @@ module _ (bits : ℕ → ℕ) (root key : ℕ) (old new : View) (more : SeesMore
   read_by (at.Placed dir bucket) (page.Dir entries) sees was = place_still bits root key old new dir bucket more was
   read_by (at.AtBucket dir bucket found) read sees was = done read
     where
-      done : (read : Page) → HasRead bits root key new (way_by bits key (at.AtBucket dir bucket found) read)
+      done : (read : Page) → HasRead bits root key new (descent_by bits key (at.AtBucket dir bucket found) read)
       done (page.Head header) = read_still bits root key old new (at.AtBucket dir bucket found) more was
       done (page.Dir entries) = read_still bits root key old new (at.AtBucket dir bucket found) more was
       done (page.Bucket fields) = read_still bits root key old new (at.AtBucket dir bucket found) more was
 
-  -- **Once a page is read, a way has read what it says.**
-  pub read_after : (way : Way) (q : ℕ) (read : Page) → new.seen q ≡ Some (Some read) → HasRead bits root key old way → HasRead bits root key new (way_after bits root key way q read)
-  read_after way q read sees was =
-      cond_both (q == next_page root way) (way_by bits key way read) way (HasRead bits root key new)
-      (λ here. read_by way read (ap new.seen (sym (eqb-true q (next_page root way) here)) ∙ sees) was)
-      (λ elsewhere. read_still bits root key old new way more was)
+  -- **Once a page is read, a descent has read what it says.**
+  pub read_after : (descent : Descent) (q : ℕ) (read : Page) → new.seen q ≡ Some (Some read) → HasRead bits root key old descent → HasRead bits root key new (descent_after bits root key descent q read)
+  read_after descent q read sees was =
+      cond_both (q == next_page root descent) (descent_by bits key descent read) descent (HasRead bits root key new)
+      (λ here. read_by descent read (ap new.seen (sym (eqb-true q (next_page root descent) here)) ∙ sees) was)
+      (λ elsewhere. read_still bits root key old new descent more was)

@@ -62,10 +62,10 @@ fits_slots (Some (change.Update value)) key slots found is fits = found_record k
 fits_slots (Some change.Remove) key slots found is fits = found_record key slots found fits is
 
 -- a slot for a key is no record of another one
-room_is_no_record : (opens : set.FinSet nat_cmp) (other : ℕ) (slot : Slot) → has_room opens slot ≡ true → is_live_of other slot ≡ false
-room_is_no_record opens other Free room = refl
-room_is_no_record opens other (Live key value) room = absurd (false≢true room)
-room_is_no_record opens other (Ghost key value owner) room = refl
+room_is_no_record : (active : set.FinSet nat_cmp) (other : ℕ) (slot : Slot) → has_room active slot ≡ true → is_live_of other slot ≡ false
+room_is_no_record active other Free room = refl
+room_is_no_record active other (Live key value) room = absurd (false≢true room)
+room_is_no_record active other (Ghost key value owner) room = refl
 
 ghost_is_no_record : (key tx other : ℕ) (slot : Slot) → is_ghost_of key tx slot ≡ true → is_live_of other slot ≡ false
 ghost_is_no_record key tx other Free is = refl
@@ -92,14 +92,14 @@ spares_first other q bucket has slot write spares none sets = record {
   is = ap (λ (w : WriteFields). is_live_of other w.slot) sets.written ∙ none;
 }
 
-spares_other : (asked : RecordChange) (opens : set.FinSet nat_cmp) (tx key other q : ℕ) (bucket : BucketFields) (write : WriteFields) → key ≢ other → IsPlan asked opens tx key q bucket write → Spares other q bucket write
-spares_other (change.Insert value) opens tx key other q bucket write apart plan =
+spares_other : (asked : RecordChange) (active : set.FinSet nat_cmp) (tx key other q : ℕ) (bucket : BucketFields) (write : WriteFields) → key ≢ other → IsPlan asked active tx key q bucket write → Spares other q bucket write
+spares_other (change.Insert value) active tx key other q bucket write apart plan =
     elim plan [
       | inl revives ↦ spares_first other q bucket (is_ghost_of key tx) (Live key value) write (ghost_is_no_record key tx other) (ne_eqb key other apart) revives
-      | inr puts ↦ spares_first other q bucket (has_room opens) (Live key value) write (room_is_no_record opens other) (ne_eqb key other apart) puts.1
+      | inr puts ↦ spares_first other q bucket (has_room active) (Live key value) write (room_is_no_record active other) (ne_eqb key other apart) puts.1
     ]
-spares_other (change.Update value) opens tx key other q bucket write apart plan = spares_first other q bucket (is_live_of key) (Live key value) write (λ slot. record_of_one key other slot apart) (ne_eqb key other apart) plan
-spares_other change.Remove opens tx key other q bucket write apart plan = spares_first other q bucket (is_live_of key) (Ghost key 0 tx) write (λ slot. record_of_one key other slot apart) refl plan
+spares_other (change.Update value) active tx key other q bucket write apart plan = spares_first other q bucket (is_live_of key) (Live key value) write (λ slot. record_of_one key other slot apart) (ne_eqb key other apart) plan
+spares_other change.Remove active tx key other q bucket write apart plan = spares_first other q bucket (is_live_of key) (Ghost key 0 tx) write (λ slot. record_of_one key other slot apart) refl plan
 
 same_records : (other at : ℕ) (slots : List Slot) (slot : Slot) → is_live_of other (slice_index_or slots at Free) ≡ false → is_live_of other slot ≡ false → (i : ℕ) → is_live_of other (slice_index_or (slice_set slots at slot) i Free) ≡ is_live_of other (slice_index_or slots i Free)
 same_records other at slots slot was is i =
@@ -112,12 +112,12 @@ same_records other at slots slot was is i =
     ]
 
 -- **What fits the bucket of one key fits it once another key's change is in it.**
-pub fits_after : (asked : Option RecordChange) (done : RecordChange) (opens : set.FinSet nat_cmp) (tx key other q : ℕ) (bucket : BucketFields) (write : WriteFields) → key ≢ other → IsPlan done opens tx key q bucket write
+pub fits_after : (asked : Option RecordChange) (done : RecordChange) (active : set.FinSet nat_cmp) (tx key other q : ℕ) (bucket : BucketFields) (write : WriteFields) → key ≢ other → IsPlan done active tx key q bucket write
     → FitsSlots asked other bucket.slots → FitsSlots asked other (slice_set bucket.slots write.at write.slot)
-fits_after asked done opens tx key other q bucket write apart plan fits = go asked fits
+fits_after asked done active tx key other q bucket write apart plan fits = go asked fits
   where
     same : (i : ℕ) → is_live_of other (slice_index_or (slice_set bucket.slots write.at write.slot) i Free) ≡ is_live_of other (slice_index_or bucket.slots i Free)
-    same = let spared = spares_other done opens tx key other q bucket write apart plan in same_records other write.at bucket.slots write.slot spared.was spared.is
+    same = let spared = spares_other done active tx key other q bucket write apart plan in same_records other write.at bucket.slots write.slot spared.was spared.is
 
     go : (asked : Option RecordChange) → FitsSlots asked other bucket.slots → FitsSlots asked other (slice_set bucket.slots write.at write.slot)
     go None fits = tt
@@ -126,14 +126,14 @@ fits_after asked done opens tx key other q bucket write apart plan fits = go ask
     go (Some change.Remove) fits = (fits.0, same fits.0 ∙ fits.1)
 
 -- a plan names the page of its bucket, and one of the eight slots
-pub plan_number : (asked : RecordChange) (opens : set.FinSet nat_cmp) (tx key q : ℕ) (bucket : BucketFields) (write : WriteFields) → IsPlan asked opens tx key q bucket write → (write.number ≡ q) × (write.at < 8)
-plan_number (change.Insert value) opens tx key q bucket write plan =
+pub plan_number : (asked : RecordChange) (active : set.FinSet nat_cmp) (tx key q : ℕ) (bucket : BucketFields) (write : WriteFields) → IsPlan asked active tx key q bucket write → (write.number ≡ q) × (write.at < 8)
+plan_number (change.Insert value) active tx key q bucket write plan =
     elim plan [
       | inl revives ↦ of_first (is_ghost_of key tx) (Live key value) revives
-      | inr puts ↦ of_first (has_room opens) (Live key value) puts.1
+      | inr puts ↦ of_first (has_room active) (Live key value) puts.1
     ]
   where
     of_first : (has : Slot → Bool) (slot : Slot) → SetsFirst q bucket has slot write → (write.number ≡ q) × (write.at < 8)
     of_first has slot sets = (ap (λ (w : WriteFields). w.number) sets.written, subst (λ (w : WriteFields). w.at < 8) (sym sets.written) sets.within)
-plan_number (change.Update value) opens tx key q bucket write plan = (ap (λ (w : WriteFields). w.number) plan.written, subst (λ (w : WriteFields). w.at < 8) (sym plan.written) plan.within)
-plan_number change.Remove opens tx key q bucket write plan = (ap (λ (w : WriteFields). w.number) plan.written, subst (λ (w : WriteFields). w.at < 8) (sym plan.written) plan.within)
+plan_number (change.Update value) active tx key q bucket write plan = (ap (λ (w : WriteFields). w.number) plan.written, subst (λ (w : WriteFields). w.at < 8) (sym plan.written) plan.within)
+plan_number change.Remove active tx key q bucket write plan = (ap (λ (w : WriteFields). w.number) plan.written, subst (λ (w : WriteFields). w.at < 8) (sym plan.written) plan.within)

@@ -1,4 +1,4 @@
--- How the two ways go on together
+-- How the two descents go on together
 use Rattle.std.proofs.Common.{◌≡◌, ◌≢◌, ◌⊎◌, ℕ, ◌<◌, ◌≤◌, ◌+◌, false, true, List, Option, slice_index, refl, sym, ap, subst, ◌∙◌, inl, inr, arith}
 use Rattle.std.specs.Prelude.{◌==◌, nat_le, nat_lt}
 use Rattle.std.proofs.lemmas.Bool.{cases_Bool, cases_eq, cond-false, cond-true, eq-eqb, le-ltb, leb-false, leb-true, lt-ltb, ne_eqb}
@@ -8,23 +8,23 @@ use Rattle.mlt_page.specs.declared.page.Page.TheVariants as page
 use Rattle.mlt_hash_pair.specs.Pairs.{GoTogether, later_of, least_steps, most_steps, steps_for}
 use Rattle.mlt_hash_form.specs.File.{dir_of}
 use Rattle.mlt_hash_form.specs.Form.{value_in}
-use Rattle.mlt_hash_pair.specs.Reading.{is_before, next_page, next_way, way_after, way_by_header}
+use Rattle.mlt_hash_pair.specs.Reading.{is_before, next_page, next_descent, descent_after, descent_by_header}
 use Rattle.mlt_hash_pair.specs.Steps.{told_by}
-use Rattle.mlt_hash_pair.specs.Ways.{IsThere, page_of, pages_to_read}
+use Rattle.mlt_hash_pair.specs.Descents.{IsThere, page_of, pages_to_read}
 use Rattle.mlt_hash_pair.specs.declared.answer.PairAnswer.TheVariants as answer
-use Rattle.mlt_hash_pair.specs.declared.way.Way.{Way}
-use Rattle.mlt_hash_pair.specs.declared.way.Way.TheVariants as at
+use Rattle.mlt_hash_pair.specs.declared.descent.Descent.{Descent}
+use Rattle.mlt_hash_pair.specs.declared.descent.Descent.TheVariants as at
 use Rattle.mlt_hash_pair.proofs.Nexts.{KindIs, after_next, after_other, done_stays}
 
--- the way whose page is read is one of the two
-pub which : (left right : Way) → ((next_way left right ≡ left) × (is_before left right ≡ true)) ⊎ ((next_way left right ≡ right) × (is_before left right ≡ false))
+-- the descent whose page is read is one of the two
+pub which : (left right : Descent) → ((next_descent left right ≡ left) × (is_before left right ≡ true)) ⊎ ((next_descent left right ≡ right) × (is_before left right ≡ false))
 which left right =
     elim (cases_Bool (is_before left right)) [
       | inl before ↦ inl (cond-true (is_before left right) left right before, before)
       | inr behind ↦ inr (cond-false (is_before left right) left right behind, behind)
     ]
 
-pub either_way : (left right : Way) → (next_way left right ≡ left) ⊎ (next_way left right ≡ right)
+pub either_way : (left right : Descent) → (next_descent left right ≡ left) ⊎ (next_descent left right ≡ right)
 either_way left right =
     elim (which left right) [
       | inl one ↦ inl one.0
@@ -32,7 +32,7 @@ either_way left right =
     ]
 
 -- and it is not done, as long as the pair is not
-pub lead_goes_on : (left right : Way) → GoTogether left right → 0 < most_steps left right → 0 < pages_to_read (next_way left right)
+pub lead_goes_on : (left right : Descent) → GoTogether left right → 0 < most_steps left right → 0 < pages_to_read (next_descent left right)
 lead_goes_on at.Start at.Start together more = omega arith
 lead_goes_on (at.Headed place dir row) (at.Headed place' dir' row') together more =
     elim (cases_Bool (nat_le place place')) [
@@ -66,7 +66,7 @@ two_steps : (p q : ℕ) → p ≢ q → steps_for p q ≡ 2
 two_steps p q apart = cond-false (p == q) 1 2 (ne_eqb p q apart)
 
 -- a pair that is told to go on has more to read
-pub more_to_come : (left right : Way) → GoTogether left right → told_by left right ≡ answer.Going → 0 < most_steps left right
+pub more_to_come : (left right : Descent) → GoTogether left right → told_by left right ≡ answer.Going → 0 < most_steps left right
 more_to_come at.Start at.Start together going = omega arith
 more_to_come (at.Headed p d r) (at.Headed p' d' r') together going = omega arith
 more_to_come (at.Headed p d r) (at.Placed d' b') together going = omega arith
@@ -84,30 +84,30 @@ later_right left right lt = cond-true (nat_lt left right) right left (lt-ltb lef
 pub later_left : (left right : ℕ) → right ≤ left → later_of left right ≡ left
 later_left left right le = cond-false (nat_lt left right) right left (le-ltb left right le)
 
--- the ways are one step further, and that is the only step that is gone
-pub record IsFurther (left right left' right' : Way) (n : ℕ) : Type 0 where
+-- the descents are one step further, and that is the only step that is gone
+pub record IsFurther (left right left' right' : Descent) (n : ℕ) : Type 0 where
   pub together : GoTogether left' right'
   pub least : least_steps left right ≤ least_steps left' right' + 1
   pub most : most_steps left' right' + 1 ≤ most_steps left right
   -- the bucket that is read last is the later one
   pub last : IsThere left' → IsThere right' → n ≡ later_of (page_of left') (page_of right')
 
--- the same, of ways that are known to be these
-further_as : (left right left' right' a b : Way) (n : ℕ) → left' ≡ a → right' ≡ b → IsFurther left right a b n → IsFurther left right left' right' n
+-- the same, of descents that are known to be these
+further_as : (left right left' right' a b : Descent) (n : ℕ) → left' ≡ a → right' ≡ b → IsFurther left right a b n → IsFurther left right left' right' n
 further_as left right left' right' a b n is_a is_b further = subst (λ w. IsFurther left right w right' n) (sym is_a) (subst (λ w. IsFurther left right a w n) (sym is_b) further)
 
 module _ (bits : ℕ → ℕ) (root left_key right_key : ℕ) where
-  abbrev Goes : Way → Way → ℕ → Page → Type 0
-  Goes left right n read = IsFurther left right (way_after bits root left_key left n read) (way_after bits root right_key right n read) n
+  abbrev Goes : Descent → Descent → ℕ → Page → Type 0
+  Goes left right n read = IsFurther left right (descent_after bits root left_key left n read) (descent_after bits root right_key right n read) n
 
   -- what each of them is once this page is read
-  goes_as : (left right a b : Way) (n : ℕ) (read : Page) → way_after bits root left_key left n read ≡ a → way_after bits root right_key right n read ≡ b → IsFurther left right a b n → Goes left right n read
-  goes_as left right a b n read is_a is_b further = further_as left right (way_after bits root left_key left n read) (way_after bits root right_key right n read) a b n is_a is_b further
+  goes_as : (left right a b : Descent) (n : ℕ) (read : Page) → descent_after bits root left_key left n read ≡ a → descent_after bits root right_key right n read ≡ b → IsFurther left right a b n → Goes left right n read
+  goes_as left right a b n read is_a is_b further = further_as left right (descent_after bits root left_key left n read) (descent_after bits root right_key right n read) a b n is_a is_b further
 
   from_start : (header : HeadFields) → Goes at.Start at.Start root (page.Head header)
   from_start header =
       let few = one_or_two (dir_of header (bits left_key)) (dir_of header (bits right_key)) in
-      goes_as at.Start at.Start (way_by_header bits left_key header) (way_by_header bits right_key header) root (page.Head header)
+      goes_as at.Start at.Start (descent_by_header bits left_key header) (descent_by_header bits right_key header) root (page.Head header)
       (after_next bits root left_key at.Start root (page.Head header) refl) (after_next bits root right_key at.Start root (page.Head header) refl)
       (record { together = tt; least = omega (arith, few); most = omega (arith, few); last = λ there other_there. absurd there })
 
@@ -133,14 +133,14 @@ module _ (bits : ℕ → ℕ) (root left_key right_key : ℕ) where
         | inr other ↦ absurd (aside other)
       ]
 
-  -- a way that waits for a bucket reads no page of the directory
-  waits_left : (d b n : ℕ) (entries : List ℕ) → way_after bits root left_key (at.Placed d b) n (page.Dir entries) ≡ at.Placed d b
+  -- a descent that waits for a bucket reads no page of the directory
+  waits_left : (d b n : ℕ) (entries : List ℕ) → descent_after bits root left_key (at.Placed d b) n (page.Dir entries) ≡ at.Placed d b
   waits_left d b n entries = elim (cases_eq n b) [
     | inl same ↦ after_next bits root left_key (at.Placed d b) n (page.Dir entries) same
     | inr apart ↦ after_other bits root left_key (at.Placed d b) n (page.Dir entries) apart
   ]
 
-  waits_right : (d b n : ℕ) (entries : List ℕ) → way_after bits root right_key (at.Placed d b) n (page.Dir entries) ≡ at.Placed d b
+  waits_right : (d b n : ℕ) (entries : List ℕ) → descent_after bits root right_key (at.Placed d b) n (page.Dir entries) ≡ at.Placed d b
   waits_right d b n entries = elim (cases_eq n b) [
     | inl same ↦ after_next bits root right_key (at.Placed d b) n (page.Dir entries) same
     | inr apart ↦ after_other bits root right_key (at.Placed d b) n (page.Dir entries) apart
@@ -202,8 +202,8 @@ module _ (bits : ℕ → ℕ) (root left_key right_key : ℕ) where
       (done_stays bits root left_key d b found b' (page.Bucket fields)) (after_next bits root right_key (at.Placed d' b') b' (page.Bucket fields) refl)
       (record { together = tt; least = omega arith; most = omega arith; last = λ there other_there. sym (later_right b b' low) })
 
-  -- a page of the directory is read for either of two ways
-  by_header : (p d r p' d' r' n : ℕ) (lead : Way) (read : Page) → n ≡ next_page root lead → KindIs lead read → ((lead ≡ at.Headed p d r) ⊎ (lead ≡ at.Headed p' d' r')) → Goes (at.Headed p d r) (at.Headed p' d' r') n read
+  -- a page of the directory is read for either of two descents
+  by_header : (p d r p' d' r' n : ℕ) (lead : Descent) (read : Page) → n ≡ next_page root lead → KindIs lead read → ((lead ≡ at.Headed p d r) ⊎ (lead ≡ at.Headed p' d' r')) → Goes (at.Headed p d r) (at.Headed p' d' r') n read
   by_header p d r p' d' r' n lead read next kind (inl is) =
       let dir = subst (λ w. KindIs w read) is kind in
       subst (Goes (at.Headed p d r) (at.Headed p' d' r') n) (sym dir.1) (from_header p d r p' d' r' n dir.0 (inl (next ∙ ap (next_page root) is)))
@@ -212,7 +212,7 @@ module _ (bits : ℕ → ℕ) (root left_key right_key : ℕ) where
       subst (Goes (at.Headed p d r) (at.Headed p' d' r') n) (sym dir.1) (from_header p d r p' d' r' n dir.0 (inr (next ∙ ap (next_page root) is)))
 
   -- and a bucket
-  by_dirs : (d b d' b' n : ℕ) (lead : Way) (read : Page) → n ≡ next_page root lead → KindIs lead read → ((lead ≡ at.Placed d b) × (nat_le b b' ≡ true)) ⊎ ((lead ≡ at.Placed d' b') × (nat_le b b' ≡ false)) → Goes (at.Placed d b) (at.Placed d' b') n read
+  by_dirs : (d b d' b' n : ℕ) (lead : Descent) (read : Page) → n ≡ next_page root lead → KindIs lead read → ((lead ≡ at.Placed d b) × (nat_le b b' ≡ true)) ⊎ ((lead ≡ at.Placed d' b') × (nat_le b b' ≡ false)) → Goes (at.Placed d b) (at.Placed d' b') n read
   by_dirs d b d' b' n lead read next kind (inl is) =
       let bucket = subst (λ w. KindIs w read) is.0 kind in
       subst (Goes (at.Placed d b) (at.Placed d' b') n) (sym bucket.1) (from_dirs d b d' b' n bucket.0 (inl (next ∙ ap (next_page root) is.0, leb-true b b' is.1)))
@@ -220,13 +220,13 @@ module _ (bits : ℕ → ℕ) (root left_key right_key : ℕ) where
       let bucket = subst (λ w. KindIs w read) is.0 kind in
       subst (Goes (at.Placed d b) (at.Placed d' b') n) (sym bucket.1) (from_dirs d b d' b' n bucket.0 (inr (next ∙ ap (next_page root) is.0, leb-false b b' is.1)))
 
-  -- **A step takes the two ways one step further.**
-  pub goes_further : (left right : Way) (read : Page) → GoTogether left right → 0 < most_steps left right → KindIs (next_way left right) read → Goes left right (next_page root (next_way left right)) read
+  -- **A step takes the two descents one step further.**
+  pub goes_further : (left right : Descent) (read : Page) → GoTogether left right → 0 < most_steps left right → KindIs (next_descent left right) read → Goes left right (next_page root (next_descent left right)) read
   goes_further at.Start at.Start read together more kind = subst (Goes at.Start at.Start root) (sym kind.1) (from_start kind.0)
-  goes_further (at.Headed p d r) (at.Headed p' d' r') read together more kind = by_header p d r p' d' r' _ (next_way (at.Headed p d r) (at.Headed p' d' r')) read refl kind (either_way (at.Headed p d r) (at.Headed p' d' r'))
+  goes_further (at.Headed p d r) (at.Headed p' d' r') read together more kind = by_header p d r p' d' r' _ (next_descent (at.Headed p d r) (at.Headed p' d' r')) read refl kind (either_way (at.Headed p d r) (at.Headed p' d' r'))
   goes_further (at.Headed p d r) (at.Placed d' b') read together more kind = subst (Goes (at.Headed p d r) (at.Placed d' b') d) (sym kind.1) (second_dir_left p d r d' b' kind.0)
   goes_further (at.Placed d b) (at.Headed p' d' r') read together more kind = subst (Goes (at.Placed d b) (at.Headed p' d' r') d') (sym kind.1) (second_dir_right d b p' d' r' kind.0)
-  goes_further (at.Placed d b) (at.Placed d' b') read together more kind = by_dirs d b d' b' _ (next_way (at.Placed d b) (at.Placed d' b')) read refl kind (which (at.Placed d b) (at.Placed d' b'))
+  goes_further (at.Placed d b) (at.Placed d' b') read together more kind = by_dirs d b d' b' _ (next_descent (at.Placed d b) (at.Placed d' b')) read refl kind (which (at.Placed d b) (at.Placed d' b'))
   goes_further (at.Placed d b) (at.AtBucket d' b' found') read together more kind = subst (Goes (at.Placed d b) (at.AtBucket d' b' found') b) (sym kind.1) (second_bucket_left d b d' b' found' kind.0 together)
   goes_further (at.AtBucket d b found) (at.Placed d' b') read together more kind = subst (Goes (at.AtBucket d b found) (at.Placed d' b') b') (sym kind.1) (second_bucket_right d b found d' b' kind.0 together)
   goes_further (at.AtBucket d b found) (at.AtBucket d' b' found') read together more kind = let none : ⊥ = omega (arith, more) in absurd none

@@ -7,23 +7,23 @@ use Rattle.mlt_page.specs.declared.page.Page.TheVariants as page
 use Rattle.mlt_page.specs.Values.{BucketFields}
 use Rattle.mlt_hash_form.specs.File.{FilePages, GivesPseudokeys, HasForm, lead_of, look_up}
 use Rattle.mlt_hash_form.specs.Held.{Agrees, AreKeptToo, over}
-use Rattle.mlt_hash_access.specs.Moments.{Moment}
+use Rattle.mlt_hash_access.specs.LocalStates.{LocalState}
 use Rattle.mlt_hash_access.specs.Views.{IsSameView, ReadsHeldBucket, View, WritesPage, view_of}
 use Rattle.mlt_hash_record.specs.Plans.{WriteFields, planned_page}
-use Rattle.mlt_hash_pair.specs.Pairs.{HoldsWays, IsFound, PairFields, later_page}
+use Rattle.mlt_hash_pair.specs.Pairs.{HoldsDescents, IsFound, PairFields, later_page}
 use Rattle.mlt_hash_pair.specs.Plans.{FitsFound, HasNoPlan, IsPlan}
-use Rattle.mlt_hash_pair.specs.Ways.{HasRead, found_of, page_of}
-use Rattle.mlt_hash_pair.specs.declared.asked.Changes.{Changes}
+use Rattle.mlt_hash_pair.specs.Descents.{HasRead, found_of, page_of}
+use Rattle.mlt_hash_pair.specs.declared.asked.PairChanges.{PairChanges}
 use Rattle.mlt_hash_pair.specs.declared.asked.RecordChange.{RecordChange}
 use Rattle.mlt_hash_pair.specs.declared.answer.ChangeAnswer.{ChangeAnswer}
 use Rattle.mlt_hash_pair.specs.declared.answer.ChangeAnswer.TheVariants as answer
 use Rattle.mlt_hash_pair.specs.declared.answer.Side.TheVariants as side
 
 -- what is asked fits what was found of both keys
-abbrev pub FitsBoth : Changes → PairFields → Type 0
+abbrev pub FitsBoth : PairChanges → PairFields → Type 0
 FitsBoth changes pair =
-    FitsFound changes.left (found_of pair.left_way)
-    × FitsFound changes.right (found_of pair.right_way)
+    FitsFound changes.left (found_of pair.left_descent)
+    × FitsFound changes.right (found_of pair.right_descent)
 
 -- the change of a key's record in the bucket on page q fits the file as it is written, over these clean pages
 pub record FitsWritten (bits : ℕ → ℕ) (root key q : ℕ) (change : RecordChange) (view : View)
@@ -35,21 +35,21 @@ pub record FitsWritten (bits : ℕ → ℕ) (root key q : ℕ) (change : RecordC
   pub fits : FitsFound (Some change) (look_up bits (over clean view.own) root key)
 
 -- transaction tx has changed the record of a key in the bucket on page q: the slot that is planned is set
-pub record MakesChange (change : RecordChange) (opens : set.FinSet nat_cmp) (tx key q : ℕ)
+pub record MakesChange (change : RecordChange) (active : set.FinSet nat_cmp) (tx key q : ℕ)
     (old new : View) : Type 0 where
   pub bucket : BucketFields
   pub reads : ReadsHeldBucket old q bucket
   pub write : WriteFields
-  pub plan : IsPlan change opens tx key q bucket write
+  pub plan : IsPlan change active tx key q bucket write
   pub writes : WritesPage old new q (planned_page bucket write)
 
 -- it has made the change that is asked for, if there is one
 abbrev pub MakesAsked : Option RecordChange → set.FinSet nat_cmp → ℕ → ℕ → ℕ → View → View → Type 0
-MakesAsked None opens tx key q old new = IsSameView old new
-MakesAsked (Some change) opens tx key q old new = MakesChange change opens tx key q old new
+MakesAsked None active tx key q old new = IsSameView old new
+MakesAsked (Some change) active tx key q old new = MakesChange change active tx key q old new
 
 -- The change of a key's record in the bucket on page q is planned, and still to be written.
-pub record OwesChange (asked : Option RecordChange) (opens : set.FinSet nat_cmp)
+pub record OwesChange (asked : Option RecordChange) (active : set.FinSet nat_cmp)
     (tx key q : ℕ) (view : View) (owed : Option WriteFields) : Type 0 where
   pub change : RecordChange
   pub asked_is : asked ≡ Some change
@@ -57,30 +57,30 @@ pub record OwesChange (asked : Option RecordChange) (opens : set.FinSet nat_cmp)
   pub reads : ReadsHeldBucket view q bucket
   pub write : WriteFields
   pub owed_is : owed ≡ Some write
-  pub plan : IsPlan change opens tx key q bucket write
+  pub plan : IsPlan change active tx key q bucket write
 
 -- the bucket on page q has no room for the record that is asked for
-pub record IsFull (asked : Option RecordChange) (opens : set.FinSet nat_cmp) (tx key q : ℕ)
+pub record IsFull (asked : Option RecordChange) (active : set.FinSet nat_cmp) (tx key q : ℕ)
     (view : View) : Type 0 where
   pub change : RecordChange
   pub asked_is : asked ≡ Some change
   pub bucket : BucketFields
   pub reads : ReadsHeldBucket view q bucket
-  pub none : HasNoPlan change opens tx key bucket
+  pub none : HasNoPlan change active tx key bucket
 
 -- what a pair is to do, and where: the changes of these keys' records, in the buckets on these pages, with these
 -- transactions open
 pub record Task : Type 0 where
-  pub opens : set.FinSet nat_cmp
+  pub active : set.FinSet nat_cmp
   pub left : ℕ
   pub right : ℕ
   pub left_page : ℕ
   pub right_page : ℕ
-  pub changes : Changes
+  pub changes : PairChanges
 
-abbrev pub task_of : set.FinSet nat_cmp → PairFields → ℕ → ℕ → Changes → Task
-task_of opens pair left_page right_page changes = record {
-  opens = opens;
+abbrev pub task_of : set.FinSet nat_cmp → PairFields → ℕ → ℕ → PairChanges → Task
+task_of active pair left_page right_page changes = record {
+  active = active;
   left = pair.left;
   right = pair.right;
   left_page = left_page;
@@ -89,9 +89,9 @@ task_of opens pair left_page right_page changes = record {
 }
 
 -- in one bucket, on page q
-abbrev pub task_in : set.FinSet nat_cmp → ℕ → ℕ → ℕ → Changes → Task
-task_in opens left right q changes = record {
-  opens = opens;
+abbrev pub task_in : set.FinSet nat_cmp → ℕ → ℕ → ℕ → PairChanges → Task
+task_in active left right q changes = record {
+  active = active;
   left = left;
   right = right;
   left_page = q;
@@ -103,8 +103,8 @@ task_in opens left right q changes = record {
 -- is changed.
 pub record MakesBoth (task : Task) (tx : ℕ) (old new : View) : Type 0 where
   pub mid : View
-  pub left : MakesAsked task.changes.left task.opens tx task.left task.left_page old mid
-  pub right : MakesAsked task.changes.right task.opens tx task.right task.right_page mid new
+  pub left : MakesAsked task.changes.left task.active tx task.left task.left_page old mid
+  pub right : MakesAsked task.changes.right task.active tx task.right task.right_page mid new
   pub no_left : task.left_page < task.right_page → task.changes.left ≡ None
   pub no_right : task.right_page < task.left_page → task.changes.right ≡ None
 
@@ -112,23 +112,23 @@ pub record MakesBoth (task : Task) (tx : ℕ) (old new : View) : Type 0 where
 pub record LeavesLeft (task : Task) (tx : ℕ) (old new : View) (owed : Option WriteFields)
     : Type 0 where
   pub earlier : task.left_page < task.right_page
-  pub right : MakesAsked task.changes.right task.opens tx task.right task.right_page old new
-  pub owes : OwesChange task.changes.left task.opens tx task.left task.left_page old owed
+  pub right : MakesAsked task.changes.right task.active tx task.right task.right_page old new
+  pub owes : OwesChange task.changes.left task.active tx task.left task.left_page old owed
 
 pub record LeavesRight (task : Task) (tx : ℕ) (old new : View) (owed : Option WriteFields)
     : Type 0 where
   pub earlier : task.right_page < task.left_page
-  pub left : MakesAsked task.changes.left task.opens tx task.left task.left_page old new
-  pub owes : OwesChange task.changes.right task.opens tx task.right task.right_page old owed
+  pub left : MakesAsked task.changes.left task.active tx task.left task.left_page old new
+  pub owes : OwesChange task.changes.right task.active tx task.right task.right_page old owed
 
 -- the right key's bucket has no room for its record, once the left one's change is in it
 pub record IsFullBehind (task : Task) (tx : ℕ) (old : View) : Type 0 where
   pub mid : View
-  pub left : MakesAsked task.changes.left task.opens tx task.left task.left_page old mid
-  pub right : IsFull task.changes.right task.opens tx task.right task.right_page mid
+  pub left : MakesAsked task.changes.left task.active tx task.left task.left_page old mid
+  pub right : IsFull task.changes.right task.active tx task.right task.right_page mid
 
 -- the same, by the pages of the pair's buckets
-abbrev pub TellsOfTwo : Task → Moment → Moment → PairFields → PairFields → ChangeAnswer → Type 0
+abbrev pub TellsOfTwo : Task → LocalState → LocalState → PairFields → PairFields → ChangeAnswer → Type 0
 TellsOfTwo task old new before after answer.Changed =
     MakesBoth task old.running.tx (view_of old) (view_of new) × (after ≡ before)
 TellsOfTwo task old new before after answer.OneLeft =
@@ -136,7 +136,7 @@ TellsOfTwo task old new before after answer.OneLeft =
     ⊎ LeavesRight task old.running.tx (view_of old) (view_of new) after.owed)
     × (after ≡ record before { owed = after.owed })
 TellsOfTwo task old new before after (answer.Full side.Left) =
-    IsFull task.changes.left task.opens old.running.tx task.left task.left_page (view_of old)
+    IsFull task.changes.left task.active old.running.tx task.left task.left_page (view_of old)
     × (new ≡ old) × (after ≡ before)
 TellsOfTwo task old new before after (answer.Full side.Right) =
     IsFullBehind task old.running.tx (view_of old) × (new ≡ old) × (after ≡ before)
@@ -144,28 +144,28 @@ TellsOfTwo task old new before after (answer.Full side.Right) =
 -- What the changes of a pair are told. Changed: all is written. OneLeft: but for the change of the
 -- earlier bucket. Full: this key's bucket has no room, and nothing has changed.
 abbrev pub TellsOfChanges
-    : set.FinSet nat_cmp → Moment → Moment → PairFields → PairFields → Changes → ChangeAnswer
+    : set.FinSet nat_cmp → LocalState → LocalState → PairFields → PairFields → PairChanges → ChangeAnswer
     → Type 0
-TellsOfChanges opens old new before after changes told =
-    TellsOfTwo (task_of opens before (page_of before.left_way) (page_of before.right_way) changes)
+TellsOfChanges active old new before after changes told =
+    TellsOfTwo (task_of active before (page_of before.left_descent) (page_of before.right_descent) changes)
     old new before after told
 
 -- what a pair has read and holds, whatever it has written
 pub record IsHolding (bits : ℕ → ℕ) (root : ℕ) (pair : PairFields) (view : View) : Type 0 where
-  pub left : HasRead bits root pair.left view pair.left_way
-  pub right : HasRead bits root pair.right view pair.right_way
-  pub holds : HoldsWays root pair.left_way pair.right_way view
+  pub left : HasRead bits root pair.left view pair.left_descent
+  pub right : HasRead bits root pair.right view pair.right_descent
+  pub holds : HoldsDescents root pair.left_descent pair.right_descent view
   pub few : map.len view.modes ≤ 5
 
 -- one of the pair's keys, with the page of its bucket
 abbrev pub IsSide : PairFields → ℕ → ℕ → Type 0
 IsSide pair key q =
-    ((key ≡ pair.left) × (q ≡ page_of pair.left_way))
-    ⊎ ((key ≡ pair.right) × (q ≡ page_of pair.right_way))
+    ((key ≡ pair.left) × (q ≡ page_of pair.left_descent))
+    ⊎ ((key ≡ pair.right) × (q ≡ page_of pair.right_descent))
 
 -- The write that is owed is the change of a key's record, planned when `planners` were open: no slot's room is kept now that
 -- was not then. Its bucket is the earlier one, and is as it was read.
-pub record Owes (opens : set.FinSet nat_cmp) (tx : ℕ) (pair : PairFields) (view : View)
+pub record Owes (active : set.FinSet nat_cmp) (tx : ℕ) (pair : PairFields) (view : View)
     (write : WriteFields) : Type 0 where
   pub key : ℕ
   pub change : RecordChange
@@ -175,38 +175,38 @@ pub record Owes (opens : set.FinSet nat_cmp) (tx : ℕ) (pair : PairFields) (vie
   pub earlier : write.number ≢ later_page pair
   pub seen : view.seen write.number ≡ Some (Some (page.Bucket bucket))
   pub plan : IsPlan change planners tx key write.number bucket write
-  pub fewer : AreKeptToo opens planners bucket
+  pub fewer : AreKeptToo active planners bucket
 
 abbrev pub OwesIf : Option WriteFields → set.FinSet nat_cmp → ℕ → PairFields → View → Type 0
-OwesIf None opens tx pair view = Unit {0}
-OwesIf (Some write) opens tx pair view = Owes opens tx pair view write
+OwesIf None active tx pair view = Unit {0}
+OwesIf (Some write) active tx pair view = Owes active tx pair view write
 
 -- A pair has changed its later bucket at most, and may owe the change of the earlier one.
-pub record HasChanged (bits : ℕ → ℕ) (root : ℕ) (opens : set.FinSet nat_cmp) (tx : ℕ)
+pub record HasChanged (bits : ℕ → ℕ) (root : ℕ) (active : set.FinSet nat_cmp) (tx : ℕ)
     (pair : PairFields) (view : View) : Type 0 where
   pub found : IsFound pair
   pub holding : IsHolding bits root pair view
   pub unwritten : (q : ℕ) → q ≢ later_page pair → view.own q ≡ None
-  pub owes : OwesIf pair.owed opens tx pair view
+  pub owes : OwesIf pair.owed active tx pair view
 
 -- where a pair stands that has made its changes
 abbrev pub StandsBehind
     : ChangeAnswer → (ℕ → ℕ) → ℕ → set.FinSet nat_cmp → ℕ → PairFields → View → Type 0
-StandsBehind answer.Changed bits root opens tx pair view = HasChanged bits root opens tx pair view
-StandsBehind answer.OneLeft bits root opens tx pair view = HasChanged bits root opens tx pair view
-StandsBehind (answer.Full side) bits root opens tx pair view = Unit {0}
+StandsBehind answer.Changed bits root active tx pair view = HasChanged bits root active tx pair view
+StandsBehind answer.OneLeft bits root active tx pair view = HasChanged bits root active tx pair view
+StandsBehind (answer.Full side) bits root active tx pair view = Unit {0}
 
 -- What the last step of a pair asks: it has changed its later bucket at most, and owes the change of the earlier one.
 abbrev pub MayWriteEarlier : ℕ → PairFields → View → Type 0
 MayWriteEarlier tx pair view =
-    (bits : ℕ → ℕ) × (root : ℕ) × (opens : set.FinSet nat_cmp)
-    × HasChanged bits root opens tx pair view
+    (bits : ℕ → ℕ) × (root : ℕ) × (active : set.FinSet nat_cmp)
+    × HasChanged bits root active tx pair view
 
 -- the change that was owed is made
 abbrev pub MakesOwed : ℕ → PairFields → View → View → Type 0
 MakesOwed tx pair old new =
-    (opens : set.FinSet nat_cmp) (write : WriteFields) → pair.owed ≡ Some write
-    → (owes : Owes opens tx pair old write)
+    (active : set.FinSet nat_cmp) (write : WriteFields) → pair.owed ≡ Some write
+    → (owes : Owes active tx pair old write)
     → MakesChange owes.change owes.planners tx owes.key write.number old new
 
 -- what was read and held is so still
@@ -224,4 +224,4 @@ KeepsNoMore before now view =
 -- of the pages that are held only the two buckets are written
 abbrev pub WritesBucketsAlone : PairFields → View → Type 0
 WritesBucketsAlone pair view =
-    (q : ℕ) → q ≢ page_of pair.left_way → q ≢ page_of pair.right_way → view.own q ≡ None
+    (q : ℕ) → q ≢ page_of pair.left_descent → q ≢ page_of pair.right_descent → view.own q ≡ None

@@ -3,5 +3,5 @@ pub mod Pairs
 pub mod Plans
 pub mod Reading
 pub mod Steps
-pub mod Ways
+pub mod Descents
 pub mod Writing

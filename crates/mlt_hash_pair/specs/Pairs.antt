@@ -1,15 +1,15 @@
--- Where a pair on its way stands, by the ways of its two keys: which pages it holds, and what it has read of them
+-- Where a pair on its way stands, by the descents of its two keys: which pages it holds, and what it has read of them
 use Rattle.std.specs.Prelude.{ℕ, ◌≡◌, ◌≢◌, ◌<◌, ◌≤◌, ◌+◌, ◌⊎◌, ◌↔◌, ◌==◌, nat_lt, if◌then◌else◌, Option, None, Some}
 use Rattle.std.specs.FinMap as map
 use Rattle.mlt_types.specs.declared.mode.Mode.{Mode}
 use Rattle.mlt_hash_form.specs.File.{GivesPseudokeys}
-use Rattle.mlt_hash_access.specs.Moments.{HasCleanFile, MayStep, Moment}
+use Rattle.mlt_hash_access.specs.LocalStates.{HasCleanFile, MayStep, LocalState}
 use Rattle.mlt_hash_access.specs.Views.{IsUnwritten, View, view_of}
 use Rattle.mlt_hash_record.specs.Plans.{WriteFields}
-use Rattle.mlt_hash_pair.specs.Reading.{next_mode, next_page, next_way}
-use Rattle.mlt_hash_pair.specs.Ways.{HasRead, IsLocked, IsThere, page_of}
-use Rattle.mlt_hash_pair.specs.declared.way.Way.{Way}
-use Rattle.mlt_hash_pair.specs.declared.way.Way.TheVariants as at
+use Rattle.mlt_hash_pair.specs.Reading.{next_mode, next_page, next_descent}
+use Rattle.mlt_hash_pair.specs.Descents.{HasRead, IsLocked, IsThere, page_of}
+use Rattle.mlt_hash_pair.specs.declared.descent.Descent.{Descent}
+use Rattle.mlt_hash_pair.specs.declared.descent.Descent.TheVariants as at
 
 -- what a pair reads by: the function of keys, and the header's page
 pub record FileRoot : Type 0 where
@@ -20,18 +20,18 @@ pub record FileRoot : Type 0 where
 pub record PairFields : Type 0 where
   pub left : ℕ
   pub right : ℕ
-  pub left_way : Way
-  pub right_way : Way
+  pub left_descent : Descent
+  pub right_descent : Descent
   pub owed : Option WriteFields
 
 -- a pair that has read nothing
 abbrev pub find_by : ℕ → ℕ → PairFields
 find_by left right =
-    record { left = left; right = right; left_way = at.Start; right_way = at.Start; owed = None }
+    record { left = left; right = right; left_descent = at.Start; right_descent = at.Start; owed = None }
 
--- The two ways go on together: both read the header; then the pages of the directory come before the buckets; and where one
+-- The two descents go on together: both read the header; then the pages of the directory come before the buckets; and where one
 -- bucket is read and the other is not, the first has the lower page.
-abbrev pub GoTogether : Way → Way → Type 0
+abbrev pub GoTogether : Descent → Descent → Type 0
 GoTogether at.Start at.Start = Unit {0}
 GoTogether (at.Headed place dir row) (at.Headed place' dir' row') = Unit {0}
 GoTogether (at.Headed place dir row) (at.Placed dir' bucket') = Unit {0}
@@ -40,14 +40,14 @@ GoTogether (at.Placed dir bucket) (at.Placed dir' bucket') = Unit {0}
 GoTogether (at.Placed dir bucket) (at.AtBucket dir' bucket' found') = bucket' < bucket
 GoTogether (at.AtBucket dir bucket found) (at.Placed dir' bucket') = bucket < bucket'
 GoTogether (at.AtBucket dir bucket found) (at.AtBucket dir' bucket' found') = Unit {0}
-GoTogether way other = ⊥
+GoTogether descent other = ⊥
 
--- a page for each way, which is one step where it is one page
+-- a page for each descent, which is one step where it is one page
 abbrev pub steps_for : ℕ → ℕ → ℕ
 steps_for page other = if page == other then 1 else 2
 
 -- how many steps a pair still takes at least, and at most, until it has found both keys, those that wait aside
-abbrev pub least_steps : Way → Way → ℕ
+abbrev pub least_steps : Descent → Descent → ℕ
 least_steps at.Start other = 3
 least_steps (at.Headed place dir row) (at.Headed place' dir' row') = steps_for dir dir' + 1
 least_steps (at.Headed place dir row) other = 2
@@ -57,7 +57,7 @@ least_steps (at.Placed dir bucket) other = 2
 least_steps (at.AtBucket dir bucket found) (at.AtBucket dir' bucket' found') = 0
 least_steps (at.AtBucket dir bucket found) other = 1
 
-abbrev pub most_steps : Way → Way → ℕ
+abbrev pub most_steps : Descent → Descent → ℕ
 most_steps at.Start other = 5
 most_steps (at.Headed place dir row) (at.Headed place' dir' row') = steps_for dir dir' + 2
 most_steps (at.Headed place dir row) other = 3
@@ -69,11 +69,11 @@ most_steps (at.AtBucket dir bucket found) other = 1
 
 -- a key is not at its bucket yet
 abbrev pub IsUnderWay : PairFields → Type 0
-IsUnderWay pair = 0 < most_steps pair.left_way pair.right_way
+IsUnderWay pair = 0 < most_steps pair.left_descent pair.right_descent
 
 -- both keys are found
 abbrev pub IsFound : PairFields → Type 0
-IsFound pair = IsThere pair.left_way × IsThere pair.right_way
+IsFound pair = IsThere pair.left_descent × IsThere pair.right_descent
 
 -- the later of two pages
 abbrev pub later_of : ℕ → ℕ → ℕ
@@ -81,18 +81,18 @@ later_of left right = if nat_lt left right then right else left
 
 -- the later of the pages of the two buckets, which is read last
 abbrev pub later_page : PairFields → ℕ
-later_page pair = later_of (page_of pair.left_way) (page_of pair.right_way)
+later_page pair = later_of (page_of pair.left_descent) (page_of pair.right_descent)
 
 -- the page that the pair locks next, and its mode
 abbrev pub page_next : ℕ → PairFields → ℕ
-page_next root pair = next_page root (next_way pair.left_way pair.right_way)
+page_next root pair = next_page root (next_descent pair.left_descent pair.right_descent)
 
 abbrev pub mode_next : PairFields → Mode
-mode_next pair = next_mode (next_way pair.left_way pair.right_way)
+mode_next pair = next_mode (next_descent pair.left_descent pair.right_descent)
 
--- Which pages are held: exactly those of the two ways, each in its mode.
-abbrev pub HoldsWays : ℕ → Way → Way → View → Type 0
-HoldsWays root left right view =
+-- Which pages are held: exactly those of the two descents, each in its mode.
+abbrev pub HoldsDescents : ℕ → Descent → Descent → View → Type 0
+HoldsDescents root left right view =
     (q : ℕ) (mode : Mode)
     → (map.get view.modes q ≡ Some mode) ↔ (IsLocked root left q mode ⊎ IsLocked root right q mode)
 
@@ -100,15 +100,15 @@ HoldsWays root left right view =
 pub record IsFinding (bits : ℕ → ℕ) (root : ℕ) (pair : PairFields) (view : View) : Type 0 where
   pub apart : pair.left ≢ pair.right
   pub none_owed : pair.owed ≡ None
-  pub together : GoTogether pair.left_way pair.right_way
-  pub left : HasRead bits root pair.left view pair.left_way
-  pub right : HasRead bits root pair.right view pair.right_way
+  pub together : GoTogether pair.left_descent pair.right_descent
+  pub left : HasRead bits root pair.left view pair.left_descent
+  pub right : HasRead bits root pair.right view pair.right_descent
   pub unwritten : IsUnwritten view
-  pub holds : HoldsWays root pair.left_way pair.right_way view
-  pub few : map.len view.modes + most_steps pair.left_way pair.right_way ≤ 5
+  pub holds : HoldsDescents root pair.left_descent pair.right_descent view
+  pub few : map.len view.modes + most_steps pair.left_descent pair.right_descent ≤ 5
 
 -- What a step of a pair asks: the transaction may step, the clean pages are a hash file, and the pair is on its way.
-pub record MayFind (bits : ℕ → ℕ) (root : ℕ) (m : Moment) (pair : PairFields) : Type 0 where
+pub record MayFind (bits : ℕ → ℕ) (root : ℕ) (m : LocalState) (pair : PairFields) : Type 0 where
   pub bounded : GivesPseudokeys bits
   pub may : MayStep m
   pub file : HasCleanFile bits root m

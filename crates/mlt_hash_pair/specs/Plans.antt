@@ -37,30 +37,30 @@ FitsSlots (Some change.Remove) key slots = IsPresent key slots
 -- that the transaction left, and where it left none, the lowest slot with room; another change takes that of the record.
 abbrev pub IsPlan
     : RecordChange → set.FinSet nat_cmp → ℕ → ℕ → ℕ → BucketFields → WriteFields → Type 0
-IsPlan (change.Insert value) opens tx key q bucket write =
+IsPlan (change.Insert value) active tx key q bucket write =
     SetsFirst q bucket (is_ghost_of key tx) (Live key value) write
     ⊎ (IsNowhere (is_ghost_of key tx) bucket.slots
-    × SetsFirst q bucket (has_room opens) (Live key value) write)
-IsPlan (change.Update value) opens tx key q bucket write =
+    × SetsFirst q bucket (has_room active) (Live key value) write)
+IsPlan (change.Update value) active tx key q bucket write =
     SetsFirst q bucket (is_live_of key) (Live key value) write
-IsPlan change.Remove opens tx key q bucket write =
+IsPlan change.Remove active tx key q bucket write =
     SetsFirst q bucket (is_live_of key) (Ghost key 0 tx) write
 
 -- there is no such slot: only an insertion may find none
 abbrev pub HasNoPlan : RecordChange → set.FinSet nat_cmp → ℕ → ℕ → BucketFields → Type 0
-HasNoPlan (change.Insert value) opens tx key bucket =
-    IsNowhere (is_ghost_of key tx) bucket.slots × IsNowhere (has_room opens) bucket.slots
-HasNoPlan (change.Update value) opens tx key bucket = ⊥
-HasNoPlan change.Remove opens tx key bucket = ⊥
+HasNoPlan (change.Insert value) active tx key bucket =
+    IsNowhere (is_ghost_of key tx) bucket.slots × IsNowhere (has_room active) bucket.slots
+HasNoPlan (change.Update value) active tx key bucket = ⊥
+HasNoPlan change.Remove active tx key bucket = ⊥
 
 -- what is planned, by what is asked
 abbrev pub IsPlanned
     : SlotPlan → Option RecordChange → set.FinSet nat_cmp → ℕ → ℕ → ℕ → BucketFields → Type 0
-IsPlanned plan.Nothing asked opens tx key q bucket = asked ≡ None
-IsPlanned (plan.Set write) asked opens tx key q bucket =
-    (change : RecordChange) × (asked ≡ Some change) × IsPlan change opens tx key q bucket write
-IsPlanned plan.Full asked opens tx key q bucket =
-    (change : RecordChange) × (asked ≡ Some change) × HasNoPlan change opens tx key bucket
+IsPlanned plan.Nothing asked active tx key q bucket = asked ≡ None
+IsPlanned (plan.Set write) asked active tx key q bucket =
+    (change : RecordChange) × (asked ≡ Some change) × IsPlan change active tx key q bucket write
+IsPlanned plan.Full asked active tx key q bucket =
+    (change : RecordChange) × (asked ≡ Some change) × HasNoPlan change active tx key bucket
 
 -- a slot that is planned is one of the eight
 abbrev pub IsWithin : SlotPlan → Type 0

@@ -1,37 +1,37 @@
 -- What the steps of a pair to its buckets tell
 use Rattle.std.specs.Prelude.{ℕ, ◌≡◌, ◌≤◌, ◌+◌, Option}
 use Rattle.mlt_page_locks.specs.Requests.{IsLowest, conflicts}
-use Rattle.mlt_hash_access.specs.Moments.{Moment}
+use Rattle.mlt_hash_access.specs.LocalStates.{LocalState}
 use Rattle.mlt_hash_access.specs.PageSteps.{LocksPage}
 use Rattle.mlt_hash_access.specs.Views.{view_of}
 use Rattle.mlt_hash_pair.specs.Pairs.{IsFinding, IsUnderWay, PairFields, later_page, least_steps, mode_next, most_steps, page_next}
-use Rattle.mlt_hash_pair.specs.Ways.{IsNext, pages_to_read}
-use Rattle.mlt_hash_pair.specs.declared.way.Way.{Way}
-use Rattle.mlt_hash_pair.specs.declared.way.Way.TheVariants as at
+use Rattle.mlt_hash_pair.specs.Descents.{IsNext, pages_to_read}
+use Rattle.mlt_hash_pair.specs.declared.descent.Descent.{Descent}
+use Rattle.mlt_hash_pair.specs.declared.descent.Descent.TheVariants as at
 use Rattle.mlt_hash_pair.specs.declared.answer.PairAnswer.{PairAnswer}
 use Rattle.mlt_hash_pair.specs.declared.answer.PairAnswer.TheVariants as answer
 
--- where page q was read: a way of which it was the next one has read it, and another is as it was
-pub record ReadsOn (root q : ℕ) (before after : Way) : Type 0 where
+-- where page q was read: a descent of which it was the next one has read it, and another is as it was
+pub record ReadsOn (root q : ℕ) (before after : Descent) : Type 0 where
   pub next : IsNext root before q → pages_to_read after + 1 ≡ pages_to_read before
   pub other : (IsNext root before q → ⊥) → after ≡ before
 
 -- The next page was locked and read, and that is all. The steps that are left are as many as before, but for this one.
-pub record GoesOn (bits : ℕ → ℕ) (root : ℕ) (old new : Moment) (before after : PairFields)
+pub record GoesOn (bits : ℕ → ℕ) (root : ℕ) (old new : LocalState) (before after : PairFields)
     : Type 0 where
   pub left_key : after.left ≡ before.left
   pub right_key : after.right ≡ before.right
   pub locks : LocksPage old new (page_next root before) (mode_next before)
-  pub left : ReadsOn root (page_next root before) before.left_way after.left_way
-  pub right : ReadsOn root (page_next root before) before.right_way after.right_way
+  pub left : ReadsOn root (page_next root before) before.left_descent after.left_descent
+  pub right : ReadsOn root (page_next root before) before.right_descent after.right_descent
   pub finding : IsFinding bits root after (view_of new)
-  pub least : least_steps before.left_way before.right_way
-      ≤ least_steps after.left_way after.right_way + 1
-  pub most : most_steps after.left_way after.right_way + 1
-      ≤ most_steps before.left_way before.right_way
+  pub least : least_steps before.left_descent before.right_descent
+      ≤ least_steps after.left_descent after.right_descent + 1
+  pub most : most_steps after.left_descent after.right_descent + 1
+      ≤ most_steps before.left_descent before.right_descent
 
 -- the key is at its bucket, and has this value there, or none
-abbrev pub HasFound : Way → Option ℕ → Type 0
+abbrev pub HasFound : Descent → Option ℕ → Type 0
 HasFound (at.AtBucket dir bucket found) value = found ≡ value
 HasFound other value = ⊥
 
@@ -39,7 +39,7 @@ HasFound other value = ⊥
 -- waits for the next page, told the lowest transaction whose lock stands against its own, and
 -- nothing has changed.
 abbrev pub TellsOfStep
-    : (ℕ → ℕ) → ℕ → Moment → Moment → PairFields → PairFields → PairAnswer → Type 0
+    : (ℕ → ℕ) → ℕ → LocalState → LocalState → PairFields → PairFields → PairAnswer → Type 0
 TellsOfStep bits root old new before after answer.Going =
     GoesOn bits root old new before after × IsUnderWay after
 TellsOfStep bits root old new before after (answer.Waiting page by) =
@@ -48,10 +48,10 @@ TellsOfStep bits root old new before after (answer.Waiting page by) =
     × (new ≡ old) × (after ≡ before)
 TellsOfStep bits root old new before after (answer.Found left right) =
     GoesOn bits root old new before after
-    × HasFound after.left_way left × HasFound after.right_way right
+    × HasFound after.left_descent left × HasFound after.right_descent right
     × (page_next root before ≡ later_page after)
 
 -- what a step tells that has read its page
-abbrev pub told_by : Way → Way → PairAnswer
+abbrev pub told_by : Descent → Descent → PairAnswer
 told_by (at.AtBucket dir bucket found) (at.AtBucket dir' bucket' found') = answer.Found found found'
 told_by left right = answer.Going

@@ -4,7 +4,7 @@ use Rattle.std.specs.Ordering.{nat_cmp}
 use Rattle.std.specs.FinSet as set
 use Rattle.mlt_page.specs.Values.{BucketFields}
 use Rattle.mlt_page_locks.specs.LockTables.{can_write}
-use Rattle.mlt_hash_access.specs.Moments.{Moment}
+use Rattle.mlt_hash_access.specs.LocalStates.{LocalState}
 use Rattle.mlt_hash_access.specs.PageSteps.{WritesHeldSlot}
 use Rattle.mlt_hash_access.specs.Views.{ReadsHeldBucket, View, WritesSlot, view_of}
 use Rattle.mlt_hash_pair.specs.Changes.{IsFull, MakesAsked, Task}
@@ -24,38 +24,38 @@ MayPlan asked key q view =
 
 -- what is planned there
 abbrev pub HasPlan : SlotPlan → Option RecordChange → set.FinSet nat_cmp → ℕ → ℕ → ℕ → View → Type 0
-HasPlan plan asked opens tx key q view =
+HasPlan plan asked active tx key q view =
     (bucket : BucketFields) × ReadsHeldBucket view q bucket
-    × IsPlanned plan asked opens tx key q bucket
+    × IsPlanned plan asked active tx key q bucket
 
 -- both changes in one bucket, the left one first
-abbrev pub TellsOfOne : Task → Moment → Moment → ChangeAnswer → Type 0
+abbrev pub TellsOfOne : Task → LocalState → LocalState → ChangeAnswer → Type 0
 TellsOfOne task old new answer.Changed =
     (mid : View)
-    × MakesAsked task.changes.left task.opens old.running.tx task.left task.left_page
+    × MakesAsked task.changes.left task.active old.running.tx task.left task.left_page
     (view_of old) mid
-    × MakesAsked task.changes.right task.opens old.running.tx task.right task.right_page
+    × MakesAsked task.changes.right task.active old.running.tx task.right task.right_page
     mid (view_of new)
 TellsOfOne task old new answer.OneLeft = ⊥
 TellsOfOne task old new (answer.Full side.Left) =
-    IsFull task.changes.left task.opens old.running.tx task.left task.left_page (view_of old)
+    IsFull task.changes.left task.active old.running.tx task.left task.left_page (view_of old)
     × (new ≡ old)
 TellsOfOne task old new (answer.Full side.Right) =
     ((mid : View)
-    × MakesAsked task.changes.left task.opens old.running.tx task.left task.left_page
+    × MakesAsked task.changes.left task.active old.running.tx task.left task.left_page
     (view_of old) mid
-    × IsFull task.changes.right task.opens old.running.tx task.right task.right_page mid)
+    × IsFull task.changes.right task.active old.running.tx task.right task.right_page mid)
     × (new ≡ old)
 
 -- the slot that is planned may be written
-abbrev pub MayWrite : SlotPlan → Moment → Type 0
+abbrev pub MayWrite : SlotPlan → LocalState → Type 0
 MayWrite plan.Nothing m = Unit {0}
 MayWrite (plan.Set write) m = (can_write m.locks m.running.tx write.number ≡ true)
     × ((bucket : BucketFields) × ReadsHeldBucket (view_of m) write.number bucket)
 MayWrite plan.Full m = Unit {0}
 
 -- and is written
-abbrev pub WritesPlan : SlotPlan → Moment → Moment → Type 0
+abbrev pub WritesPlan : SlotPlan → LocalState → LocalState → Type 0
 WritesPlan plan.Nothing old new = new ≡ old
 WritesPlan (plan.Set write) old new =
     WritesHeldSlot old new write.number write.at write.slot

@@ -16,7 +16,7 @@ pub enum RecordChange {
 
 /// At most one change for each key.
 #[derive(Clone, Copy, Debug, PartialEq, Eq)]
-pub struct Changes {
+pub struct PairChanges {
     /// The change of the left key's record.
     pub left: Option<RecordChange>,
     /// The change of the right key's record.

@@ -6,17 +6,17 @@
 mod answer;
 mod asked;
 mod change;
+mod descent;
 mod pair;
 mod pair_laws;
 mod plan;
-mod way;
 
 pub use answer::{ChangeAnswer, PairAnswer, Side};
-pub use asked::{Changes, RecordChange};
+pub use asked::{PairChanges, RecordChange};
+pub use descent::Descent;
 pub use pair::Pair;
 pub use pair_laws::{
     closed_owners_keep_the_pair, each_change_changes_one_record, finding_pairs_hold_what_they_read,
     keys_lead_to_their_buckets, pair_starts_without_pages, same_view_keeps_the_pair,
     what_was_found_stays_there,
 };
-pub use way::Way;

@@ -1,14 +1,14 @@
 //! Pairs of keys.
 
 ghost use Rattle.std.specs.Prelude.{◌≡◌, ◌≢◌, ℕ, Option, None};
-ghost use Rattle.mlt_hash_access.specs.Moments.{moment};
+ghost use Rattle.mlt_hash_access.specs.LocalStates.{local};
 ghost use Rattle.mlt_hash_access.specs.PageSteps.{Leaves};
-ghost use Rattle.mlt_hash_pair.specs.Reading.{next_way};
+ghost use Rattle.mlt_hash_pair.specs.Reading.{next_descent};
 ghost use Rattle.mlt_hash_pair.specs.Pairs.{IsUnderWay, MayFind, find_by};
 ghost use Rattle.mlt_hash_pair.specs.Steps.{TellsOfStep, told_by};
 
 use crate::answer::PairAnswer;
-use crate::way::Way;
+use crate::descent::Descent;
 use mlt_hash_access::{LockedStore, lock, read_held};
 use mlt_hash_form::Root;
 use mlt_hash_record::SlotWrite;
@@ -21,8 +21,8 @@ use std::marker::Model;
 pub struct Pair {
     pub(crate) left: Key,
     pub(crate) right: Key,
-    pub(crate) left_way: Way,
-    pub(crate) right_way: Way,
+    pub(crate) left_descent: Descent,
+    pub(crate) right_descent: Descent,
     /// The change of the earlier bucket that is still to be written.
     pub(crate) owed: Option<SlotWrite>,
 }
@@ -36,16 +36,16 @@ impl Model for Pair {
     ghost view = { λ pair. record {
       left = pair.left;
       right = pair.right;
-      left_way = pair.left_way;
-      right_way = pair.right_way;
+      left_descent = pair.left_descent;
+      right_descent = pair.right_descent;
       owed = pair.owed;
     } };
 
     ghost inverse = { λ fields. record {
       left = fields.left;
       right = fields.right;
-      left_way = fields.left_way;
-      right_way = fields.right_way;
+      left_descent = fields.left_descent;
+      right_descent = fields.right_descent;
       owed = fields.owed;
     } };
 }
@@ -59,8 +59,8 @@ impl Pair {
         Pair {
             left,
             right,
-            left_way: Way::Start,
-            right_way: Way::Start,
+            left_descent: Descent::Start,
+            right_descent: Descent::Start,
             owed: None,
         }
     }
@@ -74,36 +74,36 @@ impl Pair {
     ) -> PairAnswer
         requires under_way { IsUnderWay self.old }
         requires ready { MayFind (P.bits_of root.now.pseudo) root.now.page
-            (moment subtx.now pages.old) self.old }
-        ensures leaves { Leaves (moment subtx.now pages.old) (moment subtx.now pages.new) }
+            (local subtx.now pages.old) self.old }
+        ensures leaves { Leaves (local subtx.now pages.old) (local subtx.now pages.new) }
         ensures tells { TellsOfStep (P.bits_of root.now.pseudo) root.now.page
-            (moment subtx.now pages.old) (moment subtx.now pages.new) self.old self.new result }
+            (local subtx.now pages.old) (local subtx.now pages.new) self.old self.new result }
     {
-        let next = first_way(&self.left_way, &self.right_way);
+        let next = first_way(&self.left_descent, &self.right_descent);
         let number = next.next_page(root.page);
         if let Err(by) = lock(subtx, pages, number, next.next_mode()) {
             return PairAnswer::Waiting(number, by);
         }
         let page = read_held(subtx, pages, number);
-        self.left_way = self.left_way.after(&self.left, number, page, root);
-        self.right_way = self.right_way.after(&self.right, number, page, root);
-        found(&self.left_way, &self.right_way)
+        self.left_descent = self.left_descent.after(&self.left, number, page, root);
+        self.right_descent = self.right_descent.after(&self.right, number, page, root);
+        found(&self.left_descent, &self.right_descent)
     }
 }
 
-// The way whose next page is locked first.
-fn first_way(left: &Way, right: &Way) -> Way
-    ensures { result ≡ next_way left.now right.now }
+// The descent whose next page is locked first.
+fn first_way(left: &Descent, right: &Descent) -> Descent
+    ensures { result ≡ next_descent left.now right.now }
 {
     if left.is_before(right) { *left } else { *right }
 }
 
 // What a step tells that has read its page.
-fn found(left: &Way, right: &Way) -> PairAnswer
+fn found(left: &Descent, right: &Descent) -> PairAnswer
     ensures { result ≡ told_by left.now right.now }
 {
     match (*left, *right) {
-        (Way::AtBucket { found: left, .. }, Way::AtBucket { found: right, .. }) =>
+        (Descent::AtBucket { found: left, .. }, Descent::AtBucket { found: right, .. }) =>
             PairAnswer::Found(left, right),
         _ => PairAnswer::Going,
     }

@@ -9,9 +9,9 @@ ghost use Rattle.mlt_page_locks.specs.LockTables.{pages_of};
 ghost use Rattle.mlt_hash_form.specs.File.{lead_of, look_up};
 ghost use Rattle.mlt_hash_form.specs.Held.{Agrees, over};
 ghost use Rattle.mlt_hash_form.specs.Changes.{ChangesRecord, slot_change};
-ghost use Rattle.mlt_hash_access.specs.Moments.{Moment};
+ghost use Rattle.mlt_hash_access.specs.LocalStates.{LocalState};
 ghost use Rattle.mlt_hash_access.specs.Views.{IsSameView, View, view_of};
-ghost use Rattle.mlt_hash_pair.specs.Ways.{found_of, page_of};
+ghost use Rattle.mlt_hash_pair.specs.Descents.{found_of, page_of};
 ghost use Rattle.mlt_hash_pair.specs.Changes.{FitsWritten, HasChanged, IsHolding, KeepsNoMore, MakesChange, WritesBucketsAlone};
 ghost use Rattle.mlt_hash_pair.specs.Plans.{slot_after, value_after};
 ghost use Rattle.mlt_hash_pair.specs.declared.asked.RecordChange.{RecordChange};
@@ -19,7 +19,7 @@ ghost use Rattle.mlt_hash_pair.specs.Pairs.{IsFinding, IsFound, PairFields, find
 
 /// Who holds no page is at the start of a pair.
 pub fn pair_starts_without_pages()
-    ensures { (bits : ℕ → ℕ) (root left right : ℕ) (m : Moment) → left ≢ right
+    ensures { (bits : ℕ → ℕ) (root left right : ℕ) (m : LocalState) → left ≢ right
         → pages_of m.locks m.running.tx ≡ map.empty
         → IsFinding bits root (find_by left right) (view_of m) }
 {}
@@ -34,25 +34,25 @@ pub fn finding_pairs_hold_what_they_read()
 pub fn what_was_found_stays_there()
     ensures { (bits : ℕ → ℕ) (root : ℕ) (pair : PairFields) (view : View) (clean : ℕ → Option Page)
         → IsFound pair → IsHolding bits root pair view → Agrees view.seen clean
-        → (found_of pair.left_way ≡ look_up bits clean root pair.left)
-        × (found_of pair.right_way ≡ look_up bits clean root pair.right) }
+        → (found_of pair.left_descent ≡ look_up bits clean root pair.left)
+        × (found_of pair.right_descent ≡ look_up bits clean root pair.right) }
 {}
 
 /// Other transactions that change nothing of what a pair holds leave it where it stands.
 pub fn same_view_keeps_the_pair()
-    ensures { (bits : ℕ → ℕ) (root : ℕ) (opens : set.FinSet nat_cmp) (tx : ℕ) (pair : PairFields)
+    ensures { (bits : ℕ → ℕ) (root : ℕ) (active : set.FinSet nat_cmp) (tx : ℕ) (pair : PairFields)
         (before after : View) → IsSameView before after
         → (IsFinding bits root pair before → IsFinding bits root pair after)
         × (IsHolding bits root pair before → IsHolding bits root pair after)
-        × (HasChanged bits root opens tx pair before → HasChanged bits root opens tx pair after) }
+        × (HasChanged bits root active tx pair before → HasChanged bits root active tx pair after) }
 {}
 
 /// So do transactions that close, and others that begin and left no ghost on a page that is held. On its way a pair knows
 /// nothing of who is open.
 pub fn closed_owners_keep_the_pair()
-    ensures { (bits : ℕ → ℕ) (root : ℕ) (opens fewer : set.FinSet nat_cmp) (tx : ℕ)
+    ensures { (bits : ℕ → ℕ) (root : ℕ) (active fewer : set.FinSet nat_cmp) (tx : ℕ)
         (pair : PairFields) (view : View)
-        → HasChanged bits root opens tx pair view → KeepsNoMore opens fewer view
+        → HasChanged bits root active tx pair view → KeepsNoMore active fewer view
         → HasChanged bits root fewer tx pair view }
 {}
 
@@ -61,17 +61,17 @@ pub fn keys_lead_to_their_buckets()
     ensures { (bits : ℕ → ℕ) (root : ℕ) (pair : PairFields) (view : View) (clean : ℕ → Option Page)
         → IsFound pair → IsHolding bits root pair view → Agrees view.seen clean
         → WritesBucketsAlone pair view
-        → (lead_of (over clean view.own) root (bits pair.left) ≡ page_of pair.left_way)
-        × (lead_of (over clean view.own) root (bits pair.right) ≡ page_of pair.right_way) }
+        → (lead_of (over clean view.own) root (bits pair.left) ≡ page_of pair.left_descent)
+        × (lead_of (over clean view.own) root (bits pair.right) ≡ page_of pair.right_descent) }
 {}
 
 /// A change that is made changes the record of its key, and nothing else, whatever the clean pages are elsewhere: where
 /// the pages as they are written have the form of a file, the key leads to the bucket, and the change fits what it has.
 pub fn each_change_changes_one_record()
-    ensures { (bits : ℕ → ℕ) (root : ℕ) (opens : set.FinSet nat_cmp) (tx key q : ℕ)
+    ensures { (bits : ℕ → ℕ) (root : ℕ) (active : set.FinSet nat_cmp) (tx key q : ℕ)
         (change : RecordChange) (old new : View) (clean : ℕ → Option Page)
         → FitsWritten bits root key q change old clean
-        → (makes : MakesChange change opens tx key q old new)
+        → (makes : MakesChange change active tx key q old new)
         → ChangesRecord bits (over clean old.own) (over clean new.own) root
         (slot_change key (value_after change) q makes.write.at (slot_after change key tx)) }
 {}

@@ -26,15 +26,15 @@ pub(crate) fn plan_in(
     key: &Key,
     asked: &Option<RecordChange>,
     owner: TxId,
-    opens: &OpenSet,
+    active: &OpenSet,
 ) -> SlotPlan
     requires fits { FitsSlots asked.now key.now bucket.now.slots }
-    ensures planned { IsPlanned result asked.now opens.now owner key.now number bucket.now }
+    ensures planned { IsPlanned result asked.now active.now owner key.now number bucket.now }
     ensures within { IsWithin result }
 {
     match *asked {
         None => SlotPlan::Nothing,
-        Some(change) => plan_of(bucket, number, key, change, owner, opens),
+        Some(change) => plan_of(bucket, number, key, change, owner, active),
     }
 }
 
@@ -45,10 +45,10 @@ fn plan_of(
     key: &Key,
     change: RecordChange,
     owner: TxId,
-    opens: &OpenSet,
+    active: &OpenSet,
 ) -> SlotPlan
     requires fits { FitsSlots (Some change) key.now bucket.now.slots }
-    ensures planned { IsPlanned result (Some change) opens.now owner key.now number bucket.now }
+    ensures planned { IsPlanned result (Some change) active.now owner key.now number bucket.now }
     ensures within { IsWithin result }
 {
     match change {
@@ -56,7 +56,7 @@ fn plan_of(
             if let Some(write) = mlt_hash_record::revive(number, bucket, *key, owner, value) {
                 return SlotPlan::Set(write);
             }
-            match mlt_hash_record::insert(number, bucket, *key, value, opens) {
+            match mlt_hash_record::insert(number, bucket, *key, value, active) {
                 Some(write) => SlotPlan::Set(write),
                 None => SlotPlan::Full,
             }

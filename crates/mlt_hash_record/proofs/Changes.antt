@@ -20,10 +20,10 @@ live_of key (Live own v) h = let e = eqb-true own key h in (v, ap (λ k. Live k 
 live_of key (Ghost own v owner) h = cc
 
 -- a slot that a record may be put into is no record, nor is a ghost
-room_is_dead : (opens : fin.FinSet nat_cmp) (s : Slot) → has_room opens s ≡ true → (k v : ℕ) → s ≡ Live k v → ⊥
-room_is_dead opens Free h k v e = cc
-room_is_dead opens (Live own w) h k v e = cc
-room_is_dead opens (Ghost own w owner) h k v e = cc
+room_is_dead : (active : fin.FinSet nat_cmp) (s : Slot) → has_room active s ≡ true → (k v : ℕ) → s ≡ Live k v → ⊥
+room_is_dead active Free h k v e = cc
+room_is_dead active (Live own w) h k v e = cc
+room_is_dead active (Ghost own w owner) h k v e = cc
 
 ghost_is_dead : (key owner : ℕ) (s : Slot) → is_ghost_of key owner s ≡ true → (k v : ℕ) → s ≡ Live k v → ⊥
 ghost_is_dead key owner Free h k v e = cc
@@ -85,9 +85,9 @@ one_place slots key i one live j w e =
     let here = live_of key (get_or slots i Free) live in
     one j i w here.0 e here.1
 
-pub put_sets_pair : (opens : fin.FinSet nat_cmp) (slots : List Slot) (key value i : ℕ) → position (is_live_of key) slots ≡ None → i < length slots → has_room opens (get_or slots i Free) ≡ true → SetsPair slots (set slots i (Live key value)) key (Some value)
-put_sets_pair opens slots key value i none within room =
-    sets_pair slots i (Live key value) key (Some value) within (λ j w e. absurd (no_pair slots key none j w e)) (λ k w e. absurd (room_is_dead opens _ room k w e)) (live_shows key value)
+pub put_sets_pair : (active : fin.FinSet nat_cmp) (slots : List Slot) (key value i : ℕ) → position (is_live_of key) slots ≡ None → i < length slots → has_room active (get_or slots i Free) ≡ true → SetsPair slots (set slots i (Live key value)) key (Some value)
+put_sets_pair active slots key value i none within room =
+    sets_pair slots i (Live key value) key (Some value) within (λ j w e. absurd (no_pair slots key none j w e)) (λ k w e. absurd (room_is_dead active _ room k w e)) (live_shows key value)
 
 pub revive_sets_pair : (slots : List Slot) (key value owner i : ℕ) → position (is_live_of key) slots ≡ None → i < length slots → is_ghost_of key owner (get_or slots i Free) ≡ true → SetsPair slots (set slots i (Live key value)) key (Some value)
 revive_sets_pair slots key value owner i none within ghost =

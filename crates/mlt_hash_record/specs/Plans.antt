@@ -25,7 +25,7 @@ planned_page bucket write = page_with_slot bucket write.at write.slot
 
 -- a record may be put there: nothing stands there, or a ghost whose owner is not open
 abbrev pub has_room : set.FinSet nat_cmp → Slot → Bool
-has_room opens slot = not (is_kept opens slot)
+has_room active slot = not (is_kept active slot)
 
 -- no slot has the property
 abbrev pub IsNowhere : (Slot → Bool) → List Slot → Type 0

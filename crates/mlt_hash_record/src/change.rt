@@ -17,15 +17,15 @@ pub fn insert(
     bucket: &Bucket,
     key: Key,
     value: Value,
-    opens: &OpenSet,
+    active: &OpenSet,
 ) -> Option<SlotWrite>
     requires { position (is_live_of key) bucket.now.slots ≡ None }
-    ensures plan { MatchOption result (IsNowhere (has_room opens.now) bucket.now.slots)
-        (SetsFirst number bucket.now (has_room opens.now) (Live key value)) }
+    ensures plan { MatchOption result (IsNowhere (has_room active.now) bucket.now.slots)
+        (SetsFirst number bucket.now (has_room active.now) (Live key value)) }
     ensures pairs { let slots = bucket.now.slots in
         IfSome result (λ write. SetsPair slots (slots_written slots write) key (Some value)) }
 {
-    let at = bucket.room(opens)?;
+    let at = bucket.room(active)?;
     Some(SlotWrite {
         number,
         at,

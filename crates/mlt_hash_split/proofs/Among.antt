@@ -9,7 +9,7 @@ use Rattle.mlt_page_locks.specs.LockTables.{Modes, page_count}
 use Rattle.mlt_page_locks.specs.Requests.{with_page}
 use Rattle.mlt_page_locks.proofs.LockLaws.{keys_within}
 use Rattle.mlt_hash_form.specs.File.{FilePages}
-use Rattle.mlt_hash_access.specs.Moments.{Moment}
+use Rattle.mlt_hash_access.specs.LocalStates.{LocalState}
 use Rattle.mlt_hash_access.specs.Views.{View, view_over}
 use Rattle.mlt_hash_split.specs.Rests.{HoldsAmong, IsIn, most_held}
 use Rattle.mlt_hash_access.proofs.Views.{mode_of_others, page_count_of_view}
@@ -18,7 +18,7 @@ use Rattle.mlt_hash_access.proofs.Views.{mode_of_others, page_count_of_view}
 pub few_are_held : (view : View) (dirs made : List ℕ) (k count j most : ℕ) → HoldsAmong view dirs made k count j most → map.len view.modes ≤ most
 few_are_held view dirs made k count j most among = let within = keys_within among.pages view.modes among.all in omega (arith, within, among.few)
 
-pub count_is_few : (before : FilePages) (m : Moment) (dirs made : List ℕ) (k count j most : ℕ) → HoldsAmong (view_over before m) dirs made k count j most → most < 300 → page_count m.locks m.running.tx < 300
+pub count_is_few : (before : FilePages) (m : LocalState) (dirs made : List ℕ) (k count j most : ℕ) → HoldsAmong (view_over before m) dirs made k count j most → most < 300 → page_count m.locks m.running.tx < 300
 count_is_few before m dirs made k count j most among small = let few = few_are_held (view_over before m) dirs made k count j most among in omega (arith, few, page_count_of_view m)
 
 -- the directory of a file has at most 256 pages

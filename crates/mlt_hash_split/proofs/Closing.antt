@@ -17,7 +17,7 @@ use Rattle.mlt_page.specs.declared.page.Page.TheVariants as page
 use Rattle.mlt_hash_form.specs.Form.{half_of}
 use Rattle.mlt_hash_form.specs.File.{HasForm, Writes, bucket_of, buckets_of, depth_of, dirs_of, entries_of, entry, header_of, lead_of}
 use Rattle.mlt_hash_form.specs.Changes.{IsSplit, MaySplit}
-use Rattle.mlt_hash_form.specs.Held.{Agrees, KeepsFile, over, own_or}
+use Rattle.mlt_hash_form.specs.Held.{Agrees, KeepsFile, over, own_or_clean}
 use Rattle.mlt_hash_form.specs.Room.{is_crowded}
 use Rattle.mlt_hash_form.specs.Splits.{IsMidway, run_length, run_start, target_of, bucket_split}
 use Rattle.mlt_hash_form.proofs.Bits.{first_bits-first_bits, first_bits_below, first_bits_next, side_cases}
@@ -28,7 +28,7 @@ use Rattle.mlt_hash_form.proofs.Midway.{fill_beside}
 use Rattle.mlt_hash_form.proofs.Splitting.{half_cases}
 use Rattle.mlt_hash_form.proofs.SplitSteps.{closes_by_header, closes_in_place}
 use Rattle.mlt_hash_access.specs.Views.{View}
-use Rattle.mlt_hash_split.specs.Rests.{Aim, HoldsAmong, IsAtRest, held_page, most_held, seed_of}
+use Rattle.mlt_hash_split.specs.Rests.{SplitTarget, HoldsAmong, IsAtRest, held_page, most_held, seed_of}
 use Rattle.mlt_hash_split.specs.Splits.{Begins, SplitFields}
 
 -- the page of the half that the pseudokey x goes to, where the bucket of this depth is split
@@ -97,30 +97,30 @@ module _ (bits : ℕ → ℕ) (splitters : set.FinSet nat_cmp) (base : ℕ → O
       }
 
 -- what a walk has at the end of a split: the facts that IsUnderWay has of what it holds, with the split closed
-pub record HasClosed (aim : Aim) (view : View) (rest : ℕ → Option Page) (splitters : set.FinSet nat_cmp) (split : SplitFields) (header : HeadFields) (bucket : BucketFields) : Type 0 where
-  pub bounded : (k : ℕ) → aim.bits k < 2 ^ 64
-  pub keeps : KeepsFile aim.bits aim.opens aim.root view.seen rest
-  pub head_held : is_some (view.seen aim.root) ≡ true
-  pub head : held_page view aim.root ≡ Some (page.Head header)
+pub record HasClosed (target : SplitTarget) (view : View) (rest : ℕ → Option Page) (splitters : set.FinSet nat_cmp) (split : SplitFields) (header : HeadFields) (bucket : BucketFields) : Type 0 where
+  pub bounded : (k : ℕ) → target.bits k < 2 ^ 64
+  pub keeps : KeepsFile target.bits target.active target.root view.seen rest
+  pub head_held : is_some (view.seen target.root) ≡ true
+  pub head : held_page view target.root ≡ Some (page.Head header)
   pub old_held : is_some (view.seen split.old_page) ≡ true
   pub new_held : is_some (view.seen split.new_page) ≡ true
   pub old_exclusive : finmap.get view.modes split.old_page ≡ Some Exclusive
   pub new_exclusive : finmap.get view.modes split.new_page ≡ Some Exclusive
-  pub fewer : (i : ℕ) → is_kept aim.opens (slice_index_or bucket.slots i Free) ≡ true → is_kept splitters (slice_index_or bucket.slots i Free) ≡ true
-  pub absent : (i : ℕ) → is_live_of aim.key (slice_index_or bucket.slots i Free) ≡ false
-  pub no_ghost : (i : ℕ) → is_ghost_of aim.key aim.owner (slice_index_or bucket.slots i Free) ≡ false
-  pub room : is_crowded aim.bits aim.opens aim.room_depth (seed_of aim) bucket.slots ≡ false
-  pub small : aim.room_depth ≤ 16
-  pub few_before : aim.held_before ≤ 17
-  pub begins : (clean : ℕ → Option Page) → Agrees view.seen clean → HasForm aim.bits clean aim.root → Begins aim (over clean rest) split bucket
-  pub closed : (clean : ℕ → Option Page) → Agrees view.seen clean → HasForm aim.bits clean aim.root → IsClosed aim.bits splitters (over clean rest) (over clean view.own) aim.root split.old_page split.new_page (seed_of aim)
-  pub among : HoldsAmong view header.dirs header.dirs 0 (2 ^ (header.depth - 8)) 0 (most_held aim.held_before (split.depth + 1) header.depth)
+  pub fewer : (i : ℕ) → is_kept target.active (slice_index_or bucket.slots i Free) ≡ true → is_kept splitters (slice_index_or bucket.slots i Free) ≡ true
+  pub absent : (i : ℕ) → is_live_of target.key (slice_index_or bucket.slots i Free) ≡ false
+  pub no_ghost : (i : ℕ) → is_ghost_of target.key target.owner (slice_index_or bucket.slots i Free) ≡ false
+  pub room : is_crowded target.bits target.active target.room_depth (seed_of target) bucket.slots ≡ false
+  pub small : target.room_depth ≤ 16
+  pub few_before : target.held_before ≤ 17
+  pub begins : (clean : ℕ → Option Page) → Agrees view.seen clean → HasForm target.bits clean target.root → Begins target (over clean rest) split bucket
+  pub closed : (clean : ℕ → Option Page) → Agrees view.seen clean → HasForm target.bits clean target.root → IsClosed target.bits splitters (over clean rest) (over clean view.own) target.root split.old_page split.new_page (seed_of target)
+  pub among : HoldsAmong view header.dirs header.dirs 0 (2 ^ (header.depth - 8)) 0 (most_held target.held_before (split.depth + 1) header.depth)
 
--- the clean pages of one moment, as a witness
-pub record HasClean (aim : Aim) (view : View) : Type 0 where
+-- the clean pages of one state, as a witness
+pub record HasClean (target : SplitTarget) (view : View) : Type 0 where
   pub clean : ℕ → Option Page
   pub agrees : Agrees view.seen clean
-  pub form : HasForm aim.bits clean aim.root
+  pub form : HasForm target.bits clean target.root
 
 seen_is : (o : Option (Option Page)) (c : Option Page) → ((p : Option Page) → o ≡ Some p → c ≡ p) → is_some o ≡ true → unwrap_or o None ≡ c
 seen_is None c agrees held = absurd (both_ways _ refl held)
@@ -128,13 +128,13 @@ seen_is (Some p) c agrees held = sym (agrees p refl)
 
 -- a held page reads as it does over any clean pages that agree
 pub held_page_over : (view : View) (clean : ℕ → Option Page) (q : ℕ) → Agrees view.seen clean → is_some (view.seen q) ≡ true → held_page view q ≡ over clean view.own q
-held_page_over view clean q agrees held = ap (own_or (view.own q)) (seen_is (view.seen q) (clean q) (agrees q) held)
+held_page_over view clean q agrees held = ap (own_or_clean (view.own q)) (seen_is (view.seen q) (clean q) (agrees q) held)
 
 -- no slot of a half passes a test that no slot of the bucket passes
-half_passes_none : (bits : ℕ → ℕ) (opens : set.FinSet nat_cmp) (l side : ℕ) (test : Slot → Bool) (slots : List Slot) → test Free ≡ false → ((i : ℕ) → test (slice_index_or slots i Free) ≡ false) → (i : ℕ) → test (slice_index_or (map (half bits opens l side) slots) i Free) ≡ false
-half_passes_none bits opens l side test slots free none i =
-    let at : slice_index_or (map (half bits opens l side) slots) i Free ≡ half bits opens l side (slice_index_or slots i Free) = get_or-map (half bits opens l side) slots i Free in
-    ap test at ∙ elim (half_cases bits opens l side (slice_index_or slots i Free)) [
+half_passes_none : (bits : ℕ → ℕ) (active : set.FinSet nat_cmp) (l side : ℕ) (test : Slot → Bool) (slots : List Slot) → test Free ≡ false → ((i : ℕ) → test (slice_index_or slots i Free) ≡ false) → (i : ℕ) → test (slice_index_or (map (half bits active l side) slots) i Free) ≡ false
+half_passes_none bits active l side test slots free none i =
+    let at : slice_index_or (map (half bits active l side) slots) i Free ≡ half bits active l side (slice_index_or slots i Free) = get_or-map (half bits active l side) slots i Free in
+    ap test at ∙ elim (half_cases bits active l side (slice_index_or slots i Free)) [
       | inl same ↦ ap test same.0 ∙ none i
       | inr gone ↦ ap test gone ∙ free
     ]
@@ -157,28 +157,28 @@ of_half_page P depth x n new at_old at_new =
           subst (λ (p : ℕ × ℕ). P p.0 p.1) (λ i. (page i, sym e i)) at_new
     ]
 
-module _ (aim : Aim) (view : View) (rest : ℕ → Option Page) (splitters : set.FinSet nat_cmp) (split : SplitFields) (header : HeadFields) (bucket : BucketFields) (witness : HasClean aim view) (done : HasClosed aim view rest splitters split header bucket) where
+module _ (target : SplitTarget) (view : View) (rest : ℕ → Option Page) (splitters : set.FinSet nat_cmp) (split : SplitFields) (header : HeadFields) (bucket : BucketFields) (witness : HasClean target view) (done : HasClosed target view rest splitters split header bucket) where
   abbrev here : ℕ
   here = half_page split.depth split.seed split.old_page split.new_page
 
   abbrev side : ℕ
   side = bit_at split.depth split.seed
 
-  bucket_is : (clean : ℕ → Option Page) → Agrees view.seen clean → HasForm aim.bits clean aim.root → buckets_of (over clean rest) split.old_page ≡ bucket
+  bucket_is : (clean : ℕ → Option Page) → Agrees view.seen clean → HasForm target.bits clean target.root → buckets_of (over clean rest) split.old_page ≡ bucket
   bucket_is clean agrees form = ap bucket_of (done.begins clean agrees form).was
 
-  keeps' : KeepsFile aim.bits aim.opens aim.root view.seen view.own
-  keeps' = split_keeps aim.bits aim.opens aim.root view.seen rest done.keeps view.own splitters split.old_page split.new_page done.old_held
-      (λ clean agrees form whole. ((done.closed clean agrees form).split, λ i kept. let is = bucket_is clean agrees form in subst (λ (b : BucketFields). is_kept splitters (slice_index_or b.slots i Free) ≡ true) (sym is) (done.fewer i (subst (λ (b : BucketFields). is_kept aim.opens (slice_index_or b.slots i Free) ≡ true) is kept))))
+  keeps' : KeepsFile target.bits target.active target.root view.seen view.own
+  keeps' = split_keeps target.bits target.active target.root view.seen rest done.keeps view.own splitters split.old_page split.new_page done.old_held
+      (λ clean agrees form whole. ((done.closed clean agrees form).split, λ i kept. let is = bucket_is clean agrees form in subst (λ (b : BucketFields). is_kept splitters (slice_index_or b.slots i Free) ≡ true) (sym is) (done.fewer i (subst (λ (b : BucketFields). is_kept target.active (slice_index_or b.slots i Free) ≡ true) is kept))))
 
-  leads' : (clean : ℕ → Option Page) → Agrees view.seen clean → HasForm aim.bits clean aim.root → lead_of (over clean view.own) aim.root (seed_of aim) ≡ here
+  leads' : (clean : ℕ → Option Page) → Agrees view.seen clean → HasForm target.bits clean target.root → lead_of (over clean view.own) target.root (seed_of target) ≡ here
   leads' clean agrees form =
       let b = done.begins clean agrees form in
       let is = bucket_is clean agrees form in
       (done.closed clean agrees form).leads ∙ (λ i. half_page ((ap (λ (c : BucketFields). c.depth) is ∙ b.depth) i) (sym b.seed i) split.old_page split.new_page)
 
   abbrev Reads : ℕ → ℕ → Type 0
-  Reads q bit = held_page view q ≡ Some (page.Bucket (half_of aim.bits splitters bucket bit))
+  Reads q bit = held_page view q ≡ Some (page.Bucket (half_of target.bits splitters bucket bit))
 
   found' : Reads here side
   found' =
@@ -186,11 +186,11 @@ module _ (aim : Aim) (view : View) (rest : ℕ → Option Page) (splitters : set
       let c = done.closed w.clean w.agrees w.form in
       let is = bucket_is w.clean w.agrees w.form in
       of_half_page Reads split.depth split.seed split.old_page split.new_page
-      (held_page_over view w.clean split.old_page w.agrees done.old_held ∙ c.zeros ∙ ap (λ b. Some (page.Bucket (half_of aim.bits splitters b 0))) is)
-      (held_page_over view w.clean split.new_page w.agrees done.new_held ∙ c.ones ∙ ap (λ b. Some (page.Bucket (half_of aim.bits splitters b 1))) is)
+      (held_page_over view w.clean split.old_page w.agrees done.old_held ∙ c.zeros ∙ ap (λ b. Some (page.Bucket (half_of target.bits splitters b 0))) is)
+      (held_page_over view w.clean split.new_page w.agrees done.new_held ∙ c.ones ∙ ap (λ b. Some (page.Bucket (half_of target.bits splitters b 1))) is)
 
   -- **The last page of a split leaves the walk's file at rest, on the page of the key's half.**
-  pub closes : IsAtRest aim view here header (half_of aim.bits splitters bucket side)
+  pub closes : IsAtRest target view here header (half_of target.bits splitters bucket side)
   closes = record {
     bounded = done.bounded;
     keeps = keeps';
@@ -200,10 +200,10 @@ module _ (aim : Aim) (view : View) (rest : ℕ → Option Page) (splitters : set
     bucket_held = of_half_page (λ q bit. is_some (view.seen q) ≡ true) split.depth split.seed split.old_page split.new_page done.old_held done.new_held;
     found = found';
     exclusive = of_half_page (λ q bit. finmap.get view.modes q ≡ Some Exclusive) split.depth split.seed split.old_page split.new_page done.old_exclusive done.new_exclusive;
-    absent = half_passes_none aim.bits splitters bucket.depth side (is_live_of aim.key) bucket.slots refl done.absent;
-    no_ghost = half_passes_none aim.bits splitters bucket.depth side (is_ghost_of aim.key aim.owner) bucket.slots refl done.no_ghost;
-    room = not_true _ _ (crowded_half aim.bits splitters aim.opens bucket.depth side aim.room_depth (seed_of aim) bucket.slots) done.room;
+    absent = half_passes_none target.bits splitters bucket.depth side (is_live_of target.key) bucket.slots refl done.absent;
+    no_ghost = half_passes_none target.bits splitters bucket.depth side (is_ghost_of target.key target.owner) bucket.slots refl done.no_ghost;
+    room = not_true _ _ (crowded_half target.bits splitters target.active bucket.depth side target.room_depth (seed_of target) bucket.slots) done.room;
     small = done.small;
     few_before = done.few_before;
-    among = let depth : split.depth ≡ bucket.depth = sym (done.begins witness.clean witness.agrees witness.form).depth in subst (λ l. HoldsAmong view header.dirs header.dirs 0 (2 ^ (header.depth - 8)) 0 (most_held aim.held_before (l + 1) header.depth)) depth done.among;
+    among = let depth : split.depth ≡ bucket.depth = sym (done.begins witness.clean witness.agrees witness.form).depth in subst (λ l. HoldsAmong view header.dirs header.dirs 0 (2 ^ (header.depth - 8)) 0 (most_held target.held_before (l + 1) header.depth)) depth done.among;
   }

@@ -7,7 +7,7 @@ use Rattle.mlt_page.specs.Values.{BucketFields, HeadFields}
 use Rattle.mlt_page.specs.declared.page.Page.{Page}
 use Rattle.mlt_hash_form.specs.Held.{over}
 use Rattle.mlt_hash_access.specs.Views.{View}
-use Rattle.mlt_hash_split.specs.Rests.{Aim, IsAtRest, most_held}
+use Rattle.mlt_hash_split.specs.Rests.{SplitTarget, IsAtRest, most_held}
 use Rattle.mlt_hash_split.specs.Splits.{HoldsAmongAt, IsUnderWay, SplitFields, StandsAt}
 use Rattle.mlt_hash_split.specs.declared.phase.SplitPhase.{SplitPhase}
 use Rattle.mlt_hash_split.specs.declared.phase.SplitPhase.TheVariants as at
@@ -18,41 +18,41 @@ use Rattle.mlt_hash_split.proofs.Later.{half_pages}
 use Rattle.mlt_hash_split.proofs.OldBucket.{depths_are_small}
 
 -- **A walk at rest holds fewer than 300 pages,**
-pub rest_holds_few : (aim : Aim) (view : View) (n : ℕ) (header : HeadFields) (bucket : BucketFields) → HasClean aim view → IsAtRest aim view n header bucket → map.len view.modes < 300
-rest_holds_few aim view n header bucket w rest =
-    let small = rest_is_small aim view n header bucket rest w in
-    let shallow = rest_is_shallow aim view n header bucket rest w in
-    let few = few_are_held view header.dirs header.dirs 0 (2 ^ (header.depth - 8)) 0 (most_held aim.held_before bucket.depth header.depth) rest.among in
-    omega (arith, few, most_is_small aim.held_before bucket.depth header.depth rest.few_before (omega (arith, small, shallow)) small)
+pub rest_holds_few : (target : SplitTarget) (view : View) (n : ℕ) (header : HeadFields) (bucket : BucketFields) → HasClean target view → IsAtRest target view n header bucket → map.len view.modes < 300
+rest_holds_few target view n header bucket w rest =
+    let small = rest_is_small target view n header bucket rest w in
+    let shallow = rest_is_shallow target view n header bucket rest w in
+    let few = few_are_held view header.dirs header.dirs 0 (2 ^ (header.depth - 8)) 0 (most_held target.held_before bucket.depth header.depth) rest.among in
+    omega (arith, few, most_is_small target.held_before bucket.depth header.depth rest.few_before (omega (arith, small, shallow)) small)
 
-few_at : (phase : SplitPhase) (aim : Aim) (splitters : set.FinSet nat_cmp) (base pages : ℕ → Option Page) (split : SplitFields) (bucket : BucketFields) (view : View) (dirs : List ℕ) → split.depth < 16 → split.directory_depth ≤ 16 → aim.held_before ≤ 17
-    → StandsAt phase aim splitters base pages split bucket → HoldsAmongAt phase aim.held_before view dirs split → map.len view.modes < 300
-few_at at.OldBucket aim splitters base pages split bucket view dirs deep small before stands among = let few = few_are_held view _ _ _ _ _ _ among in omega (arith, few, most_is_small aim.held_before (split.depth + 1) split.directory_depth before (omega (arith, deep)) small)
-few_at (at.InPlace place end) aim splitters base pages split bucket view dirs deep small before stands among = let few = few_are_held view _ _ _ _ _ _ among in omega (arith, few, most_is_small aim.held_before (split.depth + 1) split.directory_depth before (omega (arith, deep)) small)
-few_at (at.Double place) aim splitters base pages split bucket view dirs deep small before stands among =
+few_at : (phase : SplitPhase) (target : SplitTarget) (splitters : set.FinSet nat_cmp) (base pages : ℕ → Option Page) (split : SplitFields) (bucket : BucketFields) (view : View) (dirs : List ℕ) → split.depth < 16 → split.directory_depth ≤ 16 → target.held_before ≤ 17
+    → StandsAt phase target splitters base pages split bucket → HoldsAmongAt phase target.held_before view dirs split → map.len view.modes < 300
+few_at at.OldBucket target splitters base pages split bucket view dirs deep small before stands among = let few = few_are_held view _ _ _ _ _ _ among in omega (arith, few, most_is_small target.held_before (split.depth + 1) split.directory_depth before (omega (arith, deep)) small)
+few_at (at.InPlace place end) target splitters base pages split bucket view dirs deep small before stands among = let few = few_are_held view _ _ _ _ _ _ among in omega (arith, few, most_is_small target.held_before (split.depth + 1) split.directory_depth before (omega (arith, deep)) small)
+few_at (at.Double place) target splitters base pages split bucket view dirs deep small before stands among =
     let few = few_are_held view _ _ _ _ _ _ among in
     let same = stands.deep in
     let more = stands.more in
     let lower : split.directory_depth < 16 = omega (arith, deep, same) in
     omega (arith, few, deep, more, before, half_pages split.directory_depth lower)
-few_at (at.SecondHalf place) aim splitters base pages split bucket view dirs deep small before stands among =
+few_at (at.SecondHalf place) target splitters base pages split bucket view dirs deep small before stands among =
     let few = few_are_held view _ _ _ _ _ _ among in
     let same = stands.deep in
     let more = stands.more in
     let lower : split.directory_depth < 16 = omega (arith, deep, same) in
     omega (arith, few, deep, more, before, half_pages split.directory_depth lower)
-few_at at.Header aim splitters base pages split bucket view dirs deep small before stands among =
+few_at at.Header target splitters base pages split bucket view dirs deep small before stands among =
     let few = few_are_held view _ _ _ _ _ _ among in
     let same = stands.deep in
     let deeper = stands.deeper in
     let lower : split.made.depth ≤ 16 = omega (arith, deep, same, deeper) in
-    omega (arith, few, most_is_small aim.held_before (split.depth + 1) split.made.depth before (omega (arith, deep)) lower)
+    omega (arith, few, most_is_small target.held_before (split.depth + 1) split.made.depth before (omega (arith, deep)) lower)
 
 -- **and so does one with a split under way.**
-pub split_holds_few : (aim : Aim) (view : View) (split : SplitFields) → HasClean aim view → IsUnderWay aim view split → map.len view.modes < 300
-split_holds_few aim view split w way =
+pub split_holds_few : (target : SplitTarget) (view : View) (split : SplitFields) → HasClean target view → IsUnderWay target view split → map.len view.modes < 300
+split_holds_few target view split w way =
     let begins = way.begins w.clean w.agrees w.form in
-    let small = depths_are_small aim (over w.clean way.rest) split way.bucket begins in
+    let small = depths_are_small target (over w.clean way.rest) split way.bucket begins in
     let deep = begins.deep in
     let room = way.small in
-    few_at split.phase aim way.splitters (over w.clean way.rest) (over w.clean view.own) split way.bucket view way.header.dirs (omega (arith, deep, room)) small.1 way.few_before (way.stands w.clean w.agrees w.form) way.among
+    few_at split.phase target way.splitters (over w.clean way.rest) (over w.clean view.own) split way.bucket view way.header.dirs (omega (arith, deep, room)) small.1 way.few_before (way.stands w.clean w.agrees w.form) way.among

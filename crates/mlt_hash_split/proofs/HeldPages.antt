@@ -8,48 +8,48 @@ use Rattle.mlt_page.specs.declared.page.Page.{Page}
 use Rattle.mlt_page.specs.declared.page.Page.TheVariants as page
 use Rattle.mlt_page_store.specs.Stores.{page_at}
 use Rattle.mlt_hash_form.specs.File.{FilePages}
-use Rattle.mlt_hash_form.specs.Held.{Agrees, over, own_or}
-use Rattle.mlt_hash_access.specs.Moments.{HasFileOver, IsCleanFor, MayStep, Moment}
+use Rattle.mlt_hash_form.specs.Held.{Agrees, over, own_or_clean}
+use Rattle.mlt_hash_access.specs.LocalStates.{HasFileOver, IsCleanFor, MayStep, LocalState}
 use Rattle.mlt_hash_access.specs.Views.{HasWritten, MakesPage, ReadsHeldPage, View, view_of, view_over}
 use Rattle.mlt_hash_access.proofs.Since.{agrees_over, reads_below_writes, reads_over_writes, there_since}
-use Rattle.mlt_hash_split.specs.Rests.{Aim, held_page}
+use Rattle.mlt_hash_split.specs.Rests.{SplitTarget, held_page}
 use Rattle.mlt_hash_access.proofs.Views.{mode_of_others}
 use Rattle.mlt_hash_split.proofs.Closing.{HasClean}
 use Rattle.mlt_hash_split.proofs.Later.{exclusive_here}
 
 -- a hash file as it is clean now
-pub clean_now : (aim : Aim) (m : Moment) → MayStep m → HasFileOver aim.bits aim.root aim.before m → HasClean aim (view_over aim.before m)
-clean_now aim m may file = record { clean = over file.clean aim.before; agrees = agrees_over aim.before m file.clean may file.is_clean; form = file.form }
+pub clean_now : (target : SplitTarget) (m : LocalState) → MayStep m → HasFileOver target.bits target.root target.before m → HasClean target (view_over target.before m)
+clean_now target m may file = record { clean = over file.clean target.before; agrees = agrees_over target.before m file.clean may file.is_clean; form = file.form }
 
 -- and as it is after a step, if it is clean still
-pub agrees_later : (aim : Aim) (old new : Moment) (was : MayStep old) → MayStep new → (file : HasFileOver aim.bits aim.root aim.before old) → IsCleanFor new file.clean → Agrees (view_over aim.before new).seen (clean_now aim old was file).clean
+pub agrees_later : (target : SplitTarget) (old new : LocalState) (was : MayStep old) → MayStep new → (file : HasFileOver target.bits target.root target.before old) → IsCleanFor new file.clean → Agrees (view_over target.before new).seen (clean_now target old was file).clean
 unfolding clean_now
-agrees_later aim old new was may file is_clean = agrees_over aim.before new file.clean may is_clean
+agrees_later target old new was may file is_clean = agrees_over target.before new file.clean may is_clean
 
-pub clean_later : (aim : Aim) (old new : Moment) → MayStep new → (file : HasFileOver aim.bits aim.root aim.before old) → IsCleanFor new file.clean → HasClean aim (view_over aim.before new)
-clean_later aim old new may file is_clean = record { clean = over file.clean aim.before; agrees = agrees_over aim.before new file.clean may is_clean; form = file.form }
+pub clean_later : (target : SplitTarget) (old new : LocalState) → MayStep new → (file : HasFileOver target.bits target.root target.before old) → IsCleanFor new file.clean → HasClean target (view_over target.before new)
+clean_later target old new may file is_clean = record { clean = over file.clean target.before; agrees = agrees_over target.before new file.clean may is_clean; form = file.form }
 
 -- the pages of the walk's file are in the store
-pub file_is_there : (aim : Aim) (m : Moment) (may : MayStep m) → HasWritten aim.before (view_of m) → (file : HasFileOver aim.bits aim.root aim.before m)
-    → (q : ℕ) → is_some (over (clean_now aim m may file).clean (view_of m).own q) ≡ true → is_some (page_at m.store.pages q) ≡ true
+pub file_is_there : (target : SplitTarget) (m : LocalState) (may : MayStep m) → HasWritten target.before (view_of m) → (file : HasFileOver target.bits target.root target.before m)
+    → (q : ℕ) → is_some (over (clean_now target m may file).clean (view_of m).own q) ≡ true → is_some (page_at m.store.pages q) ≡ true
 unfolding clean_now
-file_is_there aim m may written file q some = there_since aim.before m written file.clean q may file.is_clean some
+file_is_there target m may written file q some = there_since target.before m written file.clean q may file.is_clean some
 
 -- what is read of a held page is what the view has
-pub reads_as : (view : View) (q : ℕ) (p : Option Page) → (first : Option Page) × (view.seen q ≡ Some first) × (own_or (view.own q) first ≡ p) → held_page view q ≡ p
-reads_as view q p reads = ap (λ o. own_or (view.own q) (unwrap_or o None)) reads.1 ∙ reads.2
+pub reads_as : (view : View) (q : ℕ) (p : Option Page) → (first : Option Page) × (view.seen q ≡ Some first) × (own_or_clean (view.own q) first ≡ p) → held_page view q ≡ p
+reads_as view q p reads = ap (λ o. own_or_clean (view.own q) (unwrap_or o None)) reads.1 ∙ reads.2
 
-pub read_of : (seen : Option (Option Page)) (own : Option Page) (page : Page) → is_some seen ≡ true → own_or own (unwrap_or seen None) ≡ Some page → (first : Option Page) × (seen ≡ Some first) × (own_or own first ≡ Some page)
+pub read_of : (seen : Option (Option Page)) (own : Option Page) (page : Page) → is_some seen ≡ true → own_or_clean own (unwrap_or seen None) ≡ Some page → (first : Option Page) × (seen ≡ Some first) × (own_or_clean own first ≡ Some page)
 read_of None own page held is = cc
 read_of (Some first) own page held is = (first, refl, is)
 
 -- and what the view has of a held page is read, also below what was written before
-pub reads_held : (before : FilePages) (m : Moment) (q p : ℕ) (page : Page) → q ≡ p → HasWritten before (view_of m) → is_some ((view_over before m).seen p) ≡ true → held_page (view_over before m) p ≡ Some page → ReadsHeldPage (view_of m) q page
+pub reads_held : (before : FilePages) (m : LocalState) (q p : ℕ) (page : Page) → q ≡ p → HasWritten before (view_of m) → is_some ((view_over before m).seen p) ≡ true → held_page (view_over before m) p ≡ Some page → ReadsHeldPage (view_of m) q page
 reads_held before m q p page same written held is =
     subst (λ n. ReadsHeldPage (view_of m) n page) (sym same) (reads_below_writes before m written p page (read_of ((view_over before m).seen p) ((view_over before m).own p) page held is))
 
 -- so the header is held as it was read
-pub header_as_read : (before : FilePages) (m : Moment) (q root : ℕ) (header : HeadFields) → q ≡ root → HasWritten before (view_of m) → ReadsHeldPage (view_of m) q (page.Head header) → held_page (view_over before m) root ≡ Some (page.Head header)
+pub header_as_read : (before : FilePages) (m : LocalState) (q root : ℕ) (header : HeadFields) → q ≡ root → HasWritten before (view_of m) → ReadsHeldPage (view_of m) q (page.Head header) → held_page (view_over before m) root ≡ Some (page.Head header)
 header_as_read before m q root header same written reads =
     subst (λ n. held_page (view_over before m) n ≡ Some (page.Head header)) same (reads_as (view_over before m) q (Some (page.Head header)) (reads_over_writes before m written q (page.Head header) reads))
 
@@ -68,7 +68,7 @@ module _ (old new : View) (q : ℕ) (page : Page) (makes : MakesPage old new q p
   seen_after_make p held = makes.seen_others p (not_made p held)
 
   pub reads_after_make : (p : ℕ) → is_some (old.seen p) ≡ true → held_page new p ≡ held_page old p
-  reads_after_make p held = λ i. own_or (makes.own_others p (not_made p held) i) (unwrap_or (seen_after_make p held i) None)
+  reads_after_make p held = λ i. own_or_clean (makes.own_others p (not_made p held) i) (unwrap_or (seen_after_make p held i) None)
 
   pub mode_after_make : (p : ℕ) → is_some (old.seen p) ≡ true → map.get new.modes p ≡ map.get old.modes p
   mode_after_make p held = ap (λ modes. map.get modes p) makes.modes ∙ mode_of_others old.modes q Exclusive p (not_made p held)

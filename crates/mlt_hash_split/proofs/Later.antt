@@ -8,12 +8,12 @@ use Rattle.mlt_page_locks.specs.LockTables.{Modes, can_write}
 use Rattle.mlt_page_locks.specs.Requests.{with_page}
 use Rattle.mlt_page_locks.proofs.LockLaws.{stronger_exclusive}
 use Rattle.mlt_hash_form.specs.File.{HasForm}
-use Rattle.mlt_hash_form.specs.Held.{Agrees, over, own_or}
+use Rattle.mlt_hash_form.specs.Held.{Agrees, over, own_or_clean}
 use Rattle.mlt_hash_form.proofs.HeldPages.{keeps_more, seen_as}
-use Rattle.mlt_hash_access.specs.Moments.{MayStep, Moment}
+use Rattle.mlt_hash_access.specs.LocalStates.{MayStep, LocalState}
 use Rattle.mlt_hash_access.specs.Views.{MakesPage, ReadsPage, View, WritesPage, view_of, view_over}
 use Rattle.mlt_hash_split.proofs.Closing.{HasClean}
-use Rattle.mlt_hash_split.specs.Rests.{Aim, held_page}
+use Rattle.mlt_hash_split.specs.Rests.{SplitTarget, held_page}
 use Rattle.mlt_hash_split.specs.Splits.{Begins, HoldsAmongAt, IsUnderWay, SplitFields, StandsAt}
 use Rattle.mlt_hash_split.specs.Steps.{IsMaking}
 use Rattle.mlt_hash_split.specs.Tells.{Tells}
@@ -87,39 +87,39 @@ pub same_head : (root : ℕ) (view view' : View) → IsLater root view view' →
 same_head root view view' later held =
     let was = seen_as (view.seen root) held in
     let now : view'.seen root ≡ view.seen root = later.before root was.0 was.1 ∙ sym was.1 in
-    λ i. own_or (later.head i) (unwrap_or (now i) None)
+    λ i. own_or_clean (later.head i) (unwrap_or (now i) None)
 
 -- over clean pages that agree a held page reads as it is held
 pub held_over : (view : View) (q : ℕ) (clean : ℕ → Option Page) → Agrees view.seen clean → is_some (view.seen q) ≡ true → over clean view.own q ≡ held_page view q
 held_over view q clean agree held =
     let was = seen_as (view.seen q) held in
-    ap (own_or (view.own q)) (agree q was.0 was.1 ∙ sym (ap (λ (o : Option (Option Page)). unwrap_or o None) was.1))
+    ap (own_or_clean (view.own q)) (agree q was.0 was.1 ∙ sym (ap (λ (o : Option (Option Page)). unwrap_or o None) was.1))
 
 -- **A split stays under way at a later view**, where it stands and the pages that are held are among those of its new phase.
-pub stays_under_way : (aim : Aim) (view view' : View) (split : SplitFields) (made : HeadFields) (second : List ℕ) (phase : SplitPhase) (under : IsUnderWay aim view split) → IsLater aim.root view view'
-    → ((clean : ℕ → Option Page) → Agrees view'.seen clean → HasForm aim.bits clean aim.root → StandsAt phase aim under.splitters (over clean under.rest) (over clean view'.own) (record split { made = made; second = second; phase = phase }) under.bucket)
-    → HoldsAmongAt phase aim.held_before view' under.header.dirs (record split { made = made; second = second; phase = phase })
-    → IsUnderWay aim view' (record split { made = made; second = second; phase = phase })
-stays_under_way aim view view' split made second phase under later stands among = record {
+pub stays_under_way : (target : SplitTarget) (view view' : View) (split : SplitFields) (made : HeadFields) (second : List ℕ) (phase : SplitPhase) (under : IsUnderWay target view split) → IsLater target.root view view'
+    → ((clean : ℕ → Option Page) → Agrees view'.seen clean → HasForm target.bits clean target.root → StandsAt phase target under.splitters (over clean under.rest) (over clean view'.own) (record split { made = made; second = second; phase = phase }) under.bucket)
+    → HoldsAmongAt phase target.held_before view' under.header.dirs (record split { made = made; second = second; phase = phase })
+    → IsUnderWay target view' (record split { made = made; second = second; phase = phase })
+stays_under_way target view view' split made second phase under later stands among = record {
   bounded = under.bounded;
   rest = under.rest;
   splitters = under.splitters;
   header = under.header;
   bucket = under.bucket;
-  keeps = keeps_more aim.bits aim.opens aim.root view.seen view'.seen under.rest later.before under.keeps;
-  head_held = held_still aim.root view view' aim.root later under.head_held;
-  head = same_head aim.root view view' later under.head_held ∙ under.head;
-  old_held = held_still aim.root view view' split.old_page later under.old_held;
+  keeps = keeps_more target.bits target.active target.root view.seen view'.seen under.rest later.before under.keeps;
+  head_held = held_still target.root view view' target.root later under.head_held;
+  head = same_head target.root view view' later under.head_held ∙ under.head;
+  old_held = held_still target.root view view' split.old_page later under.old_held;
   exclusive = later.exclusive split.old_page under.exclusive;
   new_exclusive = later.exclusive split.new_page under.new_exclusive;
-  doubles = λ deep. later.exclusive aim.root (under.doubles deep);
+  doubles = λ deep. later.exclusive target.root (under.doubles deep);
   fewer = under.fewer;
   absent = under.absent;
   no_ghost = under.no_ghost;
   room = under.room;
   small = under.small;
   few_before = under.few_before;
-  begins = λ clean agree form. let b = under.begins clean (agreed_before aim.root view view' clean later agree) form in record {
+  begins = λ clean agree form. let b = under.begins clean (agreed_before target.root view view' clean later agree) form in record {
     may = b.may;
     was = b.was;
     seed = b.seed;
@@ -131,13 +131,13 @@ stays_under_way aim view view' split made second phase under later stands among 
   among = among;
 }
 
-pub begins_now : (aim : Aim) (m : Moment) (split : SplitFields) → MayStep m → (file : HasClean aim (view_over aim.before m)) (under : IsUnderWay aim (view_over aim.before m) split) → Begins aim (over file.clean under.rest) split under.bucket
-begins_now aim m split may file under = under.begins file.clean file.agrees file.form
+pub begins_now : (target : SplitTarget) (m : LocalState) (split : SplitFields) → MayStep m → (file : HasClean target (view_over target.before m)) (under : IsUnderWay target (view_over target.before m) split) → Begins target (over file.clean under.rest) split under.bucket
+begins_now target m split may file under = under.begins file.clean file.agrees file.form
 
-pub stands_now : (aim : Aim) (m : Moment) (split : SplitFields) (phase : SplitPhase) → split.phase ≡ phase → MayStep m → (file : HasClean aim (view_over aim.before m)) (under : IsUnderWay aim (view_over aim.before m) split)
-    → StandsAt phase aim under.splitters (over file.clean under.rest) (over file.clean (view_over aim.before m).own) split under.bucket
-stands_now aim m split phase is may file under =
-    subst (λ (p : SplitPhase). StandsAt p aim under.splitters (over file.clean under.rest) (over file.clean (view_over aim.before m).own) split under.bucket) is (under.stands file.clean file.agrees file.form)
+pub stands_now : (target : SplitTarget) (m : LocalState) (split : SplitFields) (phase : SplitPhase) → split.phase ≡ phase → MayStep m → (file : HasClean target (view_over target.before m)) (under : IsUnderWay target (view_over target.before m) split)
+    → StandsAt phase target under.splitters (over file.clean under.rest) (over file.clean (view_over target.before m).own) split under.bucket
+stands_now target m split phase is may file under =
+    subst (λ (p : SplitPhase). StandsAt p target under.splitters (over file.clean under.rest) (over file.clean (view_over target.before m).own) split under.bucket) is (under.stands file.clean file.agrees file.form)
 
 -- a directory that doubles has at most half of the header's pages
 pub half_pages : (g : ℕ) → g < 16 → 2 ^ (g - 8) ≤ 128
@@ -150,13 +150,13 @@ abbrev err : {A : Type 0} → Refusal → Result A Refusal
 err why = Err why
 
 -- why a page was not made, or not written
-pub refused_to_make : {A : Type 0} (aim : Aim) (old new : Moment) (before after : SplitFields) (result : Result A Refusal) (why : Refusal) → IsMaking before.phase → result ≡ Err why → (result ≡ Err refusal.NoRoom) ↔ (map.len old.store.pages ≡ old.store.max_pages) → (why ≡ refusal.NoRoom) ⊎ (why ≡ refusal.OutOfMemory) → Tells aim old new before after (answer.Refused why)
-refused_to_make {A} aim old new before after result why making is full either =
+pub refused_to_make : {A : Type 0} (target : SplitTarget) (old new : LocalState) (before after : SplitFields) (result : Result A Refusal) (why : Refusal) → IsMaking before.phase → result ≡ Err why → (result ≡ Err refusal.NoRoom) ↔ (map.len old.store.pages ≡ old.store.max_pages) → (why ≡ refusal.NoRoom) ⊎ (why ≡ refusal.OutOfMemory) → Tells target old new before after (answer.Refused why)
+refused_to_make {A} target old new before after result why making is full either =
     elim either [
-      | inl room ↦ subst (λ (w : Refusal). Tells aim old new before after (answer.Refused w)) (sym room) (making, full.0 (is ∙ ap (err {A = A}) room))
-      | inr memory ↦ subst (λ (w : Refusal). Tells aim old new before after (answer.Refused w)) (sym memory) refl
+      | inl room ↦ subst (λ (w : Refusal). Tells target old new before after (answer.Refused w)) (sym room) (making, full.0 (is ∙ ap (err {A = A}) room))
+      | inr memory ↦ subst (λ (w : Refusal). Tells target old new before after (answer.Refused w)) (sym memory) refl
     ]
 
 -- a page that was locked exclusively may be written
-pub locked_may_be_written : (old mid : Moment) (q : ℕ) (was : Option Page) → ReadsPage (view_of old) (view_of mid) q Exclusive was → can_write mid.locks mid.running.tx q ≡ true
+pub locked_may_be_written : (old mid : LocalState) (q : ℕ) (was : Option Page) → ReadsPage (view_of old) (view_of mid) q Exclusive was → can_write mid.locks mid.running.tx q ≡ true
 locked_may_be_written old mid q was reads = may_write mid q (subst (λ (modes : Modes). map.get modes q ≡ Some Exclusive) (sym reads.modes) (exclusive_here (view_of old).modes q))

@@ -7,10 +7,10 @@ use Rattle.mlt_page_store.specs.Stores.{page_at}
 use Rattle.mlt_page_locks.proofs.LockLaws.{mode_held-granted, stronger_exclusive}
 use Rattle.mlt_page_locks.specs.LockTables.{LockTable, mode_held}
 use Rattle.mlt_page_locks.specs.Requests.{granted, stronger}
-use Rattle.mlt_hash_access.specs.Moments.{MayStep, Moment}
+use Rattle.mlt_hash_access.specs.LocalStates.{MayStep, LocalState}
 use Rattle.mlt_hash_access.specs.Views.{view_of, view_over}
 use Rattle.mlt_hash_access.proofs.Views.{make_makes, write_writes}
-use Rattle.mlt_hash_split.specs.Rests.{Aim}
+use Rattle.mlt_hash_split.specs.Rests.{SplitTarget}
 use Rattle.mlt_hash_split.specs.Splits.{SplitFields}
 use Rattle.mlt_hash_split.specs.Steps.{IsDone, IsLeft, IsMaking, IsNextPage, Touches}
 use Rattle.mlt_hash_split.specs.declared.phase.SplitPhase.{SplitPhase}
@@ -27,10 +27,10 @@ granted_elsewhere : (table : LockTable) (tx q p : ℕ) → (p ≡ q → ⊥) →
 granted_elsewhere table tx q p ne = grind (arith, nat_tests, mode_held-granted table tx q Exclusive tx p)
 
 -- page p is held as before, or exclusively, and is one of these
-abbrev IsHeldAs : Moment → Moment → (ℕ → Type 0) → ℕ → Type 0
+abbrev IsHeldAs : LocalState → LocalState → (ℕ → Type 0) → ℕ → Type 0
 IsHeldAs old new Is p = (mode_held new.locks old.running.tx p ≡ mode_held old.locks old.running.tx p) ⊎ ((mode_held new.locks old.running.tx p ≡ Some Exclusive) × Is p)
 
-module _ (old new : Moment) (Is : ℕ → Type 0) (p : ℕ) where
+module _ (old new : LocalState) (Is : ℕ → Type 0) (p : ℕ) where
   -- nothing is locked,
   held_as_before : new.locks ≡ old.locks → IsHeldAs old new Is p
   held_as_before same = inl (ap (λ (t : LockTable). mode_held t old.running.tx p) same)
@@ -44,40 +44,40 @@ module _ (old new : Moment) (Is : ℕ → Type 0) (p : ℕ) where
       ]
 
 -- the pages that a step may lock
-abbrev MayLock : SplitPhase → Aim → Moment → ℕ → Type 0
-MayLock phase aim old p = IsNextPage phase aim (view_over aim.before old) p ⊎ (IsMaking phase × (page_at old.store.pages p ≡ None))
+abbrev MayLock : SplitPhase → SplitTarget → LocalState → ℕ → Type 0
+MayLock phase target old p = IsNextPage phase target (view_over target.before old) p ⊎ (IsMaking phase × (page_at old.store.pages p ≡ None))
 
 -- a step that was done,
-done_locks : (phase : SplitPhase) (aim : Aim) (old new : Moment) (split : SplitFields) (p : ℕ) → IsDone phase aim old new split → IsHeldAs old new (MayLock phase aim old) p
-done_locks at.OldBucket aim old new split p done = held_as_before old new (MayLock at.OldBucket aim old) p done.1.locks
-done_locks (at.InPlace place end) aim old new split p done = held_as_locked old new (MayLock (at.InPlace place end) aim old) p done.0 (inl done.1) (done.2.2.1.locks ∙ done.2.1.locks)
-done_locks (at.Double place) aim old new split p done = held_as_locked old new (MayLock (at.Double place) aim old) p done.0 (inl done.1) (done.2.2.1.locks ∙ done.2.1.locks)
-done_locks (at.SecondHalf place) aim old new split p done = held_as_locked old new (MayLock (at.SecondHalf place) aim old) p done.0 (inr (tt, done.2.fresh)) done.2.locks
-done_locks at.Header aim old new split p done = held_as_before old new (MayLock at.Header aim old) p done.1.locks
+done_locks : (phase : SplitPhase) (target : SplitTarget) (old new : LocalState) (split : SplitFields) (p : ℕ) → IsDone phase target old new split → IsHeldAs old new (MayLock phase target old) p
+done_locks at.OldBucket target old new split p done = held_as_before old new (MayLock at.OldBucket target old) p done.1.locks
+done_locks (at.InPlace place end) target old new split p done = held_as_locked old new (MayLock (at.InPlace place end) target old) p done.0 (inl done.1) (done.2.2.1.locks ∙ done.2.1.locks)
+done_locks (at.Double place) target old new split p done = held_as_locked old new (MayLock (at.Double place) target old) p done.0 (inl done.1) (done.2.2.1.locks ∙ done.2.1.locks)
+done_locks (at.SecondHalf place) target old new split p done = held_as_locked old new (MayLock (at.SecondHalf place) target old) p done.0 (inr (tt, done.2.fresh)) done.2.locks
+done_locks at.Header target old new split p done = held_as_before old new (MayLock at.Header target old) p done.1.locks
 
 -- and one that was refused
-left_locks : (phase : SplitPhase) (aim : Aim) (old new : Moment) (p : ℕ) → IsLeft phase aim old new → IsHeldAs old new (MayLock phase aim old) p
-left_locks at.OldBucket aim old new p left = held_as_before old new (MayLock at.OldBucket aim old) p (ap (λ (m : Moment). m.locks) left)
-left_locks (at.InPlace place end) aim old new p left = held_as_locked old new (MayLock (at.InPlace place end) aim old) p left.0 (inl left.1) left.2.locks
-left_locks (at.Double place) aim old new p left = held_as_locked old new (MayLock (at.Double place) aim old) p left.0 (inl left.1) left.2.locks
-left_locks (at.SecondHalf place) aim old new p left = held_as_before old new (MayLock (at.SecondHalf place) aim old) p (ap (λ (m : Moment). m.locks) left)
-left_locks at.Header aim old new p left = held_as_before old new (MayLock at.Header aim old) p (ap (λ (m : Moment). m.locks) left)
+left_locks : (phase : SplitPhase) (target : SplitTarget) (old new : LocalState) (p : ℕ) → IsLeft phase target old new → IsHeldAs old new (MayLock phase target old) p
+left_locks at.OldBucket target old new p left = held_as_before old new (MayLock at.OldBucket target old) p (ap (λ (m : LocalState). m.locks) left)
+left_locks (at.InPlace place end) target old new p left = held_as_locked old new (MayLock (at.InPlace place end) target old) p left.0 (inl left.1) left.2.locks
+left_locks (at.Double place) target old new p left = held_as_locked old new (MayLock (at.Double place) target old) p left.0 (inl left.1) left.2.locks
+left_locks (at.SecondHalf place) target old new p left = held_as_before old new (MayLock (at.SecondHalf place) target old) p (ap (λ (m : LocalState). m.locks) left)
+left_locks at.Header target old new p left = held_as_before old new (MayLock at.Header target old) p (ap (λ (m : LocalState). m.locks) left)
 
 -- **A step of a split locks no page but its own.**
-pub locks_its_page_alone : (told : SplitAnswer) (aim : Aim) (old new : Moment) (split : SplitFields) (p : ℕ) → Touches told aim old new split → IsHeldAs old new (MayLock split.phase aim old) p
-locks_its_page_alone answer.Going aim old new split p done = done_locks split.phase aim old new split p done
-locks_its_page_alone (answer.Closed n) aim old new split p done = done_locks split.phase aim old new split p done
-locks_its_page_alone (answer.Waiting n by) aim old new split p same = held_as_before old new (MayLock split.phase aim old) p (ap (λ (m : Moment). m.locks) same)
-locks_its_page_alone (answer.Refused reason) aim old new split p left = left_locks split.phase aim old new p left
+pub locks_its_page_alone : (told : SplitAnswer) (target : SplitTarget) (old new : LocalState) (split : SplitFields) (p : ℕ) → Touches told target old new split → IsHeldAs old new (MayLock split.phase target old) p
+locks_its_page_alone answer.Going target old new split p done = done_locks split.phase target old new split p done
+locks_its_page_alone (answer.Closed n) target old new split p done = done_locks split.phase target old new split p done
+locks_its_page_alone (answer.Waiting n by) target old new split p same = held_as_before old new (MayLock split.phase target old) p (ap (λ (m : LocalState). m.locks) same)
+locks_its_page_alone (answer.Refused reason) target old new split p left = left_locks split.phase target old new p left
 
 -- the page is written
-abbrev IsWrittenIn : Moment → ℕ → Type 0
+abbrev IsWrittenIn : LocalState → ℕ → Type 0
 IsWrittenIn new p = is_some ((view_of new).own p) ≡ true
 
 -- **What a step locks that was done it has written or made.**
-pub done_writes_what_it_locks : (phase : SplitPhase) (aim : Aim) (old new : Moment) (split : SplitFields) (p : ℕ) → MayStep old → IsDone phase aim old new split → IsHeldAs old new (IsWrittenIn new) p
-done_writes_what_it_locks at.OldBucket aim old new split p may done = held_as_before old new (IsWrittenIn new) p done.1.locks
-done_writes_what_it_locks (at.InPlace place end) aim old new split p may done = held_as_locked old new (IsWrittenIn new) p done.0 (ap is_some (write_writes done.2.0 new done.0 done.2.2.0 done.2.2.1).here) (done.2.2.1.locks ∙ done.2.1.locks)
-done_writes_what_it_locks (at.Double place) aim old new split p may done = held_as_locked old new (IsWrittenIn new) p done.0 (ap is_some (write_writes done.2.0 new done.0 done.2.2.0 done.2.2.1).here) (done.2.2.1.locks ∙ done.2.1.locks)
-done_writes_what_it_locks (at.SecondHalf place) aim old new split p may done = held_as_locked old new (IsWrittenIn new) p done.0 (ap is_some (make_makes old new done.0 done.1 may done.2).own_here) done.2.locks
-done_writes_what_it_locks at.Header aim old new split p may done = held_as_before old new (IsWrittenIn new) p done.1.locks
+pub done_writes_what_it_locks : (phase : SplitPhase) (target : SplitTarget) (old new : LocalState) (split : SplitFields) (p : ℕ) → MayStep old → IsDone phase target old new split → IsHeldAs old new (IsWrittenIn new) p
+done_writes_what_it_locks at.OldBucket target old new split p may done = held_as_before old new (IsWrittenIn new) p done.1.locks
+done_writes_what_it_locks (at.InPlace place end) target old new split p may done = held_as_locked old new (IsWrittenIn new) p done.0 (ap is_some (write_writes done.2.0 new done.0 done.2.2.0 done.2.2.1).here) (done.2.2.1.locks ∙ done.2.1.locks)
+done_writes_what_it_locks (at.Double place) target old new split p may done = held_as_locked old new (IsWrittenIn new) p done.0 (ap is_some (write_writes done.2.0 new done.0 done.2.2.0 done.2.2.1).here) (done.2.2.1.locks ∙ done.2.1.locks)
+done_writes_what_it_locks (at.SecondHalf place) target old new split p may done = held_as_locked old new (IsWrittenIn new) p done.0 (ap is_some (make_makes old new done.0 done.1 may done.2).own_here) done.2.locks
+done_writes_what_it_locks at.Header target old new split p may done = held_as_before old new (IsWrittenIn new) p done.1.locks

@@ -10,12 +10,12 @@ use Rattle.mlt_page.specs.declared.page.Page.TheVariants as page
 use Rattle.mlt_hash_form.specs.File.{HasForm}
 use Rattle.mlt_hash_form.specs.Held.{Agrees, over}
 use Rattle.mlt_hash_form.proofs.Bits.{first_bits-first_bits}
-use Rattle.mlt_hash_access.specs.Moments.{MayStep, Moment}
+use Rattle.mlt_hash_access.specs.LocalStates.{MayStep, LocalState}
 use Rattle.mlt_hash_access.specs.PageSteps.{LocksPage, WritesHeldPage}
 use Rattle.mlt_hash_access.specs.Views.{View, view_over}
 use Rattle.mlt_hash_access.proofs.OwnSteps.{lock_reads_some}
 use Rattle.mlt_hash_access.proofs.Views.{write_writes}
-use Rattle.mlt_hash_split.specs.Rests.{Aim, held_page}
+use Rattle.mlt_hash_split.specs.Rests.{SplitTarget, held_page}
 use Rattle.mlt_hash_split.specs.Splits.{Begins, HaveNewPlaces, IsInPlace, IsUnderWay, SplitFields, StandsAt}
 use Rattle.mlt_hash_split.specs.Steps.{IsDirectoryPage, IsDone, IsKeysPage, IsMaking, IsNextPage}
 use Rattle.mlt_hash_split.specs.declared.phase.SplitPhase.{SplitPhase}
@@ -55,18 +55,18 @@ own_page seed l g place end deep narrow small have =
     let last = subst (λ e. (2 * first_bits l seed + 1) * 2 ^ (g - (l + 1)) + 2 ^ (g - (l + 1)) ≤ 256 * e) one have.last in
     (is_on_page (g - (l + 1)) (omega (arith, deep, narrow)) (first_bits g seed) (first_bits l seed) place front have.first last, one)
 
-module _ (aim : Aim) (splitters : set.FinSet nat_cmp) (base pages : ℕ → Option Page) (split : SplitFields) (bucket : BucketFields) (view : View) (n : ℕ) (begins : Begins aim base split bucket) (deep : split.depth < split.directory_depth) (narrow : split.directory_depth ≤ split.depth + 8)
-    (head_over : (header : HeadFields) → held_page view aim.root ≡ Some (page.Head header) → pages aim.root ≡ Some (page.Head header)) where
-  in_place : (place end : ℕ) → IsInPlace aim splitters base pages split place end → IsDirectoryPage aim view place n → IsKeysPage aim view n
+module _ (target : SplitTarget) (splitters : set.FinSet nat_cmp) (base pages : ℕ → Option Page) (split : SplitFields) (bucket : BucketFields) (view : View) (n : ℕ) (begins : Begins target base split bucket) (deep : split.depth < split.directory_depth) (narrow : split.directory_depth ≤ split.depth + 8)
+    (head_over : (header : HeadFields) → held_page view target.root ≡ Some (page.Head header) → pages target.root ≡ Some (page.Head header)) where
+  in_place : (place end : ℕ) → IsInPlace target splitters base pages split place end → IsDirectoryPage target view place n → IsKeysPage target view n
   in_place place end stands next =
-      let small = depths_are_small aim base split bucket begins in
+      let small = depths_are_small target base split bucket begins in
       let own = own_page split.seed split.depth split.directory_depth stands.first end deep narrow small.1 stands.places in
       let here : place ≡ first_bits split.directory_depth split.seed / 256 = (let from = stands.from in let more = stands.more in let one = own.1 in let at = own.0 in omega (arith, from, more, one, at)) in
-      let depth : next.0.depth ≡ split.directory_depth = same_depth aim splitters base pages split bucket place end next.0 begins stands (head_over next.0 next.1) in
+      let depth : next.0.depth ≡ split.directory_depth = same_depth target splitters base pages split bucket place end next.0 begins stands (head_over next.0 next.1) in
       (next.0, next.1, next.2 ∙ ap (slice_index next.0.dirs) here ∙ (λ i. slice_index next.0.dirs (first_bits (sym depth i) (begins.seed i) / 256)))
 
   -- so is the next page of a split in place, at any phase
-  next_is_own : (phase : SplitPhase) → StandsAt phase aim splitters base pages split bucket → IsNextPage phase aim view n → IsKeysPage aim view n
+  next_is_own : (phase : SplitPhase) → StandsAt phase target splitters base pages split bucket → IsNextPage phase target view n → IsKeysPage target view n
   next_is_own at.OldBucket stands next = absurd next
   next_is_own (at.InPlace place end) stands next = in_place place end stands next
   next_is_own (at.Double place) stands next = absurd (let same = stands.deep in omega (arith, deep, same))
@@ -74,35 +74,35 @@ module _ (aim : Aim) (splitters : set.FinSet nat_cmp) (base pages : ℕ → Opti
   next_is_own at.Header stands next = absurd next
 
 -- **Where one page has all entries of the bucket, a split in place locks and writes the key's own page and no other.**
-pub narrow_next_page : (aim : Aim) (view : View) (split : SplitFields) (n : ℕ) (clean : ℕ → Option Page) → Agrees view.seen clean → HasForm aim.bits clean aim.root → IsUnderWay aim view split
-    → split.depth < split.directory_depth → split.directory_depth ≤ split.depth + 8 → IsNextPage split.phase aim view n → IsKeysPage aim view n
-narrow_next_page aim view split n clean agree form way deep narrow next =
-    next_is_own aim way.splitters (over clean way.rest) (over clean view.own) split way.bucket view n (way.begins clean agree form) deep narrow
-    (λ header head. sym (held_page_over view clean aim.root agree way.head_held) ∙ head) split.phase (way.stands clean agree form) next
+pub narrow_next_page : (target : SplitTarget) (view : View) (split : SplitFields) (n : ℕ) (clean : ℕ → Option Page) → Agrees view.seen clean → HasForm target.bits clean target.root → IsUnderWay target view split
+    → split.depth < split.directory_depth → split.directory_depth ≤ split.depth + 8 → IsNextPage split.phase target view n → IsKeysPage target view n
+narrow_next_page target view split n clean agree form way deep narrow next =
+    next_is_own target way.splitters (over clean way.rest) (over clean view.own) split way.bucket view n (way.begins clean agree form) deep narrow
+    (λ header head. sym (held_page_over view clean target.root agree way.head_held) ∙ head) split.phase (way.stands clean agree form) next
 
 -- and it makes no page
-makes_none : (phase : SplitPhase) (aim : Aim) (splitters : set.FinSet nat_cmp) (base pages : ℕ → Option Page) (split : SplitFields) (bucket : BucketFields) → split.depth < split.directory_depth → StandsAt phase aim splitters base pages split bucket → IsMaking phase → ⊥
-makes_none at.OldBucket aim splitters base pages split bucket deep stands making = making
-makes_none (at.InPlace place end) aim splitters base pages split bucket deep stands making = making
-makes_none (at.Double place) aim splitters base pages split bucket deep stands making = making
-makes_none (at.SecondHalf place) aim splitters base pages split bucket deep stands making = let same = stands.deep in omega (arith, deep, same)
-makes_none at.Header aim splitters base pages split bucket deep stands making = making
+makes_none : (phase : SplitPhase) (target : SplitTarget) (splitters : set.FinSet nat_cmp) (base pages : ℕ → Option Page) (split : SplitFields) (bucket : BucketFields) → split.depth < split.directory_depth → StandsAt phase target splitters base pages split bucket → IsMaking phase → ⊥
+makes_none at.OldBucket target splitters base pages split bucket deep stands making = making
+makes_none (at.InPlace place end) target splitters base pages split bucket deep stands making = making
+makes_none (at.Double place) target splitters base pages split bucket deep stands making = making
+makes_none (at.SecondHalf place) target splitters base pages split bucket deep stands making = let same = stands.deep in omega (arith, deep, same)
+makes_none at.Header target splitters base pages split bucket deep stands making = making
 
-pub narrow_makes_none : (aim : Aim) (view : View) (split : SplitFields) (clean : ℕ → Option Page) → Agrees view.seen clean → HasForm aim.bits clean aim.root → IsUnderWay aim view split → split.depth < split.directory_depth → IsMaking split.phase → ⊥
-narrow_makes_none aim view split clean agree form way deep = makes_none split.phase aim way.splitters (over clean way.rest) (over clean view.own) split way.bucket deep (way.stands clean agree form)
+pub narrow_makes_none : (target : SplitTarget) (view : View) (split : SplitFields) (clean : ℕ → Option Page) → Agrees view.seen clean → HasForm target.bits clean target.root → IsUnderWay target view split → split.depth < split.directory_depth → IsMaking split.phase → ⊥
+narrow_makes_none target view split clean agree form way deep = makes_none split.phase target way.splitters (over clean way.rest) (over clean view.own) split way.bucket deep (way.stands clean agree form)
 
 -- nor writes the header
-module _ (aim : Aim) (old new : Moment) (split : SplitFields) (may : MayStep old) (deep : split.depth < split.directory_depth) (clean : ℕ → Option Page) (agree : Agrees (view_over aim.before old).seen clean) (form : HasForm aim.bits clean aim.root) (way : IsUnderWay aim (view_over aim.before old) split) where
-  rewritten : (n : ℕ) → (aim.root ≡ n → ⊥) → ((mid : Moment) × LocksPage old mid n Exclusive × ((p : Page) × WritesHeldPage mid new n p)) → (view_over aim.before new).own aim.root ≡ (view_over aim.before old).own aim.root
-  rewritten n elsewhere step = (write_writes step.0 new n step.2.0 step.2.1).others aim.root elsewhere ∙ (lock_reads_some old step.0 n Exclusive may step.1).1.own aim.root
+module _ (target : SplitTarget) (old new : LocalState) (split : SplitFields) (may : MayStep old) (deep : split.depth < split.directory_depth) (clean : ℕ → Option Page) (agree : Agrees (view_over target.before old).seen clean) (form : HasForm target.bits clean target.root) (way : IsUnderWay target (view_over target.before old) split) where
+  rewritten : (n : ℕ) → (target.root ≡ n → ⊥) → ((mid : LocalState) × LocksPage old mid n Exclusive × ((p : Page) × WritesHeldPage mid new n p)) → (view_over target.before new).own target.root ≡ (view_over target.before old).own target.root
+  rewritten n elsewhere step = (write_writes step.0 new n step.2.0 step.2.1).others target.root elsewhere ∙ (lock_reads_some old step.0 n Exclusive may step.1).1.own target.root
 
-  leaves_header : (phase : SplitPhase) → StandsAt phase aim way.splitters (over clean way.rest) (over clean (view_over aim.before old).own) split way.bucket → ((n : ℕ) → IsNextPage phase aim (view_over aim.before old) n → aim.root ≡ n → ⊥)
-      → IsDone phase aim old new split → (view_over aim.before new).own aim.root ≡ (view_over aim.before old).own aim.root
-  leaves_header at.OldBucket stands elsewhere done = (write_writes old new split.old_page done.0 done.1).others aim.root (header_is_elsewhere aim (over clean way.rest) split way.bucket (way.begins clean agree form))
+  leaves_header : (phase : SplitPhase) → StandsAt phase target way.splitters (over clean way.rest) (over clean (view_over target.before old).own) split way.bucket → ((n : ℕ) → IsNextPage phase target (view_over target.before old) n → target.root ≡ n → ⊥)
+      → IsDone phase target old new split → (view_over target.before new).own target.root ≡ (view_over target.before old).own target.root
+  leaves_header at.OldBucket stands elsewhere done = (write_writes old new split.old_page done.0 done.1).others target.root (header_is_elsewhere target (over clean way.rest) split way.bucket (way.begins clean agree form))
   leaves_header (at.InPlace place end) stands elsewhere done = rewritten done.0 (elsewhere done.0 done.1) done.2
   leaves_header (at.Double place) stands elsewhere done = absurd (let same = stands.deep in omega (arith, deep, same))
   leaves_header (at.SecondHalf place) stands elsewhere done = absurd (let same = stands.deep in omega (arith, deep, same))
   leaves_header at.Header stands elsewhere done = absurd (let same = stands.deep in omega (arith, deep, same))
 
-  pub narrow_leaves_header : ((n : ℕ) → IsNextPage split.phase aim (view_over aim.before old) n → aim.root ≡ n → ⊥) → IsDone split.phase aim old new split → (view_over aim.before new).own aim.root ≡ (view_over aim.before old).own aim.root
+  pub narrow_leaves_header : ((n : ℕ) → IsNextPage split.phase target (view_over target.before old) n → target.root ≡ n → ⊥) → IsDone split.phase target old new split → (view_over target.before new).own target.root ≡ (view_over target.before old).own target.root
   narrow_leaves_header = leaves_header split.phase (way.stands clean agree form)

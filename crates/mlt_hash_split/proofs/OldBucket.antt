@@ -20,9 +20,9 @@ use Rattle.mlt_hash_form.proofs.InPlace.{one_page, whole_pages}
 use Rattle.mlt_hash_form.proofs.SplitSteps.{begins_in_place, begins_to_double}
 use Rattle.mlt_hash_split.proofs.Closing.{HasClean}
 use Rattle.mlt_hash_split.specs.FirstPhases.{IsFirstPhase}
-use Rattle.mlt_hash_access.specs.Moments.{MayStep, Moment}
+use Rattle.mlt_hash_access.specs.LocalStates.{MayStep, LocalState}
 use Rattle.mlt_hash_access.specs.Views.{View, WritesPage, view_over}
-use Rattle.mlt_hash_split.specs.Rests.{Aim, HoldsAmong, most_held, seed_of}
+use Rattle.mlt_hash_split.specs.Rests.{SplitTarget, HoldsAmong, most_held, seed_of}
 use Rattle.mlt_hash_split.specs.Splits.{Begins, HaveNewPlaces, HoldsAmongAt, IsAtOldBucket, IsUnderWay, SplitFields, StandsAt, steps_left_at}
 use Rattle.mlt_hash_split.specs.Tells.{GoesOn}
 use Rattle.mlt_hash_split.specs.declared.phase.SplitPhase.{SplitPhase}
@@ -73,37 +73,37 @@ new_pages seed l g first count pages deeper first_is count_is within one many =
     ]
 
 -- a split's bucket is no deeper than the directory, which is at most 16 deep
-pub depths_are_small : (aim : Aim) (base : ℕ → Option Page) (split : SplitFields) (bucket : BucketFields) → Begins aim base split bucket → (split.depth ≤ split.directory_depth) × (split.directory_depth ≤ 16)
-depths_are_small aim base split bucket b =
-    let fine : (buckets_of base (lead_of base aim.root (seed_of aim))).depth ≤ depth_of base aim.root = b.may.form.form.fine (seed_of aim) b.may.pseudokey in
-    let here : (buckets_of base split.old_page).depth ≤ depth_of base aim.root = subst (λ n. (buckets_of base n).depth ≤ depth_of base aim.root) b.may.leads fine in
-    let small : depth_of base aim.root ≤ 16 = b.may.form.listed.small in
+pub depths_are_small : (target : SplitTarget) (base : ℕ → Option Page) (split : SplitFields) (bucket : BucketFields) → Begins target base split bucket → (split.depth ≤ split.directory_depth) × (split.directory_depth ≤ 16)
+depths_are_small target base split bucket b =
+    let fine : (buckets_of base (lead_of base target.root (seed_of target))).depth ≤ depth_of base target.root = b.may.form.form.fine (seed_of target) b.may.pseudokey in
+    let here : (buckets_of base split.old_page).depth ≤ depth_of base target.root = subst (λ n. (buckets_of base n).depth ≤ depth_of base target.root) b.may.leads fine in
+    let small : depth_of base target.root ≤ 16 = b.may.form.listed.small in
     let depth : (buckets_of base split.old_page).depth ≡ split.depth = ap (λ (p : Option Page). (bucket_of p).depth) b.was ∙ b.depth in
     (omega (arith, here, depth, b.directory_depth), omega (arith, small, b.directory_depth))
 
 -- the header is not on the page of the bucket that is split
-pub header_is_elsewhere : (aim : Aim) (base : ℕ → Option Page) (split : SplitFields) (bucket : BucketFields) → Begins aim base split bucket → aim.root ≡ split.old_page → ⊥
-header_is_elsewhere aim base split bucket b e =
-    let q : Some (page.Head (header_of (base aim.root))) ≡ Some (page.Bucket bucket) = sym b.may.form.head ∙ ap base e ∙ b.was in
+pub header_is_elsewhere : (target : SplitTarget) (base : ℕ → Option Page) (split : SplitFields) (bucket : BucketFields) → Begins target base split bucket → target.root ≡ split.old_page → ⊥
+header_is_elsewhere target base split bucket b e =
+    let q : Some (page.Head (header_of (base target.root))) ≡ Some (page.Bucket bucket) = sym b.may.form.head ∙ ap base e ∙ b.was in
     cc
 
-module _ (aim : Aim) (splitters : set.FinSet nat_cmp) (base one two : ℕ → Option Page) (split : SplitFields) (bucket : BucketFields) (b : Begins aim base split bucket) (stands : IsAtOldBucket aim splitters base one split bucket) (writes : Writes one two split.old_page (page.Bucket split.zeros)) where
+module _ (target : SplitTarget) (splitters : set.FinSet nat_cmp) (base one two : ℕ → Option Page) (split : SplitFields) (bucket : BucketFields) (b : Begins target base split bucket) (stands : IsAtOldBucket target splitters base one split bucket) (writes : Writes one two split.old_page (page.Bucket split.zeros)) where
   bucket_is : buckets_of base split.old_page ≡ bucket
   bucket_is = ap bucket_of b.was
 
-  first_write : Writes base one split.new_page (page.Bucket (half_of aim.bits splitters (buckets_of base split.old_page) 1))
-  first_write = subst (λ (c : BucketFields). Writes base one split.new_page (page.Bucket (half_of aim.bits splitters c 1))) (sym bucket_is) stands.ones
+  first_write : Writes base one split.new_page (page.Bucket (half_of target.bits splitters (buckets_of base split.old_page) 1))
+  first_write = subst (λ (c : BucketFields). Writes base one split.new_page (page.Bucket (half_of target.bits splitters c 1))) (sym bucket_is) stands.ones
 
-  second_write : Writes one two split.old_page (page.Bucket (half_of aim.bits splitters (buckets_of base split.old_page) 0))
-  second_write = subst (λ (c : BucketFields). Writes one two split.old_page (page.Bucket c)) (stands.zeros ∙ ap (λ c. half_of aim.bits splitters c 0) (sym bucket_is)) writes
+  second_write : Writes one two split.old_page (page.Bucket (half_of target.bits splitters (buckets_of base split.old_page) 0))
+  second_write = subst (λ (c : BucketFields). Writes one two split.old_page (page.Bucket c)) (stands.zeros ∙ ap (λ c. half_of target.bits splitters c 0) (sym bucket_is)) writes
 
   -- the places of the new bucket, as the file before the split has them
-  pub places_in_base : (place end : ℕ) → HaveNewPlaces split.seed split.depth split.directory_depth place end → HaveNewPlaces (seed_of aim) (buckets_of base split.old_page).depth (depth_of base aim.root) place end
+  pub places_in_base : (place end : ℕ) → HaveNewPlaces split.seed split.depth split.directory_depth place end → HaveNewPlaces (seed_of target) (buckets_of base split.old_page).depth (depth_of base target.root) place end
   places_in_base place end have =
       subst (λ (p : ℕ × ℕ × ℕ). HaveNewPlaces p.0 p.1 p.2 place end) (λ i. (b.seed i, (sym (ap (λ (c : BucketFields). c.depth) bucket_is ∙ b.depth)) i, sym b.directory_depth i)) have
 
   -- once the old bucket is written the split stands in its next phase
-  pub old_bucket_written : (phase : SplitPhase) → IsFirstPhase split phase → StandsAt phase aim splitters base two (record split { phase = phase }) bucket
+  pub old_bucket_written : (phase : SplitPhase) → IsFirstPhase split phase → StandsAt phase target splitters base two (record split { phase = phase }) bucket
   old_bucket_written at.OldBucket first = absurd first
   old_bucket_written (at.InPlace place end) first =
       let have = places_in_base place end first.1 in
@@ -111,8 +111,8 @@ module _ (aim : Aim) (splitters : set.FinSet nat_cmp) (base one two : ℕ → Op
       let more : place < end = omega (arith, first.1.count, some) in
       record {
         shallow = first.0;
-        filled = subst (λ g. IsMidway (bucket_split aim.bits splitters base aim.root split.old_page split.new_page (seed_of aim)) g two (dirs_of base aim.root) place place) b.directory_depth
-            (begins_in_place aim.bits splitters base aim.root (seed_of aim) split.old_page split.new_page b.may one two first_write second_write place have.first (omega (arith, more, have.within)));
+        filled = subst (λ g. IsMidway (bucket_split target.bits splitters base target.root split.old_page split.new_page (seed_of target)) g two (dirs_of base target.root) place place) b.directory_depth
+            (begins_in_place target.bits splitters base target.root (seed_of target) split.old_page split.new_page b.may one two first_write second_write place have.first (omega (arith, more, have.within)));
         first = place;
         places = first.1;
         from = omega arith;
@@ -121,8 +121,8 @@ module _ (aim : Aim) (splitters : set.FinSet nat_cmp) (base one two : ℕ → Op
       }
   old_bucket_written (at.Double place) first = record {
     deep = first.0;
-    filled = subst (λ k. IsMidway (bucket_split aim.bits splitters base aim.root split.old_page split.new_page (seed_of aim)) split.made.depth two split.made.dirs (2 * k) k) (sym first.1)
-        (begins_to_double aim.bits splitters base aim.root (seed_of aim) split.old_page split.new_page b.may one two first_write second_write split.made.depth split.made.dirs);
+    filled = subst (λ k. IsMidway (bucket_split target.bits splitters base target.root split.old_page split.new_page (seed_of target)) split.made.depth two split.made.dirs (2 * k) k) (sym first.1)
+        (begins_to_double target.bits splitters base target.root (seed_of target) split.old_page split.new_page b.may one two first_write second_write split.made.depth split.made.dirs);
     more = let some = pow_pos (split.directory_depth - 8) in omega (arith, first.1, some);
     deeper = ap (λ (h : HeadFields). h.depth) (stands.doubles first.0);
   }
@@ -165,25 +165,25 @@ steps_of_first_phase split (at.SecondHalf place) first = absurd first
 steps_of_first_phase split at.Header first = absurd first
 
 -- **Once the old bucket is written, the split goes on with the directory.**
-pub old_bucket_step : (aim : Aim) (m : Moment) (new : Moment) (split : SplitFields) (phase : SplitPhase) → MayStep m → HasClean aim (view_over aim.before m) → IsUnderWay aim (view_over aim.before m) split → split.phase ≡ at.OldBucket
-    → WritesPage (view_over aim.before m) (view_over aim.before new) split.old_page (page.Bucket split.zeros) → IsFirstPhase split phase → GoesOn aim new split (record split { phase = phase })
-old_bucket_step aim m new split phase may file way at_old writes first =
-    let view = view_over aim.before m in
-    let view' = view_over aim.before new in
-    let elsewhere = header_is_elsewhere aim _ split way.bucket (begins_now aim m split may file way) in
-    let later : IsLater aim.root view view' = record {
+pub old_bucket_step : (target : SplitTarget) (m : LocalState) (new : LocalState) (split : SplitFields) (phase : SplitPhase) → MayStep m → HasClean target (view_over target.before m) → IsUnderWay target (view_over target.before m) split → split.phase ≡ at.OldBucket
+    → WritesPage (view_over target.before m) (view_over target.before new) split.old_page (page.Bucket split.zeros) → IsFirstPhase split phase → GoesOn target new split (record split { phase = phase })
+old_bucket_step target m new split phase may file way at_old writes first =
+    let view = view_over target.before m in
+    let view' = view_over target.before new in
+    let elsewhere = header_is_elsewhere target _ split way.bucket (begins_now target m split may file way) in
+    let later : IsLater target.root view view' = record {
       before = λ p first sees. writes.seen p ∙ sees;
       exclusive = λ p was. ap (λ modes. map.get modes p) writes.modes ∙ was;
-      head = writes.others aim.root elsewhere;
+      head = writes.others target.root elsewhere;
     } in
-    let was_among : HoldsAmong view way.header.dirs way.header.dirs 0 (2 ^ (split.directory_depth - 8)) 0 (most_held aim.held_before (split.depth + 1) split.directory_depth) = subst (λ (p : SplitPhase). HoldsAmongAt p aim.held_before view way.header.dirs split) at_old way.among in
+    let was_among : HoldsAmong view way.header.dirs way.header.dirs 0 (2 ^ (split.directory_depth - 8)) 0 (most_held target.held_before (split.depth + 1) split.directory_depth) = subst (λ (p : SplitPhase). HoldsAmongAt p target.held_before view way.header.dirs split) at_old way.among in
     record {
-      under_way = stays_under_way aim view view' split split.made split.second phase way later
+      under_way = stays_under_way target view view' split split.made split.second phase way later
           (λ clean agrees form.
-          let before = agreed_before aim.root view view' clean later agrees in
-          let stood = subst (λ (p : SplitPhase). StandsAt p aim way.splitters (over clean way.rest) (over clean view.own) split way.bucket) at_old (way.stands clean before form) in
-          old_bucket_written aim way.splitters (over clean way.rest) (over clean view.own) (over clean view'.own) split way.bucket (way.begins clean before form) stood (writes_over_clean view view' split.old_page (page.Bucket split.zeros) clean writes) phase first)
-          (among_in_first_phase aim.held_before view' way.header.dirs split phase (among_still view view' way.header.dirs way.header.dirs 0 (2 ^ (split.directory_depth - 8)) 0 (most_held aim.held_before (split.depth + 1) split.directory_depth) was_among writes.modes) first);
+          let before = agreed_before target.root view view' clean later agrees in
+          let stood = subst (λ (p : SplitPhase). StandsAt p target way.splitters (over clean way.rest) (over clean view.own) split way.bucket) at_old (way.stands clean before form) in
+          old_bucket_written target way.splitters (over clean way.rest) (over clean view.own) (over clean view'.own) split way.bucket (way.begins clean before form) stood (writes_over_clean view view' split.old_page (page.Bucket split.zeros) clean writes) phase first)
+          (among_in_first_phase target.held_before view' way.header.dirs split phase (among_still view view' way.header.dirs way.header.dirs 0 (2 ^ (split.directory_depth - 8)) 0 (most_held target.held_before (split.depth + 1) split.directory_depth) was_among writes.modes) first);
       fewer = steps_of_first_phase split phase first ∙ ap (steps_left_at split.depth split.directory_depth) (sym at_old);
       depth = refl;
       directory_depth = refl;

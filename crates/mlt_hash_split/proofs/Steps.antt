@@ -1,29 +1,29 @@
 -- What a step of a split does, at the phase that it is in
 use Rattle.std.proofs.Common.{◌≡◌, ℕ, sym, subst}
 use Rattle.mlt_page.specs.declared.page.Page.{Page}
-use Rattle.mlt_hash_access.specs.Moments.{Moment}
+use Rattle.mlt_hash_access.specs.LocalStates.{LocalState}
 use Rattle.mlt_hash_access.specs.PageSteps.{WritesHeldPage}
 use Rattle.mlt_hash_access.specs.Views.{view_over}
-use Rattle.mlt_hash_split.specs.Rests.{Aim}
+use Rattle.mlt_hash_split.specs.Rests.{SplitTarget}
 use Rattle.mlt_hash_split.specs.Splits.{SplitFields}
 use Rattle.mlt_hash_split.specs.Steps.{IsDone, IsLeft, IsMaking, IsNextPage}
 use Rattle.mlt_hash_split.specs.declared.phase.SplitPhase.{SplitPhase}
 use Rattle.mlt_hash_split.specs.declared.phase.SplitPhase.TheVariants as at
 
-module _ (aim : Aim) (old new : Moment) (split : SplitFields) (phase : SplitPhase) (is : split.phase ≡ phase) where
-  pub done_at : IsDone phase aim old new split → IsDone split.phase aim old new split
-  done_at done = subst (λ (p : SplitPhase). IsDone p aim old new split) (sym is) done
+module _ (target : SplitTarget) (old new : LocalState) (split : SplitFields) (phase : SplitPhase) (is : split.phase ≡ phase) where
+  pub done_at : IsDone phase target old new split → IsDone split.phase target old new split
+  done_at done = subst (λ (p : SplitPhase). IsDone p target old new split) (sym is) done
 
-  pub left_at : IsLeft phase aim old new → IsLeft split.phase aim old new
-  left_at left = subst (λ (p : SplitPhase). IsLeft p aim old new) (sym is) left
+  pub left_at : IsLeft phase target old new → IsLeft split.phase target old new
+  left_at left = subst (λ (p : SplitPhase). IsLeft p target old new) (sym is) left
 
-  pub next_page_at : (n : ℕ) → IsNextPage phase aim (view_over aim.before old) n → IsNextPage split.phase aim (view_over aim.before old) n
-  next_page_at n next = subst (λ (p : SplitPhase). IsNextPage p aim (view_over aim.before old) n) (sym is) next
+  pub next_page_at : (n : ℕ) → IsNextPage phase target (view_over target.before old) n → IsNextPage split.phase target (view_over target.before old) n
+  next_page_at n next = subst (λ (p : SplitPhase). IsNextPage p target (view_over target.before old) n) (sym is) next
 
 -- only a second half is made
 pub makes_second_half : (phase : SplitPhase) (place : ℕ) → phase ≡ at.SecondHalf place → IsMaking phase
 makes_second_half phase place is = subst IsMaking (sym is) tt
 
 -- the header is written where the caller says it is
-pub header_is_written : (old new : Moment) (q root : ℕ) (p : Page) → q ≡ root → WritesHeldPage old new q p → (page : Page) × WritesHeldPage old new root page
+pub header_is_written : (old new : LocalState) (q root : ℕ) (p : Page) → q ≡ root → WritesHeldPage old new q p → (page : Page) × WritesHeldPage old new root page
 header_is_written old new q root p is writes = (p, subst (λ (q : ℕ). WritesHeldPage old new q p) is writes)

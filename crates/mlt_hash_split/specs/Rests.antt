@@ -11,17 +11,17 @@ use Rattle.mlt_page.specs.Values.{BucketFields, HeadFields}
 use Rattle.mlt_page.specs.declared.page.Page.{Page}
 use Rattle.mlt_page.specs.declared.page.Page.TheVariants as page
 use Rattle.mlt_hash_form.specs.File.{FilePages, HasForm, bucket_of, lead_of}
-use Rattle.mlt_hash_form.specs.Held.{Agrees, AreKeptToo, KeepsFile, over, own_or}
+use Rattle.mlt_hash_form.specs.Held.{Agrees, AreKeptToo, KeepsFile, over, own_or_clean}
 use Rattle.mlt_hash_form.specs.Room.{is_crowded}
 use Rattle.mlt_hash_access.specs.Views.{View}
-use Rattle.mlt_hash_split.specs.declared.setting.Setting.{Setting}
+use Rattle.mlt_hash_split.specs.declared.environment.Environment.{Environment}
 
 -- What a walk's splits are for: the key that asks for room, the transaction that adds it, and a
 -- depth at which its bucket has room; the function of keys, who is open and the header's page; and
 -- what it wrote for a key before, with how many buckets it holds of that, at most.
-pub record Aim : Type 0 where
+pub record SplitTarget : Type 0 where
   pub bits : ℕ → ℕ
-  pub opens : set.FinSet nat_cmp
+  pub active : set.FinSet nat_cmp
   pub root : ℕ
   pub key : ℕ
   pub owner : ℕ
@@ -29,12 +29,12 @@ pub record Aim : Type 0 where
   pub before : FilePages
   pub held_before : ℕ
 
--- the aim of a transaction that adds a record of this key in this setting
-abbrev pub aim_by : {P : Type 0} → (P → ℕ → ℕ) → Setting P → ℕ → ℕ → ℕ → FilePages → ℕ → Aim
-aim_by bits_of setting key owner room_depth before held_before = record {
-  bits = bits_of setting.root.now.pseudo;
-  opens = setting.opens.now;
-  root = setting.root.now.page;
+-- the target of a transaction that adds a record of this key in this environment
+abbrev pub target_by : {P : Type 0} → (P → ℕ → ℕ) → Environment P → ℕ → ℕ → ℕ → FilePages → ℕ → SplitTarget
+target_by bits_of environment key owner room_depth before held_before = record {
+  bits = bits_of environment.root.now.pseudo;
+  active = environment.active.now;
+  root = environment.root.now.page;
   key = key;
   owner = owner;
   room_depth = room_depth;
@@ -43,12 +43,12 @@ aim_by bits_of setting key owner room_depth before held_before = record {
 }
 
 -- the pseudokey of the key that asks for room
-abbrev pub seed_of : Aim → ℕ
-seed_of aim = aim.bits aim.key
+abbrev pub seed_of : SplitTarget → ℕ
+seed_of target = target.bits target.key
 
 -- what a page that is held reads as
 abbrev pub held_page : View → ℕ → Option Page
-held_page view q = own_or (view.own q) (unwrap_or (view.seen q) None)
+held_page view q = own_or_clean (view.own q) (unwrap_or (view.seen q) None)
 
 abbrev pub IsIn : ℕ → List ℕ → Type 0
 IsIn q pages = list_any (λ p. p == q) pages ≡ true
@@ -70,25 +70,25 @@ most_held before l g = before + 2 + l + 2 ^ (g - 8)
 -- The walk's writes keep the file. The key leads to the bucket on page n, held exclusively, which
 -- has neither a record of the key nor the owner's ghost of it, and has room at the named depth. One
 -- key has 17 buckets at most: the first one, and one of each split.
-pub record IsAtRest (aim : Aim) (view : View) (n : ℕ) (header : HeadFields) (bucket : BucketFields)
+pub record IsAtRest (target : SplitTarget) (view : View) (n : ℕ) (header : HeadFields) (bucket : BucketFields)
     : Type 0 where
-  pub bounded : (k : ℕ) → aim.bits k < 2 ^ 64
-  pub keeps : KeepsFile aim.bits aim.opens aim.root view.seen view.own
-  pub leads : (clean : ℕ → Option Page) → Agrees view.seen clean → HasForm aim.bits clean aim.root
-      → lead_of (over clean view.own) aim.root (seed_of aim) ≡ n
-  pub head_held : is_some (view.seen aim.root) ≡ true
-  pub head : held_page view aim.root ≡ Some (page.Head header)
+  pub bounded : (k : ℕ) → target.bits k < 2 ^ 64
+  pub keeps : KeepsFile target.bits target.active target.root view.seen view.own
+  pub leads : (clean : ℕ → Option Page) → Agrees view.seen clean → HasForm target.bits clean target.root
+      → lead_of (over clean view.own) target.root (seed_of target) ≡ n
+  pub head_held : is_some (view.seen target.root) ≡ true
+  pub head : held_page view target.root ≡ Some (page.Head header)
   pub bucket_held : is_some (view.seen n) ≡ true
   pub found : held_page view n ≡ Some (page.Bucket bucket)
   pub exclusive : map.get view.modes n ≡ Some Exclusive
-  pub absent : (i : ℕ) → is_live_of aim.key (slice_index_or bucket.slots i Free) ≡ false
+  pub absent : (i : ℕ) → is_live_of target.key (slice_index_or bucket.slots i Free) ≡ false
   pub no_ghost : (i : ℕ)
-      → is_ghost_of aim.key aim.owner (slice_index_or bucket.slots i Free) ≡ false
-  pub room : is_crowded aim.bits aim.opens aim.room_depth (seed_of aim) bucket.slots ≡ false
-  pub small : aim.room_depth ≤ 16
-  pub few_before : aim.held_before ≤ 17
+      → is_ghost_of target.key target.owner (slice_index_or bucket.slots i Free) ≡ false
+  pub room : is_crowded target.bits target.active target.room_depth (seed_of target) bucket.slots ≡ false
+  pub small : target.room_depth ≤ 16
+  pub few_before : target.held_before ≤ 17
   pub among : HoldsAmong view header.dirs header.dirs 0 (2 ^ (header.depth - 8)) 0
-      (most_held aim.held_before bucket.depth header.depth)
+      (most_held target.held_before bucket.depth header.depth)
 
 -- on the pages that are held no slot's room is kept now that was not before
 abbrev pub KeepsNoMore : set.FinSet nat_cmp → set.FinSet nat_cmp → View → Type 0

@@ -17,9 +17,9 @@ use Rattle.mlt_hash_form.specs.Changes.{MaySplit}
 use Rattle.mlt_hash_form.specs.Held.{Agrees, AreKeptToo, KeepsFile, over}
 use Rattle.mlt_hash_form.specs.Room.{is_crowded}
 use Rattle.mlt_hash_form.specs.Splits.{BucketSplit, IsMidway, bucket_split, run_length, run_start, target_in}
-use Rattle.mlt_hash_access.specs.Moments.{HasFileOver, MayStep, Moment}
+use Rattle.mlt_hash_access.specs.LocalStates.{HasFileOver, MayStep, LocalState}
 use Rattle.mlt_hash_access.specs.Views.{HasWritten, View, view_of, view_over}
-use Rattle.mlt_hash_split.specs.Rests.{Aim, IsAtRest, HoldsAmong, held_page, most_held, seed_of}
+use Rattle.mlt_hash_split.specs.Rests.{SplitTarget, IsAtRest, HoldsAmong, held_page, most_held, seed_of}
 use Rattle.mlt_hash_split.specs.declared.phase.SplitPhase.{SplitPhase}
 use Rattle.mlt_hash_split.specs.declared.phase.SplitPhase.TheVariants as at
 
@@ -54,42 +54,42 @@ abbrev pub steps_left : SplitFields → ℕ
 steps_left split = steps_left_at split.depth split.directory_depth split.phase
 
 -- what the split began with: in the file `base` the bucket on the old page is this, and the new page is not there
-pub record Begins (aim : Aim) (base : ℕ → Option Page) (split : SplitFields) (bucket : BucketFields)
+pub record Begins (target : SplitTarget) (base : ℕ → Option Page) (split : SplitFields) (bucket : BucketFields)
     : Type 0 where
-  pub may : MaySplit aim.bits base aim.root (seed_of aim) split.old_page split.new_page
+  pub may : MaySplit target.bits base target.root (seed_of target) split.old_page split.new_page
   pub was : base split.old_page ≡ Some (page.Bucket bucket)
-  pub seed : split.seed ≡ seed_of aim
+  pub seed : split.seed ≡ seed_of target
   pub depth : bucket.depth ≡ split.depth
-  pub directory_depth : depth_of base aim.root ≡ split.directory_depth
-  pub deep : split.depth < aim.room_depth
+  pub directory_depth : depth_of base target.root ≡ split.directory_depth
+  pub deep : split.depth < target.room_depth
 
 -- Of a bucket, by who is open: the split keeps one half, and the other stands on the page that was made.
-pub record HasHalves (aim : Aim) (pages : Pages) (bucket : BucketFields) (split : SplitFields)
+pub record HasHalves (target : SplitTarget) (pages : Pages) (bucket : BucketFields) (split : SplitFields)
     : Type 0 where
-  pub zeros : split.zeros ≡ half_of aim.bits aim.opens bucket 0
-  pub ones : page_at pages split.new_page ≡ Some (page.Bucket (half_of aim.bits aim.opens bucket 1))
+  pub zeros : split.zeros ≡ half_of target.bits target.active bucket 0
+  pub ones : page_at pages split.new_page ≡ Some (page.Bucket (half_of target.bits target.active bucket 1))
 
 -- the walk's file is at rest, its bucket is less deep than is needed, and only who holds the header exclusively doubles
 -- the directory
-pub record MayBegin (aim : Aim) (view : View) (n : ℕ) : Type 0 where
+pub record MayBegin (target : SplitTarget) (view : View) (n : ℕ) : Type 0 where
   pub header : HeadFields
   pub bucket : BucketFields
-  pub rest : IsAtRest aim view n header bucket
-  pub shallow : bucket.depth < aim.room_depth
-  pub doubles : bucket.depth ≡ header.depth → map.get view.modes aim.root ≡ Some Exclusive
+  pub rest : IsAtRest target view n header bucket
+  pub shallow : bucket.depth < target.room_depth
+  pub doubles : bucket.depth ≡ header.depth → map.get view.modes target.root ≡ Some Exclusive
 
 -- what stays the same while the split is under way, which began with these pages and these open owners
-abbrev pub split_in : Aim → set.FinSet nat_cmp → (ℕ → Option Page) → SplitFields → BucketSplit
-split_in aim splitters base split =
-    bucket_split aim.bits splitters base aim.root split.old_page split.new_page (seed_of aim)
+abbrev pub split_in : SplitTarget → set.FinSet nat_cmp → (ℕ → Option Page) → SplitFields → BucketSplit
+split_in target splitters base split =
+    bucket_split target.bits splitters base target.root split.old_page split.new_page (seed_of target)
 
 -- the new bucket is made, and the old one to be written
-pub record IsAtOldBucket (aim : Aim) (splitters : set.FinSet nat_cmp) (base pages : ℕ → Option Page)
+pub record IsAtOldBucket (target : SplitTarget) (splitters : set.FinSet nat_cmp) (base pages : ℕ → Option Page)
     (split : SplitFields) (bucket : BucketFields) : Type 0 where
-  pub zeros : split.zeros ≡ half_of aim.bits splitters bucket 0
-  pub ones : Writes base pages split.new_page (page.Bucket (half_of aim.bits splitters bucket 1))
+  pub zeros : split.zeros ≡ half_of target.bits splitters bucket 0
+  pub ones : Writes base pages split.new_page (page.Bucket (half_of target.bits splitters bucket 1))
   pub doubles : split.depth ≡ split.directory_depth
-      → split.made ≡ record { depth = split.directory_depth + 1; dirs = dirs_of base aim.root }
+      → split.made ≡ record { depth = split.directory_depth + 1; dirs = dirs_of base target.root }
 
 -- The pages from this place up to the end, excluded, have all places of the new bucket, where a bucket of depth l is
 -- split to which this pseudokey leads. The directory is of depth g.
@@ -101,32 +101,32 @@ pub record HaveNewPlaces (seed l g place end : ℕ) : Type 0 where
 
 -- Pages of the directory that keeps its depth are written, up to this place: those that have places of the new bucket, and
 -- no others.
-pub record IsInPlace (aim : Aim) (splitters : set.FinSet nat_cmp) (base pages : ℕ → Option Page)
+pub record IsInPlace (target : SplitTarget) (splitters : set.FinSet nat_cmp) (base pages : ℕ → Option Page)
     (split : SplitFields) (place end : ℕ) : Type 0 where
   pub shallow : split.depth < split.directory_depth
-  pub filled : IsMidway (split_in aim splitters base split) split.directory_depth pages
-      (dirs_of base aim.root) place place
+  pub filled : IsMidway (split_in target splitters base split) split.directory_depth pages
+      (dirs_of base target.root) place place
   pub first : ℕ
   pub places : HaveNewPlaces split.seed split.depth split.directory_depth first end
   pub from : first ≤ place
   pub more : place < end
-  pub last : run_start base aim.root split.old_page
-      (seed_of aim) + run_length base aim.root split.old_page ≤ 256 * end
+  pub last : run_start base target.root split.old_page
+      (seed_of target) + run_length base target.root split.old_page ≤ 256 * end
 
 -- the directory doubles: this old page is the next one
-pub record IsAtDouble (aim : Aim) (splitters : set.FinSet nat_cmp) (base pages : ℕ → Option Page)
+pub record IsAtDouble (target : SplitTarget) (splitters : set.FinSet nat_cmp) (base pages : ℕ → Option Page)
     (split : SplitFields) (place : ℕ) : Type 0 where
   pub deep : split.depth ≡ split.directory_depth
-  pub filled : IsMidway (split_in aim splitters base split) split.made.depth pages
+  pub filled : IsMidway (split_in target splitters base split) split.made.depth pages
       split.made.dirs (2 * place) place
   pub more : place < 2 ^ (split.directory_depth - 8)
   pub deeper : split.made.depth ≡ split.directory_depth + 1
 
 -- the first half of this old page is written, and the second kept
-pub record IsAtSecondHalf (aim : Aim) (splitters : set.FinSet nat_cmp)
+pub record IsAtSecondHalf (target : SplitTarget) (splitters : set.FinSet nat_cmp)
     (base pages : ℕ → Option Page) (split : SplitFields) (place : ℕ) : Type 0 where
   pub deep : split.depth ≡ split.directory_depth
-  pub filled : IsMidway (split_in aim splitters base split) split.made.depth pages
+  pub filled : IsMidway (split_in target splitters base split) split.made.depth pages
       split.made.dirs (2 * place + 1) (place + 1)
   pub more : place < 2 ^ (split.directory_depth - 8)
   pub deeper : split.made.depth ≡ split.directory_depth + 1
@@ -134,28 +134,28 @@ pub record IsAtSecondHalf (aim : Aim) (splitters : set.FinSet nat_cmp)
   pub sized : length split.second ≡ 256
   pub right : (r : ℕ) → r < 256
       → slice_index split.second r
-      ≡ target_in (split_in aim splitters base split) split.made.depth (256 * (2 * place + 1) + r)
+      ≡ target_in (split_in target splitters base split) split.made.depth (256 * (2 * place + 1) + r)
 
 -- every page of the doubled directory is written
-pub record IsAtHeader (aim : Aim) (splitters : set.FinSet nat_cmp) (base pages : ℕ → Option Page)
+pub record IsAtHeader (target : SplitTarget) (splitters : set.FinSet nat_cmp) (base pages : ℕ → Option Page)
     (split : SplitFields) : Type 0 where
   pub deep : split.depth ≡ split.directory_depth
   pub taken : ℕ
-  pub filled : IsMidway (split_in aim splitters base split) split.made.depth pages
+  pub filled : IsMidway (split_in target splitters base split) split.made.depth pages
       split.made.dirs (2 ^ (split.made.depth - 8)) taken
   pub deeper : split.made.depth ≡ split.directory_depth + 1
 
-abbrev pub StandsAt : SplitPhase → Aim → set.FinSet nat_cmp → (ℕ → Option Page) → (ℕ → Option Page)
+abbrev pub StandsAt : SplitPhase → SplitTarget → set.FinSet nat_cmp → (ℕ → Option Page) → (ℕ → Option Page)
     → SplitFields → BucketFields → Type 0
-StandsAt at.OldBucket aim splitters base pages split bucket =
-    IsAtOldBucket aim splitters base pages split bucket
-StandsAt (at.InPlace place end) aim splitters base pages split bucket =
-    IsInPlace aim splitters base pages split place end
-StandsAt (at.Double place) aim splitters base pages split bucket =
-    IsAtDouble aim splitters base pages split place
-StandsAt (at.SecondHalf place) aim splitters base pages split bucket =
-    IsAtSecondHalf aim splitters base pages split place
-StandsAt at.Header aim splitters base pages split bucket = IsAtHeader aim splitters base pages split
+StandsAt at.OldBucket target splitters base pages split bucket =
+    IsAtOldBucket target splitters base pages split bucket
+StandsAt (at.InPlace place end) target splitters base pages split bucket =
+    IsInPlace target splitters base pages split place end
+StandsAt (at.Double place) target splitters base pages split bucket =
+    IsAtDouble target splitters base pages split place
+StandsAt (at.SecondHalf place) target splitters base pages split bucket =
+    IsAtSecondHalf target splitters base pages split place
+StandsAt at.Header target splitters base pages split bucket = IsAtHeader target splitters base pages split
 
 -- the pages that are held, by how far the split is, and how many buckets were held before
 abbrev pub HoldsAmongAt : SplitPhase → ℕ → View → List ℕ → SplitFields → Type 0
@@ -178,36 +178,36 @@ HoldsAmongAt at.Header before view dirs split =
 
 -- A split is under way. `rest` is what the walk had written before it, and `splitters` who was open when the two halves
 -- were made: who is open may change between two steps.
-pub record IsUnderWay (aim : Aim) (view : View) (split : SplitFields) : Type 0 where
-  pub bounded : (k : ℕ) → aim.bits k < 2 ^ 64
+pub record IsUnderWay (target : SplitTarget) (view : View) (split : SplitFields) : Type 0 where
+  pub bounded : (k : ℕ) → target.bits k < 2 ^ 64
   pub rest : ℕ → Option Page
   pub splitters : set.FinSet nat_cmp
   pub header : HeadFields
   pub bucket : BucketFields
-  pub keeps : KeepsFile aim.bits aim.opens aim.root view.seen rest
-  pub head_held : is_some (view.seen aim.root) ≡ true
-  pub head : held_page view aim.root ≡ Some (page.Head header)
+  pub keeps : KeepsFile target.bits target.active target.root view.seen rest
+  pub head_held : is_some (view.seen target.root) ≡ true
+  pub head : held_page view target.root ≡ Some (page.Head header)
   pub old_held : is_some (view.seen split.old_page) ≡ true
   pub exclusive : map.get view.modes split.old_page ≡ Some Exclusive
   pub new_exclusive : map.get view.modes split.new_page ≡ Some Exclusive
-  pub doubles : split.depth ≡ split.directory_depth → map.get view.modes aim.root ≡ Some Exclusive
-  pub fewer : AreKeptToo aim.opens splitters bucket
-  pub absent : (i : ℕ) → is_live_of aim.key (slice_index_or bucket.slots i Free) ≡ false
+  pub doubles : split.depth ≡ split.directory_depth → map.get view.modes target.root ≡ Some Exclusive
+  pub fewer : AreKeptToo target.active splitters bucket
+  pub absent : (i : ℕ) → is_live_of target.key (slice_index_or bucket.slots i Free) ≡ false
   pub no_ghost : (i : ℕ)
-      → is_ghost_of aim.key aim.owner (slice_index_or bucket.slots i Free) ≡ false
-  pub room : is_crowded aim.bits aim.opens aim.room_depth (seed_of aim) bucket.slots ≡ false
-  pub small : aim.room_depth ≤ 16
-  pub few_before : aim.held_before ≤ 17
-  pub begins : (clean : ℕ → Option Page) → Agrees view.seen clean → HasForm aim.bits clean aim.root
-      → Begins aim (over clean rest) split bucket
-  pub stands : (clean : ℕ → Option Page) → Agrees view.seen clean → HasForm aim.bits clean aim.root
-      → StandsAt split.phase aim splitters (over clean rest) (over clean view.own) split bucket
-  pub among : HoldsAmongAt split.phase aim.held_before view header.dirs split
+      → is_ghost_of target.key target.owner (slice_index_or bucket.slots i Free) ≡ false
+  pub room : is_crowded target.bits target.active target.room_depth (seed_of target) bucket.slots ≡ false
+  pub small : target.room_depth ≤ 16
+  pub few_before : target.held_before ≤ 17
+  pub begins : (clean : ℕ → Option Page) → Agrees view.seen clean → HasForm target.bits clean target.root
+      → Begins target (over clean rest) split bucket
+  pub stands : (clean : ℕ → Option Page) → Agrees view.seen clean → HasForm target.bits clean target.root
+      → StandsAt split.phase target splitters (over clean rest) (over clean view.own) split bucket
+  pub among : HoldsAmongAt split.phase target.held_before view header.dirs split
 
 -- What a step of a split asks: its transaction may step, and the clean pages, with what it wrote
 -- before over them, are a hash file, over which the split is under way.
-pub record MayAdvance (aim : Aim) (m : Moment) (split : SplitFields) : Type 0 where
+pub record MayAdvance (target : SplitTarget) (m : LocalState) (split : SplitFields) : Type 0 where
   pub may : MayStep m
-  pub written : HasWritten aim.before (view_of m)
-  pub file : HasFileOver aim.bits aim.root aim.before m
-  pub under_way : IsUnderWay aim (view_over aim.before m) split
+  pub written : HasWritten target.before (view_of m)
+  pub file : HasFileOver target.bits target.root target.before m
+  pub under_way : IsUnderWay target (view_over target.before m) split

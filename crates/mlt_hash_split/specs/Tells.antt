@@ -5,26 +5,26 @@ use Rattle.mlt_types.specs.declared.mode.Mode.TheVariants.{Exclusive}
 use Rattle.mlt_types.specs.declared.refusal.Refusal.TheVariants as refusal
 use Rattle.mlt_page.specs.Values.{BucketFields, HeadFields}
 use Rattle.mlt_page_locks.specs.Requests.{IsLowest, conflicts}
-use Rattle.mlt_hash_access.specs.Moments.{Moment}
+use Rattle.mlt_hash_access.specs.LocalStates.{LocalState}
 use Rattle.mlt_hash_access.specs.Views.{view_over}
 use Rattle.mlt_hash_split.specs.declared.split.SplitAnswer.{SplitAnswer}
 use Rattle.mlt_hash_split.specs.declared.split.SplitAnswer.TheVariants as answer
-use Rattle.mlt_hash_split.specs.Rests.{Aim, IsAtRest}
+use Rattle.mlt_hash_split.specs.Rests.{SplitTarget, IsAtRest}
 use Rattle.mlt_hash_split.specs.Splits.{IsUnderWay, SplitFields, steps_left}
 use Rattle.mlt_hash_split.specs.Steps.{IsMaking, IsNextPage}
 
 -- the walk's file is at rest again, with a bucket one deeper, and a directory one deeper where it was doubled
-pub record Rests (aim : Aim) (new : Moment) (split : SplitFields) (n : ℕ) : Type 0 where
+pub record Rests (target : SplitTarget) (new : LocalState) (split : SplitFields) (n : ℕ) : Type 0 where
   pub header : HeadFields
   pub bucket : BucketFields
-  pub rest : IsAtRest aim (view_over aim.before new) n header bucket
+  pub rest : IsAtRest target (view_over target.before new) n header bucket
   pub deeper : bucket.depth ≡ split.depth + 1
   pub in_place : (split.depth ≡ split.directory_depth → ⊥) → header.depth ≡ split.directory_depth
   pub doubled : split.depth ≡ split.directory_depth → header.depth ≡ split.directory_depth + 1
 
 -- One step fewer is left, by exactly one; the split keeps its pages and depths.
-pub record GoesOn (aim : Aim) (new : Moment) (before after : SplitFields) : Type 0 where
-  pub under_way : IsUnderWay aim (view_over aim.before new) after
+pub record GoesOn (target : SplitTarget) (new : LocalState) (before after : SplitFields) : Type 0 where
+  pub under_way : IsUnderWay target (view_over target.before new) after
   pub fewer : steps_left after + 1 ≡ steps_left before
   pub depth : after.depth ≡ before.depth
   pub directory_depth : after.directory_depth ≡ before.directory_depth
@@ -32,14 +32,14 @@ pub record GoesOn (aim : Aim) (new : Moment) (before after : SplitFields) : Type
 -- Going: the split goes on. Closed: this was its last step. Waiting: for the next page, on which a
 -- lock stands against its own; nothing changed. Refused: NoRoom where a page was to be made and
 -- there may be no more, or OutOfMemory.
-abbrev pub Tells : Aim → Moment → Moment → SplitFields → SplitFields → SplitAnswer → Type 0
-Tells aim old new before after answer.Going = GoesOn aim new before after
-Tells aim old new before after (answer.Closed n) = Rests aim new before n × (steps_left before ≡ 1)
-Tells aim old new before after (answer.Waiting page by) =
-    IsNextPage before.phase aim (view_over aim.before old) page
+abbrev pub Tells : SplitTarget → LocalState → LocalState → SplitFields → SplitFields → SplitAnswer → Type 0
+Tells target old new before after answer.Going = GoesOn target new before after
+Tells target old new before after (answer.Closed n) = Rests target new before n × (steps_left before ≡ 1)
+Tells target old new before after (answer.Waiting page by) =
+    IsNextPage before.phase target (view_over target.before old) page
     × IsLowest (conflicts old.locks old.running.tx page Exclusive) by
     × (new ≡ old)
     × (after ≡ before)
-Tells aim old new before after (answer.Refused refusal.NoRoom) =
+Tells target old new before after (answer.Refused refusal.NoRoom) =
     IsMaking before.phase × (map.len old.store.pages ≡ old.store.max_pages)
-Tells aim old new before after (answer.Refused reason) = reason ≡ refusal.OutOfMemory
+Tells target old new before after (answer.Refused reason) = reason ≡ refusal.OutOfMemory

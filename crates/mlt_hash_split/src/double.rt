@@ -2,9 +2,9 @@
 
 ghost use Rattle.std.specs.Prelude.{◌≡◌, ◌≢◌, ◌↔◌, ℕ, ◌<◌, Option, length, slice_set};
 ghost use Rattle.std.specs.FinMap as map;
-ghost use Rattle.mlt_hash_access.specs.Moments.{moment};
+ghost use Rattle.mlt_hash_access.specs.LocalStates.{local};
 ghost use Rattle.mlt_hash_access.specs.PageSteps.{HasNoPageLeft, Leaves};
-ghost use Rattle.mlt_hash_split.specs.Rests.{Aim};
+ghost use Rattle.mlt_hash_split.specs.Rests.{SplitTarget};
 ghost use Rattle.mlt_hash_split.specs.Splits.{MayAdvance};
 ghost use Rattle.mlt_hash_split.specs.Steps.{Touches};
 ghost use Rattle.mlt_hash_split.specs.Tells.{Tells};
@@ -26,16 +26,16 @@ pub(crate) fn double_page(
     subtx: &mut Subtx,
     pages: &mut LockedStore,
 ) -> SplitAnswer
-    ghost aim: { Aim }
+    ghost target: { SplitTarget }
     requires phase { split.old.phase ≡ SplitPhase.Double place }
-    requires root { root ≡ aim.root }
-    requires ready { MayAdvance aim (moment subtx.old pages.old) split.old }
-    ensures leaves { Leaves (moment subtx.old pages.old) (moment subtx.new pages.new) }
-    ensures steps { Touches result aim
-        (moment subtx.old pages.old) (moment subtx.new pages.new) split.old }
+    requires root { root ≡ target.root }
+    requires ready { MayAdvance target (local subtx.old pages.old) split.old }
+    ensures leaves { Leaves (local subtx.old pages.old) (local subtx.new pages.new) }
+    ensures steps { Touches result target
+        (local subtx.old pages.old) (local subtx.new pages.new) split.old }
     ensures no_room { result ≢ SplitAnswer.Refused Refusal.NoRoom }
-    ensures tells { Tells aim
-        (moment subtx.old pages.old) (moment subtx.new pages.new) split.old split.new result }
+    ensures tells { Tells target
+        (local subtx.old pages.old) (local subtx.new pages.new) split.old split.new result }
 {
     let header = read_held_head(subtx, pages, root);
     let number = header.dir(place);
@@ -66,16 +66,16 @@ pub(crate) fn make_second_half(
     subtx: &mut Subtx,
     pages: &mut LockedStore,
 ) -> SplitAnswer
-    ghost aim: { Aim }
+    ghost target: { SplitTarget }
     requires phase { split.old.phase ≡ SplitPhase.SecondHalf place }
-    requires ready { MayAdvance aim (moment subtx.old pages.old) split.old }
-    ensures leaves { Leaves (moment subtx.old pages.old) (moment subtx.new pages.new) }
-    ensures steps { Touches result aim
-        (moment subtx.old pages.old) (moment subtx.new pages.new) split.old }
+    requires ready { MayAdvance target (local subtx.old pages.old) split.old }
+    ensures leaves { Leaves (local subtx.old pages.old) (local subtx.new pages.new) }
+    ensures steps { Touches result target
+        (local subtx.old pages.old) (local subtx.new pages.new) split.old }
     ensures no_room { (result ≡ SplitAnswer.Refused Refusal.NoRoom)
         ↔ HasNoPageLeft pages.old.store }
-    ensures tells { Tells aim
-        (moment subtx.old pages.old) (moment subtx.new pages.new) split.old split.new result }
+    ensures tells { Tells target
+        (local subtx.old pages.old) (local subtx.new pages.new) split.old split.new result }
 {
     let number = match make_page(subtx, pages, Page::Dir(split.second)) {
         Ok(number) => number,
@@ -97,16 +97,16 @@ pub(crate) fn write_header(
     subtx: &mut Subtx,
     pages: &mut LockedStore,
 ) -> SplitAnswer
-    ghost aim: { Aim }
+    ghost target: { SplitTarget }
     requires phase { split.now.phase ≡ SplitPhase.Header }
-    requires root { root ≡ aim.root }
-    requires ready { MayAdvance aim (moment subtx.old pages.old) split.now }
-    ensures leaves { Leaves (moment subtx.old pages.old) (moment subtx.new pages.new) }
-    ensures steps { Touches result aim
-        (moment subtx.old pages.old) (moment subtx.new pages.new) split.now }
+    requires root { root ≡ target.root }
+    requires ready { MayAdvance target (local subtx.old pages.old) split.now }
+    ensures leaves { Leaves (local subtx.old pages.old) (local subtx.new pages.new) }
+    ensures steps { Touches result target
+        (local subtx.old pages.old) (local subtx.new pages.new) split.now }
     ensures no_room { result ≢ SplitAnswer.Refused Refusal.NoRoom }
-    ensures tells { Tells aim
-        (moment subtx.old pages.old) (moment subtx.new pages.new) split.now split.now result }
+    ensures tells { Tells target
+        (local subtx.old pages.old) (local subtx.new pages.new) split.now split.now result }
 {
     match write_held(subtx, pages, root, Page::Head(split.made)) {
         Ok(()) => SplitAnswer::Closed(split.key_bucket()),

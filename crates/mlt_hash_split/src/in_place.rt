@@ -1,9 +1,9 @@
 //! Splits that leave the directory as deep as it is.
 
 ghost use Rattle.std.specs.Prelude.{◌≡◌, ◌≢◌, ℕ, Option};
-ghost use Rattle.mlt_hash_access.specs.Moments.{moment};
+ghost use Rattle.mlt_hash_access.specs.LocalStates.{local};
 ghost use Rattle.mlt_hash_access.specs.PageSteps.{Leaves};
-ghost use Rattle.mlt_hash_split.specs.Rests.{Aim};
+ghost use Rattle.mlt_hash_split.specs.Rests.{SplitTarget};
 ghost use Rattle.mlt_hash_split.specs.Splits.{MayAdvance};
 ghost use Rattle.mlt_hash_split.specs.Steps.{Touches};
 ghost use Rattle.mlt_hash_split.specs.Tells.{Tells};
@@ -25,16 +25,16 @@ pub(crate) fn write_in_place(
     subtx: &mut Subtx,
     pages: &mut LockedStore,
 ) -> SplitAnswer
-    ghost aim: { Aim }
+    ghost target: { SplitTarget }
     requires phase { split.old.phase ≡ SplitPhase.InPlace place end }
-    requires root { root ≡ aim.root }
-    requires ready { MayAdvance aim (moment subtx.old pages.old) split.old }
-    ensures leaves { Leaves (moment subtx.old pages.old) (moment subtx.new pages.new) }
-    ensures steps { Touches result aim
-        (moment subtx.old pages.old) (moment subtx.new pages.new) split.old }
+    requires root { root ≡ target.root }
+    requires ready { MayAdvance target (local subtx.old pages.old) split.old }
+    ensures leaves { Leaves (local subtx.old pages.old) (local subtx.new pages.new) }
+    ensures steps { Touches result target
+        (local subtx.old pages.old) (local subtx.new pages.new) split.old }
     ensures no_room { result ≢ SplitAnswer.Refused Refusal.NoRoom }
-    ensures tells { Tells aim
-        (moment subtx.old pages.old) (moment subtx.new pages.new) split.old split.new result }
+    ensures tells { Tells target
+        (local subtx.old pages.old) (local subtx.new pages.new) split.old split.new result }
 {
     let header = read_held_head(subtx, pages, root);
     let number = header.dir(place);

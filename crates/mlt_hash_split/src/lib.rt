@@ -4,15 +4,15 @@
 
 mod begin;
 mod double;
+mod environment;
 mod in_place;
 mod old_bucket;
 mod phase;
-mod setting;
 mod split;
 mod split_laws;
 
+pub use environment::Environment;
 pub use phase::SplitPhase;
-pub use setting::Setting;
 pub use split::{Split, SplitAnswer};
 pub use split_laws::{
     closed_owners_keep_the_rest, closed_owners_keep_the_split, narrow_splits_lock_the_keys_page,

@@ -1,9 +1,9 @@
 //! The second step of a split.
 
 ghost use Rattle.std.specs.Prelude.{◌≡◌, ◌≢◌, ◌≤◌, ℕ, Option};
-ghost use Rattle.mlt_hash_access.specs.Moments.{moment};
+ghost use Rattle.mlt_hash_access.specs.LocalStates.{local};
 ghost use Rattle.mlt_hash_access.specs.PageSteps.{Leaves};
-ghost use Rattle.mlt_hash_split.specs.Rests.{Aim};
+ghost use Rattle.mlt_hash_split.specs.Rests.{SplitTarget};
 ghost use Rattle.mlt_hash_split.specs.Splits.{MayAdvance};
 ghost use Rattle.mlt_hash_split.specs.Steps.{Touches};
 ghost use Rattle.mlt_hash_split.specs.FirstPhases.{IsFirstPhase};
@@ -23,15 +23,15 @@ pub(crate) fn write_old_bucket(
     subtx: &mut Subtx,
     pages: &mut LockedStore,
 ) -> SplitAnswer
-    ghost aim: { Aim }
+    ghost target: { SplitTarget }
     requires phase { split.old.phase ≡ SplitPhase.OldBucket }
-    requires ready { MayAdvance aim (moment subtx.old pages.old) split.old }
-    ensures leaves { Leaves (moment subtx.old pages.old) (moment subtx.new pages.new) }
-    ensures steps { Touches result aim
-        (moment subtx.old pages.old) (moment subtx.new pages.new) split.old }
+    requires ready { MayAdvance target (local subtx.old pages.old) split.old }
+    ensures leaves { Leaves (local subtx.old pages.old) (local subtx.new pages.new) }
+    ensures steps { Touches result target
+        (local subtx.old pages.old) (local subtx.new pages.new) split.old }
     ensures no_room { result ≢ SplitAnswer.Refused Refusal.NoRoom }
-    ensures tells { Tells aim
-        (moment subtx.old pages.old) (moment subtx.new pages.new) split.old split.new result }
+    ensures tells { Tells target
+        (local subtx.old pages.old) (local subtx.new pages.new) split.old split.new result }
 {
     if let Err(refusal) = write_held(subtx, pages, split.old_page, Page::Bucket(split.zeros)) {
         return SplitAnswer::Refused(refusal);

@@ -3,9 +3,9 @@
 ghost use Rattle.std.specs.Prelude.{◌≡◌, ◌↔◌, ◌<◌, ◌==◌, ℕ, Option, if◌then◌else◌};
 ghost use Rattle.std.specs.FinMap as map;
 ghost use Rattle.mlt_page.specs.Bits.{bit_at};
-ghost use Rattle.mlt_hash_access.specs.Moments.{moment};
+ghost use Rattle.mlt_hash_access.specs.LocalStates.{local};
 ghost use Rattle.mlt_hash_access.specs.PageSteps.{HasNoPageLeft, Leaves};
-ghost use Rattle.mlt_hash_split.specs.Rests.{Aim};
+ghost use Rattle.mlt_hash_split.specs.Rests.{SplitTarget};
 ghost use Rattle.mlt_hash_split.specs.Splits.{MayAdvance};
 ghost use Rattle.mlt_hash_split.specs.Steps.{IsMaking, Touches};
 ghost use Rattle.mlt_hash_split.specs.Tells.{Tells};
@@ -94,16 +94,16 @@ impl Split {
         subtx: &mut Subtx,
         pages: &mut LockedStore,
     ) -> SplitAnswer
-        ghost aim: { Aim }
-        requires root { root ≡ aim.root }
-        requires ready { MayAdvance aim (moment subtx.old pages.old) self.old }
-        ensures leaves { Leaves (moment subtx.old pages.old) (moment subtx.new pages.new) }
-        ensures steps { Touches result aim
-            (moment subtx.old pages.old) (moment subtx.new pages.new) self.old }
+        ghost target: { SplitTarget }
+        requires root { root ≡ target.root }
+        requires ready { MayAdvance target (local subtx.old pages.old) self.old }
+        ensures leaves { Leaves (local subtx.old pages.old) (local subtx.new pages.new) }
+        ensures steps { Touches result target
+            (local subtx.old pages.old) (local subtx.new pages.new) self.old }
         ensures no_room { (result ≡ SplitAnswer.Refused Refusal.NoRoom)
             ↔ (IsMaking self.old.phase × HasNoPageLeft pages.old.store) }
-        ensures tells { Tells aim
-            (moment subtx.old pages.old) (moment subtx.new pages.new) self.old self.new result }
+        ensures tells { Tells target
+            (local subtx.old pages.old) (local subtx.new pages.new) self.old self.new result }
     {
         match self.phase {
             SplitPhase::OldBucket => write_old_bucket(self, subtx, pages),

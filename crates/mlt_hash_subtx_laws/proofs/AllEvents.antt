@@ -15,14 +15,14 @@ use Rattle.mlt_page_locks.proofs.LockLaws.{can_write-granted, compatible_release
 use Rattle.mlt_page_locks.proofs.Maps.{get_inserted, get_removed, same_entries}
 use Rattle.mlt_page_subtx.specs.Images.{Images, Running, image_of, or_image, put_back, with_image}
 use Rattle.mlt_page_subtx.proofs.ImageLaws.{fresh_has_no_image, not_there, not_true, page_at-put_back, with_image-absent}
-use Rattle.mlt_hash_form.specs.Held.{Agrees, own_or, over}
-use Rattle.mlt_hash_access.specs.Moments.{MayStep, Moment, page_before}
+use Rattle.mlt_hash_form.specs.Held.{Agrees, own_or_clean, over}
+use Rattle.mlt_hash_access.specs.LocalStates.{MayStep, LocalState, page_before}
 use Rattle.mlt_hash_access.specs.PageSteps.{LocksAtMost, TouchesOnePage, WritesAtMost}
 use Rattle.mlt_hash_access.specs.Views.{View, own_at, page_written, seen_at, view_of}
-use Rattle.mlt_hash_access.proofs.Moments.{may_after_lock_at_most, may_after_step}
+use Rattle.mlt_hash_access.proofs.LocalStates.{may_after_lock_at_most, may_after_step}
 use Rattle.mlt_hash_access.proofs.OwnSteps.{step_keeps_tx}
 use Rattle.mlt_hash_subtx_laws.specs.CleanPages.{DropsImages, ImagesAreApart, ImagesAreLocked, ImagesAreThere, RunningImages, clean_pages, image_at}
-use Rattle.mlt_hash_subtx_laws.specs.Running.{AllMayStep, AllRunning, HoldsNothing, KeepsRunning, after_begin, after_close, after_end, after_roll_back, after_step, clean_of, images_by, is_open, moment_of}
+use Rattle.mlt_hash_subtx_laws.specs.Running.{AllMayStep, AllRunning, HoldsNothing, KeepsRunning, after_begin, after_close, after_end, after_roll_back, after_step, clean_of, images_by, is_open, local_of}
 use Rattle.mlt_hash_subtx_laws.proofs.AllRunning.{agrees_with_each, each_may_step}
 use Rattle.mlt_hash_subtx_laws.proofs.CleanLaws.{clean_page-end, clean_pages-roll_back, clean_pages-write, drops_cleared, drops_removed, image_at-insert, images_are_apart, others_stay, same_clean_pages}
 use Rattle.mlt_hash_subtx_laws.proofs.Others.{same_where_held, step_drops_no_page, step_keeps_held_pages, step_keeps_others}
@@ -30,7 +30,7 @@ use Rattle.mlt_hash_subtx_laws.proofs.RunningLaws.{images_locked-granted, images
 
 -- a transaction that keeps its images, its locks and the pages that it holds has the view that it had
 same_view_of : (old new : AllRunning) (u : ℕ) → map.get new.images u ≡ map.get old.images u → pages_of new.locks u ≡ pages_of old.locks u
-    → ((q : ℕ) → can_read old.locks u q ≡ true → page_at new.store.pages q ≡ page_at old.store.pages q) → view_of (moment_of new u) ≡ view_of (moment_of old u)
+    → ((q : ℕ) → can_read old.locks u q ≡ true → page_at new.store.pages q ≡ page_at old.store.pages q) → view_of (local_of new u) ≡ view_of (local_of old u)
 same_view_of old new u images locks pages i = record { modes = locks i; seen = λ q. seen q i; own = λ q. own q i }
   where
     kept : images_by new u ≡ images_by old u
@@ -39,11 +39,11 @@ same_view_of old new u images locks pages i = record { modes = locks i; seen = �
     reads : (q : ℕ) → can_read new.locks u q ≡ can_read old.locks u q
     reads q = ap (λ (modes : Modes). is_some (map.get modes q)) locks
 
-    seen : (q : ℕ) → seen_at (moment_of new u) q ≡ seen_at (moment_of old u) q
+    seen : (q : ℕ) → seen_at (local_of new u) q ≡ seen_at (local_of old u) q
     seen q = same_where_held (can_read old.locks u q) (can_read new.locks u q) (Some (page_before (images_by old u) old.store.pages q)) (Some (page_before (images_by new u) new.store.pages q)) None (reads q)
         (λ held i. Some (or_image (image_of (kept i) q) (pages q held i)))
 
-    own : (q : ℕ) → own_at (moment_of new u) q ≡ own_at (moment_of old u) q
+    own : (q : ℕ) → own_at (local_of new u) q ≡ own_at (local_of old u) q
     own q = same_where_held (can_read old.locks u q) (can_read new.locks u q) (page_written (image_of (images_by old u) q) (page_at old.store.pages q)) (page_written (image_of (images_by new u) q) (page_at new.store.pages q)) None (reads q)
         (λ held i. page_written (image_of (kept i) q) (pages q held i))
 
@@ -73,21 +73,21 @@ lock_leaves_holders tx old new q mode is = subst (LeavesHolders tx old) (sym is)
   pages = grind (arith, nat_tests, page_count-granted old tx q mode tx);
 })
 
-lock_at_most_leaves_holders : (old new : Moment) (q : ℕ) → LocksAtMost old new q → LeavesHolders old.running.tx old.locks new.locks
+lock_at_most_leaves_holders : (old new : LocalState) (q : ℕ) → LocksAtMost old new q → LeavesHolders old.running.tx old.locks new.locks
 lock_at_most_leaves_holders old new q step =
     elim step [
-      | inl same ↦ same_holders old.running.tx old.locks new.locks (ap (λ (m : Moment). m.locks) same)
+      | inl same ↦ same_holders old.running.tx old.locks new.locks (ap (λ (m : LocalState). m.locks) same)
       | inr locks ↦ lock_leaves_holders old.running.tx old.locks new.locks q locks.0 locks.1.locks
     ]
 
-write_at_most_same_locks : (old new : Moment) (q : ℕ) → WritesAtMost old new q → new.locks ≡ old.locks
+write_at_most_same_locks : (old new : LocalState) (q : ℕ) → WritesAtMost old new q → new.locks ≡ old.locks
 write_at_most_same_locks old new q step =
     elim step [
-      | inl same ↦ ap (λ (m : Moment). m.locks) same
+      | inl same ↦ ap (λ (m : LocalState). m.locks) same
       | inr writes ↦ writes.1.locks
     ]
 
-step_leaves_holders : (old new : Moment) → TouchesOnePage old new → LeavesHolders old.running.tx old.locks new.locks
+step_leaves_holders : (old new : LocalState) → TouchesOnePage old new → LeavesHolders old.running.tx old.locks new.locks
 step_leaves_holders old new step =
     elim step.1 [
       | inl both ↦ subst (LeavesHolders old.running.tx old.locks) (sym (write_at_most_same_locks both.0 new step.0 both.2)) (lock_at_most_leaves_holders old both.0 step.0 both.1)
@@ -95,14 +95,14 @@ step_leaves_holders old new step =
     ]
 
 -- **A step makes a transaction hold at most one page more.**
-pub step_adds_one_page : (old new : Moment) → TouchesOnePage old new → page_count new.locks old.running.tx ≤ page_count old.locks old.running.tx + 1
+pub step_adds_one_page : (old new : LocalState) → TouchesOnePage old new → page_count new.locks old.running.tx ≤ page_count old.locks old.running.tx + 1
 step_adds_one_page old new step = (step_leaves_holders old new step).pages
 
--- a moment of the transaction tx
-abbrev at : ℕ → Images → LockTable → PageStore → Moment
+-- a state of the transaction tx
+abbrev at : ℕ → Images → LockTable → PageStore → LocalState
 at tx images locks store = record { running = record { tx = tx; images = images }; locks = locks; store = store }
 
-step_keeps : (all : AllRunning) (tx : ℕ) (images : Images) (locks : LockTable) (store : PageStore) → AllMayStep all → is_open all tx ≡ true → TouchesOnePage (moment_of all tx) (at tx images locks store) → page_count locks tx ≤ 300
+step_keeps : (all : AllRunning) (tx : ℕ) (images : Images) (locks : LockTable) (store : PageStore) → AllMayStep all → is_open all tx ≡ true → TouchesOnePage (local_of all tx) (at tx images locks store) → page_count locks tx ≤ 300
     → KeepsRunning tx all (after_step all (at tx images locks store))
 step_keeps all tx images locks store may opened step most = record {
   may = record {
@@ -119,10 +119,10 @@ step_keeps all tx images locks store may opened step most = record {
   holders = leaves.others;
 }
   where
-    old : Moment
-    old = moment_of all tx
+    old : LocalState
+    old = local_of all tx
 
-    new : Moment
+    new : LocalState
     new = at tx images locks store
 
     before : MayStep old
@@ -200,18 +200,18 @@ clean_written all tx images pages locks q page opened compatible locked writes i
     ∙ clean_pages-write all.images locks all.store.pages tx q (images_by all tx) page compatible locked (sym (some_again (map.get all.images tx) opened)) writes
 
 -- a lock changes no image and no page, and others keep theirs
-record OnlyLocks (all : AllRunning) (tx : ℕ) (mid : Moment) : Type 0 where
+record OnlyLocks (all : AllRunning) (tx : ℕ) (mid : LocalState) : Type 0 where
   running : mid.running ≡ record { tx = tx; images = images_by all tx }
   store : mid.store ≡ all.store
   locked : ImagesAreLocked all.images mid.locks
 
-only_locks : (all : AllRunning) (tx : ℕ) (mid : Moment) (q : ℕ) → AllMayStep all → LocksAtMost (moment_of all tx) mid q → OnlyLocks all tx mid
+only_locks : (all : AllRunning) (tx : ℕ) (mid : LocalState) (q : ℕ) → AllMayStep all → LocksAtMost (local_of all tx) mid q → OnlyLocks all tx mid
 only_locks all tx mid q may step =
     elim step [
       | inl same ↦ record {
-        running = ap (λ (m : Moment). m.running) same;
-        store = ap (λ (m : Moment). m.store) same;
-        locked = subst (λ (m : Moment). ImagesAreLocked all.images m.locks) (sym same) may.images_locked;
+        running = ap (λ (m : LocalState). m.running) same;
+        store = ap (λ (m : LocalState). m.store) same;
+        locked = subst (λ (m : LocalState). ImagesAreLocked all.images m.locks) (sym same) may.images_locked;
       }
       | inr locks ↦ record {
         running = locks.1.running;
@@ -220,7 +220,7 @@ only_locks all tx mid q may step =
       }
     ]
 
-step_clean : (all : AllRunning) (tx : ℕ) (images : Images) (locks : LockTable) (store : PageStore) → AllMayStep all → is_open all tx ≡ true → TouchesOnePage (moment_of all tx) (at tx images locks store)
+step_clean : (all : AllRunning) (tx : ℕ) (images : Images) (locks : LockTable) (store : PageStore) → AllMayStep all → is_open all tx ≡ true → TouchesOnePage (local_of all tx) (at tx images locks store)
     → clean_pages (map.insert all.images tx images) store.pages ≡ clean_pages all.images all.store.pages
 step_clean all tx images locks store may opened step =
     elim step.1 [
@@ -228,7 +228,7 @@ step_clean all tx images locks store may opened step =
           let mid = both.0 in
           let only = only_locks all tx mid step.0 may both.1 in
           elim both.2 [
-            | inl same ↦ clean_same all tx images store.pages opened (ap (λ (m : Moment). m.running.images) same ∙ ap (λ (r : Running). r.images) only.running) (ap (λ (m : Moment). m.store.pages) same ∙ ap (λ (s : PageStore). s.pages) only.store)
+            | inl same ↦ clean_same all tx images store.pages opened (ap (λ (m : LocalState). m.running.images) same ∙ ap (λ (r : Running). r.images) only.running) (ap (λ (m : LocalState). m.store.pages) same ∙ ap (λ (s : PageStore). s.pages) only.store)
             | inr writes ↦
                 let held : can_write mid.locks tx step.0 ≡ true = ap (λ (r : Running). can_write mid.locks r.tx step.0) (sym only.running) ∙ writes.1.held in
                 clean_written all tx images store.pages mid.locks step.0 writes.0 opened (may_after_lock_at_most old mid step.0 before both.1).compatible only.locked held
@@ -247,32 +247,32 @@ step_clean all tx images locks store may opened step =
           (ap (λ (r : Running). r.images) makes.1.running ∙ is_with) (ap (λ (s : PageStore). s.pages) makes.1.store)
     ]
   where
-    old : Moment
-    old = moment_of all tx
+    old : LocalState
+    old = local_of all tx
 
     before : MayStep old
     before = each_may_step all tx may opened
 
--- the moment that a step leads to is one of the transaction that made it
-is_at : (all : AllRunning) (tx : ℕ) (new : Moment) → AllMayStep all → is_open all tx ≡ true → TouchesOnePage (moment_of all tx) new → at tx new.running.images new.locks new.store ≡ new
+-- the state that a step leads to is one of the transaction that made it
+is_at : (all : AllRunning) (tx : ℕ) (new : LocalState) → AllMayStep all → is_open all tx ≡ true → TouchesOnePage (local_of all tx) new → at tx new.running.images new.locks new.store ≡ new
 is_at all tx new may opened step i = record {
-  running = record { tx = sym (step_keeps_tx (moment_of all tx) new step) i; images = new.running.images };
+  running = record { tx = sym (step_keeps_tx (local_of all tx) new step) i; images = new.running.images };
   locks = new.locks;
   store = new.store;
 }
 
-own_step : (all : AllRunning) (tx : ℕ) (new : Moment) → AllMayStep all → is_open all tx ≡ true → TouchesOnePage (moment_of all tx) new → TouchesOnePage (moment_of all tx) (at tx new.running.images new.locks new.store)
-own_step all tx new may opened step = subst (TouchesOnePage (moment_of all tx)) (sym (is_at all tx new may opened step)) step
+own_step : (all : AllRunning) (tx : ℕ) (new : LocalState) → AllMayStep all → is_open all tx ≡ true → TouchesOnePage (local_of all tx) new → TouchesOnePage (local_of all tx) (at tx new.running.images new.locks new.store)
+own_step all tx new may opened step = subst (TouchesOnePage (local_of all tx)) (sym (is_at all tx new may opened step)) step
 
 -- **A step on one page leaves the views of all others,**
-pub step_leaves_views : (all : AllRunning) (tx : ℕ) (new : Moment) → AllMayStep all → is_open all tx ≡ true → TouchesOnePage (moment_of all tx) new → page_count new.locks tx ≤ 300 → KeepsRunning tx all (after_step all new)
+pub step_leaves_views : (all : AllRunning) (tx : ℕ) (new : LocalState) → AllMayStep all → is_open all tx ≡ true → TouchesOnePage (local_of all tx) new → page_count new.locks tx ≤ 300 → KeepsRunning tx all (after_step all new)
 step_leaves_views all tx new may opened step most =
-    subst (λ (m : Moment). KeepsRunning tx all (after_step all m)) (is_at all tx new may opened step) (step_keeps all tx new.running.images new.locks new.store may opened (own_step all tx new may opened step) most)
+    subst (λ (m : LocalState). KeepsRunning tx all (after_step all m)) (is_at all tx new may opened step) (step_keeps all tx new.running.images new.locks new.store may opened (own_step all tx new may opened step) most)
 
 -- **and the clean pages.**
-pub step_leaves_clean : (all : AllRunning) (tx : ℕ) (new : Moment) → AllMayStep all → is_open all tx ≡ true → TouchesOnePage (moment_of all tx) new → clean_of (after_step all new) ≡ clean_of all
+pub step_leaves_clean : (all : AllRunning) (tx : ℕ) (new : LocalState) → AllMayStep all → is_open all tx ≡ true → TouchesOnePage (local_of all tx) new → clean_of (after_step all new) ≡ clean_of all
 step_leaves_clean all tx new may opened step =
-    subst (λ (m : Moment). clean_of (after_step all m) ≡ clean_of all) (is_at all tx new may opened step) (ap page_at (step_clean all tx new.running.images new.locks new.store may opened (own_step all tx new may opened step)))
+    subst (λ (m : LocalState). clean_of (after_step all m) ≡ clean_of all) (is_at all tx new may opened step) (ap page_at (step_clean all tx new.running.images new.locks new.store may opened (own_step all tx new may opened step)))
 
 -- who holds pages once tx has released its own held them before
 holds_before : (locks : LockTable) (tx u : ℕ) → is_holder (released locks tx) u ≡ true → is_holder locks u ≡ true
@@ -290,7 +290,7 @@ no_images_now images tx = grind (arith, nat_tests, get_inserted images tx map.em
 apart : (all : AllRunning) → AllMayStep all → ImagesAreApart all.images
 apart all may = images_are_apart all.images all.locks may.compatible may.images_locked
 
-ended_page : (b : Bool) (image : Option (Option Page)) (page clean : Option Page) → (is_some image ≡ true → (b ≡ true) × (is_some page ≡ true)) → cond (is_some image) page clean ≡ own_or (cond b (page_written image page) None) clean
+ended_page : (b : Bool) (image : Option (Option Page)) (page clean : Option Page) → (is_some image ≡ true → (b ≡ true) × (is_some page ≡ true)) → cond (is_some image) page clean ≡ own_or_clean (cond b (page_written image page) None) clean
 ended_page true None page clean held = refl
 ended_page false None page clean held = refl
 ended_page true (Some first) (Some page) clean held = refl
@@ -298,7 +298,7 @@ ended_page true (Some first) None clean held = absurd (false≢true (held refl).
 ended_page false (Some first) page clean held = absurd (false≢true (held refl).0)
 
 -- **The end of a subtransaction makes just the pages clean that it has written.**
-pub end_clean : (all : AllRunning) (tx : ℕ) → AllMayStep all → clean_of (after_end all tx) ≡ over (clean_of all) (view_of (moment_of all tx)).own
+pub end_clean : (all : AllRunning) (tx : ℕ) → AllMayStep all → clean_of (after_end all tx) ≡ over (clean_of all) (view_of (local_of all tx)).own
 end_clean all tx may i q =
     (clean_page-end all.images (map.insert all.images tx map.empty) all.store.pages tx q (apart all may) (drops_cleared all.images tx)
     ∙ ended_page (can_read all.locks tx q) (image_at all.images tx q) (page_at all.store.pages q) (clean_of all q)
@@ -321,10 +321,10 @@ end_keeps all tx may opened = record {
 }
 
 -- **The pages that are clean then agree with the view of every other.**
-pub end_agrees : (all : AllRunning) (tx u : ℕ) → AllMayStep all → is_open all tx ≡ true → is_open all u ≡ true → u ≢ tx → Agrees (view_of (moment_of all u)).seen (clean_of (after_end all tx))
+pub end_agrees : (all : AllRunning) (tx u : ℕ) → AllMayStep all → is_open all tx ≡ true → is_open all u ≡ true → u ≢ tx → Agrees (view_of (local_of all u)).seen (clean_of (after_end all tx))
 end_agrees all tx u may opened other ne =
     let keeps = end_keeps all tx may opened in
-    let after : Agrees (view_of (moment_of (after_end all tx) u)).seen (clean_of (after_end all tx)) = agrees_with_each (after_end all tx) u keeps.may (is_open-insert all.images tx map.empty u other) in
+    let after : Agrees (view_of (local_of (after_end all tx) u)).seen (clean_of (after_end all tx)) = agrees_with_each (after_end all tx) u keeps.may (is_open-insert all.images tx map.empty u other) in
     subst (λ (view : View). Agrees view.seen (clean_of (after_end all tx))) (keeps.views u ne) after
 
 -- who has ended or was rolled back holds nothing

@@ -19,8 +19,8 @@ use Rattle.mlt_hash_subtx_laws.proofs.CleanLaws.{clean_page_there, clean_page_un
 use Rattle.mlt_page_subtx.proofs.ImageLaws.{page_at-put_back}
 use Rattle.mlt_page_subtx.proofs.LockedPages.{locks_there-none}
 use Rattle.mlt_hash_form.specs.Held.{Agrees}
-use Rattle.mlt_hash_access.specs.Moments.{IsCleanFor, MayStep}
-use Rattle.mlt_hash_subtx_laws.specs.Running.{AllMayStep, AllRunning, clean_of, images_by, is_open, moment_of, nobody_running}
+use Rattle.mlt_hash_access.specs.LocalStates.{IsCleanFor, MayStep}
+use Rattle.mlt_hash_subtx_laws.specs.Running.{AllMayStep, AllRunning, clean_of, images_by, is_open, local_of, nobody_running}
 use Rattle.mlt_hash_access.specs.Views.{view_of}
 use Rattle.mlt_hash_access.proofs.Views.{agrees}
 
@@ -49,7 +49,7 @@ room_for_each all tx may opened q mode few =
     room_to_grant all.locks tx q mode (numbers_of (map.entries all.images)) (λ u holds. is_among all.images u (may.holders_open u holds)) (is_among all.images tx opened) most may.few_pages (inl few)
 
 -- **Each opened transaction may step.**
-pub each_may_step : (all : AllRunning) (tx : ℕ) → AllMayStep all → is_open all tx ≡ true → MayStep (moment_of all tx)
+pub each_may_step : (all : AllRunning) (tx : ℕ) → AllMayStep all → is_open all tx ≡ true → MayStep (local_of all tx)
 each_may_step all tx may opened = record {
   compatible = may.compatible;
   locks_there = may.locks_there;
@@ -59,15 +59,15 @@ each_may_step all tx may opened = record {
 }
 
 -- **The clean pages are clean for each transaction.**
-pub clean_for_each : (all : AllRunning) (tx : ℕ) → AllMayStep all → IsCleanFor (moment_of all tx) (clean_of all)
+pub clean_for_each : (all : AllRunning) (tx : ℕ) → AllMayStep all → IsCleanFor (local_of all tx) (clean_of all)
 clean_for_each all tx may = record {
   seen = λ q free. clean_view all.images all.locks all.store.pages tx q may.images_locked free ∙ page_at-put_back (images_by all tx) all.store.pages q;
   there = λ q. clean_page_there all.images all.store.pages q may.images_there;
 }
 
 -- **They agree with the view of each open transaction.**
-pub agrees_with_each : (all : AllRunning) (tx : ℕ) → AllMayStep all → is_open all tx ≡ true → Agrees (view_of (moment_of all tx)).seen (clean_of all)
-agrees_with_each all tx may opened = agrees (moment_of all tx) (clean_of all) (each_may_step all tx may opened) (clean_for_each all tx may)
+pub agrees_with_each : (all : AllRunning) (tx : ℕ) → AllMayStep all → is_open all tx ≡ true → Agrees (view_of (local_of all tx)).seen (clean_of all)
+agrees_with_each all tx may opened = agrees (local_of all tx) (clean_of all) (each_may_step all tx may opened) (clean_for_each all tx may)
 
 image_of_nobody : (tx q : ℕ) → image_at map.empty tx q ≡ None
 image_of_nobody tx q = grind (arith, map.get-empty {X = Images} nat_cmp tx, map.get-empty {X = Option Page} nat_cmp q)

@@ -11,13 +11,13 @@ use Rattle.mlt_page_locks.proofs.Maps.{get_inserted}
 use Rattle.mlt_page_locks.specs.LockTables.{KeepsOthers, LockTable, Modes, allows_write, can_read, can_write, pages_of}
 use Rattle.mlt_page_locks.proofs.LockLaws.{granted_keeps_others}
 use Rattle.mlt_page_subtx.specs.Images.{AreThere, Running, image_of, or_image}
-use Rattle.mlt_hash_access.specs.Moments.{MayStep, Moment, beside, page_before}
+use Rattle.mlt_hash_access.specs.LocalStates.{MayStep, LocalState, beside, page_before}
 use Rattle.mlt_hash_access.specs.PageSteps.{LocksAtMost, LocksPage, MakesLockedPage, TouchesOnePage, WritesAtMost, WritesHeldPage}
 use Rattle.mlt_hash_access.specs.Views.{IsSameView, page_written, view_of}
-use Rattle.mlt_hash_access.proofs.Moments.{fresh_is_free, may_after_lock_at_most, there_after_insert}
+use Rattle.mlt_hash_access.proofs.LocalStates.{fresh_is_free, may_after_lock_at_most, there_after_insert}
 
 -- a step on pages of the transaction tx: others' locks stay, and so do the pages that they hold, and no page goes
-record LeavesOthers (tx : ℕ) (old new : Moment) : Type 0 where
+record LeavesOthers (tx : ℕ) (old new : LocalState) : Type 0 where
   locks : KeepsOthers tx old.locks new.locks
   pages : (u p : ℕ) → u ≢ tx → can_read old.locks u p ≡ true → page_at new.store.pages p ≡ page_at old.store.pages p
   there : (p : ℕ) → is_some (page_at old.store.pages p) ≡ true → is_some (page_at new.store.pages p) ≡ true
@@ -27,10 +27,10 @@ record LeavesOthers (tx : ℕ) (old new : Moment) : Type 0 where
 reads_alike : (old new : LockTable) (u p : ℕ) → pages_of new u ≡ pages_of old u → can_read new u p ≡ can_read old u p
 reads_alike old new u p same = ap (λ (modes : Modes). is_some (map.get modes p)) same
 
-leaves_nothing : (old new : Moment) → new ≡ old → LeavesOthers old.running.tx old new
-leaves_nothing old new same = subst (λ (m : Moment). LeavesOthers old.running.tx old m) (sym same) (record { locks = λ u ne. refl; pages = λ u p ne reads. refl; there = λ p some. some; running = refl })
+leaves_nothing : (old new : LocalState) → new ≡ old → LeavesOthers old.running.tx old new
+leaves_nothing old new same = subst (λ (m : LocalState). LeavesOthers old.running.tx old m) (sym same) (record { locks = λ u ne. refl; pages = λ u p ne reads. refl; there = λ p some. some; running = refl })
 
-lock_leaves : (old new : Moment) (q : ℕ) (mode : Mode) → LocksPage old new q mode → LeavesOthers old.running.tx old new
+lock_leaves : (old new : LocalState) (q : ℕ) (mode : Mode) → LocksPage old new q mode → LeavesOthers old.running.tx old new
 lock_leaves old new q mode step =
     let pages : new.store.pages ≡ old.store.pages = ap (λ (s : PageStore). s.pages) step.store in
     record {
@@ -48,7 +48,7 @@ unheld_stays locks pages q page u p unheld reads =
       | inr elsewhere ↦ grind (arith, nat_tests, get_inserted pages q page p)
     ]
 
-write_leaves : (old new : Moment) (q : ℕ) (page : Page) → MayStep old → WritesHeldPage old new q page → LeavesOthers old.running.tx old new
+write_leaves : (old new : LocalState) (q : ℕ) (page : Page) → MayStep old → WritesHeldPage old new q page → LeavesOthers old.running.tx old new
 write_leaves old new q page may step =
     let pages : new.store.pages ≡ map.insert old.store.pages q page = ap (λ (s : PageStore). s.pages) step.store in
     record {
@@ -58,7 +58,7 @@ write_leaves old new q page may step =
       running = ap (λ (r : Running). r.tx) step.running;
     }
 
-make_leaves : (old new : Moment) (q : ℕ) (page : Page) → MayStep old → MakesLockedPage old new q page → LeavesOthers old.running.tx old new
+make_leaves : (old new : LocalState) (q : ℕ) (page : Page) → MayStep old → MakesLockedPage old new q page → LeavesOthers old.running.tx old new
 make_leaves old new q page may step =
     let pages : new.store.pages ≡ map.insert old.store.pages q page = ap (λ (s : PageStore). s.pages) step.store in
     record {
@@ -68,7 +68,7 @@ make_leaves old new q page may step =
       running = ap (λ (r : Running). r.tx) step.running;
     }
 
-both_leave : (tx : ℕ) (old mid new : Moment) → LeavesOthers tx old mid → LeavesOthers tx mid new → LeavesOthers tx old new
+both_leave : (tx : ℕ) (old mid new : LocalState) → LeavesOthers tx old mid → LeavesOthers tx mid new → LeavesOthers tx old new
 both_leave tx old mid new first next = record {
   locks = λ u ne. next.locks u ne ∙ first.locks u ne;
   pages = λ u p ne reads. next.pages u p ne (reads_alike old.locks mid.locks u p (first.locks u ne) ∙ reads) ∙ first.pages u p ne reads;
@@ -76,21 +76,21 @@ both_leave tx old mid new first next = record {
   running = next.running ∙ first.running;
 }
 
-lock_at_most_leaves : (old new : Moment) (q : ℕ) → LocksAtMost old new q → LeavesOthers old.running.tx old new
+lock_at_most_leaves : (old new : LocalState) (q : ℕ) → LocksAtMost old new q → LeavesOthers old.running.tx old new
 lock_at_most_leaves old new q step =
     elim step [
       | inl same ↦ leaves_nothing old new same
       | inr locks ↦ lock_leaves old new q locks.0 locks.1
     ]
 
-write_at_most_leaves : (old new : Moment) (q : ℕ) → MayStep old → WritesAtMost old new q → LeavesOthers old.running.tx old new
+write_at_most_leaves : (old new : LocalState) (q : ℕ) → MayStep old → WritesAtMost old new q → LeavesOthers old.running.tx old new
 write_at_most_leaves old new q may step =
     elim step [
       | inl same ↦ leaves_nothing old new same
       | inr writes ↦ write_leaves old new q writes.0 may writes.1
     ]
 
-step_leaves : (old new : Moment) → MayStep old → TouchesOnePage old new → LeavesOthers old.running.tx old new
+step_leaves : (old new : LocalState) → MayStep old → TouchesOnePage old new → LeavesOthers old.running.tx old new
 step_leaves old new may step =
     elim step.1 [
       | inl both ↦
@@ -102,22 +102,22 @@ step_leaves old new may step =
     ]
 
 -- **A step leaves the locks of all other transactions,**
-pub step_keeps_others : (old new : Moment) → MayStep old → TouchesOnePage old new → KeepsOthers old.running.tx old.locks new.locks
+pub step_keeps_others : (old new : LocalState) → MayStep old → TouchesOnePage old new → KeepsOthers old.running.tx old.locks new.locks
 step_keeps_others old new may step = (step_leaves old new may step).locks
 
 -- the pages that they hold,
-pub step_keeps_held_pages : (old new : Moment) → MayStep old → TouchesOnePage old new → (u p : ℕ) → u ≢ old.running.tx → can_read old.locks u p ≡ true → page_at new.store.pages p ≡ page_at old.store.pages p
+pub step_keeps_held_pages : (old new : LocalState) → MayStep old → TouchesOnePage old new → (u p : ℕ) → u ≢ old.running.tx → can_read old.locks u p ≡ true → page_at new.store.pages p ≡ page_at old.store.pages p
 step_keeps_held_pages old new may step = (step_leaves old new may step).pages
 
 -- and each page in its place.
-pub step_drops_no_page : (old new : Moment) → MayStep old → TouchesOnePage old new → (p : ℕ) → is_some (page_at old.store.pages p) ≡ true → is_some (page_at new.store.pages p) ≡ true
+pub step_drops_no_page : (old new : LocalState) → MayStep old → TouchesOnePage old new → (p : ℕ) → is_some (page_at old.store.pages p) ≡ true → is_some (page_at new.store.pages p) ≡ true
 step_drops_no_page old new may step = (step_leaves old new may step).there
 
 pub same_where_held : {X : Type 0} (b c : Bool) (x y z : X) → c ≡ b → (b ≡ true → y ≡ x) → cond c y z ≡ cond b x z
 same_where_held true c x y z same is = ap (λ b. cond b y z) same ∙ is refl
 same_where_held false c x y z same is = ap (λ b. cond b y z) same
 
-pub same_view : (old new : Moment) (running : Running) → MayStep old → TouchesOnePage old new → (running.tx ≢ old.running.tx)
+pub same_view : (old new : LocalState) (running : Running) → MayStep old → TouchesOnePage old new → (running.tx ≢ old.running.tx)
     → IsSameView (view_of (beside old running)) (view_of (beside new running))
 same_view old new running may step ne =
     let leaves = step_leaves old new may step in
@@ -130,7 +130,7 @@ same_view old new running may step ne =
           (λ reads. ap (page_written (image_of running.images q)) (leaves.pages running.tx q ne reads));
     }
 
-pub same_writes : (old new : Moment) (running : Running) → MayStep old → TouchesOnePage old new → (running.tx ≢ old.running.tx)
+pub same_writes : (old new : LocalState) (running : Running) → MayStep old → TouchesOnePage old new → (running.tx ≢ old.running.tx)
     → AreThere running.images old.store.pages → ((q : ℕ) → is_some (image_of running.images q) ≡ true → can_write old.locks running.tx q ≡ true)
     → AreThere running.images new.store.pages × ((q : ℕ) → is_some (image_of running.images q) ≡ true → can_write new.locks running.tx q ≡ true)
 same_writes old new running may step ne there locked =

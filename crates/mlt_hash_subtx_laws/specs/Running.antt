@@ -8,7 +8,7 @@ use Rattle.mlt_page_locks.specs.LockTables.{AreCompatible, LockTable, is_holder,
 use Rattle.mlt_page_locks.specs.Requests.{released}
 use Rattle.mlt_page_subtx.specs.Images.{Images, put_back}
 use Rattle.mlt_page_subtx.specs.Locking.{LocksPagesThere}
-use Rattle.mlt_hash_access.specs.Moments.{Moment}
+use Rattle.mlt_hash_access.specs.LocalStates.{LocalState}
 use Rattle.mlt_hash_access.specs.Views.{view_of}
 use Rattle.mlt_hash_subtx_laws.specs.CleanPages.{ImagesAreLocked, ImagesAreThere, RunningImages, clean_pages}
 
@@ -28,8 +28,8 @@ abbrev pub images_by : AllRunning → ℕ → Images
 images_by all tx = unwrap_or (map.get all.images tx) map.empty
 
 -- what the next step of a transaction works on
-abbrev pub moment_of : AllRunning → ℕ → Moment
-moment_of all tx = record {
+abbrev pub local_of : AllRunning → ℕ → LocalState
+local_of all tx = record {
   running = record { tx = tx; images = images_by all tx };
   locks = all.locks;
   store = all.store;
@@ -59,7 +59,7 @@ pub record HoldsNothing (all : AllRunning) (tx : ℕ) : Type 0 where
 -- what an event of one transaction leaves: all may still step, and each other holds, sees and keeps what it did
 pub record KeepsRunning (tx : ℕ) (old new : AllRunning) : Type 0 where
   pub may : AllMayStep new
-  pub views : (u : ℕ) → u ≢ tx → view_of (moment_of new u) ≡ view_of (moment_of old u)
+  pub views : (u : ℕ) → u ≢ tx → view_of (local_of new u) ≡ view_of (local_of old u)
   pub images : (u : ℕ) → u ≢ tx → map.get new.images u ≡ map.get old.images u
   pub holders : (u : ℕ) → u ≢ tx → is_holder new.locks u ≡ is_holder old.locks u
 
@@ -75,8 +75,8 @@ nobody_running max_open store = record {
 abbrev pub after_begin : AllRunning → ℕ → AllRunning
 after_begin all tx = record all { images = map.insert all.images tx map.empty }
 
--- a step of one transaction leads to this moment
-abbrev pub after_step : AllRunning → Moment → AllRunning
+-- a step of one transaction leads to this state
+abbrev pub after_step : AllRunning → LocalState → AllRunning
 after_step all m = record {
   images = map.insert all.images m.running.tx m.running.images;
   locks = m.locks;

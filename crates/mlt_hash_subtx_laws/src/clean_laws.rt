@@ -5,19 +5,19 @@ ghost use Rattle.std.specs.FinMap as map;
 ghost use Rattle.mlt_page_store.specs.Stores.{PageStore, page_at};
 ghost use Rattle.mlt_page_locks.specs.LockTables.{page_count};
 ghost use Rattle.mlt_hash_form.specs.Held.{Agrees, over};
-ghost use Rattle.mlt_hash_access.specs.Moments.{IsCleanFor, MayStep, Moment};
+ghost use Rattle.mlt_hash_access.specs.LocalStates.{IsCleanFor, MayStep, LocalState};
 ghost use Rattle.mlt_hash_access.specs.PageSteps.{TouchesOnePage};
 ghost use Rattle.mlt_hash_access.specs.Views.{view_of};
-ghost use Rattle.mlt_hash_subtx_laws.specs.Running.{AllMayStep, AllRunning, HoldsNothing, KeepsRunning, after_begin, after_close, after_end, after_roll_back, after_step, clean_of, is_open, moment_of, nobody_running};
+ghost use Rattle.mlt_hash_subtx_laws.specs.Running.{AllMayStep, AllRunning, HoldsNothing, KeepsRunning, after_begin, after_close, after_end, after_roll_back, after_step, clean_of, is_open, local_of, nobody_running};
 
 /// Each open transaction may step, and the pages as they were before all running subtransactions are clean for it.
 pub fn clean_pages_are_clean_for_each()
     ensures may { (all : AllRunning) (tx : ℕ) → AllMayStep all → is_open all tx ≡ true
-        → MayStep (moment_of all tx) }
+        → MayStep (local_of all tx) }
     ensures clean { (all : AllRunning) (tx : ℕ) → AllMayStep all
-        → IsCleanFor (moment_of all tx) (clean_of all) }
+        → IsCleanFor (local_of all tx) (clean_of all) }
     ensures agrees { (all : AllRunning) (tx : ℕ) → AllMayStep all → is_open all tx ≡ true
-        → Agrees (view_of (moment_of all tx)).seen (clean_of all) }
+        → Agrees (view_of (local_of all tx)).seen (clean_of all) }
 {}
 
 /// Before the first transaction begins, the pages of the store are clean.
@@ -29,17 +29,17 @@ pub fn nobody_runs_at_first()
 
 /// A step of one transaction on one page leaves the clean pages and the views of all others.
 pub fn step_leaves_clean_pages()
-    ensures keeps { (all : AllRunning) (tx : ℕ) (new : Moment) → AllMayStep all
-        → is_open all tx ≡ true → TouchesOnePage (moment_of all tx) new
+    ensures keeps { (all : AllRunning) (tx : ℕ) (new : LocalState) → AllMayStep all
+        → is_open all tx ≡ true → TouchesOnePage (local_of all tx) new
         → page_count new.locks tx ≤ 300 → KeepsRunning tx all (after_step all new) }
-    ensures clean { (all : AllRunning) (tx : ℕ) (new : Moment) → AllMayStep all
-        → is_open all tx ≡ true → TouchesOnePage (moment_of all tx) new
+    ensures clean { (all : AllRunning) (tx : ℕ) (new : LocalState) → AllMayStep all
+        → is_open all tx ≡ true → TouchesOnePage (local_of all tx) new
         → clean_of (after_step all new) ≡ clean_of all }
 {}
 
 /// A step makes the transaction hold at most one page more.
 pub fn step_adds_one_page_at_most()
-    ensures { (old new : Moment) → TouchesOnePage old new
+    ensures { (old new : LocalState) → TouchesOnePage old new
         → page_count new.locks old.running.tx ≤ page_count old.locks old.running.tx + 1 }
 {}
 
@@ -49,10 +49,10 @@ pub fn end_makes_written_pages_clean()
         → KeepsRunning tx all (after_end all tx) }
     ensures nothing { (all : AllRunning) (tx : ℕ) → HoldsNothing (after_end all tx) tx }
     ensures clean { (all : AllRunning) (tx : ℕ) → AllMayStep all
-        → clean_of (after_end all tx) ≡ over (clean_of all) (view_of (moment_of all tx)).own }
+        → clean_of (after_end all tx) ≡ over (clean_of all) (view_of (local_of all tx)).own }
     ensures agrees { (all : AllRunning) (tx u : ℕ) → AllMayStep all → is_open all tx ≡ true
         → is_open all u ≡ true → u ≢ tx
-        → Agrees (view_of (moment_of all u)).seen (clean_of (after_end all tx)) }
+        → Agrees (view_of (local_of all u)).seen (clean_of (after_end all tx)) }
 {}
 
 /// A roll back changes no clean page, and leaves the views of all others.

@@ -57,18 +57,18 @@ fn ghosts_by_four_bits(rt: HostRuntime) -> Result<(), Fail> {
 // Transaction 2 is open, and 3 is not.
 #[test]
 fn room_of_records_and_open_owners_is_kept(rt: HostRuntime) -> Result<(), Fail> {
-    let mut opens = OpenSet::new();
-    assert!(rt; !opens.is_full());
-    opens.insert(TxId(2));
+    let mut active = OpenSet::new();
+    assert!(rt; !active.is_full());
+    active.insert(TxId(2));
     let left = Slot::Ghost(account(1), 0, TxId(3));
     let mut bucket = bucket_with(0, 1);
     bucket.slots[1] = left;
     bucket.slots[3] = Slot::Live(account(0), 9);
     let found = (
-        reclaimable(&bucket.slots[0], &opens),
-        reclaimable(&left, &opens),
-        reclaimable(&Slot::Free, &opens),
-        kept_room(&bucket, &opens),
+        reclaimable(&bucket.slots[0], &active),
+        reclaimable(&left, &active),
+        reclaimable(&Slot::Free, &active),
+        kept_room(&bucket, &active),
     );
     same(&found, &(false, true, false, 2))
 }

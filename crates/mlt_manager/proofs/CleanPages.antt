@@ -84,7 +84,7 @@ clean_alike m clean other same is = record {
 
 -- so they are where the store and all first images are as they were
 pub still_clean : {P : Type 0} (m m' : ManagerFields P) (clean : map.FinMap nat_cmp Page) → ((i : ℕ) → images_kept (map.get m'.txs i) ≡ images_kept (map.get m.txs i))
-    → ((q : ℕ) → map.get m'.commons.pages.store.pages q ≡ map.get m.commons.pages.store.pages q) → HasCleanPages m clean → HasCleanPages m' clean
+    → ((q : ℕ) → map.get m'.shared.pages.store.pages q ≡ map.get m.shared.pages.store.pages q) → HasCleanPages m clean → HasCleanPages m' clean
 still_clean m m' clean images pages is = record {
   put_back = λ q first k. is.put_back q first (keeps_of m.txs q k.tx first (sym (ap (λ o. kept_in o q) (images k.tx)) ∙ kept_of m'.txs q first k));
   as_stored = λ q none. is.as_stored q (keeps_none_of m.txs q (λ i. sym (ap (λ o. kept_in o q) (images i)) ∙ none_of m'.txs q none i)) ∙ sym (pages q);
@@ -100,7 +100,7 @@ same_clean m clean other q one two =
 
 module _ {P : Type 0} (bits_of : P → ℕ → ℕ) (m : ManagerFields P) (images : RunningImages) (base : Base) (sound : IsSound (state_of bits_of m images base)) where
   abbrev stored : Pages
-  stored = m.commons.pages.store.pages
+  stored = m.shared.pages.store.pages
 
   -- the images that an open transaction keeps
   image_of_one : (tx : ℕ) (one : Transaction) (q : ℕ) → map.get m.txs tx ≡ Some one → image_at images tx q ≡ image_of one.subtx.images q
@@ -111,8 +111,8 @@ module _ {P : Type 0} (bits_of : P → ℕ → ℕ) (m : ManagerFields P) (image
   by_image q first k =
       let running = sound.running in
       let mine : image_at images k.tx q ≡ Some first = image_of_one k.tx k.one q k.there ∙ k.keeps in
-      let reads = writer_reads m.commons.pages.locks k.tx q (running.images_locked k.tx q (ap is_some mine)) in
-      clean_page_of images stored k.tx q (others_have_none images m.commons.pages.locks k.tx q running.compatible running.images_locked reads) ∙ ap (λ o. or_image o (page_at stored q)) mine
+      let reads = writer_reads m.shared.pages.locks k.tx q (running.images_locked k.tx q (ap is_some mine)) in
+      clean_page_of images stored k.tx q (others_have_none images m.shared.pages.locks k.tx q running.compatible running.images_locked reads) ∙ ap (λ o. or_image o (page_at stored q)) mine
 
   -- and one of which none does is clean
   by_store : (q : ℕ) → KeepsNoImage m.txs q → page_at (clean_pages images stored) q ≡ page_at stored q
@@ -134,19 +134,19 @@ module _ {P : Type 0} (bits_of : P → ℕ → ℕ) (m : ManagerFields P) (image
 record IsPutBack {P : Type 0} (m : ManagerFields P) (clean : map.FinMap nat_cmp Page) : Type 0 where
   images : RunningImages
   kept : (i : ℕ) → map.get images i ≡ images_kept (map.get m.txs i)
-  put_back : (q : ℕ) → map.get clean q ≡ map.get (clean_pages images m.commons.pages.store.pages) q
+  put_back : (q : ℕ) → map.get clean q ≡ map.get (clean_pages images m.shared.pages.store.pages) q
 
 module _ {P : Type 0} (bits_of : P → ℕ → ℕ) (m : ManagerFields P) (images : RunningImages) (base : Base) (sound : IsSound (state_of bits_of m images base)) (clean : map.FinMap nat_cmp Page) where
   new_to_old : HasCleanPages m clean → IsPutBack m clean
   new_to_old is = record {
     images = images;
     kept = sound.kept;
-    put_back = λ q. same_clean m clean (clean_pages images m.commons.pages.store.pages) q is (pages_clean bits_of m images base sound);
+    put_back = λ q. same_clean m clean (clean_pages images m.shared.pages.store.pages) q is (pages_clean bits_of m images base sound);
   }
 
   old_to_new : IsPutBack m clean → HasCleanPages m clean
   old_to_new is =
       let same : is.images ≡ images = map.same_map nat_cmp_total map.nat_cmp-IsAntisymmetric is.images images (λ i. is.kept i ∙ sym (sound.kept i)) in
-      clean_alike m (clean_pages images m.commons.pages.store.pages) clean
-      (λ q. is.put_back q ∙ ap (λ (r : RunningImages). map.get (clean_pages r m.commons.pages.store.pages) q) same)
+      clean_alike m (clean_pages images m.shared.pages.store.pages) clean
+      (λ q. is.put_back q ∙ ap (λ (r : RunningImages). map.get (clean_pages r m.shared.pages.store.pages) q) same)
       (pages_clean bits_of m images base sound)

@@ -76,7 +76,7 @@ module _ (bits : ℕ → ℕ) (pages : FilePages) (root : ℕ) (form : HasForm b
 
 module _ {P : Type 0} (bits_of : P → ℕ → ℕ) (m : ManagerFields P) (h : IsManager bits_of m) where
   abbrev pub clean : map.FinMap nat_cmp Page
-  clean = clean_pages h.images m.commons.pages.store.pages
+  clean = clean_pages h.images m.shared.pages.store.pages
 
   abbrev pub pages : FilePages
   pages = map.get clean

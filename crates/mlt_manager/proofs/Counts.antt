@@ -2,9 +2,9 @@
 use Rattle.std.proofs.Common.{◌≡◌, ℕ, List, [], ◌∷◌, ◌++◌, length, arith, Option, None, Some, inl, inr, refl, ap, ◌∙◌}
 use Rattle.mlt_page_subtx.specs.Images.{Running}
 use Rattle.mlt_object_undo.specs.Undo.{Undo}
-use Rattle.mlt_hash_access.specs.Moments.{Moment, moment}
+use Rattle.mlt_hash_access.specs.LocalStates.{LocalState, local}
 use Rattle.mlt_hash_access.specs.PageSteps.{LocksAtMost, TouchesOnePage, WritesAtMost}
-use Rattle.mlt_hash.specs.Walks.{Basis}
+use Rattle.mlt_hash.specs.Walks.{WalkContext}
 use Rattle.mlt_tx_operation.specs.declared.answer.StepAnswer.{StepAnswer}
 use Rattle.mlt_tx_operation.specs.declared.answer.StepAnswer.TheVariants as step
 use Rattle.mlt_tx_operation.specs.Answers.{TellsOfStep}
@@ -19,52 +19,52 @@ use Rattle.mlt_trace.proofs.ItemLaws.{commit_numbers-append}
 use Rattle.std.proofs.lemmas.List.{length-append}
 use Rattle.mlt_event.specs.declared.answer.Answer.{Answer}
 use Rattle.mlt_event.specs.declared.answer.Answer.TheVariants as answer
-use Rattle.mlt_tx.specs.declared.commons.Commons.{Commons}
+use Rattle.mlt_tx.specs.declared.shared.SharedState.{SharedState}
 use Rattle.mlt_tx.specs.declared.transaction.At.{At}
 use Rattle.mlt_tx.specs.declared.transaction.At.TheVariants as at
 use Rattle.mlt_tx.specs.declared.transaction.Transaction.{Transaction}
-use Rattle.mlt_tx.specs.Endings.{EndsSubtx, IsDone, RollsBackSubtx, workplace}
+use Rattle.mlt_tx.specs.Endings.{EndsSubtx, IsDone, RollsBackSubtx, tx_state}
 use Rattle.mlt_tx.specs.Steps.{EndsBack, TakesBack, TellsOfBack, TellsOfPending}
 use Rattle.mlt_tx.specs.Transactions.{LeavesRoom, TellsAt, TellsOfCancel}
 
 -- the limits of locks and pages are as they were
-pub record KeepsLimits (old new : Moment) : Type 0 where
+pub record KeepsLimits (old new : LocalState) : Type 0 where
   pub locks : new.locks.max_open ≡ old.locks.max_open
   pub pages : new.store.max_pages ≡ old.store.max_pages
 
-pub same_limits : (m m' : Moment) → m' ≡ m → KeepsLimits m m'
+pub same_limits : (m m' : LocalState) → m' ≡ m → KeepsLimits m m'
 same_limits m m' same = record { locks = λ i. (same i).locks.max_open; pages = λ i. (same i).store.max_pages }
 
-pub both_limits : (a b c : Moment) → KeepsLimits a b → KeepsLimits b c → KeepsLimits a c
+pub both_limits : (a b c : LocalState) → KeepsLimits a b → KeepsLimits b c → KeepsLimits a c
 both_limits a b c one two = record { locks = two.locks ∙ one.locks; pages = two.pages ∙ one.pages }
 
-locks_limits : (m m' : Moment) (q : ℕ) → LocksAtMost m m' q → KeepsLimits m m'
+locks_limits : (m m' : LocalState) (q : ℕ) → LocksAtMost m m' q → KeepsLimits m m'
 locks_limits m m' q (inl same) = same_limits m m' same
 locks_limits m m' q (inr (mode, l)) = record { locks = λ i. (l.locks i).max_open; pages = λ i. (l.store i).max_pages }
 
-writes_limits : (m m' : Moment) (q : ℕ) → WritesAtMost m m' q → KeepsLimits m m'
+writes_limits : (m m' : LocalState) (q : ℕ) → WritesAtMost m m' q → KeepsLimits m m'
 writes_limits m m' q (inl same) = same_limits m m' same
 writes_limits m m' q (inr (page, w)) = record { locks = λ i. (w.locks i).max_open; pages = λ i. (w.store i).max_pages }
 
-touches_limits : (m m' : Moment) → TouchesOnePage m m' → KeepsLimits m m'
+touches_limits : (m m' : LocalState) → TouchesOnePage m m' → KeepsLimits m m'
 touches_limits m m' (q, inl (mid, locks, writes)) = both_limits m mid m' (locks_limits m mid q locks) (writes_limits mid m' q writes)
 touches_limits m m' (q, inr (page, made)) = record { locks = λ i. (made.locks i).max_open; pages = λ i. (made.store i).max_pages }
 
-turn_limits : (m m' : Moment) → TakesTurn m m' → KeepsLimits m m'
+turn_limits : (m m' : LocalState) → TakesTurn m m' → KeepsLimits m m'
 turn_limits m m' t = touches_limits m m' t.touches
 
-back_limits : (m m' : Moment) → IsRolledBack m m' → KeepsLimits m m'
+back_limits : (m m' : LocalState) → IsRolledBack m m' → KeepsLimits m m'
 back_limits m m' b = record { locks = λ i. (b.locks i).max_open; pages = λ i. (b.store i).max_pages }
 
-step_limits : (basis : Basis) (m m' : Moment) (o o' : OperationFields) (told : StepAnswer) → TellsOfStep basis m m' o o' told → KeepsLimits m m'
-step_limits basis m m' o o' step.Going (inl goes) = turn_limits m m' goes.turn
-step_limits basis m m' o o' step.Going (inr (inl splits)) = turn_limits m m' splits.turn
-step_limits basis m m' o o' step.Going (inr (inr again)) = both_limits m again.back.mid m' (turn_limits m again.back.mid again.back.turn) (back_limits again.back.mid m' again.back.back)
-step_limits basis m m' o o' (step.Waiting page by) waits = same_limits m m' waits.pages
-step_limits basis m m' o o' (step.Refused reason) r = both_limits m r.back.mid m' (turn_limits m r.back.mid r.back.turn) (back_limits r.back.mid m' r.back.back)
+step_limits : (context : WalkContext) (m m' : LocalState) (o o' : OperationFields) (told : StepAnswer) → TellsOfStep context m m' o o' told → KeepsLimits m m'
+step_limits context m m' o o' step.Going (inl goes) = turn_limits m m' goes.turn
+step_limits context m m' o o' step.Going (inr (inl splits)) = turn_limits m m' splits.turn
+step_limits context m m' o o' step.Going (inr (inr again)) = both_limits m again.back.mid m' (turn_limits m again.back.mid again.back.turn) (back_limits again.back.mid m' again.back.back)
+step_limits context m m' o o' (step.Waiting page by) waits = same_limits m m' waits.pages
+step_limits context m m' o o' (step.Refused reason) r = both_limits m r.back.mid m' (turn_limits m r.back.mid r.back.turn) (back_limits r.back.mid m' r.back.back)
 
 -- for how many transactions there are locks, how many pages there may be, and how many have committed
-pub record KeepsCounts (old new : Commons) : Type 0 where
+pub record KeepsCounts (old new : SharedState) : Type 0 where
   pub locks : new.pages.locks.max_open ≡ old.pages.locks.max_open
   pub pages : new.pages.store.max_pages ≡ old.pages.store.max_pages
   pub commits : commit_count new.history.items ≡ commit_count old.history.items
@@ -75,89 +75,89 @@ no_more_commits items later none =
     ap length (commit_numbers-append items later) ∙ length-append (commit_numbers items) (commit_numbers later)
     ∙ (let zero_more : length (commit_numbers later) ≡ 0 = ap length none in omega (arith, zero_more))
 
-pub items_counts : (old new : Commons) (later : List TraceItem) → new.pages ≡ old.pages → new.history.items ≡ old.history.items ++ later → commit_numbers later ≡ [] → KeepsCounts old new
+pub items_counts : (old new : SharedState) (later : List TraceItem) → new.pages ≡ old.pages → new.history.items ≡ old.history.items ++ later → commit_numbers later ≡ [] → KeepsCounts old new
 items_counts old new later same grows none = record {
   locks = λ i. (same i).locks.max_open;
   pages = λ i. (same i).store.max_pages;
   commits = ap commit_count grows ∙ no_more_commits old.history.items later none;
 }
 
-pub same_counts : (old new : Commons) → new.pages ≡ old.pages → new.history.items ≡ old.history.items → KeepsCounts old new
+pub same_counts : (old new : SharedState) → new.pages ≡ old.pages → new.history.items ≡ old.history.items → KeepsCounts old new
 same_counts old new same items = record { locks = λ i. (same i).locks.max_open; pages = λ i. (same i).store.max_pages; commits = ap commit_count items }
 
-both_counts : (a b c : Commons) → KeepsCounts a b → KeepsCounts b c → KeepsCounts a c
+both_counts : (a b c : SharedState) → KeepsCounts a b → KeepsCounts b c → KeepsCounts a c
 both_counts a b c one two = record { locks = two.locks ∙ one.locks; pages = two.pages ∙ one.pages; commits = two.commits ∙ one.commits }
 
-moment_counts : (running running' : Running) (old new : Commons) → KeepsLimits (moment running old.pages) (moment running' new.pages) → new.history ≡ old.history → KeepsCounts old new
-moment_counts running running' old new k same = record { locks = k.locks; pages = k.pages; commits = λ i. commit_count ((same i).items) }
+local_counts : (running running' : Running) (old new : SharedState) → KeepsLimits (local running old.pages) (local running' new.pages) → new.history ≡ old.history → KeepsCounts old new
+local_counts running running' old new k same = record { locks = k.locks; pages = k.pages; commits = λ i. commit_count ((same i).items) }
 
-rolls_counts : (before after : Running) (old new : Commons) → RollsBackSubtx before after old new → new.history ≡ old.history → KeepsCounts old new
+rolls_counts : (before after : Running) (old new : SharedState) → RollsBackSubtx before after old new → new.history ≡ old.history → KeepsCounts old new
 rolls_counts before after old new b same = record { locks = λ i. (b.locks i).max_open; pages = λ i. (b.store i).max_pages; commits = λ i. commit_count ((same i).items) }
 
-done_counts : (item : ObjOp × ObjReply) (before after : Running) (undo undo' : Undo) (old new : Commons) → IsDone item (workplace before undo old) (workplace after undo' new) → KeepsCounts old new
+done_counts : (item : ObjOp × ObjReply) (before after : Running) (undo undo' : Undo) (old new : SharedState) → IsDone item (tx_state before undo old) (tx_state after undo' new) → KeepsCounts old new
 done_counts item before after undo undo' old new d = record {
   locks = λ i. (d.ends.locks i).max_open;
   pages = λ i. (d.ends.store i).max_pages;
   commits = ap commit_count d.items ∙ no_more_commits old.history.items (trace.Op before.tx item ∷ []) refl;
 }
 
-pending_counts : (basis : Basis) (o o' : OperationFields) (running running' : Running) (undo undo' : Undo) (old new : Commons) (told : Answer)
-    → TellsOfPending basis o o' (workplace running undo old) (workplace running' undo' new) told → KeepsCounts old new
-pending_counts basis o o' running running' undo undo' old new answer.Going w =
-    moment_counts running running' old new (step_limits basis (moment running old.pages) (moment running' new.pages) o o' step.Going w.tells) w.rest.history
-pending_counts basis o o' running running' undo undo' old new (answer.Waiting page by) w =
-    moment_counts running running' old new (step_limits basis (moment running old.pages) (moment running' new.pages) o o' (step.Waiting page by) w.tells) w.rest.history
-pending_counts basis o o' running running' undo undo' old new (answer.Refused reason) w =
-    moment_counts running running' old new (step_limits basis (moment running old.pages) (moment running' new.pages) o o' (step.Refused reason) w.tells) w.rest.history
-pending_counts basis o o' running running' undo undo' old new (answer.Blocked by) (e, anew) = rolls_counts running running' old new e.tells.back e.tells.history
-pending_counts basis o o' running running' undo undo' old new (answer.Done reply) e = done_counts (e.op, e.reply) running running' undo undo' old new e.tells.1
-pending_counts basis o o' running running' undo undo' old new answer.Undone none = absurd none
-pending_counts basis o o' running running' undo undo' old new answer.Aborted none = absurd none
+pending_counts : (context : WalkContext) (o o' : OperationFields) (running running' : Running) (undo undo' : Undo) (old new : SharedState) (told : Answer)
+    → TellsOfPending context o o' (tx_state running undo old) (tx_state running' undo' new) told → KeepsCounts old new
+pending_counts context o o' running running' undo undo' old new answer.Going w =
+    local_counts running running' old new (step_limits context (local running old.pages) (local running' new.pages) o o' step.Going w.tells) w.rest.history
+pending_counts context o o' running running' undo undo' old new (answer.Waiting page by) w =
+    local_counts running running' old new (step_limits context (local running old.pages) (local running' new.pages) o o' (step.Waiting page by) w.tells) w.rest.history
+pending_counts context o o' running running' undo undo' old new (answer.Refused reason) w =
+    local_counts running running' old new (step_limits context (local running old.pages) (local running' new.pages) o o' (step.Refused reason) w.tells) w.rest.history
+pending_counts context o o' running running' undo undo' old new (answer.Blocked by) (e, anew) = rolls_counts running running' old new e.tells.back e.tells.history
+pending_counts context o o' running running' undo undo' old new (answer.Done reply) e = done_counts (e.op, e.reply) running running' undo undo' old new e.tells.1
+pending_counts context o o' running running' undo undo' old new answer.Undone none = absurd none
+pending_counts context o o' running running' undo undo' old new answer.Aborted none = absurd none
 
-leaves_counts : (told : Answer) (between new : Commons) → LeavesRoom told between new → KeepsCounts between new
+leaves_counts : (told : Answer) (between new : SharedState) → LeavesRoom told between new → KeepsCounts between new
 leaves_counts (answer.Refused reason) between new gives = same_counts between new gives.pages gives.items
 leaves_counts other between new same = same_counts between new (λ i. (same i).pages) (λ i. (same i).history.items)
 
-takes_counts : (tx : ℕ) (undo undo' : Undo) (old new : Commons) (told : Answer) → TakesBack tx undo undo' old new told → KeepsCounts old new
+takes_counts : (tx : ℕ) (undo undo' : Undo) (old new : SharedState) (told : Answer) → TakesBack tx undo undo' old new told → KeepsCounts old new
 takes_counts tx undo undo' old new answer.Undone takes = items_counts old new (trace.Back tx ∷ []) takes.off.pages takes.items refl
 takes_counts tx undo undo' old new answer.Aborted takes = items_counts old new (trace.Back tx ∷ trace.Abort tx ∷ []) takes.off.pages takes.items refl
 takes_counts tx undo undo' old new other takes = absurd takes
 
 -- with an inverse, by the end of its subtransaction, or without one
-between_counts : (inverting : Option OperationFields) (running running' : Running) (old between : Commons)
+between_counts : (inverting : Option OperationFields) (running running' : Running) (old between : SharedState)
     → (inverting ≡ None → (between ≡ old) × (running' ≡ running))
     → ((o : OperationFields) → inverting ≡ Some o → KeepsCounts old between) → KeepsCounts old between
-between_counts None running running' old between at_once at_end = let same = (at_once refl).0 in same_counts old between (λ i. (same i).pages) (λ i. (same i).history.items)
-between_counts (Some o) running running' old between at_once at_end = at_end o refl
+between_counts None running running' old between fast at_end = let same = (fast refl).0 in same_counts old between (λ i. (same i).pages) (λ i. (same i).history.items)
+between_counts (Some o) running running' old between fast at_end = at_end o refl
 
-end_counts : (before after : Running) (old new : Commons) → EndsSubtx before after old new → new.history ≡ old.history → KeepsCounts old new
+end_counts : (before after : Running) (old new : SharedState) → EndsSubtx before after old new → new.history ≡ old.history → KeepsCounts old new
 end_counts before after old new e same = record { locks = λ i. (e.locks i).max_open; pages = λ i. (e.store i).max_pages; commits = λ i. commit_count ((same i).items) }
 
-ends_back_counts : (inverting inverting' : Option OperationFields) (running running' : Running) (undo undo' : Undo) (old new : Commons) (told : Answer)
-    → EndsBack inverting inverting' (workplace running undo old) (workplace running' undo' new) told → KeepsCounts old new
+ends_back_counts : (inverting inverting' : Option OperationFields) (running running' : Running) (undo undo' : Undo) (old new : SharedState) (told : Answer)
+    → EndsBack inverting inverting' (tx_state running undo old) (tx_state running' undo' new) told → KeepsCounts old new
 ends_back_counts inverting inverting' running running' undo undo' old new told e =
     both_counts old e.between new
-    (between_counts inverting running running' old e.between e.at_once (λ o is. end_counts running running' old e.between (e.at_end o is).1 (e.at_end o is).3))
+    (between_counts inverting running running' old e.between e.fast (λ o is. end_counts running running' old e.between (e.at_end o is).1 (e.at_end o is).3))
     (takes_counts running.tx undo undo' e.between new told e.takes)
 
-back_counts : (basis : Basis) (inverting inverting' : Option OperationFields) (running running' : Running) (undo undo' : Undo) (old new : Commons) (told : Answer)
-    → TellsOfBack basis inverting inverting' (workplace running undo old) (workplace running' undo' new) told → KeepsCounts old new
-back_counts basis inverting inverting' running running' undo undo' old new answer.Going s =
-    moment_counts running running' old new (turn_limits (moment running old.pages) (moment running' new.pages) s.tells.turn) s.rest.history
-back_counts basis inverting inverting' running running' undo undo' old new (answer.Waiting page by) s =
-    moment_counts running running' old new (same_limits (moment running old.pages) (moment running' new.pages) s.tells.pages) s.rest.history
-back_counts basis inverting inverting' running running' undo undo' old new answer.Undone e = ends_back_counts inverting inverting' running running' undo undo' old new answer.Undone e
-back_counts basis inverting inverting' running running' undo undo' old new answer.Aborted e = ends_back_counts inverting inverting' running running' undo undo' old new answer.Aborted e
-back_counts basis inverting inverting' running running' undo undo' old new other none = absurd none
+back_counts : (context : WalkContext) (inverting inverting' : Option OperationFields) (running running' : Running) (undo undo' : Undo) (old new : SharedState) (told : Answer)
+    → TellsOfBack context inverting inverting' (tx_state running undo old) (tx_state running' undo' new) told → KeepsCounts old new
+back_counts context inverting inverting' running running' undo undo' old new answer.Going s =
+    local_counts running running' old new (turn_limits (local running old.pages) (local running' new.pages) s.tells.turn) s.rest.history
+back_counts context inverting inverting' running running' undo undo' old new (answer.Waiting page by) s =
+    local_counts running running' old new (same_limits (local running old.pages) (local running' new.pages) s.tells.pages) s.rest.history
+back_counts context inverting inverting' running running' undo undo' old new answer.Undone e = ends_back_counts inverting inverting' running running' undo undo' old new answer.Undone e
+back_counts context inverting inverting' running running' undo undo' old new answer.Aborted e = ends_back_counts inverting inverting' running running' undo undo' old new answer.Aborted e
+back_counts context inverting inverting' running running' undo undo' old new other none = absurd none
 
 -- **No step of a transaction changes them.**
-pub step_counts : (a : At) (basis : Basis) (before after : Transaction) (old new : Commons) (told : Answer) → TellsAt a basis before after old new told → KeepsCounts old new
-step_counts at.Idle basis before after old new told none = absurd none
-step_counts (at.Pending o) basis before after old new told s =
-    both_counts old s.between new (pending_counts basis o s.next before.subtx after.subtx before.undo after.undo old s.between told s.tells) (leaves_counts told s.between new s.leaves)
-step_counts (at.Undoing inverting) basis before after old new told s =
-    back_counts basis inverting s.next before.subtx after.subtx before.undo after.undo old new told s.tells
+pub step_counts : (a : At) (context : WalkContext) (before after : Transaction) (old new : SharedState) (told : Answer) → TellsAt a context before after old new told → KeepsCounts old new
+step_counts at.Idle context before after old new told none = absurd none
+step_counts (at.Pending o) context before after old new told s =
+    both_counts old s.between new (pending_counts context o s.next before.subtx after.subtx before.undo after.undo old s.between told s.tells) (leaves_counts told s.between new s.leaves)
+step_counts (at.Undoing inverting) context before after old new told s =
+    back_counts context inverting s.next before.subtx after.subtx before.undo after.undo old new told s.tells
 
 -- **Nor does a cancel.**
-pub cancel_counts : (before after : Transaction) (old new : Commons) → TellsOfCancel before after old new → KeepsCounts old new
+pub cancel_counts : (before after : Transaction) (old new : SharedState) → TellsOfCancel before after old new → KeepsCounts old new
 cancel_counts before after old new c = both_counts old c.between new (rolls_counts before.subtx after.subtx old c.between c.back c.history) (same_counts c.between new c.room.pages c.room.items)

@@ -13,7 +13,7 @@ use Rattle.mlt_manager.proofs.CleanPages.{pages_clean, same_clean}
 
 module _ {P : Type 0} (bits_of : P → ℕ → ℕ) (m : ManagerFields P) (h : IsManager bits_of m) where
   abbrev pub stored : Pages
-  stored = m.commons.pages.store.pages
+  stored = m.shared.pages.store.pages
 
   all_clean : HasCleanPages m (clean_pages h.images stored)
   all_clean = pages_clean bits_of m h.images h.base h.sound

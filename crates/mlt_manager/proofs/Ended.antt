@@ -29,7 +29,7 @@ module _ {P : Type 0} (bits_of : P → ℕ → ℕ) (m : ManagerFields P) (h : I
   now = state_of bits_of m h.images h.base
 
   -- an end, as the laws have it
-  ends_by : (item : TraceItem) → (e : HasEnded m m' tx item) → Ends now tx e.one m'.commons item
+  ends_by : (item : TraceItem) → (e : HasEnded m m' tx item) → Ends now tx e.one m'.shared item
   ends_by item e =
       let none : pending_room e.one.at ≡ 0 = ap pending_room e.idle in
       record {
@@ -41,22 +41,22 @@ module _ {P : Type 0} (bits_of : P → ℕ → ℕ) (m : ManagerFields P) (h : I
         room = omega (arith, none, e.room);
       }
 
-  same_ends : (commits : ℕ) (item : TraceItem) (e : HasEnded m m' tx item) → m' ≡ record m { commons = m'.commons; txs = m'.txs; opens = m'.opens; commits = commits }
-      → m' ≡ record m { commons = m'.commons; txs = map.remove m.txs tx; opens = set.remove m.opens tx; commits = commits }
-  same_ends commits item e rest = rest ∙ (λ p. record m { commons = m'.commons; txs = e.txs p; opens = e.opens p; commits = commits })
+  same_ends : (commits : ℕ) (item : TraceItem) (e : HasEnded m m' tx item) → m' ≡ record m { shared = m'.shared; txs = m'.txs; active = m'.active; commits = commits }
+      → m' ≡ record m { shared = m'.shared; txs = map.remove m.txs tx; active = set.remove m.active tx; commits = commits }
+  same_ends commits item e rest = rest ∙ (λ p. record m { shared = m'.shared; txs = e.txs p; active = e.active p; commits = commits })
 
   pub committed_keeps : (number : ℕ) → HasCommitted m m' tx number → IsManager bits_of m'
   committed_keeps number c =
       let e = c.ends in
-      let next : number ≡ commit_count m.commons.history.items + 1 = c.next ∙ ap (λ n. n + 1) h.limits.counted in
-      let ends = subst (λ (n : ℕ). Ends now tx e.one m'.commons (trace.Commit tx n)) next (ends_by (trace.Commit tx number) e) in
-      let count : number ≡ commit_count m'.commons.history.items = next ∙ sym (ap commit_count e.items ∙ commits_counted m.commons.history.items tx number) in
-      same_manager bits_of m' (record m { commons = m'.commons; txs = map.remove m.txs tx; opens = set.remove m.opens tx; commits = number }) (same_ends number (trace.Commit tx number) e c.rest)
-      (removed_keeps bits_of m h tx number e.one m'.commons e.there (λ i. (e.pages i).locks.max_open) (λ i. (e.pages i).store.max_pages) count (omega (arith, c.next)) (record {
+      let next : number ≡ commit_count m.shared.history.items + 1 = c.next ∙ ap (λ n. n + 1) h.limits.counted in
+      let ends = subst (λ (n : ℕ). Ends now tx e.one m'.shared (trace.Commit tx n)) next (ends_by (trace.Commit tx number) e) in
+      let count : number ≡ commit_count m'.shared.history.items = next ∙ sym (ap commit_count e.items ∙ commits_counted m.shared.history.items tx number) in
+      same_manager bits_of m' (record m { shared = m'.shared; txs = map.remove m.txs tx; active = set.remove m.active tx; commits = number }) (same_ends number (trace.Commit tx number) e c.rest)
+      (removed_keeps bits_of m h tx number e.one m'.shared e.there (λ i. (e.pages i).locks.max_open) (λ i. (e.pages i).store.max_pages) count (omega (arith, c.next)) (record {
         images = map.remove h.images tx;
         base = h.base;
-        sound = commit_sound now tx e.one m'.commons h.sound e.there ends;
-        traced = commit_traced now tx e.one m'.commons h.sound h.traced e.there ends;
+        sound = commit_sound now tx e.one m'.shared h.sound e.there ends;
+        traced = commit_traced now tx e.one m'.shared h.sound h.traced e.there ends;
       }))
 
   nothing_left : (entries : List (ObjOp × ObjReply)) → length entries ≡ 0 → entries ≡ []
@@ -68,13 +68,13 @@ module _ {P : Type 0} (bits_of : P → ℕ → ℕ) (m : ManagerFields P) (h : I
       let e = c.ends in
       let ends = ends_by (trace.Abort tx) e in
       let none : e.one.undo.entries ≡ [] = nothing_left e.one.undo.entries (was_with m.txs tx 0 e.one c.nothing e.there) in
-      let count = h.limits.counted ∙ sym (ap commit_count e.items ∙ no_more_commits m.commons.history.items (trace.Abort tx ∷ []) refl) in
-      same_manager bits_of m' (record m { commons = m'.commons; txs = map.remove m.txs tx; opens = set.remove m.opens tx; commits = m.commits }) (same_ends m.commits (trace.Abort tx) e c.rest)
-      (removed_keeps bits_of m h tx m.commits e.one m'.commons e.there (λ i. (e.pages i).locks.max_open) (λ i. (e.pages i).store.max_pages) count (omega arith) (record {
+      let count = h.limits.counted ∙ sym (ap commit_count e.items ∙ no_more_commits m.shared.history.items (trace.Abort tx ∷ []) refl) in
+      same_manager bits_of m' (record m { shared = m'.shared; txs = map.remove m.txs tx; active = set.remove m.active tx; commits = m.commits }) (same_ends m.commits (trace.Abort tx) e c.rest)
+      (removed_keeps bits_of m h tx m.commits e.one m'.shared e.there (λ i. (e.pages i).locks.max_open) (λ i. (e.pages i).store.max_pages) count (omega arith) (record {
         images = map.remove h.images tx;
         base = h.base;
-        sound = close_sound now tx e.one m'.commons h.sound e.there none ends;
-        traced = close_traced now tx e.one m'.commons h.sound h.traced e.there none ends;
+        sound = close_sound now tx e.one m'.shared h.sound e.there none ends;
+        traced = close_traced now tx e.one m'.shared h.sound h.traced e.there none ends;
       }))
 
   some_left : (entries : List (ObjOp × ObjReply)) (count : ℕ) → length entries ≡ count → 0 < count → entries ≡ [] → ⊥
@@ -91,8 +91,8 @@ module _ {P : Type 0} (bits_of : P → ℕ → ℕ) (m : ManagerFields P) (h : I
         undo = ap (λ (t : Transaction). t.undo) put;
         undoing = ap (λ (t : Transaction). t.at) put;
       } in
-      same_manager bits_of m' (record m { commons = m.commons; txs = map.insert m.txs tx ch.after }) (a.rest ∙ (λ p. record m { txs = ch.is p }))
-      (changed_keeps bits_of m h tx ch.before ch.after m.commons ch.was (record { locks = refl; pages = refl; commits = refl }) (record {
+      same_manager bits_of m' (record m { shared = m.shared; txs = map.insert m.txs tx ch.after }) (a.rest ∙ (λ p. record m { txs = ch.is p }))
+      (changed_keeps bits_of m h tx ch.before ch.after m.shared ch.was (record { locks = refl; pages = refl; commits = refl }) (record {
         images = h.images;
         base = h.base;
         sound = abort_sound now tx ch.before ch.after h.sound ch.was begins;
@@ -101,26 +101,26 @@ module _ {P : Type 0} (bits_of : P → ℕ → ℕ) (m : ManagerFields P) (h : I
 
   pub begun_keeps : HasBegun m m' tx → IsManager bits_of m'
   begun_keeps b =
-      let begins : Begins now b.one m'.commons = record {
+      let begins : Begins now b.one m'.shared = record {
         subtx = subst (λ (n : ℕ). b.one.subtx ≡ started n) b.number b.subtx;
         entries = b.entries;
         idle = b.idle;
         pages = b.pages;
         objects = b.objects;
-        items = b.items ∙ ap (λ (n : ℕ). m.commons.history.items ++ trace.Begin n ∷ []) b.number;
+        items = b.items ∙ ap (λ (n : ℕ). m.shared.history.items ++ trace.Begin n ∷ []) b.number;
         room = b.room;
       } in
-      let few : map.len m.txs < m.commons.pages.locks.max_open = subst (λ (n : ℕ). map.len m.txs < n) (sym h.limits.locks_for) b.free in
-      let not_open : set.contains m.opens (m.begun + 1) ≡ false = not_true (set.contains m.opens (m.begun + 1)) (λ is. let low = h.sound.match.file.ghosts.opened (m.begun + 1) is in absurd (omega (arith, low))) in
+      let few : map.len m.txs < m.shared.pages.locks.max_open = subst (λ (n : ℕ). map.len m.txs < n) (sym h.limits.locks_for) b.free in
+      let not_open : set.contains m.active (m.begun + 1) ≡ false = not_true (set.contains m.active (m.begun + 1)) (λ is. let low = h.sound.match.file.ghosts.opened (m.begun + 1) is in absurd (omega (arith, low))) in
       let more : map.len (map.insert m.txs (m.begun + 1) b.one) ≡ map.len m.txs + 1 = len_added m.txs (m.begun + 1) b.one (sym (h.sound.opened (m.begun + 1)) ∙ not_open) in
-      let more_open : set.len (set.insert m.opens (m.begun + 1)) ≡ set.len m.opens + 1 = set_added m.opens (m.begun + 1) not_open in
-      same_manager bits_of m' (record m { commons = m'.commons; txs = map.insert m.txs (m.begun + 1) b.one; opens = set.insert m.opens (m.begun + 1); begun = m.begun + 1 })
-      (b.rest ∙ (λ p. record m { commons = m'.commons; txs = map.insert m.txs (b.number p) b.one; opens = set.insert m.opens (b.number p); begun = b.number p }))
+      let more_open : set.len (set.insert m.active (m.begun + 1)) ≡ set.len m.active + 1 = set_added m.active (m.begun + 1) not_open in
+      same_manager bits_of m' (record m { shared = m'.shared; txs = map.insert m.txs (m.begun + 1) b.one; active = set.insert m.active (m.begun + 1); begun = m.begun + 1 })
+      (b.rest ∙ (λ p. record m { shared = m'.shared; txs = map.insert m.txs (b.number p) b.one; active = set.insert m.active (b.number p); begun = b.number p }))
       (record {
         images = map.insert h.images (m.begun + 1) map.empty;
         base = h.base;
-        sound = begin_sound now b.one m'.commons h.sound few begins;
-        traced = begin_traced now b.one m'.commons h.sound h.traced begins;
+        sound = begin_sound now b.one m'.shared h.sound few begins;
+        traced = begin_traced now b.one m'.shared h.sound h.traced begins;
         limits = record {
           locks_for = (λ i. (b.pages i).locks.max_open) ∙ h.limits.locks_for;
           pages_for = (λ i. (b.pages i).store.max_pages) ∙ h.limits.pages_for;
@@ -131,6 +131,6 @@ module _ {P : Type 0} (bits_of : P → ℕ → ℕ) (m : ManagerFields P) (h : I
           ids_fit = h.limits.ids_fit;
           ops_fit = h.limits.ops_fit;
           ended = omega (arith, h.limits.ended, more);
-          counted = h.limits.counted ∙ sym (ap commit_count begins.items ∙ no_more_commits m.commons.history.items (trace.Begin (m.begun + 1) ∷ []) refl);
+          counted = h.limits.counted ∙ sym (ap commit_count begins.items ∙ no_more_commits m.shared.history.items (trace.Begin (m.begun + 1) ∷ []) refl);
         };
       })

@@ -7,7 +7,7 @@ use Rattle.mlt_manager.specs.Answers.{HasEnded, IsIdleWith}
 use Rattle.mlt_manager.specs.Managers.{IsManager, ManagerFields}
 
 -- the history has room for the end of one that is idle, and for each of its operations
-pub room_to_end : {P : Type 0} (bits_of : P → ℕ → ℕ) (m : ManagerFields P) (tx count : ℕ) → IsManager bits_of m → IsIdleWith m.txs tx count → 1 + count ≤ m.commons.history.room
+pub room_to_end : {P : Type 0} (bits_of : P → ℕ → ℕ) (m : ManagerFields P) (tx count : ℕ) → IsManager bits_of m → IsIdleWith m.txs tx count → 1 + count ≤ m.shared.history.room
 room_to_end bits_of m tx count h idle =
     let within = room_within_total room_of m.txs tx idle.one idle.there in
     let none : pending_room idle.one.at ≡ 0 = ap pending_room idle.idle in
@@ -26,5 +26,5 @@ ended_at m m' commits' tx item e = record {
   items = e.items;
   room = e.room;
   txs = e.txs;
-  opens = e.opens;
+  active = e.active;
 }

@@ -13,7 +13,7 @@ use Rattle.mlt_manager.specs.Managers.{IsManager, IsWithinLimits, ManagerFields}
 -- the state, with these items of its history handed out
 abbrev state_with : List TraceItem → State → State
 state_with handed s = record s {
-  commons = record s.commons { history = record s.commons.history { handed = handed } };
+  shared = record s.shared { history = record s.shared.history { handed = handed } };
 }
 
 module _ (handed : List TraceItem) where
@@ -70,4 +70,4 @@ module _ (handed : List TraceItem) where
 
 -- **Handing out keeps the manager.**
 pub hands_out_keeps : {P : Type 0} (bits_of : P → ℕ → ℕ) (old new : ManagerFields P) → HandsOut old new → IsManager bits_of old → IsManager bits_of new
-hands_out_keeps bits_of old new out h = subst (IsManager bits_of) (sym out.same) (manager_with new.commons.history.handed bits_of old h)
+hands_out_keeps bits_of old new out h = subst (IsManager bits_of) (sym out.same) (manager_with new.shared.history.handed bits_of old h)

@@ -9,7 +9,7 @@ use Rattle.std.specs.Cmp.{nat_cmp_total}
 use Rattle.mlt_object_kinds.specs.Bases.{Base}
 use Rattle.mlt_trace.specs.Numbers.{commit_count}
 use Rattle.mlt_hash_subtx_laws.specs.CleanPages.{RunningImages}
-use Rattle.mlt_tx.specs.declared.commons.Commons.{Commons}
+use Rattle.mlt_tx.specs.declared.shared.SharedState.{SharedState}
 use Rattle.mlt_tx.specs.declared.transaction.Transaction.{Transaction}
 use Rattle.mlt_manager_invariant.specs.Sound.{IsSound}
 use Rattle.mlt_manager_trace.specs.Traced.{IsTraced}
@@ -83,11 +83,11 @@ module _ {P : Type 0} (bits_of : P → ℕ → ℕ) (m : ManagerFields P) (h : I
   is_counted m' same = same_manager bits_of m' (counted m) same counted_keeps
 
   -- an open transaction has changed
-  module _ (tx : ℕ) (before after : Transaction) (commons : Commons) (was : map.get m.txs tx ≡ Some before) (counts : KeepsCounts m.commons commons) where
+  module _ (tx : ℕ) (before after : Transaction) (shared : SharedState) (was : map.get m.txs tx ≡ Some before) (counts : KeepsCounts m.shared shared) where
     same_len : map.len (map.insert m.txs tx after) ≡ map.len m.txs
     same_len = len_changed m.txs tx after (ap is_some was)
 
-    pub changed_keeps : IsStill bits_of (record m { commons = commons; txs = map.insert m.txs tx after }) → IsManager bits_of (record m { commons = commons; txs = map.insert m.txs tx after })
+    pub changed_keeps : IsStill bits_of (record m { shared = shared; txs = map.insert m.txs tx after }) → IsManager bits_of (record m { shared = shared; txs = map.insert m.txs tx after })
     changed_keeps still = record {
       images = still.images;
       base = still.base;
@@ -108,20 +108,20 @@ module _ {P : Type 0} (bits_of : P → ℕ → ℕ) (m : ManagerFields P) (h : I
     }
 
   -- an open transaction is open no more
-  module _ (tx commits : ℕ) (before : Transaction) (commons : Commons) (was : map.get m.txs tx ≡ Some before) where
+  module _ (tx commits : ℕ) (before : Transaction) (shared : SharedState) (was : map.get m.txs tx ≡ Some before) where
     one_fewer : map.len (map.remove m.txs tx) ≡ map.len m.txs - 1
     one_fewer = len_removed m.txs tx (ap is_some was)
 
-    one_fewer_open : set.len (set.remove m.opens tx) ≡ set.len m.opens - 1
-    one_fewer_open = set_removed m.opens tx (h.sound.opened tx ∙ ap is_some was)
+    one_fewer_open : set.len (set.remove m.active tx) ≡ set.len m.active - 1
+    one_fewer_open = set_removed m.active tx (h.sound.opened tx ∙ ap is_some was)
 
     some_open : 1 ≤ map.len m.txs
     some_open = some_len m.txs tx (ap is_some was)
 
-    pub removed_keeps : commons.pages.locks.max_open ≡ m.commons.pages.locks.max_open → commons.pages.store.max_pages ≡ m.commons.pages.store.max_pages
-        → commits ≡ commit_count commons.history.items → commits ≤ m.commits + 1
-        → IsStill bits_of (record m { commons = commons; txs = map.remove m.txs tx; opens = set.remove m.opens tx })
-        → IsManager bits_of (record m { commons = commons; txs = map.remove m.txs tx; opens = set.remove m.opens tx; commits = commits })
+    pub removed_keeps : shared.pages.locks.max_open ≡ m.shared.pages.locks.max_open → shared.pages.store.max_pages ≡ m.shared.pages.store.max_pages
+        → commits ≡ commit_count shared.history.items → commits ≤ m.commits + 1
+        → IsStill bits_of (record m { shared = shared; txs = map.remove m.txs tx; active = set.remove m.active tx })
+        → IsManager bits_of (record m { shared = shared; txs = map.remove m.txs tx; active = set.remove m.active tx; commits = commits })
     removed_keeps locks pages count few still = record {
       images = still.images;
       base = still.base;

@@ -71,16 +71,16 @@ module _ {P : Type 0} (bits_of : P → ℕ → ℕ) (m m' : ManagerFields P) (h 
 
 -- a manager as it is made
 module _ {P : Type 0} (bits_of : P → ℕ → ℕ) (m : ManagerFields P) (limits : Limits) (pseudo : P) (keys : GivesPseudokeys (bits_of m.root.pseudo)) (new : IsNew m limits pseudo) where
-  same_state : state_of bits_of m map.empty empty_base ≡ opening_state (bits_of m.root.pseudo) m.root.page m.root.max_depth m.max_ops m.commons
+  same_state : state_of bits_of m map.empty empty_base ≡ opening_state (bits_of m.root.pseudo) m.root.page m.root.max_depth m.max_ops m.shared
   same_state i = record {
     bits = bits_of m.root.pseudo;
     root = m.root.page;
     max_depth = m.root.max_depth;
     max_ops = m.max_ops;
-    commons = m.commons;
+    shared = m.shared;
     txs = new.txs i;
     images = map.empty;
-    opens = new.opens i;
+    active = new.active i;
     begun = new.begun i;
     base = empty_base;
   }
@@ -88,11 +88,11 @@ module _ {P : Type 0} (bits_of : P → ℕ → ℕ) (m : ManagerFields P) (limit
   small : m.root.max_depth ≤ 16
   small = subst (λ (n : ℕ). n ≤ 16) (sym new.made.depth) limits.in_range.depth_most
 
-  sound : IsSound (opening_state (bits_of m.root.pseudo) m.root.page m.root.max_depth m.max_ops m.commons)
-  sound = opening_sound (bits_of m.root.pseudo) m.root.page m.root.max_depth m.max_ops limits.max_open new.dir new.bucket m.commons keys small new.file new.page_locks new.object_locks new.items new.room
+  sound : IsSound (opening_state (bits_of m.root.pseudo) m.root.page m.root.max_depth m.max_ops m.shared)
+  sound = opening_sound (bits_of m.root.pseudo) m.root.page m.root.max_depth m.max_ops limits.max_open new.dir new.bucket m.shared keys small new.file new.page_locks new.object_locks new.items new.room
 
-  traced : IsTraced (opening_state (bits_of m.root.pseudo) m.root.page m.root.max_depth m.max_ops m.commons)
-  traced = opening_traced (bits_of m.root.pseudo) m.root.page m.root.max_depth m.max_ops m.commons new.items
+  traced : IsTraced (opening_state (bits_of m.root.pseudo) m.root.page m.root.max_depth m.max_ops m.shared)
+  traced = opening_traced (bits_of m.root.pseudo) m.root.page m.root.max_depth m.max_ops m.shared new.items
 
   none_open : map.len m.txs ≡ 0
   none_open = ap map.len new.txs ∙ map.len-empty nat_cmp Transaction
@@ -107,7 +107,7 @@ module _ {P : Type 0} (bits_of : P → ℕ → ℕ) (m : ManagerFields P) (limit
       locks_for = (λ i. (new.page_locks i).max_open) ∙ sym new.made.open_at_most;
       pages_for = new.page_limit ∙ sym new.made.pages;
       few_open = omega (arith, none_open);
-      open_in_set = ap set.len new.opens ∙ set.len-empty nat_cmp ∙ sym none_open;
+      open_in_set = ap set.len new.active ∙ set.len-empty nat_cmp ∙ sym none_open;
       set_holds = subst (λ (n : ℕ). n ≤ 64) (sym new.made.open_at_most) limits.in_range.open_most;
       few_ids = omega (arith, new.begun);
       ids_fit = subst (λ (n : ℕ). n ≤ 2 ^ 32) (sym new.made.ids) limits.in_range.ids_most;

@@ -26,7 +26,7 @@ module _ {P : Type 0} (bits_of : P → ℕ → ℕ) (m : ManagerFields P) (h : I
           cc both
 
       by : (one : Option Transaction) → map.get m.txs i ≡ one → standing_in m.txs i ≡ (lists_by m).transcripts i
-      by None none = ap entries_of none ∙ sym (nothing_of_others m.commons.history.items h.base h.sound.match.records.history i (not_running none))
+      by None none = ap entries_of none ∙ sym (nothing_of_others m.shared.history.items h.base h.sound.match.records.history i (not_running none))
       by (Some one) there = ap entries_of there ∙ (h.sound.fits i one there).stands
 
   -- **The base that is left is the committed one.**

@@ -1,4 +1,4 @@
-pub mod AtOnce
+pub mod Fast
 pub mod Called
 pub mod Chains
 pub mod CleanPages

@@ -20,21 +20,21 @@ use Rattle.mlt_order.proofs.Stages.{contains-one}
 use Rattle.mlt_page_locks.specs.LockTables.{LockTable, Modes, is_holder}
 use Rattle.mlt_page_locks.specs.Requests.{IsLowest, conflicts}
 use Rattle.mlt_object_locks.specs.Locks.{Held}
-use Rattle.mlt_tx_meaning.specs.Worlds.{lists_in}
+use Rattle.mlt_tx_meaning.specs.AbstractStates.{lists_in}
 use Rattle.mlt_tx_meaning.proofs.Matches.{lists_kept}
-use Rattle.mlt_hash.specs.Walks.{Basis, basis_by}
+use Rattle.mlt_hash.specs.Walks.{WalkContext, context_by}
 use Rattle.mlt_tx_operation.specs.Operating.{OperationFields}
 use Rattle.mlt_event.specs.declared.answer.Answer.{Answer}
 use Rattle.mlt_event.specs.declared.answer.Answer.TheVariants as answer
 use Rattle.mlt_tx.specs.declared.transaction.At.{At}
 use Rattle.mlt_tx.specs.declared.transaction.At.TheVariants as at
 use Rattle.mlt_tx.specs.declared.transaction.Transaction.{Transaction}
-use Rattle.mlt_tx.specs.declared.commons.Commons.{Commons}
+use Rattle.mlt_tx.specs.declared.shared.SharedState.{SharedState}
 use Rattle.mlt_tx.specs.Steps.{TellsOfBack, TellsOfPending}
-use Rattle.mlt_tx.specs.Transactions.{TellsAt, workplace_of}
+use Rattle.mlt_tx.specs.Transactions.{TellsAt, tx_state_of}
 use Rattle.mlt_tx_open.specs.Tables.{Table}
 use Rattle.mlt_manager_invariant.specs.Sound.{FitsAt}
-use Rattle.mlt_manager_invariant.specs.States.{State, images_kept, world_of}
+use Rattle.mlt_manager_invariant.specs.States.{State, images_kept, abstract_state_of}
 use Rattle.mlt_manager_invariant.proofs.Tables.{inserted_elsewhere}
 use Rattle.mlt_manager.specs.Answers.{AnswersStep, HasStepped, IsByAnother, IsOpenAt, IsRunning, txs_after}
 use Rattle.mlt_manager.specs.Chains.{StepsUpTo}
@@ -76,7 +76,7 @@ module _ {P : Type 0} (bits_of : P → ℕ → ℕ) (m : ManagerFields P) (h : I
   now = state_of bits_of m h.images h.base
 
   -- who holds pages runs
-  runs_at : (a : At) (by : ℕ) (t : Transaction) → FitsAt a now by t → is_holder m.commons.pages.locks by ≡ true → IsRunning a
+  runs_at : (a : At) (by : ℕ) (t : Transaction) → FitsAt a now by t → is_holder m.shared.pages.locks by ≡ true → IsRunning a
   runs_at at.Idle by t nothing holds = absurd (false≢true (sym nothing.no_locks ∙ holds))
   runs_at (at.Pending o) by t fits holds = tt
   runs_at (at.Undoing None) by t (nothing, some) holds = absurd (false≢true (sym nothing.no_locks ∙ holds))
@@ -86,28 +86,28 @@ module _ {P : Type 0} (bits_of : P → ℕ → ℕ) (m : ManagerFields P) (h : I
   open_of by None is holds = absurd (false≢true (sym (ap is_some (h.sound.kept by ∙ ap images_kept is)) ∙ holds))
   open_of by (Some t) is holds = refl
 
-  one_of : (by : ℕ) (e : Option Transaction) → map.get m.txs by ≡ e → is_some e ≡ true → is_holder m.commons.pages.locks by ≡ true → IsOpenAt m.txs by IsRunning
+  one_of : (by : ℕ) (e : Option Transaction) → map.get m.txs by ≡ e → is_some e ≡ true → is_holder m.shared.pages.locks by ≡ true → IsOpenAt m.txs by IsRunning
   one_of by None is none holds = absurd (false≢true none)
   one_of by (Some t) is some holds = record { one = t; there = is; is_at = runs_at t.at by t (h.sound.fits by t is).where_at holds }
 
   -- **Who holds pages is open, and runs.**
-  pub holder_runs : (by : ℕ) → is_holder m.commons.pages.locks by ≡ true → IsOpenAt m.txs by IsRunning
+  pub holder_runs : (by : ℕ) → is_holder m.shared.pages.locks by ≡ true → IsOpenAt m.txs by IsRunning
   holder_runs by holds = one_of by (map.get m.txs by) refl (open_of by (map.get m.txs by) refl (h.sound.running.holders_open by holds)) holds
 
-  holds_if : (by : ℕ) (item : ObjOp × ObjReply) (stage : Stage) → (lists_in (world_of now)).stage by ≡ stage → Contains ((lists_in (world_of now)).held by) item → stage ≡ Running
+  holds_if : (by : ℕ) (item : ObjOp × ObjReply) (stage : Stage) → (lists_in (abstract_state_of now)).stage by ≡ stage → Contains ((lists_in (abstract_state_of now)).held by) item → stage ≡ Running
   holds_if by item Running is held = refl
   holds_if by item Fresh is held =
-      let none = ((lists_kept (world_of now) h.sound.match).only by (λ (r : (lists_in (world_of now)).stage by ≡ Running). let both : Fresh ≡ Running = sym is ∙ r in cc)).1 in
+      let none = ((lists_kept (abstract_state_of now) h.sound.match).only by (λ (r : (lists_in (abstract_state_of now)).stage by ≡ Running). let both : Fresh ≡ Running = sym is ∙ r in cc)).1 in
       absurd (contains-nothing item (subst (λ (l : List (ObjOp × ObjReply)). Contains l item) none held))
   holds_if by item Ended is held =
-      let none = ((lists_kept (world_of now) h.sound.match).only by (λ (r : (lists_in (world_of now)).stage by ≡ Running). let both : Ended ≡ Running = sym is ∙ r in cc)).1 in
+      let none = ((lists_kept (abstract_state_of now) h.sound.match).only by (λ (r : (lists_in (abstract_state_of now)).stage by ≡ Running). let both : Ended ≡ Running = sym is ∙ r in cc)).1 in
       absurd (contains-nothing item (subst (λ (l : List (ObjOp × ObjReply)). Contains l item) none held))
 
   -- **Who holds an operation is open.**
-  pub owner_open : (by : ℕ) (item : ObjOp × ObjReply) → Contains m.commons.objects.held (by, item) → is_some (map.get m.txs by) ≡ true
+  pub owner_open : (by : ℕ) (item : ObjOp × ObjReply) → Contains m.shared.objects.held (by, item) → is_some (map.get m.txs by) ≡ true
   owner_open by item held =
-      let listed : Contains ((lists_in (world_of now)).held by) item = subst (λ (l : List (ObjOp × ObjReply)). Contains l item) (h.sound.held by) (under_number by m.commons.objects.held item held) in
-      let running = holds_if by item ((lists_in (world_of now)).stage by) refl listed in
+      let listed : Contains ((lists_in (abstract_state_of now)).held by) item = subst (λ (l : List (ObjOp × ObjReply)). Contains l item) (h.sound.held by) (under_number by m.shared.objects.held item held) in
+      let running = holds_if by item ((lists_in (abstract_state_of now)).stage by) refl listed in
       sym (h.sound.opened by) ∙ (h.sound.match.records.running by).1 running
 
 -- who is named is another transaction, where the one that changes is left aside
@@ -122,39 +122,39 @@ still_another (answer.Refused reason) txs tx after none = tt
 
 -- one step
 module _ {P : Type 0} (bits_of : P → ℕ → ℕ) (m : ManagerFields P) (h : IsManager bits_of m) (tx : ℕ) where
-  module _ (before after : Transaction) (commons : Commons) (was : map.get m.txs tx ≡ Some before) where
+  module _ (before after : Transaction) (shared : SharedState) (was : map.get m.txs tx ≡ Some before) where
     number : before.subtx.tx ≡ tx
     number = (h.sound.fits tx before was).number
 
-    by_lowest : (page by : ℕ) (mode : Mode) → IsLowest (conflicts m.commons.pages.locks before.subtx.tx page mode) by → (by ≢ tx) × IsOpenAt m.txs by IsRunning
+    by_lowest : (page by : ℕ) (mode : Mode) → IsLowest (conflicts m.shared.pages.locks before.subtx.tx page mode) by → (by ≢ tx) × IsOpenAt m.txs by IsRunning
     by_lowest page by mode lowest =
-        let other = other_holds m.commons.pages.locks before.subtx.tx page by mode lowest.has_it in
+        let other = other_holds m.shared.pages.locks before.subtx.tx page by mode lowest.has_it in
         (λ same. other.0 (same ∙ sym number), holder_runs bits_of m h by other.1)
 
-    named_pending : (basis : Basis) (o next : OperationFields) (between : Commons) (told : Answer) → TellsOfPending basis o next (workplace_of before m.commons) (workplace_of after between) told → IsByAnother told m.txs tx
-    named_pending basis o next between (answer.Waiting page by) w = by_lowest page by w.tells.mode w.tells.lowest
-    named_pending basis o next between (answer.Blocked by) (e, anew) =
+    named_pending : (context : WalkContext) (o next : OperationFields) (between : SharedState) (told : Answer) → TellsOfPending context o next (tx_state_of before m.shared) (tx_state_of after between) told → IsByAnother told m.txs tx
+    named_pending context o next between (answer.Waiting page by) w = by_lowest page by w.tells.mode w.tells.lowest
+    named_pending context o next between (answer.Blocked by) (e, anew) =
         let clash = e.tells.lowest.0 in
         (λ same. clash.0 (same ∙ sym number), owner_open bits_of m h by clash.1.0 clash.1.1)
-    named_pending basis o next between answer.Going w = tt
-    named_pending basis o next between (answer.Done reply) w = tt
-    named_pending basis o next between (answer.Refused reason) w = tt
-    named_pending basis o next between answer.Undone none = tt
-    named_pending basis o next between answer.Aborted none = tt
+    named_pending context o next between answer.Going w = tt
+    named_pending context o next between (answer.Done reply) w = tt
+    named_pending context o next between (answer.Refused reason) w = tt
+    named_pending context o next between answer.Undone none = tt
+    named_pending context o next between answer.Aborted none = tt
 
-    named_back : (basis : Basis) (inverting next : Option OperationFields) (told : Answer) → TellsOfBack basis inverting next (workplace_of before m.commons) (workplace_of after commons) told → IsByAnother told m.txs tx
-    named_back basis inverting next (answer.Waiting page by) w = by_lowest page by w.tells.mode w.tells.lowest
-    named_back basis inverting next (answer.Blocked by) none = absurd none
-    named_back basis inverting next answer.Going w = tt
-    named_back basis inverting next (answer.Done reply) w = tt
-    named_back basis inverting next (answer.Refused reason) w = tt
-    named_back basis inverting next answer.Undone none = tt
-    named_back basis inverting next answer.Aborted none = tt
+    named_back : (context : WalkContext) (inverting next : Option OperationFields) (told : Answer) → TellsOfBack context inverting next (tx_state_of before m.shared) (tx_state_of after shared) told → IsByAnother told m.txs tx
+    named_back context inverting next (answer.Waiting page by) w = by_lowest page by w.tells.mode w.tells.lowest
+    named_back context inverting next (answer.Blocked by) none = absurd none
+    named_back context inverting next answer.Going w = tt
+    named_back context inverting next (answer.Done reply) w = tt
+    named_back context inverting next (answer.Refused reason) w = tt
+    named_back context inverting next answer.Undone none = tt
+    named_back context inverting next answer.Aborted none = tt
 
-    named_at : (a : At) (basis : Basis) (told : Answer) → TellsAt a basis before after m.commons commons told → IsByAnother told m.txs tx
-    named_at at.Idle basis told none = absurd none
-    named_at (at.Pending o) basis told s = named_pending basis o s.next s.between told s.tells
-    named_at (at.Undoing inverting) basis told s = named_back basis inverting s.next told s.tells
+    named_at : (a : At) (context : WalkContext) (told : Answer) → TellsAt a context before after m.shared shared told → IsByAnother told m.txs tx
+    named_at at.Idle context told none = absurd none
+    named_at (at.Pending o) context told s = named_pending context o s.next s.between told s.tells
+    named_at (at.Undoing inverting) context told s = named_back context inverting s.next told s.tells
 
   in_table : (told : Answer) (d : Table) (after : Transaction) → d ≡ map.insert m.txs tx after → IsByAnother told m.txs tx → IsByAnother told (txs_after told tx d) tx
   in_table (answer.Waiting page by) d after is named = subst (λ (t : Table). IsByAnother (answer.Waiting page by) t tx) (sym is) (still_another (answer.Waiting page by) m.txs tx after named)
@@ -170,7 +170,7 @@ module _ {P : Type 0} (bits_of : P → ℕ → ℕ) (m : ManagerFields P) (h : I
   step_names m' told d =
       let c = d.steps.changes in
       subst (λ (n : ManagerFields P). IsByAnother told n.txs tx) (sym d.rest)
-      (in_table told d.txs c.after c.is (named_at c.before c.after m'.commons c.was c.before.at (basis_by bits_of m.root m.opens c.before.subtx.tx) told d.steps.tells))
+      (in_table told d.txs c.after c.is (named_at c.before c.after m'.shared c.was c.before.at (context_by bits_of m.root m.active c.before.subtx.tx) told d.steps.tells))
 
 -- many steps
 module _ {P : Type 0} (bits_of : P → ℕ → ℕ) (LetsGoOn Stops : Answer → Type 0) where

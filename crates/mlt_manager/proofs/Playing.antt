@@ -14,7 +14,7 @@ use Rattle.mlt_manager.proofs.Tolds.{history_told}
 -- the events so far, and what they were told
 pub record HasPlayed {P : Type 0} (bits_of : P → ℕ → ℕ) (limits : Limits) (pseudo : P) (events : List Event) (tolds : List Told) (now : ManagerFields P) : Type 0 where
   pub opening : ManagerFields P
-  pub opens : IsNew opening limits pseudo
+  pub is_new : IsNew opening limits pseudo
   pub run : IsRun bits_of opening events tolds now
 
 run_on : {P : Type 0} (bits_of : P → ℕ → ℕ) (old m m' : ManagerFields P) (events : List Event) (tolds : List Told) (event : Event) (told : Told)
@@ -38,7 +38,7 @@ played_on bits_of limits pseudo events i tolds tolds' m m' event told within is 
     let one_more : take (i + 1) events ≡ take i events ++ event ∷ [] = ap (λ k. take k events) next_place ∙ take_one events i event within is in
     record {
       opening = h.opening;
-      opens = h.opens;
+      is_new = h.is_new;
       run = subst (λ (es : List Event). IsRun bits_of h.opening es tolds' m') (sym one_more)
           (subst (λ (ts : List Told). IsRun bits_of h.opening (take i events ++ event ∷ []) ts m') (sym more) (run_on bits_of h.opening m m' (take i events) tolds event told h.run meets));
     }
@@ -53,8 +53,8 @@ pub all_played : {P : Type 0} (bits_of : P → ℕ → ℕ) (limits : Limits) (p
     → HasPlayed bits_of limits pseudo (take i events) tolds m → KeepsPromises bits_of m → Plays bits_of limits pseudo events tolds m
 all_played bits_of limits pseudo events i tolds m over h promises = record {
   first = h.opening;
-  is_new = h.opens;
+  is_new = h.is_new;
   run = subst (λ (es : List Event). IsRun bits_of h.opening es tolds m) (take_all events i over) h.run;
-  told = history_told bits_of limits pseudo events tolds h.opening m h.opens (subst (λ (es : List Event). IsRun bits_of h.opening es tolds m) (take_all events i over) h.run);
+  told = history_told bits_of limits pseudo events tolds h.opening m h.is_new (subst (λ (es : List Event). IsRun bits_of h.opening es tolds m) (take_all events i over) h.run);
   promises = promises;
 }

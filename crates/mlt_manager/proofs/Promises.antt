@@ -21,8 +21,8 @@ use Rattle.mlt_trace.specs.Items.{trace_text}
 use Rattle.mlt_trace.specs.Numbers.{AreBegunInOrder, committed_txs}
 use Rattle.mlt_trace_check.specs.Traces.{ArePlaced, IsAcceptedTrace, told}
 use Rattle.mlt_trace_laws.proofs.Histories.{serializable}
-use Rattle.mlt_tx_meaning.specs.Worlds.{ledger_of}
-use Rattle.mlt_manager_invariant.specs.States.{world_of}
+use Rattle.mlt_tx_meaning.specs.AbstractStates.{ledger_of}
+use Rattle.mlt_manager_invariant.specs.States.{abstract_state_of}
 use Rattle.mlt_manager_trace.specs.Traced.{IsCommittedBase}
 use Rattle.mlt_manager_trace.proofs.CommittedBases.{with_base}
 use Rattle.mlt_manager.specs.Managers.{IsManager, ManagerFields, state_of}
@@ -35,17 +35,17 @@ use Rattle.mlt_manager.proofs.Stepped.{same_base}
 
 module _ {P : Type 0} (bits_of : P → ℕ → ℕ) (m : ManagerFields P) (h : IsManager bits_of m) where
   abbrev pages : map.FinMap nat_cmp Page
-  pages = clean_pages h.images m.commons.pages.store.pages
+  pages = clean_pages h.images m.shared.pages.store.pages
 
   -- what is committed leads to a base, and what is open leads on
   serial : IsCommitOrderSerializable Step empty_base (lists_by m) h.base
-  serial = serializable m.commons.history.items h.base h.sound.match.records.history
+  serial = serializable m.shared.history.items h.base h.sound.match.records.history
 
-  open_taken_back : UndoneTo Step serial.0 (transcripts_of m.commons.history.items).of_open h.base
-  open_taken_back = subst (λ (t : Transcripts). UndoneTo Step serial.0 t.of_open h.base) (sym (same_transcripts m.commons.history.items)) serial.2
+  open_taken_back : UndoneTo Step serial.0 (transcripts_of m.shared.history.items).of_open h.base
+  open_taken_back = subst (λ (t : Transcripts). UndoneTo Step serial.0 t.of_open h.base) (sym (same_transcripts m.shared.history.items)) serial.2
 
-  committed_alone : IsSerialBase Step empty_base (transcripts_of m.commons.history.items).committed serial.0
-  committed_alone = subst (λ (t : Transcripts). IsSerialBase Step empty_base t.committed serial.0) (sym (same_transcripts m.commons.history.items)) serial.1
+  committed_alone : IsSerialBase Step empty_base (transcripts_of m.shared.history.items).committed serial.0
+  committed_alone = subst (λ (t : Transcripts). IsSerialBase Step empty_base t.committed serial.0) (sym (same_transcripts m.shared.history.items)) serial.1
 
   -- **Every manager keeps the main promise.**
   abbrev main_kept : IsRecordMap (live_records pages) (map.get pages) → KeepsMainPromise m
@@ -61,16 +61,16 @@ module _ {P : Type 0} (bits_of : P → ℕ → ℕ) (m : ManagerFields P) (h : I
   }
 
   -- **Every manager keeps its promises.**
-  pub promises_kept : ((bits : ℕ → ℕ) (opens : set.FinSet nat_cmp) (pages : FilePages) (root : ℕ) → GivesPseudokeys bits → HasForm bits pages root → IsExtendibleHashFile bits opens pages root)
+  pub promises_kept : ((bits : ℕ → ℕ) (active : set.FinSet nat_cmp) (pages : FilePages) (root : ℕ) → GivesPseudokeys bits → HasForm bits pages root → IsExtendibleHashFile bits active pages root)
       → ((bits : ℕ → ℕ) (pages : map.FinMap nat_cmp Page) (root : ℕ) → GivesPseudokeys bits → HasForm bits (map.get pages) root → IsRecordMap (live_records pages) (map.get pages))
       → KeepsPromises bits_of m
   promises_kept has_file has_records = record {
     main = main_kept (has_records (bits_of m.root.pseudo) pages m.root.page h.sound.match.file.bounded h.sound.match.file.form);
-    file = has_file (bits_of m.root.pseudo) m.opens (map.get pages) m.root.page h.sound.match.file.bounded h.sound.match.file.form;
+    file = has_file (bits_of m.root.pseudo) m.active (map.get pages) m.root.page h.sound.match.file.bounded h.sound.match.file.form;
     can_be = h.sound.match.records.means.can_be;
-    ghosts = kept_by_match (ledger_of (world_of (state_of bits_of m h.images h.base))) h.sound.match.file.ghosts;
+    ghosts = kept_by_match (ledger_of (abstract_state_of (state_of bits_of m h.images h.base))) h.sound.match.file.ghosts;
     locks = λ i. record { of_pass = pass_locks (state_of bits_of m h.images h.base) i h.sound; written = written_locks (state_of bits_of m h.images h.base) i h.sound };
-    books = record {
+    accounts = record {
       in_table = h.sound.opened;
       in_history = h.sound.match.records.running;
       number = λ i one there. (h.sound.fits i one there).number;
@@ -89,12 +89,12 @@ module _ {P : Type 0} (bits_of : P → ℕ → ℕ) (m : ManagerFields P) (h : I
   }
 
   -- the text of the history is an accepted trace
-  pub checker_passed : (items : List TraceItem) → items ≡ m.commons.history.items → AllFit items
+  pub checker_passed : (items : List TraceItem) → items ≡ m.shared.history.items → AllFit items
       → ((l : List TraceItem) → ArePlaced l → AreBegunInOrder l → AllFit l → AreWritable l)
       → ((l : List TraceItem) (base : Base) → AreWritable l → ArePlaced l → IsSerialBase Step empty_base (told l).committed base → IsAcceptedTrace (trace_text l) (committed_txs l) base)
       → PassesTheChecker m
   checker_passed items is fit writable accepted =
-      let l = m.commons.history.items in
+      let l = m.shared.history.items in
       let led = with_base (state_of bits_of m h.images h.base) h.sound in
       record {
         base = led.0;

@@ -20,7 +20,7 @@ not_called refusal.LogFull m m' tx op same why = absurd why
 not_called other m m' tx op same why = (why, same)
 
 -- what a try to call one answers is what the manager does
-pub call_answers : {P : Type 0} (m m' : ManagerFields P) (tx : ℕ) (op : ObjOp) (r : Result (Unit {0}) Refusal) → IsOpInRange op → TriesCall tx op m.max_ops m.txs m'.txs m.commons m'.commons r → ChangesOpen m m' → AnswersCall m m' tx op r
+pub call_answers : {P : Type 0} (m m' : ManagerFields P) (tx : ℕ) (op : ObjOp) (r : Result (Unit {0}) Refusal) → IsOpInRange op → TriesCall tx op m.max_ops m.txs m'.txs m.shared m'.shared r → ChangesOpen m m' → AnswersCall m m' tx op r
 call_answers m m' tx op (Ok done) range tried rest = record { may = tried.0; in_range = range; calls = tried.1; rest = rest }
 call_answers m m' tx op (Err refusal.OutOfMemory) range tried rest = (tried.0, tried.1, rest)
-call_answers m m' tx op (Err other) range tried rest = (tried.0, rest ∙ (λ i. record m { commons = tried.2 i; txs = tried.1 i }))
+call_answers m m' tx op (Err other) range tried rest = (tried.0, rest ∙ (λ i. record m { shared = tried.2 i; txs = tried.1 i }))

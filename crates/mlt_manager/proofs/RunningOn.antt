@@ -3,20 +3,20 @@ use Rattle.std.proofs.Common.{◌≡◌, ◌<◌, ◌≤◌, ℕ, Option, None, 
 use Rattle.std.specs.FinMap as map
 use Rattle.mlt_types.specs.declared.refusal.Refusal.{Refusal}
 use Rattle.mlt_object_kinds.specs.declared.operation.ObjOp.{ObjOp}
-use Rattle.mlt_hash_access.specs.Moments.{moment}
+use Rattle.mlt_hash_access.specs.LocalStates.{local}
 use Rattle.mlt_hash_access.specs.Views.{view_of}
-use Rattle.mlt_hash.specs.Walks.{basis_by}
+use Rattle.mlt_hash.specs.Walks.{context_by}
 use Rattle.mlt_tx_operation.specs.MostSteps.{most_steps}
 use Rattle.mlt_tx_operation.specs.Operating.{OperationFields}
 use Rattle.mlt_tx_operation.proofs.MostSteps.{one_fewer_at_least}
 use Rattle.mlt_event.specs.declared.answer.Answer.{Answer}
 use Rattle.mlt_event.specs.declared.answer.Answer.TheVariants as answer
-use Rattle.mlt_tx.specs.declared.commons.Commons.{Commons}
+use Rattle.mlt_tx.specs.declared.shared.SharedState.{SharedState}
 use Rattle.mlt_tx.specs.declared.transaction.At.{At}
 use Rattle.mlt_tx.specs.declared.transaction.At.TheVariants as at
 use Rattle.mlt_tx.specs.declared.transaction.Transaction.{Transaction}
 use Rattle.mlt_tx.specs.Steps.{TellsOfPending}
-use Rattle.mlt_tx.specs.Transactions.{IsPending, StepsPending, TellsAt, pending_after, workplace_of}
+use Rattle.mlt_tx.specs.Transactions.{IsPending, StepsPending, TellsAt, pending_after, tx_state_of}
 use Rattle.mlt_tx_open.specs.Tables.{Table}
 use Rattle.mlt_manager_invariant.proofs.Tables.{inserted_here}
 use Rattle.mlt_manager.specs.Answers.{AnswersCall, HasCalled, HasStepped, IsOpenAt, txs_after}
@@ -26,25 +26,25 @@ use Rattle.mlt_manager.proofs.Called.{called_keeps, cancelled_keeps, pending_of}
 use Rattle.mlt_manager.proofs.Chains.{IsUnderWay, found_before, last_taken, one_taken, there_after, up_to_keeps}
 
 -- how many steps the pending operation of the transaction still takes at most, those that wait aside
-abbrev pub most_at : At → ℕ → Transaction → Commons → ℕ
-most_at (at.Pending o) root t commons = most_steps root o (view_of (moment t.subtx commons.pages))
-most_at other root t commons = 0
+abbrev pub most_at : At → ℕ → Transaction → SharedState → ℕ
+most_at (at.Pending o) root t shared = most_steps root o (view_of (local t.subtx shared.pages))
+most_at other root t shared = 0
 
-abbrev pub most_for : Option Transaction → ℕ → Commons → ℕ
-most_for None root commons = 0
-most_for (Some t) root commons = most_at t.at root t commons
+abbrev pub most_for : Option Transaction → ℕ → SharedState → ℕ
+most_for None root shared = 0
+most_for (Some t) root shared = most_at t.at root t shared
 
 abbrev pub on_left : {P : Type 0} → ManagerFields P → ℕ → ℕ
-on_left m tx = most_for (map.get m.txs tx) m.root.page m.commons
+on_left m tx = most_for (map.get m.txs tx) m.root.page m.shared
 
 -- one step of a pending operation
 module _ {P : Type 0} (bits_of : P → ℕ → ℕ) (m m' : ManagerFields P) (tx : ℕ) (told : Answer) (pending : IsOpenAt m.txs tx IsPending) (d : HasStepped bits_of m m' tx told) where
   pub operation_at : (o : OperationFields) × (d.steps.changes.before.at ≡ at.Pending o)
   operation_at = pending_of d.steps.changes.before.at (found_before bits_of LetsGoOn m m m' tx told IsPending pending d)
 
-  pub steps_pending : StepsPending (basis_by bits_of m.root m.opens d.steps.changes.before.subtx.tx) operation_at.0 d.steps.changes.before d.steps.changes.after m.commons m'.commons told
+  pub steps_pending : StepsPending (context_by bits_of m.root m.active d.steps.changes.before.subtx.tx) operation_at.0 d.steps.changes.before d.steps.changes.after m.shared m'.shared told
   steps_pending =
-      subst (λ (a : At). TellsAt a (basis_by bits_of m.root m.opens d.steps.changes.before.subtx.tx) d.steps.changes.before d.steps.changes.after m.commons m'.commons told) operation_at.1 d.steps.tells
+      subst (λ (a : At). TellsAt a (context_by bits_of m.root m.active d.steps.changes.before.subtx.tx) d.steps.changes.before d.steps.changes.after m.shared m'.shared told) operation_at.1 d.steps.tells
 
   pub there_by : (t : Answer) → told ≡ t → txs_after t tx d.txs ≡ d.txs → map.get m'.txs tx ≡ Some d.steps.changes.after
   there_by t is on = there_after bits_of LetsGoOn m m m' tx told d (ap (λ (a : Answer). txs_after a tx d.txs) is ∙ on)
@@ -65,7 +65,7 @@ module _ {P : Type 0} (bits_of : P → ℕ → ℕ) (m m' : ManagerFields P) (tx
   pub blocked_is_pending : (by : ℕ) → told ≡ answer.Blocked by → IsOpenAt m'.txs tx IsPending
   blocked_is_pending by is = pending_by (answer.Blocked by) is refl refl
 
-  stops_by : (t : Answer) (between : Commons) → TellsOfPending (basis_by bits_of m.root m.opens d.steps.changes.before.subtx.tx) operation_at.0 steps_pending.next (workplace_of d.steps.changes.before m.commons) (workplace_of d.steps.changes.after between) t
+  stops_by : (t : Answer) (between : SharedState) → TellsOfPending (context_by bits_of m.root m.active d.steps.changes.before.subtx.tx) operation_at.0 steps_pending.next (tx_state_of d.steps.changes.before m.shared) (tx_state_of d.steps.changes.after between) t
       → (t ≡ answer.Going → ⊥) → Stops t
   stops_by answer.Going between tells not = absurd (not refl)
   stops_by (answer.Waiting page by) between tells not = tt
@@ -87,14 +87,14 @@ fewer_on bits_of m m' tx pending d small =
     let after = d.steps.changes.after in
     let o = operation_at bits_of m m' tx answer.Going pending d in
     let s = steps_pending bits_of m m' tx answer.Going pending d in
-    let was : on_left m tx ≡ most_steps m.root.page o.0 (view_of (moment d.steps.changes.before.subtx m.commons.pages)) =
-    ap (λ (t : Option Transaction). most_for t m.root.page m.commons) d.steps.changes.was ∙ ap (λ (a : At). most_at a m.root.page d.steps.changes.before m.commons) o.1 in
-    let is : on_left m' tx ≡ most_steps m.root.page s.next (view_of (moment d.steps.changes.after.subtx s.between.pages)) =
-    ap (λ (t : Option Transaction). most_for t m'.root.page m'.commons) (there_by bits_of m m' tx answer.Going pending d answer.Going refl refl)
-    ∙ ap (λ (a : At). most_at a m'.root.page d.steps.changes.after m'.commons) s.now_at
-    ∙ ap (λ (n : ManagerFields _). most_steps n.root.page s.next (view_of (moment d.steps.changes.after.subtx m'.commons.pages))) d.rest
-    ∙ ap (λ (k : Commons). most_steps m.root.page s.next (view_of (moment d.steps.changes.after.subtx k.pages))) s.leaves in
-    let fewer = one_fewer_at_least (basis_by bits_of m.root m.opens d.steps.changes.before.subtx.tx) (moment d.steps.changes.before.subtx m.commons.pages) (moment d.steps.changes.after.subtx s.between.pages) o.0 s.next small s.tells.tells in
+    let was : on_left m tx ≡ most_steps m.root.page o.0 (view_of (local d.steps.changes.before.subtx m.shared.pages)) =
+    ap (λ (t : Option Transaction). most_for t m.root.page m.shared) d.steps.changes.was ∙ ap (λ (a : At). most_at a m.root.page d.steps.changes.before m.shared) o.1 in
+    let is : on_left m' tx ≡ most_steps m.root.page s.next (view_of (local d.steps.changes.after.subtx s.between.pages)) =
+    ap (λ (t : Option Transaction). most_for t m'.root.page m'.shared) (there_by bits_of m m' tx answer.Going pending d answer.Going refl refl)
+    ∙ ap (λ (a : At). most_at a m'.root.page d.steps.changes.after m'.shared) s.now_at
+    ∙ ap (λ (n : ManagerFields _). most_steps n.root.page s.next (view_of (local d.steps.changes.after.subtx m'.shared.pages))) d.rest
+    ∙ ap (λ (k : SharedState). most_steps m.root.page s.next (view_of (local d.steps.changes.after.subtx k.pages))) s.leaves in
+    let fewer = one_fewer_at_least (context_by bits_of m.root m.active d.steps.changes.before.subtx.tx) (local d.steps.changes.before.subtx m.shared.pages) (local d.steps.changes.after.subtx s.between.pages) o.0 s.next small s.tells.tells in
     omega (arith, was, is, fewer)
 
 -- **One more step.**

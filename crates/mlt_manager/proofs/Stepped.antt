@@ -9,22 +9,22 @@ use Rattle.mlt_object_locks.specs.Locks.{IsLowestClash}
 use Rattle.mlt_trace.specs.declared.item.TraceItem.{TraceItem}
 use Rattle.mlt_trace.specs.declared.item.TraceItem.TheVariants as trace
 use Rattle.mlt_hash_subtx_laws.specs.CleanPages.{clean_pages}
-use Rattle.mlt_hash.specs.Walks.{basis_by}
+use Rattle.mlt_hash.specs.Walks.{context_by}
 use Rattle.mlt_tx_operation.specs.Operating.{OperationFields}
 use Rattle.mlt_object_base.specs.declared.request.Request.TheVariants.{Do}
-use Rattle.mlt_tx_meaning.specs.Worlds.{basis_of}
+use Rattle.mlt_tx_meaning.specs.AbstractStates.{context_of}
 use Rattle.mlt_tx_meaning.proofs.Fixed.{history_fixes}
 use Rattle.mlt_event.specs.declared.answer.Answer.{Answer}
 use Rattle.mlt_event.specs.declared.answer.Answer.TheVariants as answer
-use Rattle.mlt_tx.specs.declared.commons.Commons.{Commons}
+use Rattle.mlt_tx.specs.declared.shared.SharedState.{SharedState}
 use Rattle.mlt_tx.specs.declared.transaction.At.{At}
 use Rattle.mlt_tx.specs.declared.transaction.At.TheVariants as at
 use Rattle.mlt_tx.specs.declared.transaction.Transaction.{Transaction}
 use Rattle.mlt_tx.specs.Steps.{EndsBack, Ends}
-use Rattle.mlt_tx.specs.Transactions.{StepsBack, StepsPending, TellsAt, workplace_of}
+use Rattle.mlt_tx.specs.Transactions.{StepsBack, StepsPending, TellsAt, tx_state_of}
 use Rattle.mlt_tx_open.specs.Tables.{KeepsImage, KeepsNoImage, Table}
 use Rattle.mlt_manager_invariant.specs.Events.{EndsPending, KeepsCleanPages}
-use Rattle.mlt_manager_invariant.specs.States.{State, world_of}
+use Rattle.mlt_manager_invariant.specs.States.{State, abstract_state_of}
 use Rattle.mlt_manager_invariant.specs.Undoing.{LedBack, TakesLastBack, with_aborted, with_undone}
 use Rattle.mlt_manager_invariant.proofs.Aborting.{aborted_sound}
 use Rattle.mlt_manager_invariant.proofs.Done.{done_sound}
@@ -36,7 +36,7 @@ use Rattle.mlt_manager_invariant.proofs.Tables.{inserted_here, removed_here, rem
 use Rattle.mlt_manager_invariant.proofs.Undoing.{undone_sound}
 use Rattle.mlt_manager_trace.proofs.Items.{done_traced, last_undone_traced, undone_traced}
 use Rattle.mlt_manager_trace.proofs.Stays.{clean_traced}
-use Rattle.mlt_manager.specs.Answers.{HasStepped, IsOpenAt, opens_after, txs_after}
+use Rattle.mlt_manager.specs.Answers.{HasStepped, IsOpenAt, active_after, txs_after}
 use Rattle.mlt_manager.specs.Bases.{HasBase, IsPendingWith, KeepsWhatCounts, LeavesBase, MakesStep, TakesStepBack}
 use Rattle.mlt_manager.specs.Managers.{IsManager, ManagerFields, state_of}
 use Rattle.mlt_manager.proofs.CleanPages.{clean_alike, pages_clean, same_clean}
@@ -49,78 +49,78 @@ module _ {P : Type 0} (bits_of : P → ℕ → ℕ) (m : ManagerFields P) (h : I
 
   -- one base is what the history leads to
   pub same_base : (base : Base) → HasBase m base → base ≡ h.base
-  same_base base leads = history_fixes (world_of now) base h.sound.match leads
+  same_base base leads = history_fixes (abstract_state_of now) base h.sound.match leads
 
-  module _ (before after : Transaction) (commons : Commons) (was : map.get m.txs tx ≡ Some before) where
+  module _ (before after : Transaction) (shared : SharedState) (was : map.get m.txs tx ≡ Some before) where
     -- an event that keeps the clean pages
-    pub still : KeepsCleanPages now tx before after commons → IsStill bits_of (record m { commons = commons; txs = map.insert m.txs tx after })
+    pub still : KeepsCleanPages now tx before after shared → IsStill bits_of (record m { shared = shared; txs = map.insert m.txs tx after })
     still (images, keeps) = record {
       images = images;
       base = h.base;
-      sound = stays_sound now tx before after commons images h.sound was keeps;
-      traced = clean_traced now tx before after commons images h.traced was keeps;
+      sound = stays_sound now tx before after shared images h.sound was keeps;
+      traced = clean_traced now tx before after shared images h.traced was keeps;
     }
 
-    pub keeps_what_counts : (m' : ManagerFields P) → m'.commons ≡ commons → m'.txs ≡ map.insert m.txs tx after → KeepsCleanPages now tx before after commons → KeepsWhatCounts m m'
-    keeps_what_counts m' same_commons same_txs (images, keeps) = record {
+    pub keeps_what_counts : (m' : ManagerFields P) → m'.shared ≡ shared → m'.txs ≡ map.insert m.txs tx after → KeepsCleanPages now tx before after shared → KeepsWhatCounts m m'
+    keeps_what_counts m' same_shared same_txs (images, keeps) = record {
       clean = λ clean has.
-          let step = record m { commons = commons; txs = map.insert m.txs tx after } in
-          let old_pages = clean_pages h.images m.commons.pages.store.pages in
-          let new_pages = clean_pages images commons.pages.store.pages in
+          let step = record m { shared = shared; txs = map.insert m.txs tx after } in
+          let old_pages = clean_pages h.images m.shared.pages.store.pages in
+          let new_pages = clean_pages images shared.pages.store.pages in
           let same : (q : ℕ) → map.get clean q ≡ map.get new_pages q = λ q.
           same_clean m clean old_pages q has (pages_clean bits_of m h.images h.base h.sound)
           ∙ sym (ap (λ (f : ℕ → Option Page). f q) keeps.clean) in
-          let now_clean = pages_clean bits_of step images h.base (stays_sound now tx before after commons images h.sound was keeps) in
+          let now_clean = pages_clean bits_of step images h.base (stays_sound now tx before after shared images h.sound was keeps) in
           let is = clean_alike step new_pages clean same now_clean in
           record {
             put_back = λ q first kept. is.put_back q first (subst (λ (t : Table). KeepsImage t q first) same_txs kept);
             as_stored = λ q none. is.as_stored q (subst (λ (t : Table). KeepsNoImage t q) same_txs none)
-                ∙ sym (ap (λ (k : Commons). map.get k.pages.store.pages q) same_commons);
+                ∙ sym (ap (λ (k : SharedState). map.get k.pages.store.pages q) same_shared);
           };
-      items = ap (λ (k : Commons). k.history.items) same_commons ∙ keeps.items;
-      held = ap (λ (k : Commons). k.objects.held) same_commons ∙ keeps.held;
+      items = ap (λ (k : SharedState). k.history.items) same_shared ∙ keeps.items;
+      held = ap (λ (k : SharedState). k.objects.held) same_shared ∙ keeps.held;
     }
 
     -- what the manager is then, where this was told
     abbrev pub core : Answer → ManagerFields P
-    core told = record m { commons = commons; txs = txs_after told tx (map.insert m.txs tx after); opens = opens_after told tx m.opens }
+    core told = record m { shared = shared; txs = txs_after told tx (map.insert m.txs tx after); active = active_after told tx m.active }
 
     abbrev StillBy : Answer → Type 0
-    StillBy told = IsStill bits_of (record m { commons = commons; txs = txs_after told tx (map.insert m.txs tx after); opens = opens_after told tx m.opens })
+    StillBy told = IsStill bits_of (record m { shared = shared; txs = txs_after told tx (map.insert m.txs tx after); active = active_after told tx m.active })
 
     -- the operation that is pending
     asked_here : (o : OperationFields) (op : ObjOp) → before.at ≡ at.Pending o → o.request ≡ Do op → IsOpenAt m.txs tx (IsPendingWith op)
     asked_here o op pending_at asked = record { one = before; there = was; is_at = subst (IsPendingWith op) (sym pending_at) asked }
 
-    done : (o : OperationFields) (reply : ObjReply) → EndsPending now tx o before after commons reply → StillBy (answer.Done reply) × LeavesBase (answer.Done reply) m (core (answer.Done reply)) tx
+    done : (o : OperationFields) (reply : ObjReply) → EndsPending now tx o before after shared reply → StillBy (answer.Done reply) × LeavesBase (answer.Done reply) m (core (answer.Done reply)) tx
     done o reply e =
-        let d = done_sound now tx o before after commons reply h.sound was e in
+        let d = done_sound now tx o before after shared reply h.sound was e in
         let number = (h.sound.fits tx before was).number in
         let makes : MakesStep m (core (answer.Done reply)) tx (e.ends.op, e.ends.reply) = record {
           pending = asked_here o e.ends.op e.pending e.ends.asked;
           adds = record {
-            items = e.ends.tells.1.items ∙ ap (λ (n : ℕ). m.commons.history.items ++ trace.Op n (e.ends.op, e.ends.reply) ∷ []) number;
+            items = e.ends.tells.1.items ∙ ap (λ (n : ℕ). m.shared.history.items ++ trace.Op n (e.ends.op, e.ends.reply) ∷ []) number;
             leads = λ base leads. (d.0, subst (λ (b : Base). Step b (e.ends.op, e.ends.reply) d.0) (sym (same_base base leads)) d.1, d.2.match.records.history);
           };
         } in (
-          record { images = map.insert h.images tx map.empty; base = d.0; sound = d.2; traced = done_traced now tx o before after commons reply d.0 h.sound h.traced was e },
+          record { images = map.insert h.images tx map.empty; base = d.0; sound = d.2; traced = done_traced now tx o before after shared reply d.0 h.sound h.traced was e },
           (e.ends.op, subst (λ (r : ObjReply). MakesStep m (core (answer.Done reply)) tx (e.ends.op, r)) (sym e.ends.tells.0) makes),
         )
 
-    ends_pending : (o next : OperationFields) (reply : ObjReply) (between : Commons) → before.at ≡ at.Pending o → after.at ≡ at.Idle → commons ≡ between
-        → Ends o (workplace_of before m.commons) (workplace_of after between) (answer.Done reply) → EndsPending now tx o before after commons reply
+    ends_pending : (o next : OperationFields) (reply : ObjReply) (between : SharedState) → before.at ≡ at.Pending o → after.at ≡ at.Idle → shared ≡ between
+        → Ends o (tx_state_of before m.shared) (tx_state_of after between) (answer.Done reply) → EndsPending now tx o before after shared reply
     ends_pending o next reply between pending_at idle same ends = record {
       pending = pending_at;
-      ends = subst (λ (k : Commons). Ends o (workplace_of before m.commons) (workplace_of after k) (answer.Done reply)) (sym same) ends;
+      ends = subst (λ (k : SharedState). Ends o (tx_state_of before m.shared) (tx_state_of after k) (answer.Done reply)) (sym same) ends;
       idle = idle;
     }
 
     -- it is not done, and this may be told
-    not_done : (o : OperationFields) (told : Answer) → before.at ≡ at.Pending o → StepsPending (basis_of (world_of now) tx) o before after m.commons commons told
-        → ((reply : ObjReply) → told ≡ answer.Done reply → ⊥) → KeepsCleanPages now tx before after commons
-    not_done o told pending_at steps not = not_done_sound now tx o before after commons told h.sound was pending_at steps not
+    not_done : (o : OperationFields) (told : Answer) → before.at ≡ at.Pending o → StepsPending (context_of (abstract_state_of now) tx) o before after m.shared shared told
+        → ((reply : ObjReply) → told ≡ answer.Done reply → ⊥) → KeepsCleanPages now tx before after shared
+    not_done o told pending_at steps not = not_done_sound now tx o before after shared told h.sound was pending_at steps not
 
-    by_pending : (o : OperationFields) (told : Answer) → before.at ≡ at.Pending o → StepsPending (basis_of (world_of now) tx) o before after m.commons commons told → StillBy told × LeavesBase told m (core told) tx
+    by_pending : (o : OperationFields) (told : Answer) → before.at ≡ at.Pending o → StepsPending (context_of (abstract_state_of now) tx) o before after m.shared shared told → StillBy told × LeavesBase told m (core told) tx
     by_pending o answer.Going pending_at steps =
         let k = not_done o answer.Going pending_at steps (λ reply is. cc) in (still k, keeps_what_counts (core answer.Going) refl refl k)
     by_pending o (answer.Waiting page by) pending_at steps =
@@ -140,7 +140,7 @@ module _ {P : Type 0} (bits_of : P → ℕ → ℕ) (m : ManagerFields P) (h : I
                 pending = asked_here o ends.op pending_at ends.asked;
                 blocked = record {
                   steps = λ base leads. (there.0, subst (λ (b : Base). Step b (ends.op, ends.reply) there.0) (sym (same_base base leads)) there.1);
-                  lowest = subst (λ (n : ℕ). IsLowestClash m.commons.objects.held n (ends.op, ends.reply) by) (h.sound.fits tx before was).number ends.tells.lowest;
+                  lowest = subst (λ (n : ℕ). IsLowestClash m.shared.objects.held n (ends.op, ends.reply) by) (h.sound.fits tx before was).number ends.tells.lowest;
                 };
               },
             ),
@@ -152,19 +152,19 @@ module _ {P : Type 0} (bits_of : P → ℕ → ℕ) (m : ManagerFields P) (h : I
 
     -- the last operation is taken back
     takes_back : (inverting next : Option OperationFields) (told : Answer) → before.at ≡ at.Undoing inverting → after.at ≡ at.Undoing next
-        → EndsBack inverting next (workplace_of before m.commons) (workplace_of after commons) told → TakesLastBack now inverting before after commons told
+        → EndsBack inverting next (tx_state_of before m.shared) (tx_state_of after shared) told → TakesLastBack now inverting before after shared told
     takes_back inverting next told back_at now_at ends = record {
       was_at = back_at;
       is_at = now_at ∙ ap at.Undoing ends.none;
-      ends = subst (λ (n : Option OperationFields). EndsBack inverting n (workplace_of before m.commons) (workplace_of after commons) told) ends.none ends;
+      ends = subst (λ (n : Option OperationFields). EndsBack inverting n (tx_state_of before m.shared) (tx_state_of after shared) told) ends.none ends;
     }
 
-    history_between : (inverting next : Option OperationFields) (told : Answer) (e : EndsBack inverting next (workplace_of before m.commons) (workplace_of after commons) told) → e.between.history ≡ m.commons.history
-    history_between None next told e = ap (λ (k : Commons). k.history) (e.at_once refl).0
+    history_between : (inverting next : Option OperationFields) (told : Answer) (e : EndsBack inverting next (tx_state_of before m.shared) (tx_state_of after shared) told) → e.between.history ≡ m.shared.history
+    history_between None next told e = ap (λ (k : SharedState). k.history) (e.fast refl).0
     history_between (Some o) next told e = (e.at_end o refl).3
 
     led_back : (told : Answer) (of_base : Base → State) (left : List (ObjOp × ObjReply)) (added : List TraceItem) (led : LedBack now before after of_base) → after.undo.entries ≡ left → HasBase (core told) led.base
-        → commons.history.items ≡ m.commons.history.items ++ added → ((next : Transaction) → map.get (core told).txs tx ≡ Some next → next.undo.entries ≡ left) → TakesStepBack m (core told) tx left led.last added
+        → shared.history.items ≡ m.shared.history.items ++ added → ((next : Transaction) → map.get (core told).txs tx ≡ Some next → next.undo.entries ≡ left) → TakesStepBack m (core told) tx left led.last added
     led_back told of_base left added led is_left leads_to items stands = record {
       one = before;
       there = was;
@@ -183,68 +183,68 @@ module _ {P : Type 0} (bits_of : P → ℕ → ℕ) (m : ManagerFields P) (h : I
     nothing_after : (left : List (ObjOp × ObjReply)) (next : Transaction) → map.get (map.remove (map.insert m.txs tx after) tx) tx ≡ Some next → next.undo.entries ≡ left
     nothing_after left next there = let none : None ≡ Some next = sym (removed_here (map.insert m.txs tx after) tx) ∙ there in absurd cc
 
-    undone : (inverting : Option OperationFields) → TakesLastBack now inverting before after commons answer.Undone → StillBy answer.Undone × LeavesBase answer.Undone m (core answer.Undone) tx
+    undone : (inverting : Option OperationFields) → TakesLastBack now inverting before after shared answer.Undone → StillBy answer.Undone × LeavesBase answer.Undone m (core answer.Undone) tx
     undone inverting takes =
-        let led = undone_sound now tx inverting before after commons h.sound was takes in
+        let led = undone_sound now tx inverting before after shared h.sound was takes in
         let number : before.subtx.tx ≡ tx = (h.sound.fits tx before was).number in
         let history = history_between inverting None answer.Undone takes.ends in (
-          record { images = map.insert h.images tx map.empty; base = led.base; sound = led.sound; traced = undone_traced now tx inverting before after commons led.base h.sound h.traced was takes },
+          record { images = map.insert h.images tx map.empty; base = led.base; sound = led.sound; traced = undone_traced now tx inverting before after shared led.base h.sound h.traced was takes },
           (
             after.undo.entries,
             led.last,
-            led_back answer.Undone (with_undone now tx after commons) after.undo.entries (trace.Back tx ∷ []) led refl led.sound.match.records.history (takes.ends.takes.items ∙ (λ p. (history p).items ++ trace.Back (number p) ∷ [])) stands_after,
+            led_back answer.Undone (with_undone now tx after shared) after.undo.entries (trace.Back tx ∷ []) led refl led.sound.match.records.history (takes.ends.takes.items ∙ (λ p. (history p).items ++ trace.Back (number p) ∷ [])) stands_after,
           ),
         )
 
-    aborted : (inverting : Option OperationFields) → TakesLastBack now inverting before after commons answer.Aborted → StillBy answer.Aborted × LeavesBase answer.Aborted m (core answer.Aborted) tx
+    aborted : (inverting : Option OperationFields) → TakesLastBack now inverting before after shared answer.Aborted → StillBy answer.Aborted × LeavesBase answer.Aborted m (core answer.Aborted) tx
     aborted inverting takes =
-        let led = aborted_sound now tx inverting before after commons h.sound was takes in
+        let led = aborted_sound now tx inverting before after shared h.sound was takes in
         let number : before.subtx.tx ≡ tx = (h.sound.fits tx before was).number in
         let history = history_between inverting None answer.Aborted takes.ends in (
-          subst (λ (t : Table). IsStill bits_of (record m { commons = commons; txs = t; opens = opens_after answer.Aborted tx m.opens })) (sym (removed_inserted m.txs tx after))
-              (record { images = map.remove h.images tx; base = led.base; sound = led.sound; traced = last_undone_traced now tx inverting before after commons led.base h.sound h.traced was takes }),
+          subst (λ (t : Table). IsStill bits_of (record m { shared = shared; txs = t; active = active_after answer.Aborted tx m.active })) (sym (removed_inserted m.txs tx after))
+              (record { images = map.remove h.images tx; base = led.base; sound = led.sound; traced = last_undone_traced now tx inverting before after shared led.base h.sound h.traced was takes }),
           (
             led.last,
-            led_back answer.Aborted (with_aborted now tx commons) [] (trace.Back tx ∷ trace.Abort tx ∷ []) led takes.ends.takes.none led.sound.match.records.history
+            led_back answer.Aborted (with_aborted now tx shared) [] (trace.Back tx ∷ trace.Abort tx ∷ []) led takes.ends.takes.none led.sound.match.records.history
                 (takes.ends.takes.items ∙ (λ p. (history p).items ++ trace.Back (number p) ∷ trace.Abort (number p) ∷ [])) (nothing_after []),
           ),
         )
 
-    by_undoing : (inverting : Option OperationFields) (told : Answer) → before.at ≡ at.Undoing inverting → StepsBack (basis_of (world_of now) tx) inverting before after m.commons commons told
+    by_undoing : (inverting : Option OperationFields) (told : Answer) → before.at ≡ at.Undoing inverting → StepsBack (context_of (abstract_state_of now) tx) inverting before after m.shared shared told
         → StillBy told × LeavesBase told m (core told) tx
     by_undoing inverting answer.Going back_at steps =
-        let k = inverse_sound now tx inverting before after commons answer.Going h.sound was back_at steps (λ is. cc) (λ is. cc) in (still k, keeps_what_counts (core answer.Going) refl refl k)
+        let k = inverse_sound now tx inverting before after shared answer.Going h.sound was back_at steps (λ is. cc) (λ is. cc) in (still k, keeps_what_counts (core answer.Going) refl refl k)
     by_undoing inverting (answer.Waiting page by) back_at steps =
-        let k = inverse_sound now tx inverting before after commons (answer.Waiting page by) h.sound was back_at steps (λ is. cc) (λ is. cc) in
+        let k = inverse_sound now tx inverting before after shared (answer.Waiting page by) h.sound was back_at steps (λ is. cc) (λ is. cc) in
         (still k, keeps_what_counts (core (answer.Waiting page by)) refl refl k)
     by_undoing inverting answer.Undone back_at steps = undone inverting (takes_back inverting steps.next answer.Undone back_at steps.now_at steps.tells)
     by_undoing inverting answer.Aborted back_at steps = aborted inverting (takes_back inverting steps.next answer.Aborted back_at steps.now_at steps.tells)
     by_undoing inverting other back_at steps = absurd steps.tells
 
-    by_at : (a : At) (told : Answer) → before.at ≡ a → TellsAt a (basis_of (world_of now) tx) before after m.commons commons told → StillBy told × LeavesBase told m (core told) tx
+    by_at : (a : At) (told : Answer) → before.at ≡ a → TellsAt a (context_of (abstract_state_of now) tx) before after m.shared shared told → StillBy told × LeavesBase told m (core told) tx
     by_at at.Idle told is tells = absurd tells
     by_at (at.Pending o) told is tells = by_pending o told is tells
     by_at (at.Undoing inverting) told is tells = by_undoing inverting told is tells
 
     -- it is a manager again
-    manager_by : (told : Answer) → KeepsCounts m.commons commons → StillBy told → IsManager bits_of (core told)
+    manager_by : (told : Answer) → KeepsCounts m.shared shared → StillBy told → IsManager bits_of (core told)
     manager_by answer.Aborted counts is =
         let same = removed_inserted m.txs tx after in
-        subst (λ (t : Table). IsManager bits_of (record m { commons = commons; txs = t; opens = opens_after answer.Aborted tx m.opens })) (sym same)
-        (removed_keeps bits_of m h tx m.commits before commons was counts.locks counts.pages (h.limits.counted ∙ sym counts.commits) (omega arith)
-        (subst (λ (t : Table). IsStill bits_of (record m { commons = commons; txs = t; opens = opens_after answer.Aborted tx m.opens })) same is))
-    manager_by other counts is = changed_keeps bits_of m h tx before after commons was counts is
+        subst (λ (t : Table). IsManager bits_of (record m { shared = shared; txs = t; active = active_after answer.Aborted tx m.active })) (sym same)
+        (removed_keeps bits_of m h tx m.commits before shared was counts.locks counts.pages (h.limits.counted ∙ sym counts.commits) (omega arith)
+        (subst (λ (t : Table). IsStill bits_of (record m { shared = shared; txs = t; active = active_after answer.Aborted tx m.active })) same is))
+    manager_by other counts is = changed_keeps bits_of m h tx before after shared was counts is
 
-    pub all_by : (told : Answer) → TellsAt before.at (basis_by bits_of m.root m.opens before.subtx.tx) before after m.commons commons told → IsManager bits_of (core told) × LeavesBase told m (core told) tx
+    pub all_by : (told : Answer) → TellsAt before.at (context_by bits_of m.root m.active before.subtx.tx) before after m.shared shared told → IsManager bits_of (core told) × LeavesBase told m (core told) tx
     all_by told tells =
         let number = (h.sound.fits tx before was).number in
-        let here = by_at before.at told refl (subst (λ (n : ℕ). TellsAt before.at (basis_by bits_of m.root m.opens n) before after m.commons commons told) number tells) in
-        (manager_by told (step_counts before.at (basis_by bits_of m.root m.opens before.subtx.tx) before after m.commons commons told tells) here.0, here.1)
+        let here = by_at before.at told refl (subst (λ (n : ℕ). TellsAt before.at (context_by bits_of m.root m.active n) before after m.shared shared told) number tells) in
+        (manager_by told (step_counts before.at (context_by bits_of m.root m.active before.subtx.tx) before after m.shared shared told tells) here.0, here.1)
 
   -- **A step keeps what is always true, and does to the base what its answer says.**
   pub step_keeps : (m' : ManagerFields P) (told : Answer) → HasStepped bits_of m m' tx told → IsManager bits_of m' × LeavesBase told m m' tx
   step_keeps m' told d =
       let c = d.steps.changes in
-      let all = all_by c.before c.after m'.commons c.was told d.steps.tells in
-      let same : m' ≡ core c.before c.after m'.commons c.was told = d.rest ∙ (λ p. record m { commons = m'.commons; txs = txs_after told tx (c.is p); opens = opens_after told tx m.opens }) in
-      (same_manager bits_of m' (core c.before c.after m'.commons c.was told) same all.0, subst (λ (n : ManagerFields P). LeavesBase told m n tx) (sym same) all.1)
+      let all = all_by c.before c.after m'.shared c.was told d.steps.tells in
+      let same : m' ≡ core c.before c.after m'.shared c.was told = d.rest ∙ (λ p. record m { shared = m'.shared; txs = txs_after told tx (c.is p); active = active_after told tx m.active }) in
+      (same_manager bits_of m' (core c.before c.after m'.shared c.was told) same all.0, subst (λ (n : ManagerFields P). LeavesBase told m n tx) (sym same) all.1)

@@ -3,7 +3,7 @@ use Rattle.std.proofs.Common.{◌≡◌, ◌≢◌, ◌≤◌, ℕ, Option, Some
 use Rattle.std.specs.FinMap as map
 use Rattle.mlt_trace.proofs.RoomLaws.{room_within_total}
 use Rattle.mlt_types.specs.declared.refusal.Refusal.{Refusal}
-use Rattle.mlt_hash.specs.Walks.{Basis, basis_by}
+use Rattle.mlt_hash.specs.Walks.{WalkContext, context_by}
 use Rattle.mlt_page_subtx.specs.Images.{AreThere, Images}
 use Rattle.mlt_tx.specs.declared.transaction.At.{At}
 use Rattle.mlt_tx.specs.declared.transaction.At.TheVariants as at
@@ -15,23 +15,23 @@ use Rattle.std.specs.FinSet as set
 use Rattle.std.specs.Ordering.{nat_cmp}
 use Rattle.mlt_event.specs.declared.answer.Answer.{Answer}
 use Rattle.mlt_event.specs.declared.answer.Answer.TheVariants as answer
-use Rattle.mlt_tx.specs.declared.commons.Commons.{Commons}
+use Rattle.mlt_tx.specs.declared.shared.SharedState.{SharedState}
 use Rattle.mlt_tx_open.specs.OpenAt.{MayStepIfBusy, TriesStep}
 use Rattle.mlt_tx_open.specs.Tables.{StepsOne, Table}
-use Rattle.mlt_manager.specs.Answers.{AnswersStep, HasStepped, IsBusy, IsOpenAt, opens_after, txs_after}
+use Rattle.mlt_manager.specs.Answers.{AnswersStep, HasStepped, IsBusy, IsOpenAt, active_after, txs_after}
 use Rattle.mlt_manager.specs.Managers.{IsManager, ManagerFields, state_of}
 
 not_idle : (a : At) → IsBusy a → a ≢ at.Idle
 not_idle a busy is = subst IsBusy is busy
 
 -- one that is not idle may take a step
-pub may_step_one : {P : Type 0} (bits_of : P → ℕ → ℕ) (m : ManagerFields P) (tx : ℕ) → IsManager bits_of m → MayStepIfBusy (basis_by bits_of m.root m.opens) tx m.txs m.commons
+pub may_step_one : {P : Type 0} (bits_of : P → ℕ → ℕ) (m : ManagerFields P) (tx : ℕ) → IsManager bits_of m → MayStepIfBusy (context_by bits_of m.root m.active) tx m.txs m.shared
 may_step_one bits_of m tx h one there busy =
-    subst (λ (n : ℕ). MayStepIn (basis_by bits_of m.root m.opens n) one m.commons) (sym (h.sound.fits tx one there).number)
+    subst (λ (n : ℕ). MayStepIn (context_by bits_of m.root m.active n) one m.shared) (sym (h.sound.fits tx one there).number)
     (may_step (state_of bits_of m h.images h.base) tx one h.sound there (not_idle one.at busy))
 
 pub may_step_here : {P : Type 0} (bits_of : P → ℕ → ℕ) (m : ManagerFields P) (tx : ℕ) → IsManager bits_of m → IsOpenAt m.txs tx IsBusy
-    → (one : Transaction) × (map.get m.txs tx ≡ Some one) × MayStepIn (basis_by bits_of m.root m.opens one.subtx.tx) one m.commons
+    → (one : Transaction) × (map.get m.txs tx ≡ Some one) × MayStepIn (context_by bits_of m.root m.active one.subtx.tx) one m.shared
 may_step_here bits_of m tx h busy = (busy.one, busy.there, may_step_one bits_of m tx h busy.one busy.there busy.is_at)
 
 two_for : (a : At) → IsPending a → pending_room a ≡ 2
@@ -41,7 +41,7 @@ two_for (at.Undoing inverting) none = absurd none
 
 -- the pending operation of one may be dropped
 pub may_cancel : {P : Type 0} (bits_of : P → ℕ → ℕ) (m : ManagerFields P) (tx : ℕ) → IsManager bits_of m → IsOpenAt m.txs tx IsPending
-    → (one : Transaction) × (map.get m.txs tx ≡ Some one) × IsPending one.at × AreThere one.subtx.images m.commons.pages.store.pages × (2 ≤ m.commons.history.room)
+    → (one : Transaction) × (map.get m.txs tx ≡ Some one) × IsPending one.at × AreThere one.subtx.images m.shared.pages.store.pages × (2 ≤ m.shared.history.room)
 may_cancel bits_of m tx h pending =
     let own : map.get h.images tx ≡ Some pending.one.subtx.images = h.sound.kept tx ∙ ap images_kept pending.there in
     let within = room_within_total room_of m.txs tx pending.one pending.there in
@@ -49,42 +49,42 @@ may_cancel bits_of m tx h pending =
       pending.one,
       pending.there,
       pending.is_at,
-      subst (λ (i : Images). AreThere i m.commons.pages.store.pages) (ap (λ (o : Option Images). unwrap_or o map.empty) own) (λ q is. h.sound.running.images_there tx q is),
+      subst (λ (i : Images). AreThere i m.shared.pages.store.pages) (ap (λ (o : Option Images). unwrap_or o map.empty) own) (λ q is. h.sound.running.images_there tx q is),
       omega (arith, within, two, h.sound.room),
     )
 
-busy_by : (a : At) (basis : Basis) (t u : Transaction) (old new : Commons) (told : Answer) → TellsAt a basis t u old new told → IsBusy a
-busy_by at.Idle basis t u old new told none = absurd none
-busy_by (at.Pending o) basis t u old new told tells = tt
-busy_by (at.Undoing inverting) basis t u old new told tells = tt
+busy_by : (a : At) (context : WalkContext) (t u : Transaction) (old new : SharedState) (told : Answer) → TellsAt a context t u old new told → IsBusy a
+busy_by at.Idle context t u old new told none = absurd none
+busy_by (at.Pending o) context t u old new told tells = tt
+busy_by (at.Undoing inverting) context t u old new told tells = tt
 
 -- whoever is not told `Aborted` stays open
 pub stays : (told : Answer) (tx : ℕ) (txs : Table) → (told ≡ answer.Aborted → ⊥) → txs ≡ txs_after told tx txs
 stays answer.Aborted tx txs not = absurd (not refl)
 stays other tx txs not = refl
 
-pub stays_open : (told : Answer) (tx : ℕ) (opens : set.FinSet nat_cmp) → (told ≡ answer.Aborted → ⊥) → opens ≡ opens_after told tx opens
-stays_open answer.Aborted tx opens not = absurd (not refl)
-stays_open other tx opens not = refl
+pub stays_open : (told : Answer) (tx : ℕ) (active : set.FinSet nat_cmp) → (told ≡ answer.Aborted → ⊥) → active ≡ active_after told tx active
+stays_open answer.Aborted tx active not = absurd (not refl)
+stays_open other tx active not = refl
 
 -- a step in the table of open transactions is one of the manager
-module _ {P : Type 0} (bits_of : P → ℕ → ℕ) (m : ManagerFields P) (tx : ℕ) (commons : Commons) (txs : Table) where
-  pub stepped : (txs' : Table) (opens' : set.FinSet nat_cmp) (told : Answer) → StepsOne (basis_by bits_of m.root m.opens) tx m.txs txs m.commons commons told
-      → txs' ≡ txs_after told tx txs → opens' ≡ opens_after told tx m.opens → HasStepped bits_of m (record m { commons = commons; txs = txs'; opens = opens' }) tx told
-  stepped txs' opens' told steps left left_open =
+module _ {P : Type 0} (bits_of : P → ℕ → ℕ) (m : ManagerFields P) (tx : ℕ) (shared : SharedState) (txs : Table) where
+  pub stepped : (txs' : Table) (active' : set.FinSet nat_cmp) (told : Answer) → StepsOne (context_by bits_of m.root m.active) tx m.txs txs m.shared shared told
+      → txs' ≡ txs_after told tx txs → active' ≡ active_after told tx m.active → HasStepped bits_of m (record m { shared = shared; txs = txs'; active = active' }) tx told
+  stepped txs' active' told steps left left_open =
       let before = steps.changes.before in
       record {
         busy = record {
           one = before;
           there = steps.changes.was;
-          is_at = busy_by before.at (basis_by bits_of m.root m.opens before.subtx.tx) before steps.changes.after m.commons commons told steps.tells;
+          is_at = busy_by before.at (context_by bits_of m.root m.active before.subtx.tx) before steps.changes.after m.shared shared told steps.tells;
         };
         txs = txs;
         steps = steps;
-        rest = λ i. record m { commons = commons; txs = left i; opens = left_open i };
+        rest = λ i. record m { shared = shared; txs = left i; active = left_open i };
       }
 
 -- what a try to step answers is what the manager does
-pub step_answers : {P : Type 0} (bits_of : P → ℕ → ℕ) (m m' : ManagerFields P) (tx : ℕ) (commons : Commons) (txs : Table) (reason : Refusal) → m' ≡ record m { commons = commons; txs = txs }
-    → TriesStep (basis_by bits_of m.root m.opens) tx m.txs txs m.commons commons (Err reason) → AnswersStep bits_of m m' tx (Err reason)
-step_answers bits_of m m' tx commons txs reason is tried = (tried.0, is ∙ (λ i. record m { commons = tried.2 i; txs = tried.1 i }))
+pub step_answers : {P : Type 0} (bits_of : P → ℕ → ℕ) (m m' : ManagerFields P) (tx : ℕ) (shared : SharedState) (txs : Table) (reason : Refusal) → m' ≡ record m { shared = shared; txs = txs }
+    → TriesStep (context_by bits_of m.root m.active) tx m.txs txs m.shared shared (Err reason) → AnswersStep bits_of m m' tx (Err reason)
+step_answers bits_of m m' tx shared txs reason is tried = (tried.0, is ∙ (λ i. record m { shared = tried.2 i; txs = tried.1 i }))

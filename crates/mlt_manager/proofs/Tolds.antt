@@ -16,11 +16,11 @@ use Rattle.mlt_event.specs.declared.event.Event.{Event}
 use Rattle.mlt_event.specs.declared.event.Event.TheVariants as event
 use Rattle.mlt_event.specs.declared.told.Told.{Told}
 use Rattle.mlt_event.specs.declared.told.Told.TheVariants as told
-use Rattle.mlt_hash.specs.Walks.{Basis, basis_by}
-use Rattle.mlt_hash_access.specs.Moments.{moment}
+use Rattle.mlt_hash.specs.Walks.{WalkContext, context_by}
+use Rattle.mlt_hash_access.specs.LocalStates.{local}
 use Rattle.mlt_tx_operation.specs.Operating.{OperationFields}
 use Rattle.mlt_object_base.specs.declared.request.Request.TheVariants.{Do}
-use Rattle.mlt_tx.specs.declared.commons.Commons.{Commons}
+use Rattle.mlt_tx.specs.declared.shared.SharedState.{SharedState}
 use Rattle.mlt_tx.specs.declared.transaction.At.{At}
 use Rattle.mlt_tx.specs.declared.transaction.At.TheVariants as at
 use Rattle.mlt_tx.specs.declared.transaction.Transaction.{Transaction}
@@ -66,41 +66,41 @@ not_pending : (op : ObjOp) (a b : At) → a ≡ b → (IsPendingWith op b → �
 not_pending op a b same not pending = not (subst (IsPendingWith op) same pending)
 
 -- what is pending after a step was pending before it
-asked_before : (a : At) (basis : Basis) (before after : Transaction) (old new : Commons) (told : Answer) → TellsAt a basis before after old new told → (op : ObjOp) → IsPendingWith op after.at → IsPendingWith op a × LeavesCalled told
-asked_before at.Idle basis before after old new told none op pending = absurd none
-asked_before (at.Undoing inverting) basis before after old new told s op pending = absurd (not_pending op after.at (at.Undoing s.next) s.now_at (λ none. none) pending)
-asked_before (at.Pending o) basis before after old new answer.Going s op pending =
+asked_before : (a : At) (context : WalkContext) (before after : Transaction) (old new : SharedState) (told : Answer) → TellsAt a context before after old new told → (op : ObjOp) → IsPendingWith op after.at → IsPendingWith op a × LeavesCalled told
+asked_before at.Idle context before after old new told none op pending = absurd none
+asked_before (at.Undoing inverting) context before after old new told s op pending = absurd (not_pending op after.at (at.Undoing s.next) s.now_at (λ none. none) pending)
+asked_before (at.Pending o) context before after old new answer.Going s op pending =
     let is : s.next.request ≡ Do op = subst (IsPendingWith op) s.now_at pending in
-    (sym (same_request basis (moment before.subtx old.pages) (moment after.subtx s.between.pages) o s.next s.tells.tells) ∙ is, tt)
-asked_before (at.Pending o) basis before after old new (answer.Waiting page by) s op pending =
+    (sym (same_request context (local before.subtx old.pages) (local after.subtx s.between.pages) o s.next s.tells.tells) ∙ is, tt)
+asked_before (at.Pending o) context before after old new (answer.Waiting page by) s op pending =
     let is : s.next.request ≡ Do op = subst (IsPendingWith op) s.now_at pending in
     (sym (ap (λ (p : OperationFields). p.request) s.tells.tells.stays) ∙ is, tt)
-asked_before (at.Pending o) basis before after old new (answer.Blocked by) s op pending =
+asked_before (at.Pending o) context before after old new (answer.Blocked by) s op pending =
     let is : s.next.request ≡ Do op = subst (IsPendingWith op) s.now_at pending in
     (sym (ap (λ (p : OperationFields). p.request) s.tells.1) ∙ is, tt)
-asked_before (at.Pending o) basis before after old new (answer.Done reply) s op pending = absurd (not_pending op after.at at.Idle s.now_at (λ none. none) pending)
-asked_before (at.Pending o) basis before after old new (answer.Refused reason) s op pending = absurd (not_pending op after.at at.Idle s.now_at (λ none. none) pending)
-asked_before (at.Pending o) basis before after old new answer.Undone s op pending = absurd s.tells
-asked_before (at.Pending o) basis before after old new answer.Aborted s op pending = absurd s.tells
+asked_before (at.Pending o) context before after old new (answer.Done reply) s op pending = absurd (not_pending op after.at at.Idle s.now_at (λ none. none) pending)
+asked_before (at.Pending o) context before after old new (answer.Refused reason) s op pending = absurd (not_pending op after.at at.Idle s.now_at (λ none. none) pending)
+asked_before (at.Pending o) context before after old new answer.Undone s op pending = absurd s.tells
+asked_before (at.Pending o) context before after old new answer.Aborted s op pending = absurd s.tells
 
 module _ {P : Type 0} (bits_of : P → ℕ → ℕ) where
   -- what an event adds, and that what is pending is what was called
   abbrev pub Tells : Event → Told → CalledOps → ManagerFields P → ManagerFields P → Type 0
   Tells e t called m m' =
-      (here : List TraceItem) × (m'.commons.history.items ≡ m.commons.history.items ++ here) × AddsItems e t called here × Agree (called_after e t called) m'
+      (here : List TraceItem) × (m'.shared.history.items ≡ m.shared.history.items ++ here) × AddsItems e t called here × Agree (called_after e t called) m'
 
-  abbrev same_items : (m m' : ManagerFields P) → m'.commons.history.items ≡ m.commons.history.items → m'.commons.history.items ≡ m.commons.history.items ++ []
-  same_items m m' same = same ∙ sym (append-nil m.commons.history.items)
+  abbrev same_items : (m m' : ManagerFields P) → m'.shared.history.items ≡ m.shared.history.items → m'.shared.history.items ≡ m.shared.history.items ++ []
+  same_items m m' same = same ∙ sym (append-nil m.shared.history.items)
 
-  items_of_same : (m m' : ManagerFields P) → m' ≡ m → m'.commons.history.items ≡ m.commons.history.items
-  items_of_same m m' same = ap (λ (n : ManagerFields P). n.commons.history.items) same
+  items_of_same : (m m' : ManagerFields P) → m' ≡ m → m'.shared.history.items ≡ m.shared.history.items
+  items_of_same m m' same = ap (λ (n : ManagerFields P). n.shared.history.items) same
 
   module _ (called : CalledOps) (m m' : ManagerFields P) (agree : Agree called m) where
     abbrev G : ℕ → Transaction → Type 0
     G = IsCalled called
 
     -- nothing has changed
-    refused : m' ≡ m → (m'.commons.history.items ≡ m.commons.history.items ++ []) × Agree called m'
+    refused : m' ≡ m → (m'.shared.history.items ≡ m.shared.history.items ++ []) × Agree called m'
     refused same = (same_items m m' (items_of_same m m' same), same_each G (looks called) m m' same agree)
 
     begin_tells : (t : Told) → Meets bits_of event.Begin t m m' → Tells event.Begin t called m m'
@@ -158,7 +158,7 @@ module _ {P : Type 0} (bits_of : P → ℕ → ℕ) where
     abort_tells : (tx : ℕ) (t : Told) → Meets bits_of (event.Abort tx) t m m' → Tells (event.Abort tx) t called m m'
     abort_tells tx (told.Aborting true) c = (trace.Abort tx ∷ [], c.ends.items, refl, abort_each G (looks called) m m' tx (Ok true) c agree)
     abort_tells tx (told.Aborting false) a =
-        ([], same_items m m' (ap (λ (n : ManagerFields P). n.commons.history.items) a.rest), refl, abort_each G (looks called) m m' tx (Ok false) a agree)
+        ([], same_items m m' (ap (λ (n : ManagerFields P). n.shared.history.items) a.rest), refl, abort_each G (looks called) m m' tx (Ok false) a agree)
     abort_tells tx (told.Refused reason) a = let same = refused a.1 in ([], same.0, refl, same.1)
     abort_tells tx other none = absurd none
 
@@ -169,7 +169,7 @@ module _ {P : Type 0} (bits_of : P → ℕ → ℕ) where
 
       after_is : (op : ObjOp) → IsPendingWith op d.steps.changes.after.at → (called tx ≡ Some op) × LeavesCalled told
       after_is op pending =
-          let was = asked_before d.steps.changes.before.at (basis_by bits_of m.root m.opens d.steps.changes.before.subtx.tx) d.steps.changes.before d.steps.changes.after m.commons m'.commons told d.steps.tells op pending in
+          let was = asked_before d.steps.changes.before.at (context_by bits_of m.root m.active d.steps.changes.before.subtx.tx) d.steps.changes.before d.steps.changes.after m.shared m'.shared told d.steps.tells op pending in
           (agree tx d.steps.changes.before d.steps.changes.was op was.0, was.1)
 
       stays_called : txs_after told tx d.txs ≡ d.txs → Agree called m'
@@ -208,7 +208,7 @@ module _ {P : Type 0} (bits_of : P → ℕ → ℕ) where
     step_tells tx other none = absurd none
 
     -- whole operations
-    whole_items : (tx : ℕ) (op : ObjOp) (said : Answer) → WholeLeavesBase said m m' tx op → (here : List TraceItem) × (m'.commons.history.items ≡ m.commons.history.items ++ here) × AddsItems (event.Whole tx op) (told.Answered said) called here
+    whole_items : (tx : ℕ) (op : ObjOp) (said : Answer) → WholeLeavesBase said m m' tx op → (here : List TraceItem) × (m'.shared.history.items ≡ m.shared.history.items ++ here) × AddsItems (event.Whole tx op) (told.Answered said) called here
     whole_items tx op (answer.Done reply) adds = (trace.Op tx (op, reply) ∷ [], adds.items, refl)
     whole_items tx op (answer.Blocked by) (keeps, found) = ([], same_items m m' keeps.items, refl)
     whole_items tx op answer.Going keeps = ([], same_items m m' keeps.items, refl)
@@ -255,7 +255,7 @@ module _ {P : Type 0} (bits_of : P → ℕ → ℕ) where
     )
     undoing_tells tx (told.Answered (answer.Waiting page by)) (a, takes, named) = (
       replicate (length takes.1.taken) (trace.Back tx),
-      takes.1.items ∙ ap (λ (l : List TraceItem). m.commons.history.items ++ l) (append-nil (replicate (length takes.1.taken) (trace.Back tx))),
+      takes.1.items ∙ ap (λ (l : List TraceItem). m.shared.history.items ++ l) (append-nil (replicate (length takes.1.taken) (trace.Back tx))),
       (length takes.1.taken, refl),
       undoing_agrees called tx m m' (answer.Waiting page by) a.1 agree,
     )
@@ -275,20 +275,20 @@ module _ {P : Type 0} (bits_of : P → ℕ → ℕ) where
 
   -- **The items that a run adds are those that its events were told.**
   run_tells : (called : CalledOps) (events : List Event) (tolds : List Told) (m m' : ManagerFields P) → Agree called m → IsRun bits_of m events tolds m'
-      → (items : List TraceItem) × (m'.commons.history.items ≡ m.commons.history.items ++ items) × AreToldBy events tolds called items
+      → (items : List TraceItem) × (m'.shared.history.items ≡ m.shared.history.items ++ items) × AreToldBy events tolds called items
   run_tells called [] [] m m' agree same = ([], same_items m m' (items_of_same m m' same), refl)
   run_tells called (e ∷ es) (t ∷ ts) m m' agree (next, meets, rest) =
       let one = event_tells called (counted m) next agree e t meets in
       let more = run_tells (called_after e t called) es ts next m' one.3 rest in (
         one.0 ++ more.0,
-        more.1 ∙ ap (λ (l : List TraceItem). l ++ more.0) one.1 ∙ append_assoc m.commons.history.items one.0 more.0,
+        more.1 ∙ ap (λ (l : List TraceItem). l ++ more.0) one.1 ∙ append_assoc m.shared.history.items one.0 more.0,
         (one.0, more.0, refl, one.2, more.2),
       )
   run_tells called [] (t ∷ ts) m m' agree none = absurd none
   run_tells called (e ∷ es) [] m m' agree none = absurd none
 
   -- **The history of a manager that was played is what its events were told.**
-  pub history_told : (limits : Limits) (pseudo : P) (events : List Event) (tolds : List Told) (m m' : ManagerFields P) → IsNew m limits pseudo → IsRun bits_of m events tolds m' → AreToldBy events tolds none_called m'.commons.history.items
+  pub history_told : (limits : Limits) (pseudo : P) (events : List Event) (tolds : List Told) (m m' : ManagerFields P) → IsNew m limits pseudo → IsRun bits_of m events tolds m' → AreToldBy events tolds none_called m'.shared.history.items
   history_told limits pseudo events tolds m m' new run =
       let opening : Agree none_called m = λ u one there. let is : None ≡ Some one = sym (map.get-empty {X = Transaction} nat_cmp u) ∙ sym (ap (λ (t : Table). map.get t u) new.txs) ∙ there in absurd cc in
       let told = run_tells none_called events tolds m m' opening run in

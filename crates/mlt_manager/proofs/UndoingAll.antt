@@ -3,21 +3,21 @@ use Rattle.std.proofs.Common.{◌≡◌, ◌<◌, ◌≤◌, ℕ, ◌+◌, ◌*�
 use Rattle.std.specs.FinMap as map
 use Rattle.std.proofs.lemmas.List.{length-append}
 use Rattle.mlt_object_undo.specs.Undo.{Undo}
-use Rattle.mlt_hash_access.specs.Moments.{moment}
+use Rattle.mlt_hash_access.specs.LocalStates.{local}
 use Rattle.mlt_hash_access.specs.Views.{View, view_of}
-use Rattle.mlt_hash.specs.Walks.{Basis, basis_by}
+use Rattle.mlt_hash.specs.Walks.{WalkContext, context_by}
 use Rattle.mlt_object_base.specs.declared.request.Request.{Request}
 use Rattle.mlt_object_base.specs.declared.request.Request.TheVariants.{TakeBack}
 use Rattle.mlt_object_base.specs.Requests.{size_key_of}
-use Rattle.mlt_tx_operation.specs.Operating.{OperationFields, course_for, started_for, steps_by, steps_left}
+use Rattle.mlt_tx_operation.specs.Operating.{OperationFields, access_path_for, started_for, steps_by, steps_left}
 use Rattle.mlt_event.specs.declared.answer.Answer.{Answer}
 use Rattle.mlt_event.specs.declared.answer.Answer.TheVariants as answer
-use Rattle.mlt_tx.specs.declared.commons.Commons.{Commons}
+use Rattle.mlt_tx.specs.declared.shared.SharedState.{SharedState}
 use Rattle.mlt_tx.specs.declared.transaction.At.{At}
 use Rattle.mlt_tx.specs.declared.transaction.At.TheVariants as at
 use Rattle.mlt_tx.specs.declared.transaction.Transaction.{Transaction}
 use Rattle.mlt_tx.specs.Steps.{TellsOfBack}
-use Rattle.mlt_tx.specs.Transactions.{StepsBack, TellsAt, workplace_of}
+use Rattle.mlt_tx.specs.Transactions.{StepsBack, TellsAt, tx_state_of}
 use Rattle.mlt_manager.specs.Answers.{HasStepped, IsOpenAt, IsUndoing, txs_after}
 use Rattle.mlt_manager.specs.Managers.{ManagerFields}
 use Rattle.mlt_manager.specs.Undoings.{GoesOnBack, StepsBackUpTo, StopsBack}
@@ -25,23 +25,23 @@ use Rattle.mlt_manager.proofs.Chains.{IsUnderWay, found_before, last_taken, one_
 
 -- How many steps an abort still takes at most, those that wait aside: as many for each operation as one on two records takes
 -- elsewhere, where a wide pass may follow its first one, but for what is done of the inverse that runs.
-abbrev pub left_of : Option OperationFields → ℕ → Transaction → Commons → ℕ
-left_of None root t commons = 1165
-left_of (Some o) root t commons = steps_left root o (view_of (moment t.subtx commons.pages))
+abbrev pub left_of : Option OperationFields → ℕ → Transaction → SharedState → ℕ
+left_of None root t shared = 1165
+left_of (Some o) root t shared = steps_left root o (view_of (local t.subtx shared.pages))
 
-abbrev pub left_at : At → ℕ → Transaction → Commons → ℕ
-left_at (at.Undoing inverting) root t commons = 1166 * length t.undo.entries + left_of inverting root t commons
-left_at other root t commons = 0
+abbrev pub left_at : At → ℕ → Transaction → SharedState → ℕ
+left_at (at.Undoing inverting) root t shared = 1166 * length t.undo.entries + left_of inverting root t shared
+left_at other root t shared = 0
 
-abbrev pub left_for : Option Transaction → ℕ → Commons → ℕ
-left_for None root commons = 0
-left_for (Some t) root commons = left_at t.at root t commons
+abbrev pub left_for : Option Transaction → ℕ → SharedState → ℕ
+left_for None root shared = 0
+left_for (Some t) root shared = left_at t.at root t shared
 
 abbrev pub back_left : {P : Type 0} → ManagerFields P → ℕ → ℕ
-back_left m tx = left_for (map.get m.txs tx) m.root.page m.commons
+back_left m tx = left_for (map.get m.txs tx) m.root.page m.shared
 
 -- one that has taken no step has so many left at most
-first_by : (size : Option ℕ) (root : ℕ) (request : Request) (view : View) → steps_by (course_for request size) root None view ≤ 1165
+first_by : (size : Option ℕ) (root : ℕ) (request : Request) (view : View) → steps_by (access_path_for request size) root None view ≤ 1165
 first_by None root request view = omega arith
 first_by (Some size) root request view = omega arith
 
@@ -64,15 +64,15 @@ module _ {P : Type 0} (bits_of : P → ℕ → ℕ) (m m' : ManagerFields P) (tx
   inverse_at : (inverting : Option OperationFields) × (before.at ≡ at.Undoing inverting)
   inverse_at = undoing_of_at d.steps.changes.before.at (found_before bits_of GoesOnBack m m m' tx told IsUndoing undoing d)
 
-  basis_here : Basis
-  basis_here = basis_by bits_of m.root m.opens d.steps.changes.before.subtx.tx
+  context_here : WalkContext
+  context_here = context_by bits_of m.root m.active d.steps.changes.before.subtx.tx
 
-  steps_back : StepsBack (basis_by bits_of m.root m.opens d.steps.changes.before.subtx.tx) inverse_at.0 d.steps.changes.before d.steps.changes.after m.commons m'.commons told
+  steps_back : StepsBack (context_by bits_of m.root m.active d.steps.changes.before.subtx.tx) inverse_at.0 d.steps.changes.before d.steps.changes.after m.shared m'.shared told
   steps_back =
-      subst (λ (a : At). TellsAt a (basis_by bits_of m.root m.opens d.steps.changes.before.subtx.tx) d.steps.changes.before d.steps.changes.after m.commons m'.commons told) inverse_at.1 d.steps.tells
+      subst (λ (a : At). TellsAt a (context_by bits_of m.root m.active d.steps.changes.before.subtx.tx) d.steps.changes.before d.steps.changes.after m.shared m'.shared told) inverse_at.1 d.steps.tells
 
-  was_left : back_left m tx ≡ 1166 * length d.steps.changes.before.undo.entries + left_of inverse_at.0 m.root.page d.steps.changes.before m.commons
-  was_left = ap (λ (o : Option Transaction). left_for o m.root.page m.commons) d.steps.changes.was ∙ ap (λ (a : At). left_at a m.root.page d.steps.changes.before m.commons) inverse_at.1
+  was_left : back_left m tx ≡ 1166 * length d.steps.changes.before.undo.entries + left_of inverse_at.0 m.root.page d.steps.changes.before m.shared
+  was_left = ap (λ (o : Option Transaction). left_for o m.root.page m.shared) d.steps.changes.was ∙ ap (λ (a : At). left_at a m.root.page d.steps.changes.before m.shared) inverse_at.1
 
   -- where it goes on, it is there still
   on_txs : (t : Answer) → GoesOnBack t → txs_after t tx d.txs ≡ d.txs
@@ -90,27 +90,27 @@ module _ {P : Type 0} (bits_of : P → ℕ → ℕ) (m m' : ManagerFields P) (tx
   pub still_undoing : GoesOnBack told → IsOpenAt m'.txs tx IsUndoing
   still_undoing goes = record { one = d.steps.changes.after; there = there_now goes; is_at = subst IsUndoing (sym steps_back.now_at) tt }
 
-  now_left : GoesOnBack told → back_left m' tx ≡ 1166 * length d.steps.changes.after.undo.entries + left_of steps_back.next m.root.page d.steps.changes.after m'.commons
+  now_left : GoesOnBack told → back_left m' tx ≡ 1166 * length d.steps.changes.after.undo.entries + left_of steps_back.next m.root.page d.steps.changes.after m'.shared
   now_left goes =
-      ap (λ (o : Option Transaction). left_for o m'.root.page m'.commons) (there_now goes) ∙ ap (λ (a : At). left_at a m'.root.page d.steps.changes.after m'.commons) steps_back.now_at
-      ∙ ap (λ (n : ManagerFields P). 1166 * length d.steps.changes.after.undo.entries + left_of steps_back.next n.root.page d.steps.changes.after m'.commons) d.rest
+      ap (λ (o : Option Transaction). left_for o m'.root.page m'.shared) (there_now goes) ∙ ap (λ (a : At). left_at a m'.root.page d.steps.changes.after m'.shared) steps_back.now_at
+      ∙ ap (λ (n : ManagerFields P). 1166 * length d.steps.changes.after.undo.entries + left_of steps_back.next n.root.page d.steps.changes.after m'.shared) d.rest
 
-  fewer_by : (inverting next : Option OperationFields) (t : Answer) → TellsOfBack (basis_by bits_of m.root m.opens d.steps.changes.before.subtx.tx) inverting next (workplace_of d.steps.changes.before m.commons) (workplace_of d.steps.changes.after m'.commons) t
-      → GoesOnBack t → 1166 * length d.steps.changes.after.undo.entries + left_of next m.root.page d.steps.changes.after m'.commons < 1166 * length d.steps.changes.before.undo.entries + left_of inverting m.root.page d.steps.changes.before m.commons
+  fewer_by : (inverting next : Option OperationFields) (t : Answer) → TellsOfBack (context_by bits_of m.root m.active d.steps.changes.before.subtx.tx) inverting next (tx_state_of d.steps.changes.before m.shared) (tx_state_of d.steps.changes.after m'.shared) t
+      → GoesOnBack t → 1166 * length d.steps.changes.after.undo.entries + left_of next m.root.page d.steps.changes.after m'.shared < 1166 * length d.steps.changes.before.undo.entries + left_of inverting m.root.page d.steps.changes.before m.shared
   fewer_by None next answer.Going s goes =
       let same : length d.steps.changes.after.undo.entries ≡ length d.steps.changes.before.undo.entries = ap (λ (u : Undo). length u.entries) s.rest.undo_kept in
       let fewer = s.tells.fewer in
-      let first = first_steps m.root.page (TakeBack s.last) (view_of (moment d.steps.changes.before.subtx m.commons.pages)) in
-      let here : left_of next m.root.page d.steps.changes.after m'.commons ≡ left_of (Some s.after) m.root.page d.steps.changes.after m'.commons = ap (λ (o : Option OperationFields). left_of o m.root.page d.steps.changes.after m'.commons) s.is in
+      let first = first_steps m.root.page (TakeBack s.last) (view_of (local d.steps.changes.before.subtx m.shared.pages)) in
+      let here : left_of next m.root.page d.steps.changes.after m'.shared ≡ left_of (Some s.after) m.root.page d.steps.changes.after m'.shared = ap (λ (o : Option OperationFields). left_of o m.root.page d.steps.changes.after m'.shared) s.is in
       omega (arith, same, fewer, first, here)
   fewer_by (Some o) next answer.Going s goes =
       let same : length d.steps.changes.after.undo.entries ≡ length d.steps.changes.before.undo.entries = ap (λ (u : Undo). length u.entries) s.rest.undo_kept in
       let fewer = s.tells.fewer in
-      let here : left_of next m.root.page d.steps.changes.after m'.commons ≡ left_of (Some s.after) m.root.page d.steps.changes.after m'.commons = ap (λ (o : Option OperationFields). left_of o m.root.page d.steps.changes.after m'.commons) s.is in
+      let here : left_of next m.root.page d.steps.changes.after m'.shared ≡ left_of (Some s.after) m.root.page d.steps.changes.after m'.shared = ap (λ (o : Option OperationFields). left_of o m.root.page d.steps.changes.after m'.shared) s.is in
       omega (arith, same, fewer, here)
   fewer_by inverting next answer.Undone s goes =
       let off : length d.steps.changes.before.undo.entries ≡ length d.steps.changes.after.undo.entries + 1 = ap length s.takes.off.entries ∙ length-append d.steps.changes.after.undo.entries (s.takes.off.last ∷ []) in
-      let here : left_of next m.root.page d.steps.changes.after m'.commons ≡ 1165 = ap (λ (o : Option OperationFields). left_of o m.root.page d.steps.changes.after m'.commons) s.none in
+      let here : left_of next m.root.page d.steps.changes.after m'.shared ≡ 1165 = ap (λ (o : Option OperationFields). left_of o m.root.page d.steps.changes.after m'.shared) s.none in
       omega (arith, off, here)
   fewer_by inverting next (answer.Waiting page by) s none = absurd none
   fewer_by inverting next answer.Aborted s none = absurd none
@@ -126,7 +126,7 @@ module _ {P : Type 0} (bits_of : P → ℕ → ℕ) (m m' : ManagerFields P) (tx
       let fewer = fewer_by inverse_at.0 steps_back.next told steps_back.tells goes in
       omega (arith, was, is, fewer)
 
-  kept_by : (inverting next : Option OperationFields) → TellsOfBack (basis_by bits_of m.root m.opens d.steps.changes.before.subtx.tx) inverting next (workplace_of d.steps.changes.before m.commons) (workplace_of d.steps.changes.after m'.commons) answer.Going
+  kept_by : (inverting next : Option OperationFields) → TellsOfBack (context_by bits_of m.root m.active d.steps.changes.before.subtx.tx) inverting next (tx_state_of d.steps.changes.before m.shared) (tx_state_of d.steps.changes.after m'.shared) answer.Going
       → d.steps.changes.after.undo.entries ≡ d.steps.changes.before.undo.entries
   kept_by inverting next s = ap (λ (u : Undo). u.entries) s.rest.undo_kept
 
@@ -134,9 +134,9 @@ module _ {P : Type 0} (bits_of : P → ℕ → ℕ) (m m' : ManagerFields P) (tx
   pub going_entries : told ≡ answer.Going → d.steps.changes.after.undo.entries ≡ d.steps.changes.before.undo.entries
   going_entries is =
       kept_by inverse_at.0 steps_back.next
-      (subst (λ (t : Answer). TellsOfBack (basis_by bits_of m.root m.opens d.steps.changes.before.subtx.tx) inverse_at.0 steps_back.next (workplace_of d.steps.changes.before m.commons) (workplace_of d.steps.changes.after m'.commons) t) is steps_back.tells)
+      (subst (λ (t : Answer). TellsOfBack (context_by bits_of m.root m.active d.steps.changes.before.subtx.tx) inverse_at.0 steps_back.next (tx_state_of d.steps.changes.before m.shared) (tx_state_of d.steps.changes.after m'.shared) t) is steps_back.tells)
 
-  stops_by : (inverting next : Option OperationFields) (t : Answer) → TellsOfBack (basis_by bits_of m.root m.opens d.steps.changes.before.subtx.tx) inverting next (workplace_of d.steps.changes.before m.commons) (workplace_of d.steps.changes.after m'.commons) t
+  stops_by : (inverting next : Option OperationFields) (t : Answer) → TellsOfBack (context_by bits_of m.root m.active d.steps.changes.before.subtx.tx) inverting next (tx_state_of d.steps.changes.before m.shared) (tx_state_of d.steps.changes.after m'.shared) t
       → (t ≡ answer.Going → ⊥) → (t ≡ answer.Undone → ⊥) → StopsBack t
   stops_by inverting next answer.Going s going undone = absurd (going refl)
   stops_by inverting next answer.Undone s going undone = absurd (undone refl)

@@ -47,7 +47,7 @@ module _ {P : Type 0} (bits_of : P → ℕ → ℕ) (tx : ℕ) where
     taken : List (ObjOp × ObjReply)
     parts : entries ≡ left ++ taken
     stand : HasEntries last left
-    items : last.commons.history.items ≡ old.commons.history.items ++ replicate (length taken) (trace.Back tx)
+    items : last.shared.history.items ≡ old.shared.history.items ++ replicate (length taken) (trace.Back tx)
     leads : (base : Base) → HasBase old base → (before : Base) × Runs Step before taken base × HasBase last before
 
   nothing_taken : (old last : ManagerFields P) (entries : List (ObjOp × ObjReply)) → last ≡ old → IsManager bits_of old → IsOpenAt old.txs tx IsUndoing → HasEntries old entries → Unwinds old last entries
@@ -60,7 +60,7 @@ module _ {P : Type 0} (bits_of : P → ℕ → ℕ) (tx : ℕ) where
         taken = [];
         parts = sym (append-nil entries);
         stand = stand;
-        items = sym (append-nil old.commons.history.items);
+        items = sym (append-nil old.shared.history.items);
         leads = λ base leads. (base, refl, leads);
       })
 
@@ -89,8 +89,8 @@ module _ {P : Type 0} (bits_of : P → ℕ → ℕ) (tx : ℕ) where
         taken = u.taken ++ item ∷ [];
         parts = same ∙ ap (λ (l : List (ObjOp × ObjReply)). l ++ item ∷ []) u.parts ∙ append_assoc u.left u.taken (item ∷ []);
         stand = u.stand;
-        items = u.items ∙ ap (λ (l : List TraceItem). l ++ replicate (length u.taken) back) takes.items ∙ append_assoc old.commons.history.items (back ∷ []) (replicate (length u.taken) back)
-            ∙ ap (λ (n : ℕ). old.commons.history.items ++ replicate n back) (sym (push_length u.taken item));
+        items = u.items ∙ ap (λ (l : List TraceItem). l ++ replicate (length u.taken) back) takes.items ∙ append_assoc old.shared.history.items (back ∷ []) (replicate (length u.taken) back)
+            ∙ ap (λ (n : ℕ). old.shared.history.items ++ replicate n back) (sym (push_length u.taken item));
         leads = λ base leads.
             let one = takes.leads base leads in
             let more = u.leads one.0 one.2 in
@@ -129,8 +129,8 @@ module _ {P : Type 0} (bits_of : P → ℕ → ℕ) (tx : ℕ) where
         taken = item ∷ u.taken;
         entries = u.parts ∙ ap (λ (l : List (ObjOp × ObjReply)). l ++ u.taken) same;
         items = takes.items ∙ ap (λ (l : List TraceItem). l ++ back ∷ trace.Abort tx ∷ []) u.items
-            ∙ append_assoc old.commons.history.items (replicate (length u.taken) back) (back ∷ trace.Abort tx ∷ [])
-            ∙ ap (λ (l : List TraceItem). old.commons.history.items ++ l) (one_more (length u.taken) back (trace.Abort tx ∷ []));
+            ∙ append_assoc old.shared.history.items (replicate (length u.taken) back) (back ∷ trace.Abort tx ∷ [])
+            ∙ ap (λ (l : List TraceItem). old.shared.history.items ++ l) (one_more (length u.taken) back (trace.Abort tx ∷ []));
         leads = λ base leads.
             let more = u.leads base leads in
             let first = takes.leads more.0 more.2 in
@@ -143,7 +143,7 @@ module _ {P : Type 0} (bits_of : P → ℕ → ℕ) (tx : ℕ) where
       there = there;
       taken = u.taken;
       entries = u.parts;
-      items = keeps.items ∙ u.items ∙ ap (λ (l : List TraceItem). old.commons.history.items ++ l) (sym (append-nil (replicate (length u.taken) (trace.Back tx))));
+      items = keeps.items ∙ u.items ∙ ap (λ (l : List TraceItem). old.shared.history.items ++ l) (sym (append-nil (replicate (length u.taken) (trace.Back tx))));
       leads = λ base leads.
           let more = u.leads base leads in
           (more.0, more.1, base_by before new keeps.items more.0 more.2);

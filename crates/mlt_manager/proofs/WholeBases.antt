@@ -16,8 +16,8 @@ use Rattle.mlt_object_base.specs.declared.request.Request.TheVariants.{Do}
 use Rattle.mlt_tx_operation.specs.Operating.{OperationFields}
 use Rattle.mlt_event.specs.declared.answer.Answer.{Answer}
 use Rattle.mlt_event.specs.declared.answer.Answer.TheVariants as answer
-use Rattle.mlt_hash_access.specs.Moments.{Moment, moment}
-use Rattle.mlt_hash.specs.Walks.{Basis, basis_by}
+use Rattle.mlt_hash_access.specs.LocalStates.{LocalState, local}
+use Rattle.mlt_hash.specs.Walks.{WalkContext, context_by}
 use Rattle.mlt_tx_operation.specs.Answers.{TellsOfStep}
 use Rattle.mlt_tx_operation.specs.declared.answer.StepAnswer.TheVariants as step
 use Rattle.mlt_tx.specs.declared.transaction.At.{At}
@@ -50,7 +50,7 @@ same_keeps : {P : Type 0} (old new : ManagerFields P) → new ≡ old → KeepsW
 same_keeps old new same = subst (KeepsWhatCounts old) (sym same) (record { clean = λ clean has. has; items = refl; held = refl })
 
 -- where the history is the same, so is the base
-pub base_by : {P : Type 0} (old new : ManagerFields P) → new.commons.history.items ≡ old.commons.history.items → (base : Base) → HasBase old base → HasBase new base
+pub base_by : {P : Type 0} (old new : ManagerFields P) → new.shared.history.items ≡ old.shared.history.items → (base : Base) → HasBase old base → HasBase new base
 base_by old new same base leads = subst (λ (l : List TraceItem). IsHistory Step empty_base (entries_of l) base) (sym same) leads
 
 -- a call
@@ -98,10 +98,10 @@ asked_pending op (at.Undoing inverting) none = none
 pub weaker : (txs : Table) (tx : ℕ) (op : ObjOp) → IsOpenAt txs tx (IsPendingWith op) → IsOpenAt txs tx IsPending
 weaker txs tx op p = record { one = p.one; there = p.there; is_at = asked_pending op p.one.at p.is_at }
 
-pub same_request : (basis : Basis) (old new : Moment) (o next : OperationFields) → TellsOfStep basis old new o next step.Going → next.request ≡ o.request
-same_request basis old new o next (inl on) = on.request
-same_request basis old new o next (inr (inl begins)) = begins.request
-same_request basis old new o next (inr (inr restarts)) = restarts.request
+pub same_request : (context : WalkContext) (old new : LocalState) (o next : OperationFields) → TellsOfStep context old new o next step.Going → next.request ≡ o.request
+same_request context old new o next (inl on) = on.request
+same_request context old new o next (inr (inl begins)) = begins.request
+same_request context old new o next (inr (inr restarts)) = restarts.request
 
 module _ {P : Type 0} (bits_of : P → ℕ → ℕ) (tx : ℕ) (op : ObjOp) where
   -- the operation stays the same
@@ -112,7 +112,7 @@ module _ {P : Type 0} (bits_of : P → ℕ → ℕ) (tx : ℕ) (op : ObjOp) wher
       let s = steps_pending bits_of m m' tx answer.Going there d in
       let was : o.0.request ≡ Do op = subst (IsPendingWith op) o.1 (found_before bits_of LetsGoOn m m m' tx answer.Going (IsPendingWith op) pending d) in
       let is : s.next.request ≡ Do op =
-      same_request (basis_by bits_of m.root m.opens d.steps.changes.before.subtx.tx) (moment d.steps.changes.before.subtx m.commons.pages) (moment d.steps.changes.after.subtx s.between.pages) o.0 s.next s.tells.tells ∙ was in
+      same_request (context_by bits_of m.root m.active d.steps.changes.before.subtx.tx) (local d.steps.changes.before.subtx m.shared.pages) (local d.steps.changes.after.subtx s.between.pages) o.0 s.next s.tells.tells ∙ was in
       record { one = d.steps.changes.after; there = there_by bits_of m m' tx answer.Going there d answer.Going refl refl; is_at = subst (IsPendingWith op) (sym s.now_at) is }
   asked_on m m' (answer.Waiting page by) none pending d = absurd none
   asked_on m m' (answer.Blocked by) none pending d = absurd none

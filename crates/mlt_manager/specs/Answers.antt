@@ -18,7 +18,7 @@ use Rattle.mlt_tx.specs.declared.transaction.At.TheVariants as at
 use Rattle.mlt_tx.specs.declared.transaction.Transaction.{Transaction}
 use Rattle.mlt_tx.specs.Transactions.{IsPending}
 pub use Rattle.mlt_tx.specs.Transactions.{IsUndoing}
-use Rattle.mlt_hash.specs.Walks.{basis_by}
+use Rattle.mlt_hash.specs.Walks.{context_by}
 pub use Rattle.mlt_tx_open.specs.OpenAt.{IsBusy, IsCauseAtCallOf, IsCauseAtStep, IsIdle, IsIdleWith, IsNotIdle, IsNotOpen, IsOpenAt, MayCallOne}
 use Rattle.mlt_tx_open.specs.Tables.{CallsNone, CallsOne, CancelsOne, PutsOneAt, StepsOne, Table}
 use Rattle.mlt_tx_meaning.specs.Presences.{IsOpInRange}
@@ -54,14 +54,14 @@ pub record HasBegun {P : Type 0} (old new : ManagerFields P) (tx : ℕ) : Type 0
   pub subtx : one.subtx ≡ started tx
   pub entries : one.undo.entries ≡ []
   pub idle : one.at ≡ at.Idle
-  pub pages : new.commons.pages ≡ old.commons.pages
-  pub objects : new.commons.objects ≡ old.commons.objects
-  pub items : new.commons.history.items ≡ old.commons.history.items ++ trace.Begin tx ∷ []
-  pub room : new.commons.history.room ≡ old.commons.history.room + 1
+  pub pages : new.shared.pages ≡ old.shared.pages
+  pub objects : new.shared.objects ≡ old.shared.objects
+  pub items : new.shared.history.items ≡ old.shared.history.items ++ trace.Begin tx ∷ []
+  pub room : new.shared.history.room ≡ old.shared.history.room + 1
   pub rest : new ≡ record old {
-    commons = new.commons;
+    shared = new.shared;
     txs = map.insert old.txs tx one;
-    opens = set.insert old.opens tx;
+    active = set.insert old.active tx;
     begun = tx;
   }
 
@@ -81,13 +81,13 @@ IsCauseAtCall reason m tx = IsCauseAtCallOf reason m.txs tx m.max_ops
 
 -- one transaction and what all share have changed, and nothing else
 abbrev pub ChangesOpen : {P : Type 0} → ManagerFields P → ManagerFields P → Type 0
-ChangesOpen old new = new ≡ record old { commons = new.commons; txs = new.txs }
+ChangesOpen old new = new ≡ record old { shared = new.shared; txs = new.txs }
 
 -- a transaction is called with an operation
 pub record HasCalled {P : Type 0} (old new : ManagerFields P) (tx : ℕ) (op : ObjOp) : Type 0 where
   pub may : MayCall old tx
   pub in_range : IsOpInRange op
-  pub calls : CallsOne tx op old.txs new.txs old.commons new.commons
+  pub calls : CallsOne tx op old.txs new.txs old.shared new.shared
   pub rest : ChangesOpen old new
 
 -- A call makes the operation pending; or it answers why not. One that was refused memory may leave
@@ -96,7 +96,7 @@ abbrev pub AnswersCall : {P : Type 0} → ManagerFields P → ManagerFields P �
     → Result (Unit {0}) Refusal → Type 0
 AnswersCall old new tx op (Ok done) = HasCalled old new tx op
 AnswersCall old new tx op (Err refusal.OutOfMemory) =
-    MayCall old tx × CallsNone tx old.txs new.txs old.commons new.commons × ChangesOpen old new
+    MayCall old tx × CallsNone tx old.txs new.txs old.shared new.shared × ChangesOpen old new
 AnswersCall old new tx op (Err reason) = IsCauseAtCall reason old tx × (new ≡ old)
 
 -- a transaction that is told `Aborted` is open no more
@@ -104,21 +104,21 @@ abbrev pub txs_after : Answer → ℕ → Table → Table
 txs_after answer.Aborted tx txs = map.remove txs tx
 txs_after other tx txs = txs
 
-abbrev pub opens_after : Answer → ℕ → set.FinSet nat_cmp → set.FinSet nat_cmp
-opens_after answer.Aborted tx opens = set.remove opens tx
-opens_after other tx opens = opens
+abbrev pub active_after : Answer → ℕ → set.FinSet nat_cmp → set.FinSet nat_cmp
+active_after answer.Aborted tx active = set.remove active tx
+active_after other tx active = active
 
 -- a transaction takes a step, and is open no more if it is told `Aborted`
 pub record HasStepped {P : Type 0} (bits_of : P → ℕ → ℕ) (old new : ManagerFields P) (tx : ℕ)
     (told : Answer) : Type 0 where
   pub busy : IsOpenAt old.txs tx IsBusy
   pub txs : Table
-  pub steps : StepsOne (basis_by bits_of old.root old.opens) tx old.txs txs
-      old.commons new.commons told
+  pub steps : StepsOne (context_by bits_of old.root old.active) tx old.txs txs
+      old.shared new.shared told
   pub rest : new ≡ record old {
-    commons = new.commons;
+    shared = new.shared;
     txs = txs_after told tx txs;
-    opens = opens_after told tx old.opens;
+    active = active_after told tx old.active;
   }
 
 -- whoever it waits for is another transaction, which runs; and whoever blocks it is another, which is open
@@ -144,7 +144,7 @@ IsCauseAtCancel other txs tx = ⊥
 abbrev pub AnswersCancel : {P : Type 0} → ManagerFields P → ManagerFields P → ℕ
     → Result (Unit {0}) Refusal → Type 0
 AnswersCancel old new tx (Ok done) =
-    IsOpenAt old.txs tx IsPending × CancelsOne tx old.txs new.txs old.commons new.commons
+    IsOpenAt old.txs tx IsPending × CancelsOne tx old.txs new.txs old.shared new.shared
     × ChangesOpen old new
 AnswersCancel old new tx (Err reason) = IsCauseAtCancel reason old.txs tx × (new ≡ old)
 
@@ -154,23 +154,23 @@ pub record HasEnded {P : Type 0} (old new : ManagerFields P) (tx : ℕ) (item : 
   pub one : Transaction
   pub there : map.get old.txs tx ≡ Some one
   pub idle : one.at ≡ at.Idle
-  pub pages : new.commons.pages ≡ old.commons.pages
-  pub held : new.commons.objects.held ≡ filter (is_of_other tx) old.commons.objects.held
-  pub unreserved : reservation_of new.commons.objects.reserved tx ≡ None
-  pub reserved : SameReservations old.commons.objects.reserved new.commons.objects.reserved tx
-  pub items : new.commons.history.items ≡ old.commons.history.items ++ item ∷ []
-  pub room : new.commons.history.room + (1 + length one.undo.entries) ≡ old.commons.history.room
+  pub pages : new.shared.pages ≡ old.shared.pages
+  pub held : new.shared.objects.held ≡ filter (is_of_other tx) old.shared.objects.held
+  pub unreserved : reservation_of new.shared.objects.reserved tx ≡ None
+  pub reserved : SameReservations old.shared.objects.reserved new.shared.objects.reserved tx
+  pub items : new.shared.history.items ≡ old.shared.history.items ++ item ∷ []
+  pub room : new.shared.history.room + (1 + length one.undo.entries) ≡ old.shared.history.room
   pub txs : new.txs ≡ map.remove old.txs tx
-  pub opens : new.opens ≡ set.remove old.opens tx
+  pub active : new.active ≡ set.remove old.active tx
 
 -- a transaction commits, under the next number
 pub record HasCommitted {P : Type 0} (old new : ManagerFields P) (tx number : ℕ) : Type 0 where
   pub next : number ≡ old.commits + 1
   pub ends : HasEnded old new tx (trace.Commit tx number)
   pub rest : new ≡ record old {
-    commons = new.commons;
+    shared = new.shared;
     txs = new.txs;
-    opens = new.opens;
+    active = new.active;
     commits = number;
   }
 
@@ -186,9 +186,9 @@ pub record HasClosed {P : Type 0} (old new : ManagerFields P) (tx : ℕ) : Type 
   pub nothing : IsIdleWith old.txs tx 0
   pub ends : HasEnded old new tx (trace.Abort tx)
   pub rest : new ≡ record old {
-    commons = new.commons;
+    shared = new.shared;
     txs = new.txs;
-    opens = new.opens;
+    active = new.active;
   }
 
 -- a transaction that has something to take back is to do so

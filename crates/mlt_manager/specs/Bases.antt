@@ -26,7 +26,7 @@ use Rattle.mlt_manager.specs.Managers.{ManagerFields}
 
 -- the history leads to this base from the empty one
 abbrev pub HasBase : {P : Type 0} → ManagerFields P → Base → Type 0
-HasBase m base = IsHistory Step empty_base (entries_of m.commons.history.items) base
+HasBase m base = IsHistory Step empty_base (entries_of m.shared.history.items) base
 
 -- These pages are clean: of a page of which an open transaction keeps the first image, that image; any other page is that of
 -- the store.
@@ -35,7 +35,7 @@ pub record HasCleanPages {P : Type 0} (m : ManagerFields P) (clean : map.FinMap 
   pub put_back : (number : ℕ) (first : Option Page)
       → KeepsImage m.txs number first → map.get clean number ≡ first
   pub as_stored : (number : ℕ) → KeepsNoImage m.txs number
-      → map.get clean number ≡ map.get m.commons.pages.store.pages number
+      → map.get clean number ≡ map.get m.shared.pages.store.pages number
 
 -- what the page of this number is on the clean pages
 pub record HasCleanPage {P : Type 0} (m : ManagerFields P) (number : ℕ) (page : Option Page)
@@ -54,8 +54,8 @@ pub record HasDepth {P : Type 0} (m : ManagerFields P) (depth : ℕ) : Type 0 wh
 -- what is clean stays clean, and the history and what is held stay
 pub record KeepsWhatCounts {P : Type 0} (old new : ManagerFields P) : Type 0 where
   pub clean : (clean : map.FinMap nat_cmp Page) → HasCleanPages old clean → HasCleanPages new clean
-  pub items : new.commons.history.items ≡ old.commons.history.items
-  pub held : new.commons.objects.held ≡ old.commons.objects.held
+  pub items : new.shared.history.items ≡ old.shared.history.items
+  pub held : new.shared.objects.held ≡ old.shared.objects.held
 
 -- this operation is pending
 abbrev pub IsPendingWith : ObjOp → At → Type 0
@@ -66,7 +66,7 @@ IsPendingWith op other = ⊥
 pub record IsBlockedBy {P : Type 0} (m : ManagerFields P) (tx : ℕ) (item : ObjOp × ObjReply)
     (by : ℕ) : Type 0 where
   pub steps : (base : Base) → HasBase m base → (next : Base) × Step base item next
-  pub lowest : IsLowestClash m.commons.objects.held tx item by
+  pub lowest : IsLowestClash m.shared.objects.held tx item by
 
 -- the pending operation, with this reply, is blocked
 pub record BlocksPending {P : Type 0} (m : ManagerFields P) (tx : ℕ) (item : ObjOp × ObjReply)
@@ -77,7 +77,7 @@ pub record BlocksPending {P : Type 0} (m : ManagerFields P) (tx : ℕ) (item : O
 -- the base has made this step, and the history has it
 pub record AddsStep {P : Type 0} (old new : ManagerFields P) (tx : ℕ) (item : ObjOp × ObjReply)
     : Type 0 where
-  pub items : new.commons.history.items ≡ old.commons.history.items ++ trace.Op tx item ∷ []
+  pub items : new.shared.history.items ≡ old.shared.history.items ++ trace.Op tx item ∷ []
   pub leads : (base : Base) → HasBase old base
       → (next : Base) × Step base item next × HasBase new next
 
@@ -96,7 +96,7 @@ pub record TakesStepBack {P : Type 0} (old new : ManagerFields P) (tx : ℕ)
   pub there : map.get old.txs tx ≡ Some one
   pub entries : one.undo.entries ≡ left ++ last ∷ []
   pub stands : (next : Transaction) → map.get new.txs tx ≡ Some next → next.undo.entries ≡ left
-  pub items : new.commons.history.items ≡ old.commons.history.items ++ added
+  pub items : new.shared.history.items ≡ old.shared.history.items ++ added
   pub leads : (base : Base) → HasBase old base
       → (before : Base) × Step before last base × HasBase new before
 
@@ -134,8 +134,8 @@ pub record TakesStepsBack {P : Type 0} (old new : ManagerFields P) (tx : ℕ)
   pub there : map.get old.txs tx ≡ Some one
   pub taken : List (ObjOp × ObjReply)
   pub entries : one.undo.entries ≡ left ++ taken
-  pub items : new.commons.history.items
-      ≡ old.commons.history.items ++ (replicate (length taken) (trace.Back tx) ++ added)
+  pub items : new.shared.history.items
+      ≡ old.shared.history.items ++ (replicate (length taken) (trace.Back tx) ++ added)
   pub leads : (base : Base) → HasBase old base
       → (before : Base) × Runs Step before taken base × HasBase new before
 

@@ -67,7 +67,7 @@ pub record Plays {P : Type 0} (bits_of : P → ℕ → ℕ) (limits : Limits) (p
   pub first : ManagerFields P
   pub is_new : IsNew first limits pseudo
   pub run : IsRun bits_of first events tolds last
-  pub told : AreToldBy events tolds none_called last.commons.history.items
+  pub told : AreToldBy events tolds none_called last.shared.history.items
   pub promises : KeepsPromises bits_of last
 
 -- an event that leaves no operation and no inverse running, where none ran

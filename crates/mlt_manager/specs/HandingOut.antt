@@ -6,9 +6,9 @@ use Rattle.mlt_manager.specs.Managers.{ManagerFields}
 -- the manager, with these items of its history handed out
 abbrev pub with_handed : {P : Type 0} → List TraceItem → ManagerFields P → ManagerFields P
 with_handed handed m = record m {
-  commons = record m.commons { history = record m.commons.history { handed = handed } };
+  shared = record m.shared { history = record m.shared.history { handed = handed } };
 }
 
 -- all stays but which items were handed out: the history is the same
 pub record HandsOut {P : Type 0} (old new : ManagerFields P) : Type 0 where
-  pub same : new ≡ with_handed new.commons.history.handed old
+  pub same : new ≡ with_handed new.shared.history.handed old

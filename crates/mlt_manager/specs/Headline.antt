@@ -73,12 +73,12 @@ pub record PagesMean (pages : map.FinMap nat_cmp Page) (base : Base) : Type 0 wh
 -- so `base` is what is left when they are taken back.
 pub record KeepsMainPromise {P : Type 0} (m : ManagerFields P) : Type 0 where
   pub none_back : (before later : List TraceItem) (tx number : ℕ)
-      → m.commons.history.items ≡ before ++ trace.Commit tx number ∷ later
+      → m.shared.history.items ≡ before ++ trace.Commit tx number ∷ later
       → Contains before (trace.Back tx) → ⊥
   pub base : Base
-  pub alone : IsSerialBase Step empty_base (transcripts_of m.commons.history.items).committed base
+  pub alone : IsSerialBase Step empty_base (transcripts_of m.shared.history.items).committed base
   pub clean : map.FinMap nat_cmp Page
   pub put_back : HasCleanPages m clean
   pub state : Base
   pub means : PagesMean clean state
-  pub taken_back : UndoneTo Step base (transcripts_of m.commons.history.items).of_open state
+  pub taken_back : UndoneTo Step base (transcripts_of m.shared.history.items).of_open state

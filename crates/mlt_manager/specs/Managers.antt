@@ -8,8 +8,8 @@ use Rattle.mlt_object_kinds.specs.Bases.{Base}
 use Rattle.mlt_trace.specs.Numbers.{commit_count}
 use Rattle.mlt_hash_form.specs.declared.root.Root.{Root}
 use Rattle.mlt_hash_subtx_laws.specs.CleanPages.{RunningImages}
-use Rattle.mlt_tx.specs.declared.commons.Commons.{Commons}
-use Rattle.mlt_tx.specs.contracts.commons.Commons.{the_row as commons_row}
+use Rattle.mlt_tx.specs.declared.shared.SharedState.{SharedState}
+use Rattle.mlt_tx.specs.contracts.shared.SharedState.{the_row as shared_row}
 use Rattle.mlt_tx.specs.contracts.transaction.Transaction.{the_row as transaction_row}
 use Rattle.mlt_tx_open.specs.Tables.{Table}
 use Rattle.mlt_manager_invariant.specs.Sound.{IsSound}
@@ -27,10 +27,10 @@ pub record ManagerFields (P : Type 0) : Type 0 where
   -- where the hash file begins, how deep its directory may get, and the function from keys to pseudokeys
   pub root : Root P
   -- the pages with their locks, the object locks, and the history
-  pub commons : Commons
+  pub shared : SharedState
   -- the open transactions, and their numbers
   pub txs : Table
-  pub opens : set.FinSet nat_cmp
+  pub active : set.FinSet nat_cmp
   -- how many numbers were given out, how many transactions committed, and how many events there were
   pub begun : ℕ
   pub commits : ℕ
@@ -43,26 +43,26 @@ state_of bits_of m images base = record {
   root = m.root.page;
   max_depth = m.root.max_depth;
   max_ops = m.max_ops;
-  commons = m.commons;
+  shared = m.shared;
   txs = m.txs;
   images = images;
-  opens = m.opens;
+  active = m.active;
   begun = m.begun;
   base = base;
 }
 
 -- it is within its limits, and it counts its commits
 pub record IsWithinLimits {P : Type 0} (m : ManagerFields P) : Type 0 where
-  pub locks_for : m.commons.pages.locks.max_open ≡ m.max_open
-  pub pages_for : m.commons.pages.store.max_pages ≡ m.max_pages
+  pub locks_for : m.shared.pages.locks.max_open ≡ m.max_open
+  pub pages_for : m.shared.pages.store.max_pages ≡ m.max_pages
   pub few_open : map.len m.txs ≤ m.max_open
-  pub open_in_set : set.len m.opens ≡ map.len m.txs
+  pub open_in_set : set.len m.active ≡ map.len m.txs
   pub set_holds : m.max_open ≤ 64
   pub few_ids : m.begun ≤ m.max_ids
   pub ids_fit : m.max_ids ≤ 2 ^ 32
   pub ops_fit : m.max_ops ≤ 1024
   pub ended : m.commits + map.len m.txs ≤ m.begun
-  pub counted : m.commits ≡ commit_count m.commons.history.items
+  pub counted : m.commits ≡ commit_count m.shared.history.items
 
 -- What is always true of a manager. The first images are those that its transactions keep, and the base is the one to
 -- which its history leads.
@@ -77,10 +77,10 @@ pub record IsManager {P : Type 0} (bits_of : P → ℕ → ℕ) (m : ManagerFiel
 abbrev pub manager_code : {P : Type 0} → Coded P → Coded (ManagerFields P)
 manager_code {P = P} pseudo =
     code_by (ℕ × (ℕ × (ℕ × (ℕ × (ℕ × (ℕ × (P
-    × (Commons × (Table × (set.FinSet nat_cmp × (ℕ × (ℕ × ℕ))))))))))))
+    × (SharedState × (Table × (set.FinSet nat_cmp × (ℕ × (ℕ × ℕ))))))))))))
     (coded× coded_ℕ (coded× coded_ℕ (coded× coded_ℕ (coded× coded_ℕ
     (coded× coded_ℕ (coded× coded_ℕ (coded× pseudo
-    (coded× commons_row.coded (coded× (map.code coded_ℕ transaction_row.coded)
+    (coded× shared_row.coded (coded× (map.code coded_ℕ transaction_row.coded)
     (coded× (set.code coded_ℕ) (coded× coded_ℕ (coded× coded_ℕ coded_ℕ))))))))))))
     (λ m. (
       m.max_open,
@@ -96,7 +96,7 @@ manager_code {P = P} pseudo =
                 m.root.max_depth,
                 (
                   m.root.pseudo,
-                  (m.commons, (m.txs, (m.opens, (m.begun, (m.commits, m.events))))),
+                  (m.shared, (m.txs, (m.active, (m.begun, (m.commits, m.events))))),
                 ),
               ),
             ),
@@ -110,9 +110,9 @@ manager_code {P = P} pseudo =
       max_pages = p.1.1.0;
       max_ops = p.1.1.1.0;
       root = record { page = p.1.1.1.1.0; max_depth = p.1.1.1.1.1.0; pseudo = p.1.1.1.1.1.1.0 };
-      commons = p.1.1.1.1.1.1.1.0;
+      shared = p.1.1.1.1.1.1.1.0;
       txs = p.1.1.1.1.1.1.1.1.0;
-      opens = p.1.1.1.1.1.1.1.1.1.0;
+      active = p.1.1.1.1.1.1.1.1.1.0;
       begun = p.1.1.1.1.1.1.1.1.1.1.0;
       commits = p.1.1.1.1.1.1.1.1.1.1.1.0;
       events = p.1.1.1.1.1.1.1.1.1.1.1.1;

@@ -24,15 +24,15 @@ pub record IsNew {P : Type 0} (m : ManagerFields P) (limits : Limits) (pseudo : 
   pub made : IsMadeWith m limits pseudo
   pub dir : ℕ
   pub bucket : ℕ
-  pub file : IsOpening (page_at m.commons.pages.store.pages) m.root.page dir bucket
-  pub page_limit : m.commons.pages.store.max_pages ≡ limits.max_pages
-  pub page_locks : m.commons.pages.locks ≡ no_locks limits.max_open
-  pub object_locks : m.commons.objects ≡ objects.no_locks
-  pub items : m.commons.history.items ≡ []
-  pub handed : m.commons.history.handed ≡ []
-  pub room : m.commons.history.room ≡ 0
+  pub file : IsOpening (page_at m.shared.pages.store.pages) m.root.page dir bucket
+  pub page_limit : m.shared.pages.store.max_pages ≡ limits.max_pages
+  pub page_locks : m.shared.pages.locks ≡ no_locks limits.max_open
+  pub object_locks : m.shared.objects ≡ objects.no_locks
+  pub items : m.shared.history.items ≡ []
+  pub handed : m.shared.history.handed ≡ []
+  pub room : m.shared.history.room ≡ 0
   pub txs : m.txs ≡ map.empty
-  pub opens : m.opens ≡ set.empty
+  pub active : m.active ≡ set.empty
   pub begun : m.begun ≡ 0
   pub commits : m.commits ≡ 0
   pub events : m.events ≡ 0

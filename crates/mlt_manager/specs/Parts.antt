@@ -2,8 +2,8 @@
 use Rattle.std.specs.Prelude.{ℕ}
 use Rattle.mlt_tx.specs.Transactions.{IsPending}
 use Rattle.mlt_manager.specs.declared.parts.Parts.{Parts}
-use Rattle.mlt_manager.specs.declared.parts.Stage.{Stage}
-use Rattle.mlt_manager.specs.declared.parts.Stage.TheVariants as stage
+use Rattle.mlt_manager.specs.declared.parts.TxStage.{TxStage}
+use Rattle.mlt_manager.specs.declared.parts.TxStage.TheVariants as stage
 use Rattle.mlt_manager.specs.Answers.{IsIdleWith, IsNotOpen, IsOpenAt, IsUndoing}
 use Rattle.mlt_tx_open.specs.Tables.{Table}
 use Rattle.mlt_manager.specs.Managers.{ManagerFields}
@@ -16,16 +16,16 @@ fields_of parts = record {
   max_pages = parts.limits.max_pages;
   max_ops = parts.limits.max_ops;
   root = parts.root;
-  commons = parts.commons;
+  shared = parts.shared;
   txs = parts.txs;
-  opens = parts.opens;
+  active = parts.active;
   begun = parts.begun;
   commits = parts.commits;
   events = parts.events;
 }
 
 -- what the transaction of this number is at
-abbrev pub IsStageOf : Stage → Table → ℕ → Type 0
+abbrev pub IsStageOf : TxStage → Table → ℕ → Type 0
 IsStageOf stage.NotOpen txs tx = IsNotOpen txs tx
 IsStageOf (stage.Idle count) txs tx = IsIdleWith txs tx count
 IsStageOf stage.Pending txs tx = IsOpenAt txs tx IsPending

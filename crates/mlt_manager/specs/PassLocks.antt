@@ -13,20 +13,20 @@ use Rattle.mlt_page_subtx.specs.Images.{Images, image_of}
 use Rattle.mlt_hash_form.specs.File.{FilePages, dir_of, row_of}
 use Rattle.mlt_hash_form.specs.Held.{over}
 use Rattle.mlt_hash_pair.specs.Pairs.{PairFields}
-use Rattle.mlt_hash_pair.specs.Ways.{IsLocked}
-use Rattle.mlt_hash_pair.specs.declared.way.Way.{Way}
-use Rattle.mlt_hash_pair.specs.declared.way.Way.TheVariants as way
+use Rattle.mlt_hash_pair.specs.Descents.{IsLocked}
+use Rattle.mlt_hash_pair.specs.declared.descent.Descent.{Descent}
+use Rattle.mlt_hash_pair.specs.declared.descent.Descent.TheVariants as way
 use Rattle.mlt_hash.specs.Passes.{MayHoldMore, bucket_held, bucket_mode, directory_held}
 use Rattle.mlt_hash.specs.Passes.{directory_mode, header_held, header_mode}
-use Rattle.mlt_hash.specs.Walks.{Basis, WalkFields, basis_by}
+use Rattle.mlt_hash.specs.Walks.{WalkContext, WalkFields, context_by}
 use Rattle.mlt_hash.specs.declared.pass.Phase.{Phase}
 use Rattle.mlt_hash.specs.declared.pass.Phase.TheVariants as phase
-use Rattle.mlt_tx_two_records.specs.declared.double.Double.{Double}
-use Rattle.mlt_tx_two_records.specs.declared.double.Double.TheVariants.{First, Owing, Wide}
-use Rattle.mlt_tx_two_records.specs.declared.double.Leg.TheVariants as leg
+use Rattle.mlt_tx_two_records.specs.declared.two_records.TwoRecordWalk.{TwoRecordWalk}
+use Rattle.mlt_tx_two_records.specs.declared.two_records.TwoRecordWalk.TheVariants.{First, Owing, Wide}
+use Rattle.mlt_tx_two_records.specs.declared.two_records.WideStage.TheVariants as wide_stage
 use Rattle.mlt_tx_two_records.specs.FirstPass.{HasKeys}
-use Rattle.mlt_tx_operation.specs.declared.course.Course.{Course}
-use Rattle.mlt_tx_operation.specs.declared.course.Course.TheVariants.{One, Two}
+use Rattle.mlt_tx_operation.specs.declared.access_path.AccessPath.{AccessPath}
+use Rattle.mlt_tx_operation.specs.declared.access_path.AccessPath.TheVariants.{One, Two}
 use Rattle.mlt_tx_operation.specs.Operating.{OperationFields}
 use Rattle.mlt_tx.specs.declared.transaction.At.{At}
 use Rattle.mlt_tx.specs.declared.transaction.At.TheVariants as at
@@ -51,18 +51,18 @@ abbrev pub images_at : Option Transaction → Images
 images_at there = unwrap_or (images_kept there) map.empty
 
 -- The way to a key on the clean pages.
-pub record KeysWay (basis : Basis) (clean : FilePages) (key : ℕ) : Type 0 where
+pub record KeysWay (context : WalkContext) (clean : FilePages) (key : ℕ) : Type 0 where
   -- the header, at the root
   pub header : HeadFields
-  pub head : clean basis.root ≡ Some (page.Head header)
+  pub head : clean context.root ≡ Some (page.Head header)
   -- the directory page that the header names for the key, and its entries
   pub dir : ℕ
-  pub dir_is : dir ≡ dir_of header (basis.bits key)
+  pub dir_is : dir ≡ dir_of header (context.bits key)
   pub entries : List ℕ
   pub listed : clean dir ≡ Some (page.Dir entries)
   -- the bucket that the key's entry there names
   pub bucket : ℕ
-  pub bucket_is : bucket ≡ slice_index entries (row_of header (basis.bits key))
+  pub bucket_is : bucket ≡ slice_index entries (row_of header (context.bits key))
 
 -- The page locks of a pass that has looked into its bucket: the pages of its way, in the modes of
 -- the pass, and each other page exclusively that the pass has written or made. A first pass has
@@ -79,41 +79,41 @@ pub record HoldsWay (walk : WalkFields) (clean : FilePages) (images : Images)
 -- The page locks of a walk, by its phase. Up to its bucket it holds the pages of its way that it
 -- has come to, and no other: none, the header, the directory page too, the bucket too. From then on
 -- it holds all three, and what else its pass has written or made.
-abbrev pub LocksAt : Phase → Basis → FilePages → WalkFields → Images → Modes → Type 0
-LocksAt phase.Start basis clean walk images modes = modes ≡ map.empty
-LocksAt (phase.Headed dir row depth) basis clean walk images modes =
-    modes ≡ header_held map.empty walk.pass basis.root
-LocksAt (phase.Placed bucket depth) basis clean walk images modes =
-    (way : KeysWay basis clean walk.key) × (modes ≡ directory_held map.empty walk.pass basis.root way.dir)
-LocksAt (phase.AtBucket bucket depth found) basis clean walk images modes =
-    (way : KeysWay basis clean walk.key)
-    × (modes ≡ bucket_held map.empty walk.pass walk.mode basis.root way.dir way.bucket)
-LocksAt later basis clean walk images modes =
-    (way : KeysWay basis clean walk.key)
-    × HoldsWay walk clean images basis.root way.dir way.bucket modes
+abbrev pub LocksAt : Phase → WalkContext → FilePages → WalkFields → Images → Modes → Type 0
+LocksAt phase.Start context clean walk images modes = modes ≡ map.empty
+LocksAt (phase.Headed dir row depth) context clean walk images modes =
+    modes ≡ header_held map.empty walk.pass context.root
+LocksAt (phase.Placed bucket depth) context clean walk images modes =
+    (way : KeysWay context clean walk.key) × (modes ≡ directory_held map.empty walk.pass context.root way.dir)
+LocksAt (phase.AtBucket bucket depth found) context clean walk images modes =
+    (way : KeysWay context clean walk.key)
+    × (modes ≡ bucket_held map.empty walk.pass walk.mode context.root way.dir way.bucket)
+LocksAt later context clean walk images modes =
+    (way : KeysWay context clean walk.key)
+    × HoldsWay walk clean images context.root way.dir way.bucket modes
 
 -- The way of a key on the clean pages, as far as a first pass to two keys has come on it: none, the
 -- header, the directory page too, the bucket too.
-abbrev pub IsOnWay : Way → Basis → FilePages → ℕ → Type 0
-IsOnWay way.Start basis clean key = Unit {0}
-IsOnWay (way.Headed place dir row) basis clean key =
-    (header : HeadFields) × (clean basis.root ≡ Some (page.Head header))
-    × (dir ≡ dir_of header (basis.bits key))
-IsOnWay (way.Placed dir bucket) basis clean key =
-    (on : KeysWay basis clean key) × (dir ≡ on.dir) × (bucket ≡ on.bucket)
-IsOnWay (way.AtBucket dir bucket found) basis clean key =
-    (on : KeysWay basis clean key) × (dir ≡ on.dir) × (bucket ≡ on.bucket)
+abbrev pub IsOnWay : Descent → WalkContext → FilePages → ℕ → Type 0
+IsOnWay way.Start context clean key = Unit {0}
+IsOnWay (way.Headed place dir row) context clean key =
+    (header : HeadFields) × (clean context.root ≡ Some (page.Head header))
+    × (dir ≡ dir_of header (context.bits key))
+IsOnWay (way.Placed dir bucket) context clean key =
+    (on : KeysWay context clean key) × (dir ≡ on.dir) × (bucket ≡ on.bucket)
+IsOnWay (way.AtBucket dir bucket found) context clean key =
+    (on : KeysWay context clean key) × (dir ≡ on.dir) × (bucket ≡ on.bucket)
 
 -- The page locks of a first pass to two keys, those of the records that the request changes: a page
 -- is held just where it is of one of the two ways as far as they have come, the header and the
 -- directory pages shared, and the buckets exclusively.
-pub record HoldsPair (basis : Basis) (clean : FilePages) (request : Request) (pair : PairFields)
+pub record HoldsPair (context : WalkContext) (clean : FilePages) (request : Request) (pair : PairFields)
     (modes : Modes) : Type 0 where
   pub keys : HasKeys request pair.left pair.right
-  pub own : IsOnWay pair.left_way basis clean pair.left
-  pub size : IsOnWay pair.right_way basis clean pair.right
+  pub own : IsOnWay pair.left_descent context clean pair.left
+  pub size : IsOnWay pair.right_descent context clean pair.right
   pub locks : (q : ℕ) (mode : Mode) → (map.get modes q ≡ Some mode)
-      ↔ (IsLocked basis.root pair.left_way q mode ⊎ IsLocked basis.root pair.right_way q mode)
+      ↔ (IsLocked context.root pair.left_descent q mode ⊎ IsLocked context.root pair.right_descent q mode)
 
 -- The page locks of a wide pass that has gone on to the key of a size, all of them exclusive: the
 -- header, the directory page and the bucket of its own key, those pages of the way to the other key
@@ -130,54 +130,54 @@ pub record HoldsBoth (root dir bucket : ℕ) (IsOfSize : ℕ → Type 0) (images
 
 -- By the walk's phase, those pages of the way to the size's key that it has come to, beside the
 -- header, on these pages: none, the directory page, the bucket too.
-abbrev pub LocksOverAt : Phase → Basis → FilePages → ℕ → ((ℕ → Type 0) → Type 0) → Type 0
-LocksOverAt phase.Start basis pages key Holds = ⊥
-LocksOverAt (phase.Headed dir row depth) basis pages key Holds = Holds (λ q. ⊥)
-LocksOverAt (phase.Placed bucket depth) basis pages key Holds =
-    (way : KeysWay basis pages key) × Holds (λ q. q ≡ way.dir)
-LocksOverAt later basis pages key Holds =
-    (way : KeysWay basis pages key) × Holds (λ q. (q ≡ way.dir) ⊎ (q ≡ way.bucket))
+abbrev pub LocksOverAt : Phase → WalkContext → FilePages → ℕ → ((ℕ → Type 0) → Type 0) → Type 0
+LocksOverAt phase.Start context pages key Holds = ⊥
+LocksOverAt (phase.Headed dir row depth) context pages key Holds = Holds (λ q. ⊥)
+LocksOverAt (phase.Placed bucket depth) context pages key Holds =
+    (way : KeysWay context pages key) × Holds (λ q. q ≡ way.dir)
+LocksOverAt later context pages key Holds =
+    (way : KeysWay context pages key) × Holds (λ q. (q ≡ way.dir) ⊎ (q ≡ way.bucket))
 
 -- The way to the size's key is one on the clean pages with what the pass had written when it went on
 -- to that key. Of each page that it had written it keeps the first image.
-pub record HoldsOver (basis : Basis) (clean : FilePages) (request : Request) (walk : WalkFields)
+pub record HoldsOver (context : WalkContext) (clean : FilePages) (request : Request) (walk : WalkFields)
     (images : Images) (modes : Modes) : Type 0 where
   pub keys : HasKeys request (target_of request).0 walk.key
-  pub own : KeysWay basis clean (target_of request).0
+  pub own : KeysWay context clean (target_of request).0
   pub written : FilePages
   pub kept : (q : ℕ) → is_some (written q) ≡ true → is_some (image_of images q) ≡ true
-  pub locks : LocksOverAt walk.phase basis (over clean written) walk.key
-      (λ IsOfSize. HoldsBoth basis.root own.dir own.bucket IsOfSize images modes)
+  pub locks : LocksOverAt walk.phase context (over clean written) walk.key
+      (λ IsOfSize. HoldsBoth context.root own.dir own.bucket IsOfSize images modes)
 
--- the page locks of an operation on two records: of its first pass, or on either leg of its wide one
-abbrev pub LocksOfTwo : Double → Basis → FilePages → Request → Images → Modes → Type 0
-LocksOfTwo (First pair) basis clean request images modes = HoldsPair basis clean request pair modes
-LocksOfTwo (Owing pair reply) basis clean request images modes =
-    HoldsPair basis clean request pair modes
-LocksOfTwo (Wide leg.Own walk) basis clean request images modes =
-    LocksAt walk.phase basis clean walk images modes
-LocksOfTwo (Wide leg.Size walk) basis clean request images modes =
-    HoldsOver basis clean request walk images modes
+-- the page locks of an operation on two records: of its first pass, or on either stage of its wide one
+abbrev pub LocksOfTwo : TwoRecordWalk → WalkContext → FilePages → Request → Images → Modes → Type 0
+LocksOfTwo (First pair) context clean request images modes = HoldsPair context clean request pair modes
+LocksOfTwo (Owing pair reply) context clean request images modes =
+    HoldsPair context clean request pair modes
+LocksOfTwo (Wide wide_stage.Own walk) context clean request images modes =
+    LocksAt walk.phase context clean walk images modes
+LocksOfTwo (Wide wide_stage.Size walk) context clean request images modes =
+    HoldsOver context clean request walk images modes
 
 -- and of any operation
-abbrev pub LocksBy : Course → Basis → FilePages → Request → Images → Modes → Type 0
-LocksBy (One walk) basis clean request images modes =
-    LocksAt walk.phase basis clean walk images modes
-LocksBy (Two double) basis clean request images modes =
-    LocksOfTwo double basis clean request images modes
+abbrev pub LocksBy : AccessPath → WalkContext → FilePages → Request → Images → Modes → Type 0
+LocksBy (One walk) context clean request images modes =
+    LocksAt walk.phase context clean walk images modes
+LocksBy (Two two_records) context clean request images modes =
+    LocksOfTwo two_records context clean request images modes
 
 -- The page locks of a transaction that runs this and keeps these images: none, unless it runs an
--- operation, and then those of its pass. The basis tells whose it is.
-abbrev pub LocksOf : Option OperationFields → LockTable → Basis → FilePages → Images → Type 0
-LocksOf None locks basis clean images = is_holder locks basis.tx ≡ false
-LocksOf (Some o) locks basis clean images =
-    LocksBy o.course basis clean o.request images (pages_of locks basis.tx)
+-- operation, and then those of its pass. The context tells whose it is.
+abbrev pub LocksOf : Option OperationFields → LockTable → WalkContext → FilePages → Images → Type 0
+LocksOf None locks context clean images = is_holder locks context.tx ≡ false
+LocksOf (Some o) locks context clean images =
+    LocksBy o.access_path context clean o.request images (pages_of locks context.tx)
 
 -- Transaction i holds the page locks of its pass, if it runs an operation, and else none. Each page
 -- that its pass has written or made it holds exclusively.
 pub record HoldsLocksOfItsPass {P : Type 0} (bits_of : P → ℕ → ℕ) (m : ManagerFields P)
     (clean : FilePages) (i : ℕ) : Type 0 where
-  pub of_pass : LocksOf (running_of (map.get m.txs i)) m.commons.pages.locks
-      (basis_by bits_of m.root m.opens i) clean (images_at (map.get m.txs i))
+  pub of_pass : LocksOf (running_of (map.get m.txs i)) m.shared.pages.locks
+      (context_by bits_of m.root m.active i) clean (images_at (map.get m.txs i))
   pub written : (q : ℕ) → is_some (image_of (images_at (map.get m.txs i)) q) ≡ true
-      → mode_held m.commons.pages.locks i q ≡ Some Exclusive
+      → mode_held m.shared.pages.locks i q ≡ Some Exclusive

@@ -33,7 +33,7 @@ use Rattle.mlt_manager.specs.PassLocks.{HoldsLocksOfItsPass}
 
 -- what the history tells of: what was committed, in the order of the commits, and what stands of each open transaction
 abbrev pub lists_by : {P : Type 0} → ManagerFields P → Lists (ObjOp × ObjReply)
-lists_by m = lists_of (entries_of m.commons.history.items)
+lists_by m = lists_of (entries_of m.shared.history.items)
 
 -- what the rule of ghosts is about
 abbrev pub ledger_by : {P : Type 0} → (P → ℕ → ℕ) → ManagerFields P → map.FinMap nat_cmp Page
@@ -43,7 +43,7 @@ ledger_by bits_of m clean = record {
   root = m.root.page;
   pages = map.get clean;
   begun = m.begun;
-  opens = m.opens;
+  active = m.active;
   undoing = undoing_of m.txs;
   standing = standing_of (lists_by m).transcripts;
 }
@@ -51,28 +51,28 @@ ledger_by bits_of m clean = record {
 -- Open are just those in the table, and just those that the history has begun and not ended. Each has its number, and its
 -- undo list has what the history says that stands of it. Its object locks are all that the history says it did, taken back
 -- or not, and nobody else holds any. Page locks of two transactions go with each other.
-pub record KeepsBooks {P : Type 0} (m : ManagerFields P) : Type 0 where
-  pub in_table : (i : ℕ) → set.contains m.opens i ≡ is_some (map.get m.txs i)
-  pub in_history : (i : ℕ) → (set.contains m.opens i ≡ true) ↔ ((lists_by m).stage i ≡ Running)
+pub record KeepsAccounts {P : Type 0} (m : ManagerFields P) : Type 0 where
+  pub in_table : (i : ℕ) → set.contains m.active i ≡ is_some (map.get m.txs i)
+  pub in_history : (i : ℕ) → (set.contains m.active i ≡ true) ↔ ((lists_by m).stage i ≡ Running)
   pub number : (i : ℕ) (one : Transaction) → map.get m.txs i ≡ Some one → one.subtx.tx ≡ i
   pub undo : (i : ℕ) (one : Transaction) → map.get m.txs i ≡ Some one
       → one.undo.entries ≡ (lists_by m).transcripts i
-  pub held : (i : ℕ) → items_of i m.commons.objects.held ≡ (lists_by m).held i
-  pub page_locks : AreCompatible m.commons.pages.locks
+  pub held : (i : ℕ) → items_of i m.shared.objects.held ≡ (lists_by m).held i
+  pub page_locks : AreCompatible m.shared.pages.locks
 
 -- The main promise, and what else is promised. The clean pages are an extendible hash file with records that the cells can
 -- have, in which removals of open transactions have their ghosts. A running operation holds the page locks of its pass, and
 -- nobody else holds any. Who is open, what may be taken back and what is held is what the history says.
 pub record KeepsPromises {P : Type 0} (bits_of : P → ℕ → ℕ) (m : ManagerFields P) : Type 0 where
   pub main : KeepsMainPromise m
-  pub file : IsExtendibleHashFile (bits_of m.root.pseudo) m.opens (map.get main.clean) m.root.page
+  pub file : IsExtendibleHashFile (bits_of m.root.pseudo) m.active (map.get main.clean) m.root.page
   pub can_be : (cell : Cell) → IsInRange cell
       → IsRecord cell (map.get (live_records main.clean) (key_number cell))
   pub ghosts : GhostsAreKept (ledger_by bits_of m main.clean)
   pub locks : (i : ℕ) → HoldsLocksOfItsPass bits_of m (map.get main.clean) i
-  pub books : KeepsBooks m
-  pub begun : AreBegunInOrder m.commons.history.items
-  pub commits : AreCounted m.commons.history.items
+  pub accounts : KeepsAccounts m
+  pub begun : AreBegunInOrder m.shared.history.items
+  pub commits : AreCounted m.shared.history.items
 
 -- the base to which the committed transcripts lead, one after another; it is left when what is open is taken back
 pub record IsCommittedBaseOf {P : Type 0} (m : ManagerFields P) (base : Base) : Type 0 where
@@ -82,6 +82,6 @@ pub record IsCommittedBaseOf {P : Type 0} (m : ManagerFields P) (base : Base) : 
 -- the text of the history is an accepted trace, with the committed order and the base of what is committed
 pub record PassesTheChecker {P : Type 0} (m : ManagerFields P) : Type 0 where
   pub base : Base
-  pub accepted : IsAcceptedTrace (trace_text m.commons.history.items)
-      (committed_txs m.commons.history.items) base
+  pub accepted : IsAcceptedTrace (trace_text m.shared.history.items)
+      (committed_txs m.shared.history.items) base
   pub committed : IsCommittedBaseOf m base

@@ -37,7 +37,7 @@ StandsIn m tx other = Unit {0}
 -- its pending operation is dropped
 pub record IsDropped {P : Type 0} (old new : ManagerFields P) (tx : ℕ) : Type 0 where
   pub pending : IsOpenAt old.txs tx IsPending
-  pub cancels : CancelsOne tx old.txs new.txs old.commons new.commons
+  pub cancels : CancelsOne tx old.txs new.txs old.shared new.shared
   pub rest : ChangesOpen old new
 
 -- an operation that waits or is blocked is dropped

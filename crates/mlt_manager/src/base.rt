@@ -38,7 +38,7 @@ impl<P: Pseudo> Parts<P> {
         ensures base { IfOk result (λ base. HasBase (fields_of self.now) base) }
         ensures refusal { IsOkUnless result Refusal.OutOfMemory }
     {
-        let mut base = Base::new(self.commons.alloc);
+        let mut base = Base::new(self.shared.alloc);
         let places = 1 << self.depth();
         for place in 0..places {
             let bucket = self.clean_bucket(place);

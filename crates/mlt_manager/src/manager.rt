@@ -69,7 +69,7 @@ impl<P: Pseudo> Manager<P> {
     /// `OutOfMemory`, where a growth was refused. Nothing is begun then.
     pub fn begin(&mut self) -> Result<TxId, Refusal>
         ensures answers { AnswersBegin (counted self.old) self.new result }
-        ensures handed { self.new.commons.history.handed ≡ self.old.commons.history.handed }
+        ensures handed { self.new.shared.history.handed ≡ self.old.shared.history.handed }
     {
         self.parts.count();
         self.parts.begin()
@@ -84,7 +84,7 @@ impl<P: Pseudo> Manager<P> {
     #[inline(always)]
     pub fn call(&mut self, tx: TxId, op: ObjOp) -> Result<(), Refusal>
         ensures answers { AnswersCall (counted self.old) self.new tx op result }
-        ensures handed { self.new.commons.history.handed ≡ self.old.commons.history.handed }
+        ensures handed { self.new.shared.history.handed ≡ self.old.shared.history.handed }
     {
         self.parts.count();
         self.parts.call(tx, op)
@@ -99,7 +99,7 @@ impl<P: Pseudo> Manager<P> {
         ensures answers { AnswersStep P.bits_of (counted self.old) self.new tx result }
         ensures base { IfOk result (λ told. LeavesBase told (counted self.old) self.new tx) }
         ensures others { IfOk result (λ told. IsByAnother told self.new.txs tx) }
-        ensures handed { self.new.commons.history.handed ≡ self.old.commons.history.handed }
+        ensures handed { self.new.shared.history.handed ≡ self.old.shared.history.handed }
     {
         self.parts.count();
         self.parts.step(tx)
@@ -113,7 +113,7 @@ impl<P: Pseudo> Manager<P> {
     pub fn cancel(&mut self, tx: TxId) -> Result<(), Refusal>
         ensures answers { AnswersCancel (counted self.old) self.new tx result }
         ensures base { OnOk result (KeepsWhatCounts (counted self.old) self.new) }
-        ensures handed { self.new.commons.history.handed ≡ self.old.commons.history.handed }
+        ensures handed { self.new.shared.history.handed ≡ self.old.shared.history.handed }
     {
         self.parts.count();
         self.parts.cancel(tx)
@@ -126,7 +126,7 @@ impl<P: Pseudo> Manager<P> {
     /// operation is pending.
     pub fn commit(&mut self, tx: TxId) -> Result<u64, Refusal>
         ensures answers { AnswersCommit (counted self.old) self.new tx result }
-        ensures handed { self.new.commons.history.handed ≡ self.old.commons.history.handed }
+        ensures handed { self.new.shared.history.handed ≡ self.old.shared.history.handed }
     {
         self.parts.count();
         self.parts.commit(tx)
@@ -140,7 +140,7 @@ impl<P: Pseudo> Manager<P> {
     /// operation is pending.
     pub fn abort(&mut self, tx: TxId) -> Result<bool, Refusal>
         ensures answers { AnswersAbort (counted self.old) self.new tx result }
-        ensures handed { self.new.commons.history.handed ≡ self.old.commons.history.handed }
+        ensures handed { self.new.shared.history.handed ≡ self.old.shared.history.handed }
     {
         self.parts.count();
         self.parts.abort(tx)
@@ -155,7 +155,7 @@ impl<P: Pseudo> Manager<P> {
         ensures base { IfOk result
             (λ told. WholeLeavesBase told (counted self.old) self.new tx op) }
         ensures others { IfOk result (λ told. IsByAnother told self.new.txs tx) }
-        ensures handed { self.new.commons.history.handed ≡ self.old.commons.history.handed }
+        ensures handed { self.new.shared.history.handed ≡ self.old.shared.history.handed }
     {
         self.parts.count();
         self.parts.whole(tx, op)
@@ -169,7 +169,7 @@ impl<P: Pseudo> Manager<P> {
         ensures answers { AnswersWholeUndo P.bits_of (counted self.old) self.new tx result }
         ensures base { IfOk result (λ told. UndoingLeavesBase told (counted self.old) self.new tx) }
         ensures others { IfOk result (λ told. IsByAnother told self.new.txs tx) }
-        ensures handed { self.new.commons.history.handed ≡ self.old.commons.history.handed }
+        ensures handed { self.new.shared.history.handed ≡ self.old.shared.history.handed }
     {
         self.parts.count();
         self.parts.whole_undo(tx)
@@ -179,7 +179,7 @@ impl<P: Pseudo> Manager<P> {
     #[inline(always)]
     pub fn act(&mut self, event: Event) -> Told
         ensures meets { Meets P.bits_of event result (counted self.old) self.new }
-        ensures handed { self.new.commons.history.handed ≡ self.old.commons.history.handed }
+        ensures handed { self.new.shared.history.handed ≡ self.old.shared.history.handed }
     {
         match event {
             Event::Begin => match self.begin() {
@@ -224,7 +224,7 @@ impl<P: Pseudo> Manager<P> {
         ensures plays { IfOk result (λ played.
             Plays P.bits_of limits pseudo events.now played.1.items played.0) }
         // all of the history is there
-        ensures history { IfOk result (λ played. played.0.commons.history.handed ≡ []) }
+        ensures history { IfOk result (λ played. played.0.shared.history.handed ≡ []) }
         // among whole events nobody waits
         ensures whole { AreWholeEvents events.now
             → IfOk result (λ played. NoneWaits played.1.items) }
@@ -244,18 +244,18 @@ impl<P: Pseudo> Manager<P> {
 
     /// What transactions did, in order, where none of it was handed out.
     pub fn history(&self) -> Option<&[KeptItem]>
-        ensures some { IfSome result (λ items. items.now ≡ self.now.commons.history.items) }
-        ensures none { IfNone result (self.now.commons.history.handed ≢ []) }
+        ensures some { IfSome result (λ items. items.now ≡ self.now.shared.history.items) }
+        ensures none { IfNone result (self.now.shared.history.handed ≢ []) }
     {
-        self.parts.commons.history.items()
+        self.parts.shared.history.items()
     }
 
     /// What transactions did and was not handed out yet, in order.
     pub fn kept_history(&self) -> &[KeptItem]
-        ensures { self.now.commons.history.items
-            ≡ self.now.commons.history.handed ++ result.now }
+        ensures { self.now.shared.history.items
+            ≡ self.now.shared.history.handed ++ result.now }
     {
-        self.parts.commons.history.kept()
+        self.parts.shared.history.kept()
     }
 
     /// Hands out what transactions did since this was called last, in order: it is what the list has then, and what that had is
@@ -267,9 +267,9 @@ impl<P: Pseudo> Manager<P> {
     pub fn take_history(&mut self, list: &mut Vec<KeptItem>) -> Result<(), Refusal>
         ensures rest { HandsOut self.old self.new }
         ensures handed { OnOk result
-            (self.new.commons.history.handed ≡ self.old.commons.history.items) }
-        ensures list { OnOk result (self.old.commons.history.items
-            ≡ self.old.commons.history.handed ++ list.new.items) }
+            (self.new.shared.history.handed ≡ self.old.shared.history.items) }
+        ensures list { OnOk result (self.old.shared.history.items
+            ≡ self.old.shared.history.handed ++ list.new.items) }
         ensures err { OnErr result (self.new ≡ self.old) }
         ensures refusal { IsOkUnless result Refusal.OutOfMemory }
     {
@@ -278,9 +278,9 @@ impl<P: Pseudo> Manager<P> {
 
     /// The pages, with what running operations have written.
     pub fn pages(&self) -> &Store
-        ensures { result.now ≡ self.now.commons.pages.store }
+        ensures { result.now ≡ self.now.shared.pages.store }
     {
-        &self.parts.commons.pages.store
+        &self.parts.shared.pages.store
     }
 
     /// The first image of a page that a running subtransaction has written: the page as it was before, or `None` where it was
@@ -338,7 +338,7 @@ impl<P: Pseudo> Manager<P> {
     pub fn passes_the_checker(&self)
         ensures { PassesTheChecker self.now }
     {
-        self.parts.commons.history.items_fit();
+        self.parts.shared.history.items_fit();
         placed_items_are_writable();
         history_passes_the_checker();
     }
@@ -346,8 +346,8 @@ impl<P: Pseudo> Manager<P> {
     /// Each item of the history has its place, and transactions begin under the numbers 1, 2, 3 and so on: what an audit of
     /// outcomes against the history asks.
     pub fn keeps_a_placed_history(&self)
-        ensures placed { ArePlaced self.now.commons.history.items }
-        ensures begun { AreBegunInOrder self.now.commons.history.items }
+        ensures placed { ArePlaced self.now.shared.history.items }
+        ensures begun { AreBegunInOrder self.now.shared.history.items }
     {
         // What is always true of the parts is known where they are read.
         let _parts = &self.parts;

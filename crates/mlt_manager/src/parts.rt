@@ -2,7 +2,7 @@
 
 ghost use Rattle.std.specs.Prelude.{◌≡◌, ◌≤◌, ◌+◌, ◌++◌, IfErr, IsOkUnless, IfOk, OnErr, OnOk, option_copied};
 ghost use Rattle.std.specs.FinMap as map;
-ghost use Rattle.mlt_manager.specs.Answers.{AnswersAbort, AnswersBegin, AnswersCall, AnswersCancel, AnswersCommit, AnswersStep, HasEnded, HasStepped, IsBusy, IsCauseAtCall, IsCauseAtCancel, IsIdleWith, IsNotIdle, IsOpenAt, IsUndoing, MayCall, counted, opens_after, txs_after};
+ghost use Rattle.mlt_manager.specs.Answers.{AnswersAbort, AnswersBegin, AnswersCall, AnswersCancel, AnswersCommit, AnswersStep, HasEnded, HasStepped, IsBusy, IsCauseAtCall, IsCauseAtCancel, IsIdleWith, IsNotIdle, IsOpenAt, IsUndoing, MayCall, counted, active_after, txs_after};
 ghost use Rattle.mlt_manager.specs.Bases.{HasCleanPage, HasDepth};
 ghost use Rattle.mlt_manager.specs.HandingOut.{HandsOut};
 ghost use Rattle.mlt_manager.specs.Wholes.{AnswersWhole, RunsToEnd, StandsIn, StepsOnUpTo};
@@ -13,7 +13,7 @@ ghost use Rattle.mlt_manager.specs.Parts.{IsStageOf, fields_of};
 ghost use Rattle.mlt_manager.specs.Managers.{IsManager};
 
 use mlt_event::Answer;
-use mlt_hash::{Setting, open_file};
+use mlt_hash::{Environment, open_file};
 use mlt_hash_access::LockedStore;
 use mlt_hash_form::Root;
 use mlt_object_kinds::ObjOp;
@@ -22,7 +22,7 @@ use mlt_page::Page;
 use mlt_page_locks::PageLocks;
 use mlt_page_store::Store;
 use mlt_trace::{History, KeptItem, TraceItem};
-use mlt_tx::{Commons, State};
+use mlt_tx::{ActivityState, SharedState};
 use mlt_tx_meaning::operation_is_in_range;
 use mlt_tx_open::OpenTransactions;
 use mlt_types::{Limits, OpenSet, PageNo, Pseudo, Refusal, TxId};
@@ -33,16 +33,16 @@ use std::alloc::Global;
 pub(crate) struct Parts<P> {
     pub(crate) limits: Limits,
     pub(crate) root: Root<P>,
-    pub(crate) commons: Commons,
+    pub(crate) shared: SharedState,
     pub(crate) txs: OpenTransactions,
-    pub(crate) opens: OpenSet,
+    pub(crate) active: OpenSet,
     pub(crate) begun: u64,
     pub(crate) commits: u64,
     pub(crate) events: u64,
 }
 
 /// What the transaction of a number is at.
-enum Stage {
+enum TxStage {
     NotOpen,
     /// Nothing, and this many of its operations stand.
     Idle(usize),
@@ -67,14 +67,14 @@ impl<P: Pseudo> Parts<P> {
                 max_depth: limits.max_depth as u8,
                 pseudo,
             },
-            commons: Commons {
+            shared: SharedState {
                 alloc,
                 pages: LockedStore { store, locks },
                 objects: ObjectLocks::new(alloc),
                 history: History::new(alloc),
             },
             txs: OpenTransactions::new(alloc),
-            opens: OpenSet::new(),
+            active: OpenSet::new(),
             begun: 0,
             commits: 0,
             events: 0,
@@ -95,26 +95,26 @@ impl<P: Pseudo> Parts<P> {
     pub(crate) fn hand_out(&mut self, list: &mut Vec<KeptItem>) -> Result<(), Refusal>
         ensures rest { HandsOut (fields_of self.old) (fields_of self.new) }
         ensures handed { OnOk result
-            (self.new.commons.history.handed ≡ self.old.commons.history.items) }
-        ensures list { OnOk result (self.old.commons.history.items
-            ≡ self.old.commons.history.handed ++ list.new.items) }
+            (self.new.shared.history.handed ≡ self.old.shared.history.items) }
+        ensures list { OnOk result (self.old.shared.history.items
+            ≡ self.old.shared.history.handed ++ list.new.items) }
         ensures err { OnErr result (fields_of self.new ≡ fields_of self.old) }
         ensures refusal { IsOkUnless result Refusal.OutOfMemory }
     {
-        self.commons.history.hand_out(list)
+        self.shared.history.hand_out(list)
     }
 
     /// What the transaction of a number is at.
-    fn stage(&self, tx: TxId) -> Stage
+    fn stage(&self, tx: TxId) -> TxStage
         ensures { IsStageOf result self.now.txs tx }
     {
         let Some(transaction) = self.txs.get(tx) else {
-            return Stage::NotOpen;
+            return TxStage::NotOpen;
         };
         match transaction.at.state() {
-            State::Idle => Stage::Idle(transaction.undo.len()),
-            State::Pending => Stage::Pending,
-            State::Undoing => Stage::Undoing,
+            ActivityState::Idle => TxStage::Idle(transaction.undo.len()),
+            ActivityState::Pending => TxStage::Pending,
+            ActivityState::Undoing => TxStage::Undoing,
         }
     }
 
@@ -127,10 +127,10 @@ impl<P: Pseudo> Parts<P> {
         ensures refusal { IfErr result (λ reason. IsNotIdle reason self.now.txs tx) }
     {
         match self.stage(tx) {
-            Stage::NotOpen => Err(Refusal::NoSuchTx),
-            Stage::Idle(count) => Ok(count),
-            Stage::Pending => Err(Refusal::Running),
-            Stage::Undoing => Err(Refusal::Undoing),
+            TxStage::NotOpen => Err(Refusal::NoSuchTx),
+            TxStage::Idle(count) => Ok(count),
+            TxStage::Pending => Err(Refusal::Running),
+            TxStage::Undoing => Err(Refusal::Undoing),
         }
     }
 
@@ -143,10 +143,10 @@ impl<P: Pseudo> Parts<P> {
         ensures refusal { IfErr result (λ reason. IsCauseAtCancel reason self.now.txs tx) }
     {
         match self.stage(tx) {
-            Stage::NotOpen => Err(Refusal::NoSuchTx),
-            Stage::Idle(_) => Err(Refusal::NotRunning),
-            Stage::Undoing => Err(Refusal::Undoing),
-            Stage::Pending => Ok(()),
+            TxStage::NotOpen => Err(Refusal::NoSuchTx),
+            TxStage::Idle(_) => Err(Refusal::NotRunning),
+            TxStage::Undoing => Err(Refusal::Undoing),
+            TxStage::Pending => Ok(()),
         }
     }
 
@@ -159,10 +159,10 @@ impl<P: Pseudo> Parts<P> {
         ensures refusal { IfErr result (λ reason. IsCauseAtUndo reason self.now.txs tx) }
     {
         match self.stage(tx) {
-            Stage::NotOpen => Err(Refusal::NoSuchTx),
-            Stage::Idle(_) => Err(Refusal::NotRunning),
-            Stage::Pending => Err(Refusal::NotRunning),
-            Stage::Undoing => Ok(()),
+            TxStage::NotOpen => Err(Refusal::NoSuchTx),
+            TxStage::Idle(_) => Err(Refusal::NotRunning),
+            TxStage::Pending => Err(Refusal::NotRunning),
+            TxStage::Undoing => Ok(()),
         }
     }
 
@@ -173,7 +173,7 @@ impl<P: Pseudo> Parts<P> {
     {
         match self.txs.first_image(number) {
             Some(first) => first.as_ref(),
-            None => self.commons.pages.store.read(number),
+            None => self.shared.pages.store.read(number),
         }
     }
 
@@ -195,7 +195,7 @@ impl<P: Pseudo> Parts<P> {
     pub(crate) fn begin(&mut self) -> Result<TxId, Refusal>
         requires sound { IsManager P.bits_of (fields_of self.old) }
         ensures answers { AnswersBegin (fields_of self.old) (fields_of self.new) result }
-        ensures handed { self.new.commons.history.handed ≡ self.old.commons.history.handed }
+        ensures handed { self.new.shared.history.handed ≡ self.old.shared.history.handed }
     {
         if self.txs.len() >= self.limits.max_open as usize {
             return Err(Refusal::TooManyOpen);
@@ -203,15 +203,15 @@ impl<P: Pseudo> Parts<P> {
         if self.begun >= self.limits.max_ids {
             return Err(Refusal::IdsSpent);
         }
-        self.commons.history.reserve(2)?;
+        self.shared.history.reserve(2)?;
         let tx = TxId(self.begun + 1);
         if let Err(refusal) = self.txs.begin(tx) {
-            self.commons.history.release(2);
+            self.shared.history.release(2);
             return Err(refusal);
         }
-        self.opens.insert(tx);
+        self.active.insert(tx);
         self.begun += 1;
-        self.commons.history.push(TraceItem::Begin(tx));
+        self.shared.history.push(TraceItem::Begin(tx));
         Ok(tx)
     }
 
@@ -233,11 +233,11 @@ impl<P: Pseudo> Parts<P> {
     #[inline(always)]
     pub(crate) fn call(&mut self, tx: TxId, op: ObjOp) -> Result<(), Refusal>
         ensures answers { AnswersCall (fields_of self.old) (fields_of self.new) tx op result }
-        ensures handed { self.new.commons.history.handed ≡ self.old.commons.history.handed }
+        ensures handed { self.new.shared.history.handed ≡ self.old.shared.history.handed }
     {
         operation_is_in_range(&op);
         let max_ops = self.limits.max_ops as usize;
-        self.txs.try_call(tx, &mut self.commons, op, max_ops)
+        self.txs.try_call(tx, &mut self.shared, op, max_ops)
     }
 
     #[inline(always)]
@@ -245,14 +245,14 @@ impl<P: Pseudo> Parts<P> {
         requires sound { IsManager P.bits_of (fields_of self.old) }
         ensures answers { AnswersStep P.bits_of (fields_of self.old) (fields_of self.new)
             tx result }
-        ensures handed { self.new.commons.history.handed ≡ self.old.commons.history.handed }
+        ensures handed { self.new.shared.history.handed ≡ self.old.shared.history.handed }
     {
-        let setting = Setting {
+        let environment = Environment {
             root: &self.root,
-            opens: &self.opens,
+            active: &self.active,
         };
-        let answer = self.txs.try_step(tx, &mut self.commons, &setting)?;
-        leave_if_aborted(&mut self.txs, &mut self.opens, tx, &answer);
+        let answer = self.txs.try_step(tx, &mut self.shared, &environment)?;
+        leave_if_aborted(&mut self.txs, &mut self.active, tx, &answer);
         Ok(answer)
     }
 
@@ -261,14 +261,14 @@ impl<P: Pseudo> Parts<P> {
         requires sound { IsManager P.bits_of (fields_of self.old) }
         requires busy { IsOpenAt self.old.txs tx IsBusy }
         ensures steps { HasStepped P.bits_of (fields_of self.old) (fields_of self.new) tx result }
-        ensures handed { self.new.commons.history.handed ≡ self.old.commons.history.handed }
+        ensures handed { self.new.shared.history.handed ≡ self.old.shared.history.handed }
     {
-        let setting = Setting {
+        let environment = Environment {
             root: &self.root,
-            opens: &self.opens,
+            active: &self.active,
         };
-        let answer = self.txs.step(tx, &mut self.commons, &setting);
-        leave_if_aborted(&mut self.txs, &mut self.opens, tx, &answer);
+        let answer = self.txs.step(tx, &mut self.shared, &environment);
+        leave_if_aborted(&mut self.txs, &mut self.active, tx, &answer);
         answer
     }
 
@@ -276,7 +276,7 @@ impl<P: Pseudo> Parts<P> {
         requires sound { IsManager P.bits_of (fields_of self.old) }
         ensures answers { AnswersWhole P.bits_of (fields_of self.old) (fields_of self.new)
             tx op result }
-        ensures handed { self.new.commons.history.handed ≡ self.old.commons.history.handed }
+        ensures handed { self.new.shared.history.handed ≡ self.old.shared.history.handed }
     {
         if self.txs.len() <= 1 {
             return self.whole_alone(tx, op);
@@ -292,15 +292,15 @@ impl<P: Pseudo> Parts<P> {
         requires alone { map.len self.old.txs ≤ 1 }
         ensures answers { AnswersWhole P.bits_of (fields_of self.old) (fields_of self.new)
             tx op result }
-        ensures handed { self.new.commons.history.handed ≡ self.old.commons.history.handed }
+        ensures handed { self.new.shared.history.handed ≡ self.old.shared.history.handed }
     {
         self.may_call(tx)?;
         operation_is_in_range(&op);
-        let setting = Setting {
+        let environment = Environment {
             root: &self.root,
-            opens: &self.opens,
+            active: &self.active,
         };
-        match self.txs.call_at_once(tx, &mut self.commons, op, &setting)? {
+        match self.txs.call_fast(tx, &mut self.shared, op, &environment)? {
             Some(reply) => Ok(Answer::Done(reply)),
             None => Ok(self.run(tx)),
         }
@@ -311,12 +311,12 @@ impl<P: Pseudo> Parts<P> {
         requires sound { IsManager P.bits_of (fields_of self.old) }
         requires pending { IsOpenAt self.old.txs tx IsPending }
         ensures runs { RunsToEnd P.bits_of (fields_of self.old) (fields_of self.new) tx result }
-        ensures handed { self.new.commons.history.handed ≡ self.old.commons.history.handed }
+        ensures handed { self.new.shared.history.handed ≡ self.old.shared.history.handed }
     {
         let answer = self.run_on(tx);
         match answer {
-            Answer::Waiting { .. } => self.txs.cancel(tx, &mut self.commons),
-            Answer::Blocked { .. } => self.txs.cancel(tx, &mut self.commons),
+            Answer::Waiting { .. } => self.txs.cancel(tx, &mut self.shared),
+            Answer::Blocked { .. } => self.txs.cancel(tx, &mut self.shared),
             _ => (),
         }
         answer
@@ -328,7 +328,7 @@ impl<P: Pseudo> Parts<P> {
         requires pending { IsOpenAt self.old.txs tx IsPending }
         ensures steps { StepsOnUpTo P.bits_of (fields_of self.old) (fields_of self.new) tx result }
         ensures pending { StandsIn (fields_of self.new) tx result }
-        ensures handed { self.new.commons.history.handed ≡ self.old.commons.history.handed }
+        ensures handed { self.new.shared.history.handed ≡ self.old.shared.history.handed }
     {
         loop {
             match self.step_open(tx) {
@@ -342,7 +342,7 @@ impl<P: Pseudo> Parts<P> {
         requires sound { IsManager P.bits_of (fields_of self.old) }
         ensures answers { AnswersWholeUndo P.bits_of (fields_of self.old) (fields_of self.new)
             tx result }
-        ensures handed { self.new.commons.history.handed ≡ self.old.commons.history.handed }
+        ensures handed { self.new.shared.history.handed ≡ self.old.shared.history.handed }
     {
         self.undoing(tx)?;
         Ok(self.undo_all(tx))
@@ -354,7 +354,7 @@ impl<P: Pseudo> Parts<P> {
         requires undoing { IsOpenAt self.old.txs tx IsUndoing }
         ensures steps { StepsBackUpTo P.bits_of (fields_of self.old) (fields_of self.new)
             tx result }
-        ensures handed { self.new.commons.history.handed ≡ self.old.commons.history.handed }
+        ensures handed { self.new.shared.history.handed ≡ self.old.shared.history.handed }
     {
         loop {
             match self.step_open(tx) {
@@ -367,17 +367,17 @@ impl<P: Pseudo> Parts<P> {
     pub(crate) fn cancel(&mut self, tx: TxId) -> Result<(), Refusal>
         requires sound { IsManager P.bits_of (fields_of self.old) }
         ensures answers { AnswersCancel (fields_of self.old) (fields_of self.new) tx result }
-        ensures handed { self.new.commons.history.handed ≡ self.old.commons.history.handed }
+        ensures handed { self.new.shared.history.handed ≡ self.old.shared.history.handed }
     {
         self.pending(tx)?;
-        self.txs.cancel(tx, &mut self.commons);
+        self.txs.cancel(tx, &mut self.shared);
         Ok(())
     }
 
     pub(crate) fn commit(&mut self, tx: TxId) -> Result<u64, Refusal>
         requires sound { IsManager P.bits_of (fields_of self.old) }
         ensures answers { AnswersCommit (fields_of self.old) (fields_of self.new) tx result }
-        ensures handed { self.new.commons.history.handed ≡ self.old.commons.history.handed }
+        ensures handed { self.new.shared.history.handed ≡ self.old.shared.history.handed }
     {
         let count = self.idle(tx)?;
         let number = self.commits + 1;
@@ -389,7 +389,7 @@ impl<P: Pseudo> Parts<P> {
     pub(crate) fn abort(&mut self, tx: TxId) -> Result<bool, Refusal>
         requires sound { IsManager P.bits_of (fields_of self.old) }
         ensures answers { AnswersAbort (fields_of self.old) (fields_of self.new) tx result }
-        ensures handed { self.new.commons.history.handed ≡ self.old.commons.history.handed }
+        ensures handed { self.new.shared.history.handed ≡ self.old.shared.history.handed }
     {
         let count = self.idle(tx)?;
         if count == 0 {
@@ -403,31 +403,31 @@ impl<P: Pseudo> Parts<P> {
     /// Closes a transaction at nothing, of which this many operations stand.
     fn close(&mut self, tx: TxId, count: usize, item: TraceItem)
         requires idle { IsIdleWith self.old.txs tx count }
-        requires room { 1 + count ≤ self.old.commons.history.room }
+        requires room { 1 + count ≤ self.old.shared.history.room }
         ensures ends { HasEnded (fields_of self.old) (fields_of self.new) tx item }
         ensures rest { self.new ≡ record self.old {
-          commons = self.new.commons;
+          shared = self.new.shared;
           txs = self.new.txs;
-          opens = self.new.opens;
+          active = self.new.active;
         } }
-        ensures handed { self.new.commons.history.handed ≡ self.old.commons.history.handed }
+        ensures handed { self.new.shared.history.handed ≡ self.old.shared.history.handed }
     {
-        self.commons.history.push(item);
-        self.commons.history.release(count);
-        self.commons.objects.release_all(tx);
+        self.shared.history.push(item);
+        self.shared.history.release(count);
+        self.shared.objects.release_all(tx);
         self.txs.remove(tx);
-        self.opens.remove(tx);
+        self.active.remove(tx);
     }
 }
 
 /// A transaction that is told `Aborted` is open no more.
 #[inline(always)]
-fn leave_if_aborted(txs: &mut OpenTransactions, opens: &mut OpenSet, tx: TxId, told: &Answer)
+fn leave_if_aborted(txs: &mut OpenTransactions, active: &mut OpenSet, tx: TxId, told: &Answer)
     ensures txs { txs.new ≡ txs_after told.now tx txs.old }
-    ensures opens { opens.new ≡ opens_after told.now tx opens.old }
+    ensures active { active.new ≡ active_after told.now tx active.old }
 {
     if let Answer::Aborted = told {
         txs.remove(tx);
-        opens.remove(tx);
+        active.remove(tx);
     }
 }

@@ -27,59 +27,59 @@ use Rattle.mlt_trace.proofs.ItemLaws.{entries_of-append, no_begin, no_commit}
 use Rattle.mlt_trace.proofs.RoomLaws.{total_room-remove}
 use Rattle.mlt_hash_subtx_laws.specs.CleanPages.{clean_pages}
 use Rattle.mlt_hash_access.specs.Views.{view_of}
-use Rattle.mlt_hash_subtx_laws.specs.Running.{KeepsRunning, after_close, clean_of, moment_of}
+use Rattle.mlt_hash_subtx_laws.specs.Running.{KeepsRunning, after_close, clean_of, local_of}
 use Rattle.mlt_hash_subtx_laws.proofs.AllEvents.{close_clean, close_keeps}
-use Rattle.mlt_tx_meaning.specs.Events.{with_closed, with_undone as world_undone}
-use Rattle.mlt_tx_meaning.specs.Worlds.{PagesMeanHistory, lists_in}
+use Rattle.mlt_tx_meaning.specs.Events.{with_closed, with_undone as state_undone}
+use Rattle.mlt_tx_meaning.specs.AbstractStates.{PagesMeanHistory, lists_in}
 use Rattle.mlt_tx_meaning.proofs.OpenNumbers.{removed_beside, removed_here as closed_here}
 use Rattle.mlt_tx_meaning.proofs.Transactions.{close_keeps as close_keeps_match}
 use Rattle.mlt_tx_meaning.proofs.Matches.{same_pages_match}
 use Rattle.mlt_tx_meaning.proofs.Walks.{no_more_by_end}
 use Rattle.mlt_tx_operation.specs.Operating.{OperationFields}
 use Rattle.mlt_event.specs.declared.answer.Answer.TheVariants as answer
-use Rattle.mlt_tx.specs.declared.commons.Commons.{Commons}
+use Rattle.mlt_tx.specs.declared.shared.SharedState.{SharedState}
 use Rattle.mlt_tx.specs.declared.transaction.Transaction.{Transaction}
 use Rattle.mlt_tx.specs.Steps.{TakesLast}
 use Rattle.mlt_manager_invariant.specs.Sound.{Fits, IsSound}
-use Rattle.mlt_manager_invariant.specs.States.{State, all_of, images_kept, is_undoing_at, room_of, undoing_of, world_of}
+use Rattle.mlt_manager_invariant.specs.States.{State, all_of, images_kept, is_undoing_at, room_of, undoing_of, abstract_state_of}
 use Rattle.mlt_manager_invariant.specs.Undoing.{LedBack, TakesLastBack, with_aborted}
 use Rattle.mlt_manager_invariant.proofs.Closing.{all_of_others, nothing_of, one_after_another}
 use Rattle.mlt_manager_invariant.proofs.InverseEnds.{cleared}
 use Rattle.mlt_manager_invariant.proofs.LastBack.{IsLeft, led_back, left, may_undo, pages_now, room_before}
-use Rattle.mlt_manager_invariant.proofs.Openness.{agrees_in, keeps_fewer, opens_fits}
+use Rattle.mlt_manager_invariant.proofs.Openness.{agrees_in, keeps_fewer, active_fits}
 use Rattle.mlt_manager_invariant.proofs.Tables.{removed_elsewhere, removed_here, removed_inserted}
 
-module _ (s : State) (i : ℕ) (inverting : Option OperationFields) (before after : Transaction) (commons : Commons)
-    (sound : IsSound s) (was : map.get s.txs i ≡ Some before) (takes : TakesLastBack s inverting before after commons answer.Aborted) where
-  abbrev last : TakesLast before.subtx.tx before.undo after.undo takes.ends.between commons
+module _ (s : State) (i : ℕ) (inverting : Option OperationFields) (before after : Transaction) (shared : SharedState)
+    (sound : IsSound s) (was : map.get s.txs i ≡ Some before) (takes : TakesLastBack s inverting before after shared answer.Aborted) where
+  abbrev last : TakesLast before.subtx.tx before.undo after.undo takes.ends.between shared
   last = takes.ends.takes
 
-  abbrev led : (base : Base) × Step base last.off.last s.base × PagesMeanHistory (world_undone (world_of s) i (pages_now s i before after commons answer.Aborted sound was inverting takes last.off) base)
-  led = led_back s i before after commons answer.Aborted sound was inverting takes last.off
+  abbrev led : (base : Base) × Step base last.off.last s.base × PagesMeanHistory (state_undone (abstract_state_of s) i (pages_now s i before after shared answer.Aborted sound was inverting takes last.off) base)
+  led = led_back s i before after shared answer.Aborted sound was inverting takes last.off
 
-  abbrev rest : IsLeft s i after takes.ends.between commons last.off.last
-  rest = left s i before after commons answer.Aborted sound was inverting takes last.off
+  abbrev rest : IsLeft s i after takes.ends.between shared last.off.last
+  rest = left s i before after shared answer.Aborted sound was inverting takes last.off
 
   abbrev now : State
-  now = with_aborted s i commons led.0
+  now = with_aborted s i shared led.0
 
   abbrev old_items : List TraceItem
-  old_items = s.commons.history.items
+  old_items = s.shared.history.items
 
   abbrev old_lists : Lists (ObjOp × ObjReply)
-  old_lists = lists_in (world_of s)
+  old_lists = lists_in (abstract_state_of s)
 
   number : before.subtx.tx ≡ i
   number = (sound.fits i before was).number
 
   -- ---- the history
 
-  items_now : commons.history.items ≡ (old_items ++ trace.Back i ∷ []) ++ trace.Abort i ∷ []
+  items_now : shared.history.items ≡ (old_items ++ trace.Back i ∷ []) ++ trace.Abort i ∷ []
   items_now =
       last.items ∙ ap (λ (h : ItemsWithRoom). h.items ++ trace.Back before.subtx.tx ∷ trace.Abort before.subtx.tx ∷ []) rest.history
       ∙ ap (λ n. old_items ++ trace.Back n ∷ trace.Abort n ∷ []) number ∙ sym (append_assoc old_items (trace.Back i ∷ []) (trace.Abort i ∷ []))
 
-  history_now : entries_of commons.history.items ≡ (entries_of old_items ++ TookBack i ∷ []) ++ Closed i ∷ []
+  history_now : entries_of shared.history.items ≡ (entries_of old_items ++ TookBack i ∷ []) ++ Closed i ∷ []
   history_now =
       ap entries_of items_now ∙ entries_of-append (old_items ++ trace.Back i ∷ []) (trace.Abort i ∷ [])
       ∙ ap (λ (h : List (Entry (ObjOp × ObjReply))). h ++ Closed i ∷ []) (entries_of-append old_items (trace.Back i ∷ []))
@@ -87,15 +87,15 @@ module _ (s : State) (i : ℕ) (inverting : Option OperationFields) (before afte
   lists_between : lists_of (entries_of old_items ++ TookBack i ∷ []) ≡ after_entry old_lists (TookBack i)
   lists_between = after_entries-push (entries_of old_items) no_lists (TookBack i)
 
-  lists_now : lists_in (world_of now) ≡ after_entry (after_entry old_lists (TookBack i)) (Closed i)
+  lists_now : lists_in (abstract_state_of now) ≡ after_entry (after_entry old_lists (TookBack i)) (Closed i)
   lists_now =
       ap lists_of history_now ∙ after_entries-push (entries_of old_items ++ TookBack i ∷ []) no_lists (Closed i)
       ∙ ap (λ (l : Lists (ObjOp × ObjReply)). after_entry l (Closed i)) lists_between
 
-  same_begun : begun_txs commons.history.items ≡ begun_txs old_items
+  same_begun : begun_txs shared.history.items ≡ begun_txs old_items
   same_begun = ap begun_txs items_now ∙ no_begin (old_items ++ trace.Back i ∷ []) (trace.Abort i) refl ∙ no_begin old_items (trace.Back i) refl
 
-  same_commits : commit_numbers commons.history.items ≡ commit_numbers old_items
+  same_commits : commit_numbers shared.history.items ≡ commit_numbers old_items
   same_commits = ap commit_numbers items_now ∙ no_commit (old_items ++ trace.Back i ∷ []) (trace.Abort i) refl ∙ no_commit old_items (trace.Back i) refl
 
   abbrev shorter : ℕ → List (ObjOp × ObjReply)
@@ -108,32 +108,32 @@ module _ (s : State) (i : ℕ) (inverting : Option OperationFields) (before afte
 
   -- ---- what runs
 
-  is_closed : after_close (cleared s i commons) i ≡ all_of now
-  is_closed = ap (λ images. record { images = images; locks = commons.pages.locks; store = commons.pages.store }) (removed_inserted s.images i map.empty)
+  is_closed : after_close (cleared s i shared) i ≡ all_of now
+  is_closed = ap (λ images. record { images = images; locks = shared.pages.locks; store = shared.pages.store }) (removed_inserted s.images i map.empty)
 
   runs : KeepsRunning i (all_of s) (all_of now)
   runs =
       let keeps = rest.cleared.keeps in
       subst (KeepsRunning i (all_of s)) is_closed
-      (one_after_another i (all_of s) (cleared s i commons) (after_close (cleared s i commons) i) keeps (close_keeps (cleared s i commons) i keeps.may rest.cleared.nothing))
+      (one_after_another i (all_of s) (cleared s i shared) (after_close (cleared s i shared) i) keeps (close_keeps (cleared s i shared) i keeps.may rest.cleared.nothing))
 
   -- ---- the match
 
   abbrev pages : map.FinMap nat_cmp Page
-  pages = pages_now s i before after commons answer.Aborted sound was inverting takes last.off
+  pages = pages_now s i before after shared answer.Aborted sound was inverting takes last.off
 
-  closes : PagesMeanHistory (with_closed (world_undone (world_of s) i pages led.0) i (undoing_of now.txs))
+  closes : PagesMeanHistory (with_closed (state_undone (abstract_state_of s) i pages led.0) i (undoing_of now.txs))
   closes =
-      let may = may_undo s i before after commons answer.Aborted sound was inverting takes last.off in
+      let may = may_undo s i before after shared answer.Aborted sound was inverting takes last.off in
       let same : SameElsewhere (undoing_of s.txs) (undoing_of now.txs) i = λ j ne. ap is_undoing_at (removed_elsewhere s.txs i j ne) in
-      close_keeps_match (world_undone (world_of s) i pages led.0) i (undoing_of now.txs) led.2 may.is_open same (ap (λ (l : Lists (ObjOp × ObjReply)). l.transcripts i) lists_between ∙ none_left)
+      close_keeps_match (state_undone (abstract_state_of s) i pages led.0) i (undoing_of now.txs) led.2 may.is_open same (ap (λ (l : Lists (ObjOp × ObjReply)). l.transcripts i) lists_between ∙ none_left)
 
-  match : PagesMeanHistory (world_of now)
+  match : PagesMeanHistory (abstract_state_of now)
   match =
-      let clean = close_clean (cleared s i commons) i rest.cleared.keeps.may rest.cleared.nothing in
-      let new = clean_pages now.images commons.pages.store.pages in
-      subst (λ (h : List (Entry (ObjOp × ObjReply))). PagesMeanHistory (record (world_of now) { history = h })) (sym history_now)
-      (same_pages_match (with_closed (world_undone (world_of s) i pages led.0) i (undoing_of now.txs)) new closes (λ q. ap (λ all. clean_of all q) (sym is_closed) ∙ ap (λ f. f q) clean))
+      let clean = close_clean (cleared s i shared) i rest.cleared.keeps.may rest.cleared.nothing in
+      let new = clean_pages now.images shared.pages.store.pages in
+      subst (λ (h : List (Entry (ObjOp × ObjReply))). PagesMeanHistory (record (abstract_state_of now) { history = h })) (sym history_now)
+      (same_pages_match (with_closed (state_undone (abstract_state_of s) i pages led.0) i (undoing_of now.txs)) new closes (λ q. ap (λ all. clean_of all q) (sym is_closed) ∙ ap (λ f. f q) clean))
 
   -- ---- who is open
 
@@ -143,13 +143,13 @@ module _ (s : State) (i : ℕ) (inverting : Option OperationFields) (before afte
     | inr differ ↦ removed_elsewhere s.images i j differ ∙ sound.kept j ∙ ap images_kept (sym (removed_elsewhere s.txs i j differ))
   ]
 
-  opened : (j : ℕ) → set.contains now.opens j ≡ is_some (map.get now.txs j)
+  opened : (j : ℕ) → set.contains now.active j ≡ is_some (map.get now.txs j)
   opened j = elim (cases_eq j i) [
-    | inl here ↦ ap (set.contains now.opens) here ∙ closed_here s.opens i ∙ sym (ap is_some (ap (map.get now.txs) here ∙ removed_here s.txs i))
-    | inr differ ↦ removed_beside s.opens i j differ ∙ sound.opened j ∙ ap is_some (sym (removed_elsewhere s.txs i j differ))
+    | inl here ↦ ap (set.contains now.active) here ∙ closed_here s.active i ∙ sym (ap is_some (ap (map.get now.txs) here ∙ removed_here s.txs i))
+    | inr differ ↦ removed_beside s.active i j differ ∙ sound.opened j ∙ ap is_some (sym (removed_elsewhere s.txs i j differ))
   ]
 
-  reserved : SameReservations s.commons.objects.reserved commons.objects.reserved i
+  reserved : SameReservations s.shared.objects.reserved shared.objects.reserved i
   reserved other ne = last.others other (λ e. ne (e ∙ number)) ∙ ap (λ (l : Locks). reservation_of l.reserved other) rest.objects
 
   other_fits : (j : ℕ) (t : Transaction) → j ≢ i → map.get s.txs j ≡ Some t → Fits now j t
@@ -160,11 +160,11 @@ module _ (s : State) (i : ℕ) (inverting : Option OperationFields) (before afte
         number = fits.number;
         stands = fits.stands ∙ sym same ∙ ap (λ (l : Lists (ObjOp × ObjReply)). l.transcripts j) (sym lists_now);
         few = fits.few;
-        where_at = opens_fits t.at i j s now t (record {
+        where_at = active_fits t.at i j s now t (record {
           other = ne;
           runs = runs;
-          basis = refl;
-          keeps = keeps_fewer s j t now.opens sound is (no_more_by_end (world_of s) (view_of (moment_of (all_of s) j)) sound.match (agrees_in s j t sound is) i);
+          context = refl;
+          keeps = keeps_fewer s j t now.active sound is (no_more_by_end (abstract_state_of s) (view_of (local_of (all_of s) j)) sound.match (agrees_in s j t sound is) i);
           reserved = reserved;
           max_ops = refl;
         }) fits.where_at;
@@ -178,25 +178,25 @@ module _ (s : State) (i : ℕ) (inverting : Option OperationFields) (before afte
 
   -- ---- what is held, and the room
 
-  held_now : commons.objects.held ≡ filter (is_of_other i) s.commons.objects.held
-  held_now = last.held ∙ ap (λ (l : Locks). filter (is_of_other before.subtx.tx) l.held) rest.objects ∙ ap (λ n. filter (is_of_other n) s.commons.objects.held) number
+  held_now : shared.objects.held ≡ filter (is_of_other i) s.shared.objects.held
+  held_now = last.held ∙ ap (λ (l : Locks). filter (is_of_other before.subtx.tx) l.held) rest.objects ∙ ap (λ n. filter (is_of_other n) s.shared.objects.held) number
 
-  held : (j : ℕ) → items_of j commons.objects.held ≡ (lists_in (world_of now)).held j
+  held : (j : ℕ) → items_of j shared.objects.held ≡ (lists_in (abstract_state_of now)).held j
   held j =
       let by_lists = ap (λ (l : Lists (ObjOp × ObjReply)). l.held j) (sym lists_now) in
       let list = changed old_lists.held i [] in
       ap (items_of j) held_now ∙ elim (cases_eq j i) [
-        | inl here ↦ ap (λ n. items_of n (filter (is_of_other i) s.commons.objects.held)) here ∙ nothing_of i s.commons.objects.held ∙ sym list.0
+        | inl here ↦ ap (λ n. items_of n (filter (is_of_other i) s.shared.objects.held)) here ∙ nothing_of i s.shared.objects.held ∙ sym list.0
             ∙ ap (after_entry (after_entry old_lists (TookBack i)) (Closed i)).held (sym here)
-        | inr differ ↦ all_of_others i j s.commons.objects.held differ ∙ sound.held j ∙ sym (list.1 j differ)
+        | inr differ ↦ all_of_others i j s.shared.objects.held differ ∙ sound.held j ∙ sym (list.1 j differ)
       ] ∙ by_lists
 
-  room_now : commons.history.room ≡ total_room room_of now.txs
+  room_now : shared.history.room ≡ total_room room_of now.txs
   room_now =
       let was_room = sound.room in
       let less = last.room ∙ ap (λ (h : ItemsWithRoom). h.room) rest.history in
       let total = total_room-remove room_of s.txs i before was in
-      let old = room_before s i before after commons answer.Aborted sound was inverting takes last.off in
+      let old = room_before s i before after shared answer.Aborted sound was inverting takes last.off in
       let none = ap length last.none in
       omega (arith, was_room, less, total, old, none)
 
@@ -215,5 +215,5 @@ module _ (s : State) (i : ℕ) (inverting : Option OperationFields) (before afte
   }
 
   -- **All that is always true stays true, where it was the last.**
-  pub aborted_sound : LedBack s before after (with_aborted s i commons)
+  pub aborted_sound : LedBack s before after (with_aborted s i shared)
   aborted_sound = record { last = last.off.last; base = led.0; entries = last.off.entries; step = led.1; sound = now_sound }

@@ -8,21 +8,21 @@ use Rattle.mlt_object_kinds.specs.declared.operation.ObjReply.{ObjReply}
 use Rattle.mlt_trace.proofs.RoomLaws.{total_room-insert}
 use Rattle.mlt_hash_subtx_laws.specs.Running.{HoldsNothing, KeepsRunning}
 use Rattle.mlt_object_undo.specs.Undo.{Undo}
-use Rattle.mlt_tx_meaning.specs.Worlds.{PagesMeanHistory}
+use Rattle.mlt_tx_meaning.specs.AbstractStates.{PagesMeanHistory}
 use Rattle.mlt_tx_meaning.proofs.Transactions.{abort_keeps}
 use Rattle.mlt_page_subtx.specs.Images.{Running}
 use Rattle.mlt_tx.specs.declared.transaction.At.{At}
 use Rattle.mlt_tx.specs.declared.transaction.Transaction.{Transaction}
 use Rattle.mlt_manager_invariant.specs.Events.{with_transaction}
 use Rattle.mlt_manager_invariant.specs.Sound.{Fits, FitsAt, IsSound}
-use Rattle.mlt_manager_invariant.specs.States.{State, all_of, images_kept, is_undoing, is_undoing_at, pending_room, room_of, undoing_of, world_of}
+use Rattle.mlt_manager_invariant.specs.States.{State, all_of, images_kept, is_undoing, is_undoing_at, pending_room, room_of, undoing_of, abstract_state_of}
 use Rattle.mlt_manager_invariant.specs.Transactions.{BeginsAbort}
 use Rattle.mlt_manager_invariant.proofs.Others.{still_fits}
 use Rattle.mlt_manager_invariant.proofs.Tables.{inserted_elsewhere, inserted_here}
 
 module _ (s : State) (i : ℕ) (before after : Transaction) (sound : IsSound s) (was : map.get s.txs i ≡ Some before) (k : BeginsAbort before after) where
   abbrev now : State
-  now = with_transaction s i after s.commons s.images
+  now = with_transaction s i after s.shared s.images
 
   keeps : KeepsRunning i (all_of s) (all_of now)
   keeps = record { may = sound.running; views = λ u ne. refl; images = λ u ne. refl; holders = λ u ne. refl }
@@ -33,8 +33,8 @@ module _ (s : State) (i : ℕ) (before after : Transaction) (sound : IsSound s) 
     | inr differ ↦ ap is_undoing_at (sym (inserted_elsewhere s.txs i after j differ)) ∙ not_now
   ]
 
-  match : PagesMeanHistory (world_of now)
-  match = abort_keeps (world_of s) (undoing_of (map.insert s.txs i after)) sound.match not_before
+  match : PagesMeanHistory (abstract_state_of now)
+  match = abort_keeps (abstract_state_of s) (undoing_of (map.insert s.txs i after)) sound.match not_before
 
   kept : (j : ℕ) → map.get s.images j ≡ images_kept (map.get (map.insert s.txs i after) j)
   kept j = elim (cases_eq j i) [
@@ -44,9 +44,9 @@ module _ (s : State) (i : ℕ) (before after : Transaction) (sound : IsSound s) 
     | inr differ ↦ sound.kept j ∙ ap images_kept (sym (inserted_elsewhere s.txs i after j differ))
   ]
 
-  opened : (j : ℕ) → set.contains s.opens j ≡ is_some (map.get (map.insert s.txs i after) j)
+  opened : (j : ℕ) → set.contains s.active j ≡ is_some (map.get (map.insert s.txs i after) j)
   opened j = elim (cases_eq j i) [
-    | inl here ↦ ap (set.contains s.opens) here ∙ sound.opened i ∙ ap is_some was ∙ sym (ap is_some (ap (map.get (map.insert s.txs i after)) here ∙ inserted_here s.txs i after))
+    | inl here ↦ ap (set.contains s.active) here ∙ sound.opened i ∙ ap is_some was ∙ sym (ap is_some (ap (map.get (map.insert s.txs i after)) here ∙ inserted_here s.txs i after))
     | inr differ ↦ sound.opened j ∙ ap is_some (sym (inserted_elsewhere s.txs i after j differ))
   ]
 
@@ -71,7 +71,7 @@ module _ (s : State) (i : ℕ) (before after : Transaction) (sound : IsSound s) 
         number = fits.number;
         stands = fits.stands;
         few = fits.few;
-        where_at = still_fits t.at i j s now t (record { other = ne; runs = keeps; basis = refl; reserved = λ u differ. refl; max_ops = refl }) fits.where_at;
+        where_at = still_fits t.at i j s now t (record { other = ne; runs = keeps; context = refl; reserved = λ u differ. refl; max_ops = refl }) fits.where_at;
       }
 
   fits_all : (j : ℕ) (t : Transaction) → map.get (map.insert s.txs i after) j ≡ Some t → Fits now j t

@@ -20,33 +20,33 @@ use Rattle.mlt_page_subtx.proofs.ImageLaws.{not_there, not_true}
 use Rattle.mlt_hash_access.specs.declared.locked_store.LockedStore.{LockedStore}
 use Rattle.mlt_hash_subtx_laws.specs.CleanPages.{clean_pages}
 use Rattle.mlt_hash_access.specs.Views.{view_of}
-use Rattle.mlt_hash_subtx_laws.specs.Running.{AllRunning, HoldsNothing, KeepsRunning, after_begin, clean_of, is_open, moment_of}
+use Rattle.mlt_hash_subtx_laws.specs.Running.{AllRunning, HoldsNothing, KeepsRunning, after_begin, clean_of, is_open, local_of}
 use Rattle.mlt_hash_subtx_laws.proofs.AllEvents.{begin_clean, begin_keeps, nothing_at_begin}
 use Rattle.mlt_tx_meaning.specs.Events.{with_begun}
-use Rattle.mlt_tx_meaning.specs.Worlds.{PagesMeanHistory, lists_in}
+use Rattle.mlt_tx_meaning.specs.AbstractStates.{PagesMeanHistory, lists_in}
 use Rattle.mlt_tx_meaning.proofs.OpenNumbers as numbers
 use Rattle.mlt_tx_meaning.proofs.Transactions as meeting
 use Rattle.mlt_tx_meaning.proofs.Matches.{lists_kept, same_pages_match}
 use Rattle.mlt_tx_meaning.proofs.Walks.{no_more_by_begin}
-use Rattle.mlt_tx.specs.declared.commons.Commons.{Commons}
+use Rattle.mlt_tx.specs.declared.shared.SharedState.{SharedState}
 use Rattle.mlt_tx.specs.declared.transaction.At.{At}
 use Rattle.mlt_tx.specs.declared.transaction.Transaction.{Transaction}
 use Rattle.mlt_manager_invariant.specs.Sound.{Fits, FitsAt, IsSound}
-use Rattle.mlt_manager_invariant.specs.States.{State, all_of, images_kept, is_undoing_at, pending_room, room_of, undoing_of, world_of}
+use Rattle.mlt_manager_invariant.specs.States.{State, all_of, images_kept, is_undoing_at, pending_room, room_of, undoing_of, abstract_state_of}
 use Rattle.mlt_manager_invariant.specs.Transactions.{Begins, with_next}
 use Rattle.mlt_manager_invariant.proofs.Lengths.{as_many_images}
-use Rattle.mlt_manager_invariant.proofs.Openness.{agrees_in, keeps_fewer, opens_fits}
+use Rattle.mlt_manager_invariant.proofs.Openness.{agrees_in, keeps_fewer, active_fits}
 use Rattle.mlt_manager_invariant.proofs.Tables.{inserted_elsewhere, inserted_here}
 
-module _ (s : State) (t : Transaction) (commons : Commons) (sound : IsSound s) (few : map.len s.txs < s.commons.pages.locks.max_open) (k : Begins s t commons) where
+module _ (s : State) (t : Transaction) (shared : SharedState) (sound : IsSound s) (few : map.len s.txs < s.shared.pages.locks.max_open) (k : Begins s t shared) where
   abbrev i : ℕ
   i = s.begun + 1
 
   abbrev now : State
-  now = with_next s t commons
+  now = with_next s t shared
 
-  not_open : set.contains s.opens i ≡ false
-  not_open = not_true (set.contains s.opens i) (λ is. let low = sound.match.file.ghosts.opened i is in absurd (omega (arith, low)))
+  not_open : set.contains s.active i ≡ false
+  not_open = not_true (set.contains s.active i) (λ is. let low = sound.match.file.ghosts.opened i is in absurd (omega (arith, low)))
 
   no_transaction : map.get s.txs i ≡ None
   no_transaction = not_there (map.get s.txs i) (sym (sound.opened i) ∙ not_open)
@@ -57,7 +57,7 @@ module _ (s : State) (t : Transaction) (commons : Commons) (sound : IsSound s) (
   same_all : all_of now ≡ after_begin (all_of s) i
   same_all = ap (λ (p : LockedStore). let all : AllRunning = record { images = map.insert s.images i map.empty; locks = p.locks; store = p.store } in all) k.pages
 
-  fewer : map.len s.images < s.commons.pages.locks.max_open
+  fewer : map.len s.images < s.shared.pages.locks.max_open
   fewer = let same = as_many_images s sound in omega (arith, same, few)
 
   keeps : KeepsRunning i (all_of s) (all_of now)
@@ -66,22 +66,22 @@ module _ (s : State) (t : Transaction) (commons : Commons) (sound : IsSound s) (
   same_clean : clean_of (all_of now) ≡ clean_of (all_of s)
   same_clean = ap clean_of same_all ∙ begin_clean (all_of s) i sound.running closed
 
-  entries_now : entries_of commons.history.items ≡ entries_of s.commons.history.items ++ Begun i ∷ []
-  entries_now = ap entries_of k.items ∙ entries_of-append s.commons.history.items (trace.Begin i ∷ [])
+  entries_now : entries_of shared.history.items ≡ entries_of s.shared.history.items ++ Begun i ∷ []
+  entries_now = ap entries_of k.items ∙ entries_of-append s.shared.history.items (trace.Begin i ∷ [])
 
-  same_lists : lists_in (world_of now) ≡ after_entry (lists_in (world_of s)) (Begun i)
-  same_lists = ap lists_of entries_now ∙ after_entries-push (entries_of s.commons.history.items) no_lists (Begun i)
+  same_lists : lists_in (abstract_state_of now) ≡ after_entry (lists_in (abstract_state_of s)) (Begun i)
+  same_lists = ap lists_of entries_now ∙ after_entries-push (entries_of s.shared.history.items) no_lists (Begun i)
 
-  same_transcripts : (j : ℕ) → (lists_in (world_of now)).transcripts j ≡ (lists_in (world_of s)).transcripts j
+  same_transcripts : (j : ℕ) → (lists_in (abstract_state_of now)).transcripts j ≡ (lists_in (abstract_state_of s)).transcripts j
   same_transcripts j = ap (λ (l : Lists (ObjOp × ObjReply)). l.transcripts j) same_lists
 
-  match : PagesMeanHistory (world_of now)
+  match : PagesMeanHistory (abstract_state_of now)
   match =
       let undoing = undoing_of (map.insert s.txs i t) in
-      let pages = clean_pages (map.insert s.images i map.empty) commons.pages.store.pages in
-      let begun = meeting.begin_keeps (world_of s) undoing sound.match (λ j ne. ap is_undoing_at (inserted_elsewhere s.txs i t j ne)) in
-      let same = same_pages_match (with_begun (world_of s) undoing) pages begun (λ q. ap (λ f. f q) same_clean) in
-      subst (λ (h : List (Entry (ObjOp × ObjReply))). PagesMeanHistory (record (with_begun (world_of s) undoing) { pages = pages; history = h })) (sym entries_now) same
+      let pages = clean_pages (map.insert s.images i map.empty) shared.pages.store.pages in
+      let begun = meeting.begin_keeps (abstract_state_of s) undoing sound.match (λ j ne. ap is_undoing_at (inserted_elsewhere s.txs i t j ne)) in
+      let same = same_pages_match (with_begun (abstract_state_of s) undoing) pages begun (λ q. ap (λ f. f q) same_clean) in
+      subst (λ (h : List (Entry (ObjOp × ObjReply))). PagesMeanHistory (record (with_begun (abstract_state_of s) undoing) { pages = pages; history = h })) (sym entries_now) same
 
   kept : (j : ℕ) → map.get (map.insert s.images i map.empty) j ≡ images_kept (map.get (map.insert s.txs i t) j)
   kept j = elim (cases_eq j i) [
@@ -91,14 +91,14 @@ module _ (s : State) (t : Transaction) (commons : Commons) (sound : IsSound s) (
     | inr differ ↦ keeps.images j differ ∙ sound.kept j ∙ ap images_kept (sym (inserted_elsewhere s.txs i t j differ))
   ]
 
-  opened : (j : ℕ) → set.contains (set.insert s.opens i) j ≡ is_some (map.get (map.insert s.txs i t) j)
+  opened : (j : ℕ) → set.contains (set.insert s.active i) j ≡ is_some (map.get (map.insert s.txs i t) j)
   opened j = elim (cases_eq j i) [
-    | inl here ↦ ap (set.contains (set.insert s.opens i)) here ∙ numbers.inserted_here s.opens i ∙ sym (ap is_some (ap (map.get (map.insert s.txs i t)) here ∙ inserted_here s.txs i t))
-    | inr differ ↦ numbers.inserted_beside s.opens i j differ ∙ sound.opened j ∙ ap is_some (sym (inserted_elsewhere s.txs i t j differ))
+    | inl here ↦ ap (set.contains (set.insert s.active i)) here ∙ numbers.inserted_here s.active i ∙ sym (ap is_some (ap (map.get (map.insert s.txs i t)) here ∙ inserted_here s.txs i t))
+    | inr differ ↦ numbers.inserted_beside s.active i j differ ∙ sound.opened j ∙ ap is_some (sym (inserted_elsewhere s.txs i t j differ))
   ]
 
-  nothing_stands : (lists_in (world_of s)).transcripts i ≡ []
-  nothing_stands = ((lists_kept (world_of s) sound.match).only i (λ runs. false≢true (sym not_open ∙ (sound.match.records.running i).1 runs))).0
+  nothing_stands : (lists_in (abstract_state_of s)).transcripts i ≡ []
+  nothing_stands = ((lists_kept (abstract_state_of s) sound.match).only i (λ runs. false≢true (sym not_open ∙ (sound.match.records.running i).1 runs))).0
 
   nothing : HoldsNothing (all_of now) i
   nothing = subst (λ (all : AllRunning). HoldsNothing all i) (sym same_all) (nothing_at_begin (all_of s) i sound.running closed)
@@ -118,11 +118,11 @@ module _ (s : State) (t : Transaction) (commons : Commons) (sound : IsSound s) (
         number = fits.number;
         stands = fits.stands ∙ sym (same_transcripts j);
         few = fits.few;
-        where_at = opens_fits u.at i j s now u (record {
+        where_at = active_fits u.at i j s now u (record {
           other = ne;
           runs = keeps;
-          basis = refl;
-          keeps = keeps_fewer s j u now.opens sound is (no_more_by_begin (world_of s) (view_of (moment_of (all_of s) j)) sound.match (agrees_in s j u sound is));
+          context = refl;
+          keeps = keeps_fewer s j u now.active sound is (no_more_by_begin (abstract_state_of s) (view_of (local_of (all_of s) j)) sound.match (agrees_in s j u sound is));
           reserved = λ v differ. ap (λ (o : Locks). reservation_of o.reserved v) k.objects;
           max_ops = refl;
         }) fits.where_at;
@@ -137,19 +137,19 @@ module _ (s : State) (t : Transaction) (commons : Commons) (sound : IsSound s) (
     | inr differ ↦ other_fits j u differ (sym (inserted_elsewhere s.txs i t j differ) ∙ is)
   ]
 
-  in_order : AreBegunInOrder commons.history.items
+  in_order : AreBegunInOrder shared.history.items
   in_order =
-      let items = s.commons.history.items in
+      let items = s.shared.history.items in
       let next : AreBegunInOrder (items ++ trace.Begin (begin_count items + 1) ∷ []) = begin_keeps_order items sound.begun in
       let named : AreBegunInOrder (items ++ trace.Begin i ∷ []) = subst (λ (n : ℕ). AreBegunInOrder (items ++ trace.Begin (n + 1) ∷ [])) (sym sound.count) next in
       subst AreBegunInOrder (sym k.items) named
 
-  count : i ≡ begin_count commons.history.items
-  count = ap (λ (n : ℕ). n + 1) sound.count ∙ sym (ap begin_count k.items ∙ begins_counted s.commons.history.items i)
+  count : i ≡ begin_count shared.history.items
+  count = ap (λ (n : ℕ). n + 1) sound.count ∙ sym (ap begin_count k.items ∙ begins_counted s.shared.history.items i)
 
-  commits : AreCounted commons.history.items
+  commits : AreCounted shared.history.items
   commits =
-      let items = s.commons.history.items in
+      let items = s.shared.history.items in
       subst AreCounted (sym k.items) (subst (CountsFrom 1) (sym (no_commit items (trace.Begin i) refl)) sound.commits)
 
   room_of_new : room_of t ≡ 1

@@ -6,49 +6,49 @@ use Rattle.mlt_trace.specs.HistoryItems.{ItemsWithRoom}
 use Rattle.mlt_page_subtx.specs.Images.{Running, put_back, started}
 use Rattle.mlt_object_undo.specs.Undo.{Undo}
 use Rattle.mlt_hash_access.specs.declared.locked_store.LockedStore.{LockedStore}
-use Rattle.mlt_hash_access.specs.Moments.{Moment}
+use Rattle.mlt_hash_access.specs.LocalStates.{LocalState}
 use Rattle.mlt_hash_access.specs.Views.{view_of}
-use Rattle.mlt_hash_subtx_laws.specs.Running.{AllRunning, HoldsNothing, KeepsRunning, after_roll_back, clean_of, images_by, moment_of}
+use Rattle.mlt_hash_subtx_laws.specs.Running.{AllRunning, HoldsNothing, KeepsRunning, after_roll_back, clean_of, images_by, local_of}
 use Rattle.mlt_hash_subtx_laws.proofs.AllEvents.{nothing_after_roll_back}
-use Rattle.mlt_tx_meaning.specs.Worlds.{basis_of}
+use Rattle.mlt_tx_meaning.specs.AbstractStates.{context_of}
 use Rattle.mlt_tx_operation.specs.Operating.{IsOperating, OperationFields, started_for}
 use Rattle.mlt_object_base.specs.declared.request.Request.TheVariants.{Do}
 use Rattle.mlt_tx_operation.proofs.Operations.{starts}
-use Rattle.mlt_tx.specs.declared.commons.Commons.{Commons}
+use Rattle.mlt_tx.specs.declared.shared.SharedState.{SharedState}
 use Rattle.mlt_tx.specs.declared.transaction.At.{At}
 use Rattle.mlt_tx.specs.declared.transaction.At.TheVariants as at
 use Rattle.mlt_tx.specs.declared.transaction.Transaction.{Transaction}
 use Rattle.mlt_tx.specs.Transactions.{TellsOfCancel}
 use Rattle.mlt_manager_invariant.specs.Events.{Calls, KeepsCleanPages, with_transaction}
 use Rattle.mlt_manager_invariant.specs.Sound.{FitsAt, HasPending, IsSound}
-use Rattle.mlt_manager_invariant.specs.States.{State, all_of, images_kept, is_undoing, pending_room, world_of}
-use Rattle.mlt_manager_invariant.proofs.MaySteps.{is_open_now, same_moment, unheld}
+use Rattle.mlt_manager_invariant.specs.States.{State, all_of, images_kept, is_undoing, pending_room, abstract_state_of}
+use Rattle.mlt_manager_invariant.proofs.MaySteps.{is_open_now, same_local, unheld}
 use Rattle.mlt_manager_invariant.proofs.Pending.{back_to}
 use Rattle.mlt_manager_invariant.proofs.Stays.{stays_sound}
 use Rattle.mlt_manager_invariant.proofs.Turned.{rolled_back}
 use Rattle.mlt_manager_invariant.proofs.Turning.{sound_after}
 
 -- **A call keeps all that is always true.**
-pub called_sound : (s : State) (i : ℕ) (before after : Transaction) (commons : Commons) → IsSound s → map.get s.txs i ≡ Some before → Calls s i before after commons → IsSound (with_transaction s i after commons s.images)
-called_sound s i before after commons sound was c =
+pub called_sound : (s : State) (i : ℕ) (before after : Transaction) (shared : SharedState) → IsSound s → map.get s.txs i ≡ Some before → Calls s i before after shared → IsSound (with_transaction s i after shared s.images)
+called_sound s i before after shared sound was c =
     let fits = sound.fits i before was in
-    let alike : all_of (with_transaction s i after commons s.images) ≡ all_of s = (λ p. record { images = s.images; locks = (c.pages p).locks; store = (c.pages p).store }) in
+    let alike : all_of (with_transaction s i after shared s.images) ≡ all_of s = (λ p. record { images = s.images; locks = (c.pages p).locks; store = (c.pages p).store }) in
     let nothing : HoldsNothing (all_of s) i = subst (λ (a : At). FitsAt a s i before) c.idle fits.where_at in
     let two : pending_room after.at ≡ 2 = ap pending_room c.pending in
     let none : pending_room before.at ≡ 0 = ap pending_room c.idle in
     let lengths : length after.undo.entries ≡ length before.undo.entries = ap length c.entries in
-    let operates : IsOperating (basis_of (world_of s) i) (started_for (Do c.op)) (view_of (moment_of (all_of s) i)) =
-    starts (basis_of (world_of s) i) (Do c.op) (moment_of (all_of s) i) c.in_range.cell (unheld (all_of s) i nothing) in
-    let pending : HasPending (with_transaction s i after commons s.images) i after (started_for (Do c.op)) = record {
+    let operates : IsOperating (context_of (abstract_state_of s) i) (started_for (Do c.op)) (view_of (local_of (all_of s) i)) =
+    starts (context_of (abstract_state_of s) i) (Do c.op) (local_of (all_of s) i) c.in_range.cell (unheld (all_of s) i nothing) in
+    let pending : HasPending (with_transaction s i after shared s.images) i after (started_for (Do c.op)) = record {
       op = c.op;
       asked = refl;
       in_range = c.in_range;
-      operates = subst (λ (a : AllRunning). IsOperating (basis_of (world_of s) i) (started_for (Do c.op)) (view_of (moment_of a i))) (sym alike) operates;
+      operates = subst (λ (a : AllRunning). IsOperating (context_of (abstract_state_of s) i) (started_for (Do c.op)) (view_of (local_of a i))) (sym alike) operates;
       reserved = c.reserved;
       spare = c.spare;
       fewer = omega (arith, c.fewer, lengths);
     } in
-    stays_sound s i before after commons s.images sound was (record {
+    stays_sound s i before after shared s.images sound was (record {
       runs = subst (KeepsRunning i (all_of s)) (sym alike) (record { may = sound.running; views = λ u ne. refl; images = λ u ne. refl; holders = λ u ne. refl });
       clean = ap clean_of alike;
       own = sound.kept i ∙ ap images_kept was ∙ sym (ap (λ (r : Running). Some r.images) c.subtx_kept);
@@ -59,27 +59,27 @@ called_sound s i before after commons sound was c =
       room = omega (arith, c.room, two, none, lengths);
       entries = c.entries;
       undoing = ap is_undoing c.pending ∙ sym (ap is_undoing c.idle);
-      fits = subst (λ (a : At). FitsAt a (with_transaction s i after commons s.images) i after) (sym c.pending) pending;
+      fits = subst (λ (a : At). FitsAt a (with_transaction s i after shared s.images) i after) (sym c.pending) pending;
     })
 
 -- **So does a cancel.**
-pub cancelled_sound : (s : State) (i : ℕ) (o : OperationFields) (before after : Transaction) (commons : Commons) → IsSound s → map.get s.txs i ≡ Some before → before.at ≡ at.Pending o
-    → TellsOfCancel before after s.commons commons → KeepsCleanPages s i before after commons
-cancelled_sound s i o before after commons sound was pending_at c =
+pub cancelled_sound : (s : State) (i : ℕ) (o : OperationFields) (before after : Transaction) (shared : SharedState) → IsSound s → map.get s.txs i ≡ Some before → before.at ≡ at.Pending o
+    → TellsOfCancel before after s.shared shared → KeepsCleanPages s i before after shared
+cancelled_sound s i o before after shared sound was pending_at c =
     let fits = sound.fits i before was in
     let all = all_of s in
     let leaves = rolled_back all i sound.running (is_open_now s i before sound was) in
     let running : after.subtx ≡ started i = c.back.running ∙ ap started fits.number in
-    let locks : commons.pages.locks ≡ released all.locks i = ap (λ (l : LockedStore). l.locks) c.room.pages ∙ c.back.locks ∙ ap (λ (n : ℕ). released all.locks n) fits.number in
-    let store : commons.pages.store ≡ record all.store { pages = put_back (images_by all i) all.store.pages } =
-    ap (λ (l : LockedStore). l.store) c.room.pages ∙ c.back.store ∙ ap (λ (m : Moment). record all.store { pages = put_back m.running.images all.store.pages }) (sym (same_moment s i before sound was)) in
-    let both = back_to s i o before after commons sound was pending_at all leaves running locks store in
+    let locks : shared.pages.locks ≡ released all.locks i = ap (λ (l : LockedStore). l.locks) c.room.pages ∙ c.back.locks ∙ ap (λ (n : ℕ). released all.locks n) fits.number in
+    let store : shared.pages.store ≡ record all.store { pages = put_back (images_by all i) all.store.pages } =
+    ap (λ (l : LockedStore). l.store) c.room.pages ∙ c.back.store ∙ ap (λ (m : LocalState). record all.store { pages = put_back m.running.images all.store.pages }) (sym (same_local s i before sound was)) in
+    let both = back_to s i o before after shared sound was pending_at all leaves running locks store in
     let images = (after_roll_back all i).images in
     let two : pending_room before.at ≡ 2 = ap pending_room pending_at in
     let none : pending_room after.at ≡ 0 = ap pending_room c.idle in
     let lengths : length after.undo.entries ≡ length before.undo.entries = ap (λ (u : Undo). length u.entries) c.undo_kept in
     let rooms = ap (λ (h : ItemsWithRoom). h.room) c.history in
-    let nothing : HoldsNothing (all_of (with_transaction s i after commons images)) i = subst (λ (a : AllRunning). HoldsNothing a i) (sym both.0) (nothing_after_roll_back all i) in
-    sound_after s i before after commons sound was (after_roll_back all i) leaves both.0 both.1 (ap (λ (t : Running). t.tx) running) c.undo_kept (c.room.objects ∙ c.objects)
+    let nothing : HoldsNothing (all_of (with_transaction s i after shared images)) i = subst (λ (a : AllRunning). HoldsNothing a i) (sym both.0) (nothing_after_roll_back all i) in
+    sound_after s i before after shared sound was (after_roll_back all i) leaves both.0 both.1 (ap (λ (t : Running). t.tx) running) c.undo_kept (c.room.objects ∙ c.objects)
     (c.room.items ∙ ap (λ (h : ItemsWithRoom). h.items) c.history) (omega (arith, c.room.room, two, none, lengths, rooms)) (ap is_undoing c.idle ∙ sym (ap is_undoing pending_at))
-    (subst (λ (a : At). FitsAt a (with_transaction s i after commons images) i after) (sym c.idle) nothing)
+    (subst (λ (a : At). FitsAt a (with_transaction s i after shared images) i after) (sym c.idle) nothing)

@@ -22,7 +22,7 @@ use Rattle.mlt_trace.proofs.ItemLaws.{entries_of-append, no_begin, no_commit}
 use Rattle.mlt_trace.proofs.RoomLaws.{total_room-insert}
 use Rattle.mlt_page_subtx.specs.Images.{Running}
 use Rattle.mlt_hash_access.specs.Views.{view_of}
-use Rattle.mlt_hash_subtx_laws.specs.Running.{AllRunning, HoldsNothing, KeepsRunning, after_end, clean_of, is_open, moment_of}
+use Rattle.mlt_hash_subtx_laws.specs.Running.{AllRunning, HoldsNothing, KeepsRunning, after_end, clean_of, is_open, local_of}
 use Rattle.mlt_hash_subtx_laws.specs.CleanPages.{clean_pages}
 use Rattle.mlt_object_conflicts.specs.Clashes.{clashes}
 use Rattle.std.specs.List.{Contains}
@@ -32,23 +32,23 @@ use Rattle.mlt_tx_meaning.specs.Ends.{EndsWith}
 use Rattle.mlt_tx_meaning.specs.Events.{MayDo, with_done}
 use Rattle.mlt_tx_meaning.proofs.TwoEnds.{sees_held_alone}
 use Rattle.mlt_tx_meaning.specs.Presences.{IsOpInRange}
-use Rattle.mlt_tx_meaning.specs.Worlds.{PagesMeanHistory, lists_in}
+use Rattle.mlt_tx_meaning.specs.AbstractStates.{PagesMeanHistory, lists_in}
 use Rattle.mlt_tx_meaning.proofs.Operations.{operation_keeps}
 use Rattle.mlt_object_base.specs.declared.request.Request.TheVariants.{Do}
 use Rattle.mlt_tx_operation.specs.Operating.{OperationFields}
-use Rattle.mlt_tx.specs.declared.commons.Commons.{Commons}
+use Rattle.mlt_tx.specs.declared.shared.SharedState.{SharedState}
 use Rattle.mlt_tx.specs.declared.transaction.At.{At}
 use Rattle.mlt_tx.specs.declared.transaction.Transaction.{Transaction}
 use Rattle.mlt_manager_invariant.specs.Events.{EndsPending, with_end}
 use Rattle.mlt_manager_invariant.specs.Sound.{Fits, FitsAt, HasPending, IsSound}
-use Rattle.mlt_manager_invariant.specs.States.{State, all_of, images_kept, is_undoing, is_undoing_at, pending_room, room_of, undoing_of, world_of}
+use Rattle.mlt_manager_invariant.specs.States.{State, all_of, images_kept, is_undoing, is_undoing_at, pending_room, room_of, undoing_of, abstract_state_of}
 use Rattle.mlt_manager_invariant.proofs.Found.{IsAnswered, is_answered}
 use Rattle.mlt_manager_invariant.proofs.Grants.{granted_elsewhere, granted_here, nothing_clashes}
 use Rattle.mlt_manager_invariant.proofs.Others.{still_fits}
 use Rattle.mlt_manager_invariant.proofs.Tables.{fits_after, kept_after, opened_after, same_undoing}
 
-module _ (s : State) (i : ℕ) (o : OperationFields) (before after : Transaction) (commons : Commons) (told : ObjReply)
-    (sound : IsSound s) (was : map.get s.txs i ≡ Some before) (e : EndsPending s i o before after commons told) where
+module _ (s : State) (i : ℕ) (o : OperationFields) (before after : Transaction) (shared : SharedState) (told : ObjReply)
+    (sound : IsSound s) (was : map.get s.txs i ≡ Some before) (e : EndsPending s i o before after shared told) where
   own : Fits s i before
   own = sound.fits i before was
 
@@ -62,38 +62,38 @@ module _ (s : State) (i : ℕ) (o : OperationFields) (before after : Transaction
   same_op = let both : Do pending.op ≡ Do e.ends.op = sym pending.asked ∙ e.ends.asked in cc
 
   -- the state of all running subtransactions is the one after the end
-  ended : (base : Base) → all_of (with_end s i after commons base) ≡ after_end (all_of s) i
+  ended : (base : Base) → all_of (with_end s i after shared base) ≡ after_end (all_of s) i
   ended base p = record {
     images = map.insert s.images i map.empty;
-    locks = (e.ends.tells.1.ends.locks ∙ ap (λ t. released s.commons.pages.locks t) own.number) p;
+    locks = (e.ends.tells.1.ends.locks ∙ ap (λ t. released s.shared.pages.locks t) own.number) p;
     store = e.ends.tells.1.ends.store p;
   }
 
   -- the pages that are clean then
   pages : map.FinMap nat_cmp Page
-  pages = clean_pages (map.insert s.images i map.empty) commons.pages.store.pages
+  pages = clean_pages (map.insert s.images i map.empty) shared.pages.store.pages
 
-  written : EndsWith (world_of s) (view_of (moment_of (all_of s) i)) (clean_pages (map.insert s.images i map.empty) commons.pages.store.pages)
+  written : EndsWith (abstract_state_of s) (view_of (local_of (all_of s) i)) (clean_pages (map.insert s.images i map.empty) shared.pages.store.pages)
   written = record {
-    held = sees_held_alone (moment_of (all_of s) i);
+    held = sees_held_alone (local_of (all_of s) i);
     ends = λ q. ap (λ (a : AllRunning). clean_of a q) (ended s.base) ∙ ap (λ (f : ℕ → Option Page). f q) (end_clean (all_of s) i sound.running);
   }
 
   in_range : IsOpInRange e.ends.op
   in_range = subst IsOpInRange same_op pending.in_range
 
-  answered : IsAnswered (world_of s) i e.ends.op e.ends.reply (clean_pages (map.insert s.images i map.empty) commons.pages.store.pages)
+  answered : IsAnswered (abstract_state_of s) i e.ends.op e.ends.reply (clean_pages (map.insert s.images i map.empty) shared.pages.store.pages)
   answered =
-      is_answered (world_of s) i o (view_of (moment_of (all_of s) i)) e.ends.op e.ends.reply (clean_pages (map.insert s.images i map.empty) commons.pages.store.pages)
+      is_answered (abstract_state_of s) i o (view_of (local_of (all_of s) i)) e.ends.op e.ends.reply (clean_pages (map.insert s.images i map.empty) shared.pages.store.pages)
       sound.match in_range.cell pending.operates e.ends.asked e.ends.ready (agrees_with_each (all_of s) i sound.running is_open_here) written
 
-  free : (j : ℕ) (held : ObjOp × ObjReply) → j ≢ i → Contains ((lists_in (world_of s)).held j) held → clashes held (e.ends.op, e.ends.reply) ≡ false
+  free : (j : ℕ) (held : ObjOp × ObjReply) → j ≢ i → Contains ((lists_in (abstract_state_of s)).held j) held → clashes held (e.ends.op, e.ends.reply) ≡ false
   free j held ne here =
-      nothing_clashes i j s.commons.objects.held (e.ends.op, e.ends.reply) held
-      (subst (λ (t : ℕ). (holder : ℕ) → HoldsClash s.commons.objects.held t (e.ends.op, e.ends.reply) holder → ⊥) own.number e.ends.tells.1.free)
+      nothing_clashes i j s.shared.objects.held (e.ends.op, e.ends.reply) held
+      (subst (λ (t : ℕ). (holder : ℕ) → HoldsClash s.shared.objects.held t (e.ends.op, e.ends.reply) holder → ⊥) own.number e.ends.tells.1.free)
       ne (subst (λ (l : List (ObjOp × ObjReply)). Contains l held) (sym (sound.held j)) here)
 
-  may_do : MayDo (world_of s) i (e.ends.op, e.ends.reply)
+  may_do : MayDo (abstract_state_of s) i (e.ends.op, e.ends.reply)
   may_do = record {
     is_open = sound.opened i ∙ ap is_some was;
     forward = ap is_undoing_at was ∙ ap is_undoing e.pending;
@@ -102,78 +102,78 @@ module _ (s : State) (i : ℕ) (o : OperationFields) (before after : Transaction
   }
 
   -- the base that it leads to
-  goes : (base : Base) × Step s.base (e.ends.op, e.ends.reply) base × PagesMeanHistory (with_done (world_of s) i (e.ends.op, e.ends.reply) (clean_pages (map.insert s.images i map.empty) commons.pages.store.pages) base)
+  goes : (base : Base) × Step s.base (e.ends.op, e.ends.reply) base × PagesMeanHistory (with_done (abstract_state_of s) i (e.ends.op, e.ends.reply) (clean_pages (map.insert s.images i map.empty) shared.pages.store.pages) base)
   goes =
-      let pages = clean_pages (map.insert s.images i map.empty) commons.pages.store.pages in
-      let keeps = operation_keeps (world_of s) i e.ends.op pages sound.match (subst (λ (r : ObjReply). MayDo (world_of s) i (e.ends.op, r)) (sym answered.told) may_do) answered.changes in
-      (keeps.0, subst (λ (r : ObjReply). Step s.base (e.ends.op, r) keeps.0) answered.told keeps.1, subst (λ (r : ObjReply). PagesMeanHistory (with_done (world_of s) i (e.ends.op, r) pages keeps.0)) answered.told keeps.2)
+      let pages = clean_pages (map.insert s.images i map.empty) shared.pages.store.pages in
+      let keeps = operation_keeps (abstract_state_of s) i e.ends.op pages sound.match (subst (λ (r : ObjReply). MayDo (abstract_state_of s) i (e.ends.op, r)) (sym answered.told) may_do) answered.changes in
+      (keeps.0, subst (λ (r : ObjReply). Step s.base (e.ends.op, r) keeps.0) answered.told keeps.1, subst (λ (r : ObjReply). PagesMeanHistory (with_done (abstract_state_of s) i (e.ends.op, r) pages keeps.0)) answered.told keeps.2)
 
-  new_items : commons.history.items ≡ s.commons.history.items ++ trace.Op i (e.ends.op, e.ends.reply) ∷ []
-  new_items = e.ends.tells.1.items ∙ ap (λ (t : ℕ). s.commons.history.items ++ trace.Op t (e.ends.op, e.ends.reply) ∷ []) own.number
+  new_items : shared.history.items ≡ s.shared.history.items ++ trace.Op i (e.ends.op, e.ends.reply) ∷ []
+  new_items = e.ends.tells.1.items ∙ ap (λ (t : ℕ). s.shared.history.items ++ trace.Op t (e.ends.op, e.ends.reply) ∷ []) own.number
 
-  new_entries : entries_of commons.history.items ≡ entries_of s.commons.history.items ++ Did i (e.ends.op, e.ends.reply) ∷ []
-  new_entries = ap entries_of new_items ∙ entries_of-append s.commons.history.items (trace.Op i (e.ends.op, e.ends.reply) ∷ [])
+  new_entries : entries_of shared.history.items ≡ entries_of s.shared.history.items ++ Did i (e.ends.op, e.ends.reply) ∷ []
+  new_entries = ap entries_of new_items ∙ entries_of-append s.shared.history.items (trace.Op i (e.ends.op, e.ends.reply) ∷ [])
 
   same_undo : is_undoing after.at ≡ is_undoing before.at
   same_undo = ap is_undoing e.idle ∙ sym (ap is_undoing e.pending)
 
-  match : PagesMeanHistory (world_of (with_end s i after commons goes.0))
+  match : PagesMeanHistory (abstract_state_of (with_end s i after shared goes.0))
   match =
-      let pages = clean_pages (map.insert s.images i map.empty) commons.pages.store.pages in
+      let pages = clean_pages (map.insert s.images i map.empty) shared.pages.store.pages in
       let undoing : undoing_of s.txs ≡ undoing_of (map.insert s.txs i after) = sym (λ p j. same_undoing s.txs i before after was same_undo j p) in
-      subst (λ (h : List (Entry (ObjOp × ObjReply))). PagesMeanHistory (record (world_of s) { pages = pages; undoing = undoing_of (map.insert s.txs i after); history = h; base = goes.0 })) (sym new_entries)
-      (subst (λ (u : ℕ → Bool). PagesMeanHistory (record (with_done (world_of s) i (e.ends.op, e.ends.reply) pages goes.0) { undoing = u })) undoing goes.2)
+      subst (λ (h : List (Entry (ObjOp × ObjReply))). PagesMeanHistory (record (abstract_state_of s) { pages = pages; undoing = undoing_of (map.insert s.txs i after); history = h; base = goes.0 })) (sym new_entries)
+      (subst (λ (u : ℕ → Bool). PagesMeanHistory (record (with_done (abstract_state_of s) i (e.ends.op, e.ends.reply) pages goes.0) { undoing = u })) undoing goes.2)
 
-  lists_now : lists_in (world_of (with_end s i after commons goes.0)) ≡ after_entry (lists_in (world_of s)) (Did i (e.ends.op, e.ends.reply))
-  lists_now = ap (λ (h : List (Entry (ObjOp × ObjReply))). lists_of h) new_entries ∙ after_entries-push (entries_of s.commons.history.items) no_lists (Did i (e.ends.op, e.ends.reply))
+  lists_now : lists_in (abstract_state_of (with_end s i after shared goes.0)) ≡ after_entry (lists_in (abstract_state_of s)) (Did i (e.ends.op, e.ends.reply))
+  lists_now = ap (λ (h : List (Entry (ObjOp × ObjReply))). lists_of h) new_entries ∙ after_entries-push (entries_of s.shared.history.items) no_lists (Did i (e.ends.op, e.ends.reply))
 
-  runs : KeepsRunning i (all_of s) (all_of (with_end s i after commons goes.0))
+  runs : KeepsRunning i (all_of s) (all_of (with_end s i after shared goes.0))
   runs = subst (KeepsRunning i (all_of s)) (sym (ended goes.0)) (end_keeps (all_of s) i sound.running is_open_here)
 
-  nothing : HoldsNothing (all_of (with_end s i after commons goes.0)) i
+  nothing : HoldsNothing (all_of (with_end s i after shared goes.0)) i
   nothing = subst (λ (a : AllRunning). HoldsNothing a i) (sym (ended goes.0)) (nothing_at_end (all_of s) i)
 
   longer : length after.undo.entries ≡ length before.undo.entries + 1
   longer = ap length e.ends.tells.1.entries ∙ length-append before.undo.entries ((e.ends.op, e.ends.reply) ∷ [])
 
-  own_fits : Fits (with_end s i after commons goes.0) i after
+  own_fits : Fits (with_end s i after shared goes.0) i after
   own_fits = record {
     number = ap (λ (r : Running). r.tx) e.ends.tells.1.ends.running ∙ own.number;
     stands = e.ends.tells.1.entries ∙ ap (λ l. l ++ (e.ends.op, e.ends.reply) ∷ []) own.stands
-        ∙ sym (with_entry-same (lists_in (world_of s)).transcripts i i ((lists_in (world_of s)).transcripts i ++ (e.ends.op, e.ends.reply) ∷ []) refl) ∙ ap (λ (l : Lists (ObjOp × ObjReply)). l.transcripts i) (sym lists_now);
+        ∙ sym (with_entry-same (lists_in (abstract_state_of s)).transcripts i i ((lists_in (abstract_state_of s)).transcripts i ++ (e.ends.op, e.ends.reply) ∷ []) refl) ∙ ap (λ (l : Lists (ObjOp × ObjReply)). l.transcripts i) (sym lists_now);
     few = omega (arith, longer, pending.fewer);
-    where_at = subst (λ (a : At). FitsAt a (with_end s i after commons goes.0) i after) (sym e.idle) nothing;
+    where_at = subst (λ (a : At). FitsAt a (with_end s i after shared goes.0) i after) (sym e.idle) nothing;
   }
 
-  other_fits : (j : ℕ) (t : Transaction) → j ≢ i → map.get s.txs j ≡ Some t → Fits (with_end s i after commons goes.0) j t
+  other_fits : (j : ℕ) (t : Transaction) → j ≢ i → map.get s.txs j ≡ Some t → Fits (with_end s i after shared goes.0) j t
   other_fits j t ne is =
       let fits = sound.fits j t is in
       record {
         number = fits.number;
-        stands = fits.stands ∙ sym (with_entry-other (lists_in (world_of s)).transcripts i j ((lists_in (world_of s)).transcripts i ++ (e.ends.op, e.ends.reply) ∷ []) ne) ∙ ap (λ (l : Lists (ObjOp × ObjReply)). l.transcripts j) (sym lists_now);
+        stands = fits.stands ∙ sym (with_entry-other (lists_in (abstract_state_of s)).transcripts i j ((lists_in (abstract_state_of s)).transcripts i ++ (e.ends.op, e.ends.reply) ∷ []) ne) ∙ ap (λ (l : Lists (ObjOp × ObjReply)). l.transcripts j) (sym lists_now);
         few = fits.few;
-        where_at = still_fits t.at i j s (with_end s i after commons goes.0) t (record {
+        where_at = still_fits t.at i j s (with_end s i after shared goes.0) t (record {
           other = ne;
           runs = runs;
-          basis = refl;
-          reserved = subst (SameReservations s.commons.objects.reserved commons.objects.reserved) own.number e.ends.tells.1.reserved;
+          context = refl;
+          reserved = subst (SameReservations s.shared.objects.reserved shared.objects.reserved) own.number e.ends.tells.1.reserved;
           max_ops = refl;
         }) fits.where_at;
       }
 
-  held_now : (j : ℕ) → items_of j commons.objects.held ≡ (lists_in (world_of (with_end s i after commons goes.0))).held j
+  held_now : (j : ℕ) → items_of j shared.objects.held ≡ (lists_in (abstract_state_of (with_end s i after shared goes.0))).held j
   held_now j =
-      let grown : commons.objects.held ≡ s.commons.objects.held ++ (i, (e.ends.op, e.ends.reply)) ∷ [] = e.ends.tells.1.held ∙ ap (λ (t : ℕ). s.commons.objects.held ++ (t, (e.ends.op, e.ends.reply)) ∷ []) own.number in
-      let held = (lists_in (world_of s)).held in
+      let grown : shared.objects.held ≡ s.shared.objects.held ++ (i, (e.ends.op, e.ends.reply)) ∷ [] = e.ends.tells.1.held ∙ ap (λ (t : ℕ). s.shared.objects.held ++ (t, (e.ends.op, e.ends.reply)) ∷ []) own.number in
+      let held = (lists_in (abstract_state_of s)).held in
       let more = held i ++ (e.ends.op, e.ends.reply) ∷ [] in
       ap (λ (h : List Held). items_of j h) grown ∙ (elim (cases_eq j i) [
-        | inl here ↦ ap (λ n. items_of n (s.commons.objects.held ++ (i, (e.ends.op, e.ends.reply)) ∷ [])) here ∙ granted_here i s.commons.objects.held (e.ends.op, e.ends.reply)
+        | inl here ↦ ap (λ n. items_of n (s.shared.objects.held ++ (i, (e.ends.op, e.ends.reply)) ∷ [])) here ∙ granted_here i s.shared.objects.held (e.ends.op, e.ends.reply)
             ∙ ap (λ l. l ++ (e.ends.op, e.ends.reply) ∷ []) (sound.held i) ∙ sym (with_entry-same held i j more (sym here))
-        | inr differ ↦ granted_elsewhere i j s.commons.objects.held (e.ends.op, e.ends.reply) differ ∙ sound.held j ∙ sym (with_entry-other held i j more differ)
+        | inr differ ↦ granted_elsewhere i j s.shared.objects.held (e.ends.op, e.ends.reply) differ ∙ sound.held j ∙ sym (with_entry-other held i j more differ)
       ]) ∙ ap (λ (l : Lists (ObjOp × ObjReply)). l.held j) (sym lists_now)
 
   -- **Where an operation is done, all that is always true stays true.**
-  pub done_sound : (base : Base) × Step s.base (e.ends.op, e.ends.reply) base × IsSound (with_end s i after commons base)
+  pub done_sound : (base : Base) × Step s.base (e.ends.op, e.ends.reply) base × IsSound (with_end s i after shared base)
   done_sound =
       let rooms = total_room-insert room_of s.txs i before after was in
       let two : pending_room before.at ≡ 2 = ap pending_room e.pending in
@@ -185,11 +185,11 @@ module _ (s : State) (i : ℕ) (o : OperationFields) (before after : Transaction
           running = runs.may;
           kept = kept_after s i after sound.kept (ap (λ (r : Running). r.images) e.ends.tells.1.ends.running);
           opened = opened_after s i before after was sound.opened;
-          fits = fits_after s (with_end s i after commons goes.0) i after refl own_fits other_fits;
+          fits = fits_after s (with_end s i after shared goes.0) i after refl own_fits other_fits;
           held = held_now;
-          begun = subst AreBegunInOrder (sym new_items) (subst (CountsFrom 1) (sym (no_begin s.commons.history.items (trace.Op i (e.ends.op, e.ends.reply)) refl)) sound.begun);
-          count = sound.count ∙ sym (ap begin_count new_items ∙ ap length (no_begin s.commons.history.items (trace.Op i (e.ends.op, e.ends.reply)) refl));
-          commits = subst AreCounted (sym new_items) (subst (CountsFrom 1) (sym (no_commit s.commons.history.items (trace.Op i (e.ends.op, e.ends.reply)) refl)) sound.commits);
+          begun = subst AreBegunInOrder (sym new_items) (subst (CountsFrom 1) (sym (no_begin s.shared.history.items (trace.Op i (e.ends.op, e.ends.reply)) refl)) sound.begun);
+          count = sound.count ∙ sym (ap begin_count new_items ∙ ap length (no_begin s.shared.history.items (trace.Op i (e.ends.op, e.ends.reply)) refl));
+          commits = subst AreCounted (sym new_items) (subst (CountsFrom 1) (sym (no_commit s.shared.history.items (trace.Op i (e.ends.op, e.ends.reply)) refl)) sound.commits);
           room = omega (arith, e.ends.tells.1.room, sound.room, rooms, longer, two, zero_now);
         },
       )

@@ -21,43 +21,43 @@ use Rattle.mlt_trace.proofs.RoomLaws.{total_room-remove}
 use Rattle.mlt_hash_access.specs.declared.locked_store.LockedStore.{LockedStore}
 use Rattle.mlt_hash_subtx_laws.specs.CleanPages.{clean_pages}
 use Rattle.mlt_hash_access.specs.Views.{view_of}
-use Rattle.mlt_hash_subtx_laws.specs.Running.{AllRunning, HoldsNothing, KeepsRunning, after_close, clean_of, moment_of}
+use Rattle.mlt_hash_subtx_laws.specs.Running.{AllRunning, HoldsNothing, KeepsRunning, after_close, clean_of, local_of}
 use Rattle.mlt_hash_subtx_laws.proofs.AllEvents.{close_clean, close_keeps}
 use Rattle.mlt_tx_meaning.specs.Events.{IsOpenAt}
-use Rattle.mlt_tx_meaning.specs.Worlds.{PagesMeanHistory, World, lists_in}
+use Rattle.mlt_tx_meaning.specs.AbstractStates.{PagesMeanHistory, AbstractState, lists_in}
 use Rattle.mlt_tx_meaning.proofs.OpenNumbers as numbers
 use Rattle.mlt_tx_meaning.proofs.Transactions as meeting
 use Rattle.mlt_tx_meaning.proofs.Matches.{same_pages_match}
 use Rattle.mlt_tx_meaning.proofs.Walks.{no_more_by_end}
-use Rattle.mlt_tx.specs.declared.commons.Commons.{Commons}
+use Rattle.mlt_tx.specs.declared.shared.SharedState.{SharedState}
 use Rattle.mlt_tx.specs.declared.transaction.At.{At}
 use Rattle.mlt_tx.specs.declared.transaction.Transaction.{Transaction}
 use Rattle.mlt_manager_invariant.specs.Sound.{Fits, FitsAt, IsSound}
-use Rattle.mlt_manager_invariant.specs.States.{State, all_of, images_kept, is_undoing_at, room_of, undoing_of, world_of}
+use Rattle.mlt_manager_invariant.specs.States.{State, all_of, images_kept, is_undoing_at, room_of, undoing_of, abstract_state_of}
 use Rattle.mlt_manager_invariant.specs.Transactions.{Ends, without_transaction}
 use Rattle.mlt_manager_invariant.proofs.Closing.{all_of_others, nothing_of}
-use Rattle.mlt_manager_invariant.proofs.Openness.{agrees_in, keeps_fewer, opens_fits}
+use Rattle.mlt_manager_invariant.proofs.Openness.{agrees_in, keeps_fewer, active_fits}
 use Rattle.mlt_manager_invariant.proofs.Tables.{removed_elsewhere, removed_here}
 
--- the world in which transaction i is open no more, and that has this entry of it
-abbrev ended_world : State → ℕ → Entry (ObjOp × ObjReply) → World
-ended_world s i entry = record (world_of s) {
-  opens = set.remove s.opens i;
+-- the abstract state in which transaction i is open no more, and that has this entry of it
+abbrev ended_state : State → ℕ → Entry (ObjOp × ObjReply) → AbstractState
+ended_state s i entry = record (abstract_state_of s) {
+  active = set.remove s.active i;
   undoing = undoing_of (map.remove s.txs i);
-  history = entries_of s.commons.history.items ++ entry ∷ [];
+  history = entries_of s.shared.history.items ++ entry ∷ [];
 }
 
 -- what a commit and a close have in common
 record IsEnd (s : State) (i : ℕ) (item : TraceItem) : Type 0 where
-  match : PagesMeanHistory (ended_world s i (entry_of item))
-  transcripts : (after_entry (lists_in (world_of s)) (entry_of item)).transcripts ≡ table_with (lists_in (world_of s)).transcripts i []
-  held : (after_entry (lists_in (world_of s)) (entry_of item)).held ≡ table_with (lists_in (world_of s)).held i []
+  match : PagesMeanHistory (ended_state s i (entry_of item))
+  transcripts : (after_entry (lists_in (abstract_state_of s)) (entry_of item)).transcripts ≡ table_with (lists_in (abstract_state_of s)).transcripts i []
+  held : (after_entry (lists_in (abstract_state_of s)) (entry_of item)).held ≡ table_with (lists_in (abstract_state_of s)).held i []
   begins : begun_txs (item ∷ []) ≡ []
-  commits : AreCounted (s.commons.history.items ++ item ∷ [])
+  commits : AreCounted (s.shared.history.items ++ item ∷ [])
 
-module _ (s : State) (i : ℕ) (before : Transaction) (commons : Commons) (item : TraceItem) (sound : IsSound s) (was : map.get s.txs i ≡ Some before) (k : Ends s i before commons item) (e : IsEnd s i item) where
+module _ (s : State) (i : ℕ) (before : Transaction) (shared : SharedState) (item : TraceItem) (sound : IsSound s) (was : map.get s.txs i ≡ Some before) (k : Ends s i before shared item) (e : IsEnd s i item) where
   abbrev now : State
-  now = without_transaction s i commons
+  now = without_transaction s i shared
 
   nothing : HoldsNothing (all_of s) i
   nothing = subst (λ (a : At). FitsAt a s i before) k.idle (sound.fits i before was).where_at
@@ -71,24 +71,24 @@ module _ (s : State) (i : ℕ) (before : Transaction) (commons : Commons) (item 
   same_clean : clean_of (all_of now) ≡ clean_of (all_of s)
   same_clean = ap clean_of same_all ∙ close_clean (all_of s) i sound.running nothing
 
-  entries_now : entries_of commons.history.items ≡ entries_of s.commons.history.items ++ entry_of item ∷ []
-  entries_now = ap entries_of k.items ∙ entries_of-append s.commons.history.items (item ∷ [])
+  entries_now : entries_of shared.history.items ≡ entries_of s.shared.history.items ++ entry_of item ∷ []
+  entries_now = ap entries_of k.items ∙ entries_of-append s.shared.history.items (item ∷ [])
 
-  same_lists : lists_in (world_of now) ≡ after_entry (lists_in (world_of s)) (entry_of item)
-  same_lists = ap lists_of entries_now ∙ after_entries-push (entries_of s.commons.history.items) no_lists (entry_of item)
+  same_lists : lists_in (abstract_state_of now) ≡ after_entry (lists_in (abstract_state_of s)) (entry_of item)
+  same_lists = ap lists_of entries_now ∙ after_entries-push (entries_of s.shared.history.items) no_lists (entry_of item)
 
-  transcripts_now : (lists_in (world_of now)).transcripts ≡ table_with (lists_in (world_of s)).transcripts i []
+  transcripts_now : (lists_in (abstract_state_of now)).transcripts ≡ table_with (lists_in (abstract_state_of s)).transcripts i []
   transcripts_now = ap (λ (l : Lists (ObjOp × ObjReply)). l.transcripts) same_lists ∙ e.transcripts
 
-  held_now : (lists_in (world_of now)).held ≡ table_with (lists_in (world_of s)).held i []
+  held_now : (lists_in (abstract_state_of now)).held ≡ table_with (lists_in (abstract_state_of s)).held i []
   held_now = ap (λ (l : Lists (ObjOp × ObjReply)). l.held) same_lists ∙ e.held
 
-  match : PagesMeanHistory (world_of now)
+  match : PagesMeanHistory (abstract_state_of now)
   match =
-      let world = ended_world s i (entry_of item) in
-      let pages = clean_pages (map.remove s.images i) commons.pages.store.pages in
-      let same = same_pages_match world pages e.match (λ q. ap (λ f. f q) same_clean) in
-      subst (λ (h : List (Entry (ObjOp × ObjReply))). PagesMeanHistory (record world { pages = pages; history = h })) (sym entries_now) same
+      let state = ended_state s i (entry_of item) in
+      let pages = clean_pages (map.remove s.images i) shared.pages.store.pages in
+      let same = same_pages_match state pages e.match (λ q. ap (λ f. f q) same_clean) in
+      subst (λ (h : List (Entry (ObjOp × ObjReply))). PagesMeanHistory (record state { pages = pages; history = h })) (sym entries_now) same
 
   kept : (j : ℕ) → map.get (map.remove s.images i) j ≡ images_kept (map.get (map.remove s.txs i) j)
   kept j = elim (cases_eq j i) [
@@ -98,25 +98,25 @@ module _ (s : State) (i : ℕ) (before : Transaction) (commons : Commons) (item 
     | inr differ ↦ keeps.images j differ ∙ sound.kept j ∙ ap images_kept (sym (removed_elsewhere s.txs i j differ))
   ]
 
-  opened : (j : ℕ) → set.contains (set.remove s.opens i) j ≡ is_some (map.get (map.remove s.txs i) j)
+  opened : (j : ℕ) → set.contains (set.remove s.active i) j ≡ is_some (map.get (map.remove s.txs i) j)
   opened j = elim (cases_eq j i) [
-    | inl here ↦ ap (set.contains (set.remove s.opens i)) here ∙ numbers.removed_here s.opens i ∙ sym (ap is_some (ap (map.get (map.remove s.txs i)) here ∙ removed_here s.txs i))
-    | inr differ ↦ numbers.removed_beside s.opens i j differ ∙ sound.opened j ∙ ap is_some (sym (removed_elsewhere s.txs i j differ))
+    | inl here ↦ ap (set.contains (set.remove s.active i)) here ∙ numbers.removed_here s.active i ∙ sym (ap is_some (ap (map.get (map.remove s.txs i)) here ∙ removed_here s.txs i))
+    | inr differ ↦ numbers.removed_beside s.active i j differ ∙ sound.opened j ∙ ap is_some (sym (removed_elsewhere s.txs i j differ))
   ]
 
   other_fits : (j : ℕ) (u : Transaction) → j ≢ i → map.get s.txs j ≡ Some u → Fits now j u
   other_fits j u ne is =
       let fits = sound.fits j u is in
-      let list = (changed (lists_in (world_of s)).transcripts i []).1 j ne in
+      let list = (changed (lists_in (abstract_state_of s)).transcripts i []).1 j ne in
       record {
         number = fits.number;
         stands = fits.stands ∙ sym list ∙ sym (ap (λ f. f j) transcripts_now);
         few = fits.few;
-        where_at = opens_fits u.at i j s now u (record {
+        where_at = active_fits u.at i j s now u (record {
           other = ne;
           runs = keeps;
-          basis = refl;
-          keeps = keeps_fewer s j u now.opens sound is (no_more_by_end (world_of s) (view_of (moment_of (all_of s) j)) sound.match (agrees_in s j u sound is) i);
+          context = refl;
+          keeps = keeps_fewer s j u now.active sound is (no_more_by_end (abstract_state_of s) (view_of (local_of (all_of s) j)) sound.match (agrees_in s j u sound is) i);
           reserved = k.reserved;
           max_ops = refl;
         }) fits.where_at;
@@ -130,18 +130,18 @@ module _ (s : State) (i : ℕ) (before : Transaction) (commons : Commons) (item 
     | inr differ ↦ other_fits j u differ (sym (removed_elsewhere s.txs i j differ) ∙ is)
   ]
 
-  held : (j : ℕ) → items_of j commons.objects.held ≡ (lists_in (world_of now)).held j
+  held : (j : ℕ) → items_of j shared.objects.held ≡ (lists_in (abstract_state_of now)).held j
   held j =
-      let list = changed (lists_in (world_of s)).held i [] in
+      let list = changed (lists_in (abstract_state_of s)).held i [] in
       ap (items_of j) k.held ∙ elim (cases_eq j i) [
         | inl here ↦
-            ap (λ n. items_of n (filter (is_of_other i) s.commons.objects.held)) here ∙ nothing_of i s.commons.objects.held
-            ∙ sym (ap (table_with (lists_in (world_of s)).held i []) here ∙ list.0)
-        | inr differ ↦ all_of_others i j s.commons.objects.held differ ∙ sound.held j ∙ sym (list.1 j differ)
+            ap (λ n. items_of n (filter (is_of_other i) s.shared.objects.held)) here ∙ nothing_of i s.shared.objects.held
+            ∙ sym (ap (table_with (lists_in (abstract_state_of s)).held i []) here ∙ list.0)
+        | inr differ ↦ all_of_others i j s.shared.objects.held differ ∙ sound.held j ∙ sym (list.1 j differ)
       ] ∙ sym (ap (λ f. f j) held_now)
 
-  begun_still : begun_txs commons.history.items ≡ begun_txs s.commons.history.items
-  begun_still = ap begun_txs k.items ∙ no_begin s.commons.history.items item e.begins
+  begun_still : begun_txs shared.history.items ≡ begun_txs s.shared.history.items
+  begun_still = ap begun_txs k.items ∙ no_begin s.shared.history.items item e.begins
 
   -- All that is always true stays true.
   end_sound : IsSound now
@@ -158,19 +158,19 @@ module _ (s : State) (i : ℕ) (before : Transaction) (commons : Commons) (item 
     room = omega (arith, k.room, sound.room, total_room-remove room_of s.txs i before was);
   }
 
-module _ (s : State) (i : ℕ) (before : Transaction) (commons : Commons) (sound : IsSound s) (was : map.get s.txs i ≡ Some before) where
-  is_open : IsOpenAt (world_of s) i
+module _ (s : State) (i : ℕ) (before : Transaction) (shared : SharedState) (sound : IsSound s) (was : map.get s.txs i ≡ Some before) where
+  is_open : IsOpenAt (abstract_state_of s) i
   is_open = sound.opened i ∙ ap is_some was
 
   same_undoing : SameElsewhere (undoing_of s.txs) (undoing_of (map.remove s.txs i)) i
   same_undoing j ne = ap is_undoing_at (removed_elsewhere s.txs i j ne)
 
   -- **A commit keeps all that is always true,**
-  pub commit_sound : Ends s i before commons (trace.Commit i (commit_count s.commons.history.items + 1)) → IsSound (without_transaction s i commons)
+  pub commit_sound : Ends s i before shared (trace.Commit i (commit_count s.shared.history.items + 1)) → IsSound (without_transaction s i shared)
   commit_sound k =
-      let items = s.commons.history.items in
-      end_sound s i before commons (trace.Commit i (commit_count items + 1)) sound was k (record {
-        match = meeting.commit_keeps (world_of s) i (undoing_of (map.remove s.txs i)) sound.match is_open same_undoing;
+      let items = s.shared.history.items in
+      end_sound s i before shared (trace.Commit i (commit_count items + 1)) sound was k (record {
+        match = meeting.commit_keeps (abstract_state_of s) i (undoing_of (map.remove s.txs i)) sound.match is_open same_undoing;
         transcripts = refl;
         held = refl;
         begins = refl;
@@ -178,11 +178,11 @@ module _ (s : State) (i : ℕ) (before : Transaction) (commons : Commons) (sound
       })
 
   -- **and so does a close where nothing is left.**
-  pub close_sound : before.undo.entries ≡ [] → Ends s i before commons (trace.Abort i) → IsSound (without_transaction s i commons)
+  pub close_sound : before.undo.entries ≡ [] → Ends s i before shared (trace.Abort i) → IsSound (without_transaction s i shared)
   close_sound none k =
-      let items = s.commons.history.items in
-      end_sound s i before commons (trace.Abort i) sound was k (record {
-        match = meeting.close_keeps (world_of s) i (undoing_of (map.remove s.txs i)) sound.match is_open same_undoing (sym (sound.fits i before was).stands ∙ none);
+      let items = s.shared.history.items in
+      end_sound s i before shared (trace.Abort i) sound was k (record {
+        match = meeting.close_keeps (abstract_state_of s) i (undoing_of (map.remove s.txs i)) sound.match is_open same_undoing (sym (sound.fits i before was).stands ∙ none);
         transcripts = refl;
         held = refl;
         begins = refl;

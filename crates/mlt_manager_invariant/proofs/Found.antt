@@ -15,7 +15,7 @@ use Rattle.mlt_object_base.specs.declared.request.Request.TheVariants.{Do}
 use Rattle.mlt_object_base.specs.Effects.{changes_on, own_change_on, reply_of}
 use Rattle.mlt_object_base.specs.Meaning.{changes_of, size_record_in, told_by}
 use Rattle.mlt_object_base.specs.Requests.{decision, size_key_of, target_of}
-use Rattle.mlt_hash_form.specs.Held.{Agrees, own_or}
+use Rattle.mlt_hash_form.specs.Held.{Agrees, own_or_clean}
 use Rattle.mlt_hash_form.specs.Records.{live_records}
 use Rattle.mlt_hash_access.specs.Views.{View}
 use Rattle.mlt_hash.specs.Walks.{HasRead, Stands, WalkFields}
@@ -23,96 +23,96 @@ use Rattle.mlt_hash.specs.declared.pass.Phase.{Phase}
 use Rattle.mlt_hash.specs.declared.pass.Phase.TheVariants as at
 use Rattle.mlt_hash.proofs.Passed.{read_at_bucket}
 use Rattle.mlt_tx_two_records.proofs.LeftRecords.{leaves_as_told}
-use Rattle.mlt_tx_two_records.specs.Doubles.{IsTold}
+use Rattle.mlt_tx_two_records.specs.TwoRecordWalks.{IsTold}
 use Rattle.mlt_tx_two_records.specs.Leaving.{LeavesAsTold}
 use Rattle.mlt_tx_two_records.specs.Performing.{Performs}
-use Rattle.mlt_tx_two_records.specs.declared.double.Double.{Double}
-use Rattle.mlt_tx_operation.specs.declared.course.Course.{Course}
-use Rattle.mlt_tx_operation.specs.declared.course.Course.TheVariants.{One, Two}
+use Rattle.mlt_tx_two_records.specs.declared.two_records.TwoRecordWalk.{TwoRecordWalk}
+use Rattle.mlt_tx_operation.specs.declared.access_path.AccessPath.{AccessPath}
+use Rattle.mlt_tx_operation.specs.declared.access_path.AccessPath.TheVariants.{One, Two}
 use Rattle.mlt_tx_operation.specs.Operating.{IsOperating, OperatesBy, OperationFields, StandsOrTold}
 use Rattle.mlt_tx_operation.specs.Walking.{FitsPhase, IsWalking, walking}
 use Rattle.mlt_tx_meaning.specs.Ends.{ChangesPages, EndsWith}
 use Rattle.mlt_tx_meaning.specs.Presences.{op_key}
-use Rattle.mlt_tx_meaning.specs.Worlds.{PagesMeanHistory, World, basis_of, record_of}
+use Rattle.mlt_tx_meaning.specs.AbstractStates.{PagesMeanHistory, AbstractState, context_of, record_of}
 use Rattle.mlt_tx_meaning.proofs.TwoEnds.{done_leaves}
 use Rattle.mlt_tx_meaning.proofs.WalkEnds.{walk_leaves_change}
 use Rattle.mlt_tx_meaning.proofs.Walks.{found_is_record}
 use Rattle.mlt_manager_invariant.proofs.OneChange.{no_size_change, own_alone}
 
 -- the operation is told what the records ask for, and makes the changes that go with it
-pub record IsAnswered (world : World) (i : ℕ) (op : ObjOp) (reply : ObjReply) (pages : map.FinMap nat_cmp Page) : Type 0 where
-  pub told : told_by (live_records world.pages) op ≡ reply
-  pub changes : ChangesPages world i (changes_on op (changes_of (live_records world.pages) op)) pages
+pub record IsAnswered (state : AbstractState) (i : ℕ) (op : ObjOp) (reply : ObjReply) (pages : map.FinMap nat_cmp Page) : Type 0 where
+  pub told : told_by (live_records state.pages) op ≡ reply
+  pub changes : ChangesPages state i (changes_on op (changes_of (live_records state.pages) op)) pages
 
 -- one on one record changes this one alone
-answered_by : (world : World) (i : ℕ) (op : ObjOp) (reply : ObjReply) (pages : map.FinMap nat_cmp Page) (change : Option RecChange) → size_key_of (Do op) ≡ None → reply_of op (record_of world op) ≡ (reply, change)
-    → ChangesPages world i (own_change_on op change) pages → IsAnswered world i op reply pages
-answered_by world i op reply pages change alone is changes =
-    let records = live_records world.pages in
+answered_by : (state : AbstractState) (i : ℕ) (op : ObjOp) (reply : ObjReply) (pages : map.FinMap nat_cmp Page) (change : Option RecChange) → size_key_of (Do op) ≡ None → reply_of op (record_of state op) ≡ (reply, change)
+    → ChangesPages state i (own_change_on op change) pages → IsAnswered state i op reply pages
+answered_by state i op reply pages change alone is changes =
+    let records = live_records state.pages in
     let all : changes_of records op ≡ record { own = change; size = None } =
     λ j. record { own = (is j).1; size = no_size_change op (told_by records op) (size_record_in records op) alone j } in
     let list = ap (changes_on op) all ∙ own_alone op change in
     record {
       told = ap (λ (d : ObjReply × Option RecChange). d.0) is;
-      changes = subst (λ l. ChangesPages world i l pages) (sym list) changes;
+      changes = subst (λ l. ChangesPages state i l pages) (sym list) changes;
     }
 
-module _ (world : World) (i : ℕ) (o : OperationFields) (view : View) (op : ObjOp) (reply : ObjReply) (pages : map.FinMap nat_cmp Page)
-    (match : PagesMeanHistory world) (in_range : IsInRange (cell_of op)) (operates : IsOperating (basis_of world i) o view) (asked : o.request ≡ Do op) (told : o.reply ≡ Some reply)
-    (agree : Agrees view.seen (map.get world.pages)) (ends : EndsWith world view pages) where
+module _ (state : AbstractState) (i : ℕ) (o : OperationFields) (view : View) (op : ObjOp) (reply : ObjReply) (pages : map.FinMap nat_cmp Page)
+    (match : PagesMeanHistory state) (in_range : IsInRange (cell_of op)) (operates : IsOperating (context_of state i) o view) (asked : o.request ≡ Do op) (told : o.reply ≡ Some reply)
+    (agree : Agrees view.seen (map.get state.pages)) (ends : EndsWith state view pages) where
   -- ---- on one record
 
-  module _ (walk : WalkFields) (walks : IsWalking (basis_of world i) (walking o.request o.reply walk) view) where
+  module _ (walk : WalkFields) (walks : IsWalking (context_of state i) (walking o.request o.reply walk) view) where
     alone : size_key_of (Do op) ≡ None
     alone = ap size_key_of (sym asked) ∙ walks.alone
 
     key_is : walk.key ≡ op_key op
     key_is = ap (λ (t : ℕ × Mode). t.0) (walks.target ∙ ap target_of asked)
 
-    found_here : (found : Option ℕ) → HasRead (basis_of world i) walk.key view found → found ≡ record_of world op
-    found_here found read = found_is_record world i (cell_of op) walk.key view found match read key_is agree
+    found_here : (found : Option ℕ) → HasRead (context_of state i) walk.key view found → found ≡ record_of state op
+    found_here found read = found_is_record state i (cell_of op) walk.key view found match read key_is agree
 
-    decided_here : (found : Option ℕ) (r : ObjReply) (change : Option RecChange) → HasRead (basis_of world i) walk.key view found → o.reply ≡ Some r → decision o.request found ≡ (r, change)
-        → reply_of op (record_of world op) ≡ (reply, change)
+    decided_here : (found : Option ℕ) (r : ObjReply) (change : Option RecChange) → HasRead (context_of state i) walk.key view found → o.reply ≡ Some r → decision o.request found ≡ (r, change)
+        → reply_of op (record_of state op) ≡ (reply, change)
     decided_here found r change read is decided =
         let same : Some r ≡ Some reply = sym is ∙ told in
         let one : r ≡ reply = cc in
         ap (λ f. reply_of op f) (sym (found_here found read)) ∙ ap (λ (q : Request). decision q found) (sym asked) ∙ decided ∙ ap (λ x. (x, change)) one
 
-    by_phase : (p : Phase) → walk.phase ≡ p → FitsPhase p (basis_of world i) (walking o.request o.reply walk) view → Stands p (basis_of world i) walk view → IsAnswered world i op reply pages
+    by_phase : (p : Phase) → walk.phase ≡ p → FitsPhase p (context_of state i) (walking o.request o.reply walk) view → Stands p (context_of state i) walk view → IsAnswered state i op reply pages
     by_phase at.Start is fits stands = absurd (none-some reply (sym fits ∙ told))
     by_phase (at.Headed dir row depth) is fits stands = absurd (none-some reply (sym fits ∙ told))
     by_phase (at.Placed bucket depth) is fits stands = absurd (none-some reply (sym fits ∙ told))
     by_phase (at.AtBucket bucket depth found) is fits stands =
-        let read = read_at_bucket (basis_of world i) walk view bucket depth found stands in
-        answered_by world i op reply pages None alone (decided_here found fits.0 None read fits.1 fits.2)
-        (λ q. ends.ends q ∙ ap (λ own. own_or own (map.get world.pages q)) (stands.unwritten.own q))
+        let read = read_at_bucket (context_of state i) walk view bucket depth found stands in
+        answered_by state i op reply pages None alone (decided_here found fits.0 None read fits.1 fits.2)
+        (λ q. ends.ends q ∙ ap (λ own. own_or_clean own (map.get state.pages q)) (stands.unwritten.own q))
     by_phase (at.Full next) is fits stands = absurd fits
     by_phase (at.Adding value bucket room_depth unsplit) is fits stands = absurd (none-some reply (sym fits.0 ∙ told))
     by_phase (at.Splitting value room_depth) is fits stands = absurd (none-some reply (sym fits.0 ∙ told))
     by_phase (at.Changed bucket done) is fits stands =
-        answered_by world i op reply pages (Some fits.decided) alone (decided_here fits.found fits.reply (Some fits.decided) fits.read fits.told fits.asked)
-        (walk_leaves_change world i pages walk view bucket done stands agree ends.ends match.file.form (cell_of op) fits.decided key_is
+        answered_by state i op reply pages (Some fits.decided) alone (decided_here fits.found fits.reply (Some fits.decided) fits.read fits.told fits.asked)
+        (walk_leaves_change state i pages walk view bucket done stands agree ends.ends match.file.form (cell_of op) fits.decided key_is
         (subst (λ (f : Option ℕ). Performs fits.decided f done) (found_here fits.found fits.read) fits.performs))
 
-    answered_on_one : IsAnswered world i op reply pages
+    answered_on_one : IsAnswered state i op reply pages
     answered_on_one = by_phase walk.phase refl walks.fits walks.stands
 
   -- ---- on two
 
-  answered_on_two : (double : Double) → StandsOrTold o.reply double (basis_of world i) o.request view → IsAnswered world i op reply pages
-  answered_on_two double stands =
-      let there : IsTold double (basis_of world i) (Do op) reply view =
-      subst (λ (q : Request). IsTold double (basis_of world i) q reply view) asked (subst (λ (r : Option ObjReply). StandsOrTold r double (basis_of world i) o.request view) told stands) in
-      let leaves : LeavesAsTold (basis_of world i) (Do op) reply view (map.get world.pages) =
-      leaves_as_told (basis_of world i) (Do op) reply view (map.get world.pages) match.file.bounded agree match.file.form match.file.shallow double there in
-      let both = done_leaves world i reply view pages match ends op in_range leaves in
+  answered_on_two : (two_records : TwoRecordWalk) → StandsOrTold o.reply two_records (context_of state i) o.request view → IsAnswered state i op reply pages
+  answered_on_two two_records stands =
+      let there : IsTold two_records (context_of state i) (Do op) reply view =
+      subst (λ (q : Request). IsTold two_records (context_of state i) q reply view) asked (subst (λ (r : Option ObjReply). StandsOrTold r two_records (context_of state i) o.request view) told stands) in
+      let leaves : LeavesAsTold (context_of state i) (Do op) reply view (map.get state.pages) =
+      leaves_as_told (context_of state i) (Do op) reply view (map.get state.pages) match.file.bounded agree match.file.form match.file.shallow two_records there in
+      let both = done_leaves state i reply view pages match ends op in_range leaves in
       record { told = both.0; changes = both.1 }
 
-  by_course : (c : Course) → OperatesBy c (basis_of world i) o view → IsAnswered world i op reply pages
-  by_course (One walk) walks = answered_on_one walk walks
-  by_course (Two double) stands = answered_on_two double stands
+  by_access_path : (c : AccessPath) → OperatesBy c (context_of state i) o view → IsAnswered state i op reply pages
+  by_access_path (One walk) walks = answered_on_one walk walks
+  by_access_path (Two two_records) stands = answered_on_two two_records stands
 
   -- **An operation that is told its reply was told what the base has, and its end makes the changes.**
-  pub is_answered : IsAnswered world i op reply pages
-  is_answered = by_course o.course operates
+  pub is_answered : IsAnswered state i op reply pages
+  is_answered = by_access_path o.access_path operates

@@ -20,62 +20,62 @@ use Rattle.mlt_page_locks.specs.Requests.{released}
 use Rattle.mlt_page_subtx.specs.Images.{Running}
 use Rattle.mlt_hash_form.specs.Held.{Agrees}
 use Rattle.mlt_hash_access.specs.Views.{View, view_of}
-use Rattle.mlt_hash.specs.Walks.{Basis, HasRead, IsChanged, Stands, WalkFields}
+use Rattle.mlt_hash.specs.Walks.{WalkContext, HasRead, IsChanged, Stands, WalkFields}
 use Rattle.mlt_hash.specs.declared.pass.Change.{Change}
 use Rattle.mlt_hash.specs.declared.pass.Phase.{Phase}
 use Rattle.mlt_hash.specs.declared.pass.Phase.TheVariants as phase
 use Rattle.mlt_tx_two_records.proofs.LeftRecords.{leaves_as_told}
-use Rattle.mlt_tx_two_records.specs.Doubles.{IsTold}
+use Rattle.mlt_tx_two_records.specs.TwoRecordWalks.{IsTold}
 use Rattle.mlt_tx_two_records.specs.Leaving.{LeavesAsTold}
 use Rattle.mlt_tx_two_records.specs.Performing.{Performs}
-use Rattle.mlt_tx_two_records.specs.declared.double.Double.{Double}
-use Rattle.mlt_tx_operation.specs.declared.course.Course.{Course}
-use Rattle.mlt_tx_operation.specs.declared.course.Course.TheVariants.{One, Two}
+use Rattle.mlt_tx_two_records.specs.declared.two_records.TwoRecordWalk.{TwoRecordWalk}
+use Rattle.mlt_tx_operation.specs.declared.access_path.AccessPath.{AccessPath}
+use Rattle.mlt_tx_operation.specs.declared.access_path.AccessPath.TheVariants.{One, Two}
 use Rattle.mlt_tx_operation.specs.Operating.{OperatesBy, OperationFields, StandsOrTold}
 use Rattle.mlt_tx_operation.specs.Walking.{FitsPhase, IsWalking, WalkingFields, walking}
 use Rattle.mlt_hash_subtx_laws.specs.CleanPages.{clean_pages}
-use Rattle.mlt_hash_subtx_laws.specs.Running.{AllRunning, HoldsNothing, KeepsRunning, after_end, clean_of, is_open, moment_of}
+use Rattle.mlt_hash_subtx_laws.specs.Running.{AllRunning, HoldsNothing, KeepsRunning, after_end, clean_of, is_open, local_of}
 use Rattle.mlt_hash_subtx_laws.proofs.AllEvents.{end_clean, end_keeps, nothing_at_end}
 use Rattle.mlt_hash_subtx_laws.proofs.AllRunning.{agrees_with_each}
 use Rattle.mlt_tx_meaning.specs.Ends.{ChangesPages, EndsWith, LeavesChange}
-use Rattle.mlt_tx_meaning.specs.Worlds.{basis_of}
+use Rattle.mlt_tx_meaning.specs.AbstractStates.{context_of}
 use Rattle.mlt_tx_meaning.proofs.TwoEnds.{sees_held_alone, undone_leaves}
 use Rattle.mlt_tx_meaning.proofs.WalkEnds.{walk_leaves_change}
 use Rattle.mlt_tx_meaning.proofs.Walks.{found_is_record}
-use Rattle.mlt_tx.specs.declared.commons.Commons.{Commons}
+use Rattle.mlt_tx.specs.declared.shared.SharedState.{SharedState}
 use Rattle.mlt_tx.specs.declared.transaction.Transaction.{Transaction}
 use Rattle.mlt_tx.specs.Endings.{EndsSubtx}
 use Rattle.mlt_manager_invariant.specs.Sound.{HasInverse, IsSound}
-use Rattle.mlt_manager_invariant.specs.States.{State, all_of, images_kept, world_of}
+use Rattle.mlt_manager_invariant.specs.States.{State, all_of, images_kept, abstract_state_of}
 use Rattle.mlt_manager_invariant.proofs.OneChange.{no_inverse_no_size, no_size_inverse, own_alone}
 use Rattle.mlt_manager_invariant.proofs.Tables.{inserted_elsewhere, inserted_here}
 
 -- an inverse on one record has made its change, at its end
-record HasChanged (basis : Basis) (o : WalkingFields) (view : View) (item : ObjOp × ObjReply) : Type 0 where
+record HasChanged (context : WalkContext) (o : WalkingFields) (view : View) (item : ObjOp × ObjReply) : Type 0 where
   pub bucket : ℕ
   pub done : Change
   pub change : RecChange
   pub found : Option ℕ
   pub is : inverse_of item ≡ Some change
-  pub changed : IsChanged basis o.walk view bucket done
-  pub read : HasRead basis o.walk.key view found
+  pub changed : IsChanged context o.walk view bucket done
+  pub read : HasRead context o.walk.key view found
   pub performs : Performs change found done
 
 no_reply : (o : WalkingFields) → IsSome o.reply → o.reply ≡ None → ⊥
 no_reply o some none = false≢true (sym (ap is_some none) ∙ some)
 
-has_changed : (p : Phase) (basis : Basis) (o : WalkingFields) (view : View) (item : ObjOp × ObjReply) → IsSome o.reply → IsSome (inverse_of item) → o.request ≡ TakeBack item
-    → Stands p basis o.walk view → FitsPhase p basis o view → HasChanged basis o view item
-has_changed phase.Start basis o view item some has asked stands fits = absurd (no_reply o some fits)
-has_changed (phase.Headed dir row depth) basis o view item some has asked stands fits = absurd (no_reply o some fits)
-has_changed (phase.Placed bucket depth) basis o view item some has asked stands fits = absurd (no_reply o some fits)
-has_changed (phase.AtBucket bucket depth found) basis o view item some has asked stands fits =
+has_changed : (p : Phase) (context : WalkContext) (o : WalkingFields) (view : View) (item : ObjOp × ObjReply) → IsSome o.reply → IsSome (inverse_of item) → o.request ≡ TakeBack item
+    → Stands p context o.walk view → FitsPhase p context o view → HasChanged context o view item
+has_changed phase.Start context o view item some has asked stands fits = absurd (no_reply o some fits)
+has_changed (phase.Headed dir row depth) context o view item some has asked stands fits = absurd (no_reply o some fits)
+has_changed (phase.Placed bucket depth) context o view item some has asked stands fits = absurd (no_reply o some fits)
+has_changed (phase.AtBucket bucket depth found) context o view item some has asked stands fits =
     let none : inverse_of item ≡ None = ap (λ (d : ObjReply × Option RecChange). d.1) (ap (λ (r : Request). decision r found) (sym asked) ∙ fits.2) in
     absurd (false≢true (sym (ap is_some none) ∙ has))
-has_changed (phase.Full next) basis o view item some has asked stands fits = absurd fits
-has_changed (phase.Adding value bucket depth unsplit) basis o view item some has asked stands fits = absurd (no_reply o some fits.0)
-has_changed (phase.Splitting value depth) basis o view item some has asked stands fits = absurd (no_reply o some fits.0)
-has_changed (phase.Changed bucket done) basis o view item some has asked stands fits = record {
+has_changed (phase.Full next) context o view item some has asked stands fits = absurd fits
+has_changed (phase.Adding value bucket depth unsplit) context o view item some has asked stands fits = absurd (no_reply o some fits.0)
+has_changed (phase.Splitting value depth) context o view item some has asked stands fits = absurd (no_reply o some fits.0)
+has_changed (phase.Changed bucket done) context o view item some has asked stands fits = record {
   bucket = bucket;
   done = done;
   change = fits.decided;
@@ -87,98 +87,98 @@ has_changed (phase.Changed bucket done) basis o view item some has asked stands 
 }
 
 -- transaction i keeps no image, and the locks and the pages are these
-abbrev pub cleared : State → ℕ → Commons → AllRunning
-cleared s i commons = record {
+abbrev pub cleared : State → ℕ → SharedState → AllRunning
+cleared s i shared = record {
   images = map.insert s.images i map.empty;
-  locks = commons.pages.locks;
-  store = commons.pages.store;
+  locks = shared.pages.locks;
+  store = shared.pages.store;
 }
 
 -- its inverse is made, or there is none, and it holds nothing
-pub record IsCleared (s : State) (i : ℕ) (commons : Commons) (item : ObjOp × ObjReply) : Type 0 where
-  pub keeps : KeepsRunning i (all_of s) (cleared s i commons)
-  pub nothing : HoldsNothing (cleared s i commons) i
-  pub changes : ChangesPages (world_of s) i (changes_on item.0 (changes_back item)) (clean_pages (map.insert s.images i map.empty) commons.pages.store.pages)
+pub record IsCleared (s : State) (i : ℕ) (shared : SharedState) (item : ObjOp × ObjReply) : Type 0 where
+  pub keeps : KeepsRunning i (all_of s) (cleared s i shared)
+  pub nothing : HoldsNothing (cleared s i shared) i
+  pub changes : ChangesPages (abstract_state_of s) i (changes_on item.0 (changes_back item)) (clean_pages (map.insert s.images i map.empty) shared.pages.store.pages)
 
 pub open_there : (s : State) (i : ℕ) (t : Transaction) → IsSound s → map.get s.txs i ≡ Some t → is_open (all_of s) i ≡ true
 open_there s i t sound was = ap is_some (sound.kept i ∙ ap images_kept was)
 
-module _ (s : State) (i : ℕ) (before : Transaction) (between commons : Commons) (sound : IsSound s) (was : map.get s.txs i ≡ Some before) (pages : commons.pages ≡ between.pages) where
-  module _ (o : OperationFields) (fits : HasInverse s i before o) (some : IsSome o.reply) (after : Running) (ends : EndsSubtx before.subtx after s.commons between) where
-    is_end : after_end (all_of s) i ≡ cleared s i commons
+module _ (s : State) (i : ℕ) (before : Transaction) (between shared : SharedState) (sound : IsSound s) (was : map.get s.txs i ≡ Some before) (pages : shared.pages ≡ between.pages) where
+  module _ (o : OperationFields) (fits : HasInverse s i before o) (some : IsSome o.reply) (after : Running) (ends : EndsSubtx before.subtx after s.shared between) where
+    is_end : after_end (all_of s) i ≡ cleared s i shared
     is_end =
-        let locks : released s.commons.pages.locks i ≡ commons.pages.locks = ap (released s.commons.pages.locks) (sym (sound.fits i before was).number) ∙ sym (ap (λ p. p.locks) pages ∙ ends.locks) in
+        let locks : released s.shared.pages.locks i ≡ shared.pages.locks = ap (released s.shared.pages.locks) (sym (sound.fits i before was).number) ∙ sym (ap (λ p. p.locks) pages ∙ ends.locks) in
         let store = sym (ap (λ p. p.store) pages ∙ ends.store) in
         λ p. record { images = map.insert s.images i map.empty; locks = locks p; store = store p }
 
-    clean_at_end : (q : ℕ) → clean_of (cleared s i commons) q ≡ clean_of (after_end (all_of s) i) q
+    clean_at_end : (q : ℕ) → clean_of (cleared s i shared) q ≡ clean_of (after_end (all_of s) i) q
     clean_at_end q = ap (λ all. clean_of all q) (sym is_end)
 
-    abbrev basis : Basis
-    basis = basis_of (world_of s) i
+    abbrev context : WalkContext
+    context = context_of (abstract_state_of s) i
 
     abbrev seen : View
-    seen = view_of (moment_of (all_of s) i)
+    seen = view_of (local_of (all_of s) i)
 
     abbrev pages_now : map.FinMap nat_cmp Page
-    pages_now = clean_pages (map.insert s.images i map.empty) commons.pages.store.pages
+    pages_now = clean_pages (map.insert s.images i map.empty) shared.pages.store.pages
 
     agrees : Agrees seen.seen (clean_of (all_of s))
     agrees = agrees_with_each (all_of s) i sound.running (open_there s i before sound was)
 
-    ends_with : EndsWith (world_of s) seen pages_now
-    ends_with = record { held = sees_held_alone (moment_of (all_of s) i); ends = λ q. clean_at_end q ∙ ap (λ f. f q) (end_clean (all_of s) i sound.running) }
+    ends_with : EndsWith (abstract_state_of s) seen pages_now
+    ends_with = record { held = sees_held_alone (local_of (all_of s) i); ends = λ q. clean_at_end q ∙ ap (λ f. f q) (end_clean (all_of s) i sound.running) }
 
     abbrev Undone : Type 0
-    Undone = ChangesPages (world_of s) i (changes_on fits.last.0 (changes_back fits.last)) pages_now
+    Undone = ChangesPages (abstract_state_of s) i (changes_on fits.last.0 (changes_back fits.last)) pages_now
 
     -- on one record its change is left alone
-    module _ (walk : WalkFields) (walks : IsWalking basis (walking o.request o.reply walk) seen) where
-      has : HasChanged basis (walking o.request o.reply walk) seen fits.last
-      has = has_changed walk.phase basis (walking o.request o.reply walk) seen fits.last some fits.has fits.inverts.asked walks.stands walks.fits
+    module _ (walk : WalkFields) (walks : IsWalking context (walking o.request o.reply walk) seen) where
+      has : HasChanged context (walking o.request o.reply walk) seen fits.last
+      has = has_changed walk.phase context (walking o.request o.reply walk) seen fits.last some fits.has fits.inverts.asked walks.stands walks.fits
 
-      leaves_change : LeavesChange (world_of s) i (cell_of fits.last.0) has.change pages_now
+      leaves_change : LeavesChange (abstract_state_of s) i (cell_of fits.last.0) has.change pages_now
       leaves_change =
           let key_is = ap (λ (t : ℕ × Mode). t.0) (walks.target ∙ ap target_of fits.inverts.asked) in
-          walk_leaves_change (world_of s) i pages_now walk seen has.bucket has.done has.changed agrees ends_with.ends sound.match.file.form (cell_of fits.last.0) has.change key_is
-          (subst (λ (f : Option ℕ). Performs has.change f has.done) (found_is_record (world_of s) i (cell_of fits.last.0) walk.key seen has.found sound.match has.read key_is agrees) has.performs)
+          walk_leaves_change (abstract_state_of s) i pages_now walk seen has.bucket has.done has.changed agrees ends_with.ends sound.match.file.form (cell_of fits.last.0) has.change key_is
+          (subst (λ (f : Option ℕ). Performs has.change f has.done) (found_is_record (abstract_state_of s) i (cell_of fits.last.0) walk.key seen has.found sound.match has.read key_is agrees) has.performs)
 
       undone_on_one : Undone
       undone_on_one =
           let alone = no_size_inverse fits.last (ap size_key_of (sym fits.inverts.asked) ∙ walks.alone) in
           let all : changes_back fits.last ≡ record { own = Some has.change; size = None } = λ j. record { own = has.is j; size = alone j } in
-          subst (λ l. ChangesPages (world_of s) i l pages_now) (sym (ap (changes_on fits.last.0) all ∙ own_alone fits.last.0 (Some has.change))) leaves_change
+          subst (λ l. ChangesPages (abstract_state_of s) i l pages_now) (sym (ap (changes_on fits.last.0) all ∙ own_alone fits.last.0 (Some has.change))) leaves_change
 
     -- on two both are
-    undone_on_two : (double : Double) (r : Option ObjReply) → IsSome r → IsInRange (cell_of fits.last.0) → StandsOrTold r double basis o.request seen → Undone
-    undone_on_two double None none range stands = absurd (false≢true none)
-    undone_on_two double (Some reply) told range stands =
-        let there : IsTold double basis (TakeBack fits.last) reply seen = subst (λ (q : Request). IsTold double basis q reply seen) fits.inverts.asked stands in
-        let leaves : LeavesAsTold basis (TakeBack fits.last) reply seen (clean_of (all_of s)) =
-        leaves_as_told basis (TakeBack fits.last) reply seen (clean_of (all_of s)) sound.match.file.bounded agrees sound.match.file.form sound.match.file.shallow double there in
-        undone_leaves (world_of s) i reply seen pages_now sound.match ends_with fits.last range leaves
+    undone_on_two : (two_records : TwoRecordWalk) (r : Option ObjReply) → IsSome r → IsInRange (cell_of fits.last.0) → StandsOrTold r two_records context o.request seen → Undone
+    undone_on_two two_records None none range stands = absurd (false≢true none)
+    undone_on_two two_records (Some reply) told range stands =
+        let there : IsTold two_records context (TakeBack fits.last) reply seen = subst (λ (q : Request). IsTold two_records context q reply seen) fits.inverts.asked stands in
+        let leaves : LeavesAsTold context (TakeBack fits.last) reply seen (clean_of (all_of s)) =
+        leaves_as_told context (TakeBack fits.last) reply seen (clean_of (all_of s)) sound.match.file.bounded agrees sound.match.file.form sound.match.file.shallow two_records there in
+        undone_leaves (abstract_state_of s) i reply seen pages_now sound.match ends_with fits.last range leaves
 
-    undone_by : (c : Course) → IsInRange (cell_of fits.last.0) → OperatesBy c basis o seen → Undone
+    undone_by : (c : AccessPath) → IsInRange (cell_of fits.last.0) → OperatesBy c context o seen → Undone
     undone_by (One walk) range walks = undone_on_one walk walks
-    undone_by (Two double) range stands = undone_on_two double o.reply some range stands
+    undone_by (Two two_records) range stands = undone_on_two two_records o.reply some range stands
 
-    pub cleared_by_inverse : IsInRange (cell_of fits.last.0) → IsCleared s i commons fits.last
+    pub cleared_by_inverse : IsInRange (cell_of fits.last.0) → IsCleared s i shared fits.last
     cleared_by_inverse range = record {
       keeps = subst (KeepsRunning i (all_of s)) is_end (end_keeps (all_of s) i sound.running (open_there s i before sound was));
       nothing = subst (λ all. HoldsNothing all i) is_end (nothing_at_end (all_of s) i);
-      changes = undone_by o.course range fits.operates;
+      changes = undone_by o.access_path range fits.operates;
     }
 
-  module _ (item : ObjOp × ObjReply) (nothing : HoldsNothing (all_of s) i) (same : between ≡ s.commons) (none : inverse_of item ≡ None) where
+  module _ (item : ObjOp × ObjReply) (nothing : HoldsNothing (all_of s) i) (same : between ≡ s.shared) (none : inverse_of item ≡ None) where
     same_images : map.insert s.images i map.empty ≡ s.images
     same_images = same_entries _ _ (λ q. elim (cases_eq q i) [
       | inl here ↦ ap (map.get (map.insert s.images i map.empty)) here ∙ inserted_here s.images i map.empty ∙ sym nothing.no_images ∙ ap (map.get s.images) (sym here)
       | inr differ ↦ inserted_elsewhere s.images i map.empty q differ
     ])
 
-    is_same : all_of s ≡ cleared s i commons
+    is_same : all_of s ≡ cleared s i shared
     is_same =
-        let now = pages ∙ ap (λ (c : Commons). c.pages) same in
+        let now = pages ∙ ap (λ (c : SharedState). c.pages) same in
         λ p. record { images = sym same_images p; locks = (sym now p).locks; store = (sym now p).store }
 
     stays : KeepsRunning i (all_of s) (all_of s)
@@ -189,9 +189,9 @@ module _ (s : State) (i : ℕ) (before : Transaction) (between commons : Commons
         let all : changes_back item ≡ record { own = None; size = None } = λ j. record { own = none j; size = no_inverse_no_size item none j } in
         ap (changes_on item.0) all ∙ own_alone item.0 None
 
-    pub cleared_without : IsCleared s i commons item
+    pub cleared_without : IsCleared s i shared item
     cleared_without = record {
       keeps = subst (KeepsRunning i (all_of s)) is_same stays;
       nothing = subst (λ all. HoldsNothing all i) is_same nothing;
-      changes = subst (λ l. ChangesPages (world_of s) i l (clean_pages (map.insert s.images i map.empty) commons.pages.store.pages)) (sym list) (λ q. ap (λ all. clean_of all q) (sym is_same));
+      changes = subst (λ l. ChangesPages (abstract_state_of s) i l (clean_pages (map.insert s.images i map.empty) shared.pages.store.pages)) (sym list) (λ q. ap (λ all. clean_of all q) (sym is_same));
     }

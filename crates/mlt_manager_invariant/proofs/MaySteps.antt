@@ -14,9 +14,9 @@ use Rattle.mlt_trace.proofs.RoomLaws.{room_within_total}
 use Rattle.mlt_object_locks.specs.Locks.{reservation_of}
 use Rattle.mlt_page_locks.specs.LockTables.{Modes, pages_of}
 use Rattle.mlt_page_subtx.specs.Images.{AreThere, Images}
-use Rattle.mlt_hash_access.specs.Moments.{Moment, moment}
+use Rattle.mlt_hash_access.specs.LocalStates.{LocalState, local}
 use Rattle.mlt_hash_access.specs.Views.{view_of}
-use Rattle.mlt_hash_subtx_laws.specs.Running.{AllRunning, HoldsNothing, clean_of, is_open, moment_of}
+use Rattle.mlt_hash_subtx_laws.specs.Running.{AllRunning, HoldsNothing, clean_of, is_open, local_of}
 use Rattle.mlt_hash_subtx_laws.proofs.AllRunning.{clean_for_each, each_may_step}
 use Rattle.mlt_hash.specs.Walks.{Stands}
 use Rattle.mlt_object_base.specs.declared.request.Request.TheVariants.{Do, TakeBack}
@@ -24,7 +24,7 @@ use Rattle.mlt_object_base.specs.Requests.{size_key_of}
 use Rattle.mlt_tx_operation.proofs.Operations.{starts}
 use Rattle.mlt_tx_operation.specs.Operating.{CanDo, CanDoBy, IsOperating, MayOperate, OperationFields, started_for}
 use Rattle.mlt_tx_meaning.specs.Events.{MayUndo}
-use Rattle.mlt_tx_meaning.specs.Worlds.{basis_of}
+use Rattle.mlt_tx_meaning.specs.AbstractStates.{context_of}
 use Rattle.mlt_tx_meaning.proofs.Matches.{in_range_there}
 use Rattle.mlt_tx_meaning.proofs.TwoEnds.{can_do_both, can_take_back_both}
 use Rattle.mlt_tx_meaning.proofs.Walks.{undone_is_there}
@@ -34,7 +34,7 @@ use Rattle.mlt_tx.specs.declared.transaction.Transaction.{Transaction}
 use Rattle.mlt_tx.specs.Steps.{IsInverting, MayStepBack, MayStepOn}
 use Rattle.mlt_tx.specs.Transactions.{MayStepAt, MayStepIn}
 use Rattle.mlt_manager_invariant.specs.Sound.{Fits, FitsAt, HasPending, IsSound}
-use Rattle.mlt_manager_invariant.specs.States.{State, all_of, images_kept, is_undoing, is_undoing_at, pending_room, room_of, world_of}
+use Rattle.mlt_manager_invariant.specs.States.{State, all_of, images_kept, is_undoing, is_undoing_at, pending_room, room_of, abstract_state_of}
 
 -- a list that is not empty has a last item
 pub last_of_some : {A : Type 0} (xs : List A) → (xs ≡ [] → ⊥) → (front : List A) × (last : A) × (xs ≡ front ++ last ∷ [])
@@ -60,17 +60,17 @@ module _ (s : State) (i : ℕ) (t : Transaction) (sound : IsSound s) (is : map.g
   is_open_now = ap is_some (sound.kept i ∙ ap images_kept is)
 
   -- what its next step works on
-  pub same_moment : moment_of (all_of s) i ≡ moment t.subtx s.commons.pages
-  same_moment p = record {
+  pub same_local : local_of (all_of s) i ≡ local t.subtx s.shared.pages
+  same_local p = record {
     running = record { tx = sym own.number p; images = ap (λ (o : Option Images). unwrap_or o map.empty) (sound.kept i ∙ ap images_kept is) p };
-    locks = s.commons.pages.locks;
-    store = s.commons.pages.store;
+    locks = s.shared.pages.locks;
+    store = s.shared.pages.store;
   }
 
-  may_operate : (o : OperationFields) → IsOperating (basis_of (world_of s) i) o (view_of (moment_of (all_of s) i)) → CanDo (basis_of (world_of s) i) (clean_of (all_of s)) o.request
-      → MayOperate (basis_of (world_of s) i) (moment t.subtx s.commons.pages) o
+  may_operate : (o : OperationFields) → IsOperating (context_of (abstract_state_of s) i) o (view_of (local_of (all_of s) i)) → CanDo (context_of (abstract_state_of s) i) (clean_of (all_of s)) o.request
+      → MayOperate (context_of (abstract_state_of s) i) (local t.subtx s.shared.pages) o
   may_operate o operates can =
-      subst (λ (m : Moment). MayOperate (basis_of (world_of s) i) m o) same_moment (record {
+      subst (λ (m : LocalState). MayOperate (context_of (abstract_state_of s) i) m o) same_local (record {
         bounded = sound.match.file.bounded;
         small = sound.match.file.small;
         may = each_may_step (all_of s) i sound.running is_open_now;
@@ -80,31 +80,31 @@ module _ (s : State) (i : ℕ) (t : Transaction) (sound : IsSound s) (is : map.g
         can = can;
       })
 
-  room_there : room_of t ≤ s.commons.history.room
+  room_there : room_of t ≤ s.shared.history.room
   room_there = omega (arith, sound.room, room_within_total room_of s.txs i t is)
 
-  there : AreThere t.subtx.images s.commons.pages.store.pages
-  there = subst (λ (m : Moment). AreThere m.running.images m.store.pages) same_moment (each_may_step (all_of s) i sound.running is_open_now).images_there
+  there : AreThere t.subtx.images s.shared.pages.store.pages
+  there = subst (λ (m : LocalState). AreThere m.running.images m.store.pages) same_local (each_may_step (all_of s) i sound.running is_open_now).images_there
 
   -- what an operation is to change is there
-  can_do : (op : ObjOp) → IsInRange (cell_of op) → CanDo (basis_of (world_of s) i) (clean_of (all_of s)) (Do op)
+  can_do : (op : ObjOp) → IsInRange (cell_of op) → CanDo (context_of (abstract_state_of s) i) (clean_of (all_of s)) (Do op)
   can_do op range = by (size_key_of (Do op))
     where
-      by : (key : Option ℕ) → CanDoBy key (basis_of (world_of s) i) (clean_of (all_of s)) (Do op)
+      by : (key : Option ℕ) → CanDoBy key (context_of (abstract_state_of s) i) (clean_of (all_of s)) (Do op)
       by None = tt
-      by (Some size) = can_do_both (world_of s) i sound.match op range
+      by (Some size) = can_do_both (abstract_state_of s) i sound.match op range
 
-  may_step_on : (o : OperationFields) → t.at ≡ at.Pending o → MayStepOn (basis_of (world_of s) i) o t.subtx t.undo s.commons × (2 ≤ s.commons.history.room)
+  may_step_on : (o : OperationFields) → t.at ≡ at.Pending o → MayStepOn (context_of (abstract_state_of s) i) o t.subtx t.undo s.shared × (2 ≤ s.shared.history.room)
   may_step_on o pending_at =
       let pending : HasPending s i t o = subst (λ (a : At). FitsAt a s i t) pending_at own.where_at in
       let two : pending_room t.at ≡ 2 = ap pending_room pending_at in
-      let can : CanDo (basis_of (world_of s) i) (clean_of (all_of s)) o.request = subst (CanDo (basis_of (world_of s) i) (clean_of (all_of s))) (sym pending.asked) (can_do pending.op pending.in_range.cell) in (
+      let can : CanDo (context_of (abstract_state_of s) i) (clean_of (all_of s)) o.request = subst (CanDo (context_of (abstract_state_of s) i) (clean_of (all_of s))) (sym pending.asked) (can_do pending.op pending.in_range.cell) in (
         record {
           op = pending.op;
           asked = pending.asked;
           goes = λ none. may_operate o pending.operates can;
           ends = λ reply told. record {
-            reserved = ap (reservation_of s.commons.objects.reserved) own.number ∙ pending.reserved;
+            reserved = ap (reservation_of s.shared.objects.reserved) own.number ∙ pending.reserved;
             spare = pending.spare;
             room = omega (arith, room_there, two);
             there = there;
@@ -113,7 +113,7 @@ module _ (s : State) (i : ℕ) (t : Transaction) (sound : IsSound s) (is : map.g
         omega (arith, room_there, two),
       )
 
-  may_undo : (front : List (ObjOp × ObjReply)) (last : ObjOp × ObjReply) → is_undoing t.at ≡ true → t.undo.entries ≡ front ++ last ∷ [] → MayUndo (world_of s) i last
+  may_undo : (front : List (ObjOp × ObjReply)) (last : ObjOp × ObjReply) → is_undoing t.at ≡ true → t.undo.entries ≡ front ++ last ∷ [] → MayUndo (abstract_state_of s) i last
   may_undo front last undoing entries = record {
     is_open = sound.opened i ∙ ap is_some is;
     backward = ap is_undoing_at is ∙ undoing;
@@ -123,25 +123,25 @@ module _ (s : State) (i : ℕ) (t : Transaction) (sound : IsSound s) (is : map.g
 
   pub last_in_range : (front : List (ObjOp × ObjReply)) (last : ObjOp × ObjReply) → t.undo.entries ≡ front ++ last ∷ [] → IsInRange (cell_of last.0)
   last_in_range front last entries =
-      in_range_there (world_of s) sound.match i last (subst (λ (l : List (ObjOp × ObjReply)). Contains l last) (sym entries ∙ own.stands) (Contains-append_right front (last ∷ []) last (0, omega arith, refl)))
+      in_range_there (abstract_state_of s) sound.match i last (subst (λ (l : List (ObjOp × ObjReply)). Contains l last) (sym entries ∙ own.stands) (Contains-append_right front (last ∷ []) last (0, omega arith, refl)))
 
-  can_take_back : (front : List (ObjOp × ObjReply)) (last : ObjOp × ObjReply) → is_undoing t.at ≡ true → t.undo.entries ≡ front ++ last ∷ [] → CanDo (basis_of (world_of s) i) (clean_of (all_of s)) (TakeBack last)
+  can_take_back : (front : List (ObjOp × ObjReply)) (last : ObjOp × ObjReply) → is_undoing t.at ≡ true → t.undo.entries ≡ front ++ last ∷ [] → CanDo (context_of (abstract_state_of s) i) (clean_of (all_of s)) (TakeBack last)
   can_take_back front last undoing entries = by (size_key_of (TakeBack last))
     where
-      by : (key : Option ℕ) → CanDoBy key (basis_of (world_of s) i) (clean_of (all_of s)) (TakeBack last)
+      by : (key : Option ℕ) → CanDoBy key (context_of (abstract_state_of s) i) (clean_of (all_of s)) (TakeBack last)
       by None = λ walk view bucket depth found key phase here agree.
-          let both = undone_is_there (world_of s) i last walk view bucket depth found sound.match (may_undo front last undoing entries) phase key
-          (subst (λ p. Stands p (basis_of (world_of s) i) walk view) (sym phase) here) agree in
+          let both = undone_is_there (abstract_state_of s) i last walk view bucket depth found sound.match (may_undo front last undoing entries) phase key
+          (subst (λ p. Stands p (context_of (abstract_state_of s) i) walk view) (sym phase) here) agree in
           record { fits = both.0; ghost = both.1 }
-      by (Some size) = can_take_back_both (world_of s) i sound.match last (may_undo front last undoing entries)
+      by (Some size) = can_take_back_both (abstract_state_of s) i sound.match last (may_undo front last undoing entries)
 
   -- one that holds nothing is at the start of an inverse
   starts_inverse : (front : List (ObjOp × ObjReply)) (last : ObjOp × ObjReply) → is_undoing t.at ≡ true → t.undo.entries ≡ front ++ last ∷ [] → HoldsNothing (all_of s) i
-      → MayOperate (basis_of (world_of s) i) (moment t.subtx s.commons.pages) (started_for (TakeBack last))
+      → MayOperate (context_of (abstract_state_of s) i) (local t.subtx s.shared.pages) (started_for (TakeBack last))
   starts_inverse front last undoing entries none =
-      may_operate (started_for (TakeBack last)) (starts (basis_of (world_of s) i) (TakeBack last) (moment_of (all_of s) i) (last_in_range front last entries) (unheld (all_of s) i none)) (can_take_back front last undoing entries)
+      may_operate (started_for (TakeBack last)) (starts (context_of (abstract_state_of s) i) (TakeBack last) (local_of (all_of s) i) (last_in_range front last entries) (unheld (all_of s) i none)) (can_take_back front last undoing entries)
 
-  may_step_back : (inverting : Option OperationFields) → t.at ≡ at.Undoing inverting → FitsAt (at.Undoing inverting) s i t → MayStepBack (basis_of (world_of s) i) inverting t.subtx t.undo s.commons
+  may_step_back : (inverting : Option OperationFields) → t.at ≡ at.Undoing inverting → FitsAt (at.Undoing inverting) s i t → MayStepBack (context_of (abstract_state_of s) i) inverting t.subtx t.undo s.shared
   may_step_back None back_at fits =
       let last = last_of_some t.undo.entries fits.1 in
       let undoing : is_undoing t.at ≡ true = ap is_undoing back_at in
@@ -158,8 +158,8 @@ module _ (s : State) (i : ℕ) (t : Transaction) (sound : IsSound s) (is : map.g
   may_step_back (Some o) back_at fits =
       let undoing : is_undoing t.at ≡ true = ap is_undoing back_at in
       let longer : length t.undo.entries ≡ length fits.front + 1 = ap length fits.entries ∙ length-append fits.front (fits.last ∷ []) in
-      let may : MayOperate (basis_of (world_of s) i) (moment t.subtx s.commons.pages) o =
-      may_operate o fits.operates (subst (CanDo (basis_of (world_of s) i) (clean_of (all_of s))) (sym fits.inverts.asked) (can_take_back fits.front fits.last undoing fits.entries)) in
+      let may : MayOperate (context_of (abstract_state_of s) i) (local t.subtx s.shared.pages) o =
+      may_operate o fits.operates (subst (CanDo (context_of (abstract_state_of s) i) (clean_of (all_of s))) (sym fits.inverts.asked) (can_take_back fits.front fits.last undoing fits.entries)) in
       record {
         front = fits.front;
         last = fits.last;
@@ -167,14 +167,14 @@ module _ (s : State) (i : ℕ) (t : Transaction) (sound : IsSound s) (is : map.g
         room = omega (arith, room_there, longer);
         starts = λ none has. absurd (none-some o (sym none));
         runs = λ p some. subst (IsInverting fits.last) (let same : o ≡ p = cc in same) fits.inverts;
-        goes = λ p some none. subst (MayOperate (basis_of (world_of s) i) (moment t.subtx s.commons.pages)) (let same : o ≡ p = cc in same) may;
+        goes = λ p some none. subst (MayOperate (context_of (abstract_state_of s) i) (local t.subtx s.shared.pages)) (let same : o ≡ p = cc in same) may;
       }
 
-  by_at : (a : At) → t.at ≡ a → FitsAt a s i t → (a ≡ at.Idle → ⊥) → MayStepAt a (basis_of (world_of s) i) t s.commons
+  by_at : (a : At) → t.at ≡ a → FitsAt a s i t → (a ≡ at.Idle → ⊥) → MayStepAt a (context_of (abstract_state_of s) i) t s.shared
   by_at at.Idle at_is fits busy = absurd (busy refl)
   by_at (at.Pending o) at_is fits busy = may_step_on o at_is
   by_at (at.Undoing inverting) at_is fits busy = may_step_back inverting at_is fits
 
   -- **It may take a step.**
-  pub may_step : t.at ≢ at.Idle → MayStepIn (basis_of (world_of s) i) t s.commons
+  pub may_step : t.at ≢ at.Idle → MayStepIn (context_of (abstract_state_of s) i) t s.shared
   may_step busy = by_at t.at refl own.where_at busy

@@ -22,14 +22,14 @@ use Rattle.mlt_hash_subtx_laws.specs.CleanPages.{clean_pages}
 use Rattle.mlt_tx_meaning.proofs.Matches.{same_pages_match}
 use Rattle.mlt_hash_subtx_laws.specs.Running.{AllMayStep, clean_of, nobody_running}
 use Rattle.mlt_hash_subtx_laws.proofs.AllRunning.{first_clean, first_may_step}
-use Rattle.mlt_tx_meaning.specs.Events.{new_world}
-use Rattle.mlt_tx_meaning.specs.Worlds.{PagesMeanHistory, lists_in}
+use Rattle.mlt_tx_meaning.specs.Events.{new_state}
+use Rattle.mlt_tx_meaning.specs.AbstractStates.{PagesMeanHistory, lists_in}
 use Rattle.mlt_tx_meaning.proofs.Opening.{opening_matches}
-use Rattle.mlt_tx.specs.declared.commons.Commons.{Commons}
+use Rattle.mlt_tx.specs.declared.shared.SharedState.{SharedState}
 use Rattle.mlt_tx.specs.declared.transaction.Transaction.{Transaction}
 use Rattle.mlt_manager_invariant.specs.Opening.{opening_state}
 use Rattle.mlt_manager_invariant.specs.Sound.{IsSound}
-use Rattle.mlt_manager_invariant.specs.States.{all_of, images_kept, room_of, undoing_of, world_of}
+use Rattle.mlt_manager_invariant.specs.States.{all_of, images_kept, room_of, undoing_of, abstract_state_of}
 
 nothing_open : (j : ℕ) → set.contains (set.empty {R = nat_cmp}) j ≡ false
 nothing_open j = set.contains-empty nat_cmp j
@@ -37,31 +37,31 @@ nothing_open j = set.contains-empty nat_cmp j
 nothing_at : {X : Type 0} (j : ℕ) → map.get {R = nat_cmp} (map.empty {X = X}) j ≡ None
 nothing_at {X} j = map.get-empty {X = X} nat_cmp j
 
-module _ (bits : ℕ → ℕ) (root max_depth max_ops max_open dir bucket : ℕ) (commons : Commons)
-    (keys : GivesPseudokeys bits) (small : max_depth ≤ 16) (opening : IsOpening (map.get commons.pages.store.pages) root dir bucket)
-    (locks : commons.pages.locks ≡ no_locks max_open) (held : commons.objects ≡ objects.no_locks) (items : commons.history.items ≡ []) (room : commons.history.room ≡ 0) where
+module _ (bits : ℕ → ℕ) (root max_depth max_ops max_open dir bucket : ℕ) (shared : SharedState)
+    (keys : GivesPseudokeys bits) (small : max_depth ≤ 16) (opening : IsOpening (map.get shared.pages.store.pages) root dir bucket)
+    (locks : shared.pages.locks ≡ no_locks max_open) (held : shared.objects ≡ objects.no_locks) (items : shared.history.items ≡ []) (room : shared.history.room ≡ 0) where
   -- nobody runs
-  alike : all_of (opening_state bits root max_depth max_ops commons) ≡ nobody_running max_open commons.pages.store
-  alike p = record { images = map.empty; locks = locks p; store = commons.pages.store }
+  alike : all_of (opening_state bits root max_depth max_ops shared) ≡ nobody_running max_open shared.pages.store
+  alike p = record { images = map.empty; locks = locks p; store = shared.pages.store }
 
-  same_pages : (q : ℕ) → map.get (clean_pages map.empty commons.pages.store.pages) q ≡ map.get commons.pages.store.pages q
-  same_pages q = ap (λ (f : ℕ → Option Page). f q) (ap clean_of alike ∙ first_clean max_open commons.pages.store)
+  same_pages : (q : ℕ) → map.get (clean_pages map.empty shared.pages.store.pages) q ≡ map.get shared.pages.store.pages q
+  same_pages q = ap (λ (f : ℕ → Option Page). f q) (ap clean_of alike ∙ first_clean max_open shared.pages.store)
 
-  match : PagesMeanHistory (world_of (opening_state bits root max_depth max_ops commons))
+  match : PagesMeanHistory (abstract_state_of (opening_state bits root max_depth max_ops shared))
   match =
       let undoing = undoing_of map.empty in
-      let opened = opening_matches bits root max_depth commons.pages.store.pages undoing dir bucket keys small opening in
-      let clean = same_pages_match (new_world bits root max_depth commons.pages.store.pages undoing) (clean_pages map.empty commons.pages.store.pages) opened same_pages in
-      subst (λ (h : List (Entry (ObjOp × ObjReply))). PagesMeanHistory (record (new_world bits root max_depth (clean_pages map.empty commons.pages.store.pages) undoing) { history = h })) (sym (ap entries_of items)) clean
+      let opened = opening_matches bits root max_depth shared.pages.store.pages undoing dir bucket keys small opening in
+      let clean = same_pages_match (new_state bits root max_depth shared.pages.store.pages undoing) (clean_pages map.empty shared.pages.store.pages) opened same_pages in
+      subst (λ (h : List (Entry (ObjOp × ObjReply))). PagesMeanHistory (record (new_state bits root max_depth (clean_pages map.empty shared.pages.store.pages) undoing) { history = h })) (sym (ap entries_of items)) clean
 
-  no_lists_yet : lists_in (world_of (opening_state bits root max_depth max_ops commons)) ≡ lists_of []
+  no_lists_yet : lists_in (abstract_state_of (opening_state bits root max_depth max_ops shared)) ≡ lists_of []
   no_lists_yet = ap (λ (l : List TraceItem). lists_of (entries_of l)) items
 
   -- **A manager begins as it always is.**
-  pub opening_sound : IsSound (opening_state bits root max_depth max_ops commons)
+  pub opening_sound : IsSound (opening_state bits root max_depth max_ops shared)
   opening_sound = record {
     match = match;
-    running = subst AllMayStep (sym alike) (first_may_step max_open commons.pages.store);
+    running = subst AllMayStep (sym alike) (first_may_step max_open shared.pages.store);
     kept = λ j. nothing_at j ∙ sym (ap images_kept (nothing_at j));
     opened = λ j. nothing_open j ∙ sym (ap is_some (nothing_at {X = Transaction} j));
     fits = λ j t is. absurd (none-some t (sym (nothing_at j) ∙ is));

@@ -2,15 +2,15 @@
 use Rattle.std.proofs.Common.{◌≡◌, ◌≢◌, ℕ, ◌<◌, length, None, Some, sym, subst, ◌∙◌}
 use Rattle.mlt_hash_access.specs.Views.{View, view_of}
 use Rattle.mlt_object_locks.specs.Locks.{SameReservations}
-use Rattle.mlt_hash_subtx_laws.specs.Running.{AllRunning, HoldsNothing, KeepsRunning, moment_of}
+use Rattle.mlt_hash_subtx_laws.specs.Running.{AllRunning, HoldsNothing, KeepsRunning, local_of}
 use Rattle.mlt_tx_operation.specs.Operating.{IsOperating, OperationFields}
-use Rattle.mlt_tx_meaning.specs.Worlds.{basis_of}
+use Rattle.mlt_tx_meaning.specs.AbstractStates.{context_of}
 use Rattle.mlt_tx.specs.declared.transaction.At.{At}
 use Rattle.mlt_tx.specs.declared.transaction.At.TheVariants as at
 use Rattle.mlt_tx.specs.declared.transaction.Transaction.{Transaction}
-use Rattle.mlt_hash.specs.Walks.{Basis}
+use Rattle.mlt_hash.specs.Walks.{WalkContext}
 use Rattle.mlt_manager_invariant.specs.Sound.{FitsAt}
-use Rattle.mlt_manager_invariant.specs.States.{State, all_of, world_of}
+use Rattle.mlt_manager_invariant.specs.States.{State, all_of, abstract_state_of}
 
 -- another transaction that holds nothing still holds nothing
 pub still_nothing : (i j : ℕ) (old new : AllRunning) → KeepsRunning i old new → j ≢ i → HoldsNothing old j → HoldsNothing new j
@@ -23,19 +23,19 @@ still_nothing i j old new keeps ne none = record {
 pub record StaysFor (i j : ℕ) (s s' : State) : Type 0 where
   pub other : j ≢ i
   pub runs : KeepsRunning i (all_of s) (all_of s')
-  pub basis : basis_of (world_of s') j ≡ basis_of (world_of s) j
-  pub reserved : SameReservations s.commons.objects.reserved s'.commons.objects.reserved i
+  pub context : context_of (abstract_state_of s') j ≡ context_of (abstract_state_of s) j
+  pub reserved : SameReservations s.shared.objects.reserved s'.shared.objects.reserved i
   pub max_ops : s'.max_ops ≡ s.max_ops
 
-operates_still : (i j : ℕ) (s s' : State) (o : OperationFields) → StaysFor i j s s' → IsOperating (basis_of (world_of s) j) o (view_of (moment_of (all_of s) j)) → IsOperating (basis_of (world_of s') j) o (view_of (moment_of (all_of s') j))
+operates_still : (i j : ℕ) (s s' : State) (o : OperationFields) → StaysFor i j s s' → IsOperating (context_of (abstract_state_of s) j) o (view_of (local_of (all_of s) j)) → IsOperating (context_of (abstract_state_of s') j) o (view_of (local_of (all_of s') j))
 operates_still i j s s' o stays operates =
-    subst (λ (b : Basis). IsOperating b o (view_of (moment_of (all_of s') j))) (sym stays.basis)
-    (subst (λ (v : View). IsOperating (basis_of (world_of s) j) o v) (sym (stays.runs.views j stays.other)) operates)
+    subst (λ (b : WalkContext). IsOperating b o (view_of (local_of (all_of s') j))) (sym stays.context)
+    (subst (λ (v : View). IsOperating (context_of (abstract_state_of s) j) o v) (sym (stays.runs.views j stays.other)) operates)
 
 -- another transaction is where it was, from what its operations are at
 pub fits_with : (a : At) (i j : ℕ) (s s' : State) (t : Transaction) → j ≢ i → KeepsRunning i (all_of s) (all_of s')
-    → SameReservations s.commons.objects.reserved s'.commons.objects.reserved i → s'.max_ops ≡ s.max_ops
-    → ((o : OperationFields) → IsOperating (basis_of (world_of s) j) o (view_of (moment_of (all_of s) j)) → IsOperating (basis_of (world_of s') j) o (view_of (moment_of (all_of s') j)))
+    → SameReservations s.shared.objects.reserved s'.shared.objects.reserved i → s'.max_ops ≡ s.max_ops
+    → ((o : OperationFields) → IsOperating (context_of (abstract_state_of s) j) o (view_of (local_of (all_of s) j)) → IsOperating (context_of (abstract_state_of s') j) o (view_of (local_of (all_of s') j)))
     → FitsAt a s j t → FitsAt a s' j t
 fits_with at.Idle i j s s' t other runs reserved max_ops still fits = still_nothing i j (all_of s) (all_of s') runs other fits
 fits_with (at.Pending o) i j s s' t other runs reserved max_ops still fits = record {

@@ -7,7 +7,7 @@ use Rattle.mlt_object_kinds.specs.declared.operation.ObjOp.{ObjOp}
 use Rattle.mlt_object_kinds.specs.declared.operation.ObjReply.{ObjReply}
 use Rattle.mlt_hash_access.specs.Views.{view_of}
 use Rattle.mlt_hash_subtx_laws.specs.CleanPages.{clean_pages}
-use Rattle.mlt_hash_subtx_laws.specs.Running.{is_open, moment_of}
+use Rattle.mlt_hash_subtx_laws.specs.Running.{is_open, local_of}
 use Rattle.mlt_hash_subtx_laws.proofs.AllRunning.{agrees_with_each}
 use Rattle.mlt_hash_subtx_laws.proofs.AllEvents.{end_clean}
 use Rattle.mlt_object_base.specs.declared.request.Request.TheVariants.{Do}
@@ -19,7 +19,7 @@ use Rattle.mlt_tx.specs.declared.transaction.At.{At}
 use Rattle.mlt_tx.specs.declared.transaction.At.TheVariants as at
 use Rattle.mlt_tx.specs.declared.transaction.Transaction.{Transaction}
 use Rattle.mlt_manager_invariant.specs.Sound.{FitsAt, HasPending, IsSound}
-use Rattle.mlt_manager_invariant.specs.States.{State, all_of, images_kept, world_of}
+use Rattle.mlt_manager_invariant.specs.States.{State, all_of, images_kept, abstract_state_of}
 use Rattle.mlt_manager_invariant.proofs.Found.{IsAnswered, is_answered}
 
 module _ (s : State) (i : ℕ) (o : OperationFields) (before : Transaction) (op : ObjOp) (reply : ObjReply)
@@ -34,14 +34,14 @@ module _ (s : State) (i : ℕ) (o : OperationFields) (before : Transaction) (op 
   in_range = let same : Do pending.op ≡ Do op = sym pending.asked ∙ asked in subst IsOpInRange (let one : pending.op ≡ op = cc in one) pending.in_range
 
   -- what its end would leave
-  answered : IsAnswered (world_of s) i op reply (clean_pages (map.insert s.images i map.empty) s.commons.pages.store.pages)
+  answered : IsAnswered (abstract_state_of s) i op reply (clean_pages (map.insert s.images i map.empty) s.shared.pages.store.pages)
   answered =
-      is_answered (world_of s) i o (view_of (moment_of (all_of s) i)) op reply (clean_pages (map.insert s.images i map.empty) s.commons.pages.store.pages)
+      is_answered (abstract_state_of s) i o (view_of (local_of (all_of s) i)) op reply (clean_pages (map.insert s.images i map.empty) s.shared.pages.store.pages)
       sound.match in_range.cell pending.operates asked told (agrees_with_each (all_of s) i sound.running is_open_here)
-      (record { held = sees_held_alone (moment_of (all_of s) i); ends = λ q. ap (λ (f : ℕ → Option Page). f q) (end_clean (all_of s) i sound.running) })
+      (record { held = sees_held_alone (local_of (all_of s) i); ends = λ q. ap (λ (f : ℕ → Option Page). f q) (end_clean (all_of s) i sound.running) })
 
   -- **The reply is the one with which it is a step of the base.**
   pub reply_is_step : (base : Base) × Step s.base (op, reply) base
   reply_is_step =
-      let there = step_there (world_of s) op sound.match in_range in
+      let there = step_there (abstract_state_of s) op sound.match in_range in
       (there.0, subst (λ (r : ObjReply). Step s.base (op, r) there.0) answered.told there.1)

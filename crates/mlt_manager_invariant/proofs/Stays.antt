@@ -13,29 +13,29 @@ use Rattle.mlt_trace.specs.Entries.{entries_of}
 use Rattle.mlt_trace.specs.Numbers.{AreBegunInOrder, AreCounted, begin_count}
 use Rattle.mlt_trace.proofs.RoomLaws.{total_room-insert}
 use Rattle.mlt_hash_subtx_laws.specs.CleanPages.{RunningImages, clean_pages}
-use Rattle.mlt_tx_meaning.specs.Worlds.{PagesMeanHistory, lists_in}
+use Rattle.mlt_tx_meaning.specs.AbstractStates.{PagesMeanHistory, lists_in}
 use Rattle.mlt_tx_meaning.proofs.Matches.{same_pages_match}
-use Rattle.mlt_tx.specs.declared.commons.Commons.{Commons}
+use Rattle.mlt_tx.specs.declared.shared.SharedState.{SharedState}
 use Rattle.mlt_tx.specs.declared.transaction.Transaction.{Transaction}
 use Rattle.mlt_manager_invariant.specs.Events.{KeepsClean, with_transaction}
 use Rattle.mlt_manager_invariant.specs.Sound.{Fits, IsSound}
-use Rattle.mlt_manager_invariant.specs.States.{State, images_kept, room_of, undoing_of, world_of}
+use Rattle.mlt_manager_invariant.specs.States.{State, images_kept, room_of, undoing_of, abstract_state_of}
 use Rattle.mlt_manager_invariant.proofs.Others.{still_fits}
 use Rattle.mlt_manager_invariant.proofs.Tables.{inserted_elsewhere, inserted_here, same_undoing}
 
-module _ (s : State) (i : ℕ) (before after : Transaction) (commons : Commons) (images : RunningImages)
-    (sound : IsSound s) (was : map.get s.txs i ≡ Some before) (k : KeepsClean s i before after commons images) where
-  same_lists : lists_in (world_of (with_transaction s i after commons images)) ≡ lists_in (world_of s)
+module _ (s : State) (i : ℕ) (before after : Transaction) (shared : SharedState) (images : RunningImages)
+    (sound : IsSound s) (was : map.get s.txs i ≡ Some before) (k : KeepsClean s i before after shared images) where
+  same_lists : lists_in (abstract_state_of (with_transaction s i after shared images)) ≡ lists_in (abstract_state_of s)
   same_lists = ap (λ (items : List TraceItem). lists_of (entries_of items)) k.items
 
-  match : PagesMeanHistory (world_of (with_transaction s i after commons images))
+  match : PagesMeanHistory (abstract_state_of (with_transaction s i after shared images))
   match =
-      let pages = clean_pages images commons.pages.store.pages in
-      let same : PagesMeanHistory (record (world_of s) { pages = pages }) = same_pages_match (world_of s) pages sound.match (λ q. ap (λ f. f q) k.clean) in
+      let pages = clean_pages images shared.pages.store.pages in
+      let same : PagesMeanHistory (record (abstract_state_of s) { pages = pages }) = same_pages_match (abstract_state_of s) pages sound.match (λ q. ap (λ f. f q) k.clean) in
       let undoing : undoing_of s.txs ≡ undoing_of (map.insert s.txs i after) = sym (λ p j. same_undoing s.txs i before after was k.undoing j p) in
-      let items : entries_of s.commons.history.items ≡ entries_of commons.history.items = ap entries_of (sym k.items) in
-      subst (λ (h : List (Entry (ObjOp × ObjReply))). PagesMeanHistory (record (world_of s) { pages = pages; undoing = undoing_of (map.insert s.txs i after); history = h })) items
-      (subst (λ (u : ℕ → Bool). PagesMeanHistory (record (world_of s) { pages = pages; undoing = u })) undoing same)
+      let items : entries_of s.shared.history.items ≡ entries_of shared.history.items = ap entries_of (sym k.items) in
+      subst (λ (h : List (Entry (ObjOp × ObjReply))). PagesMeanHistory (record (abstract_state_of s) { pages = pages; undoing = undoing_of (map.insert s.txs i after); history = h })) items
+      (subst (λ (u : ℕ → Bool). PagesMeanHistory (record (abstract_state_of s) { pages = pages; undoing = u })) undoing same)
 
   kept : (j : ℕ) → map.get images j ≡ images_kept (map.get (map.insert s.txs i after) j)
   kept j = elim (cases_eq j i) [
@@ -43,13 +43,13 @@ module _ (s : State) (i : ℕ) (before after : Transaction) (commons : Commons) 
     | inr differ ↦ k.runs.images j differ ∙ sound.kept j ∙ ap images_kept (sym (inserted_elsewhere s.txs i after j differ))
   ]
 
-  opened : (j : ℕ) → set.contains s.opens j ≡ is_some (map.get (map.insert s.txs i after) j)
+  opened : (j : ℕ) → set.contains s.active j ≡ is_some (map.get (map.insert s.txs i after) j)
   opened j = elim (cases_eq j i) [
-    | inl here ↦ ap (λ n. set.contains s.opens n) here ∙ sound.opened i ∙ ap is_some was ∙ sym (ap is_some (ap (λ n. map.get (map.insert s.txs i after) n) here ∙ inserted_here s.txs i after))
+    | inl here ↦ ap (λ n. set.contains s.active n) here ∙ sound.opened i ∙ ap is_some was ∙ sym (ap is_some (ap (λ n. map.get (map.insert s.txs i after) n) here ∙ inserted_here s.txs i after))
     | inr differ ↦ sound.opened j ∙ ap is_some (sym (inserted_elsewhere s.txs i after j differ))
   ]
 
-  own_fits : Fits (with_transaction s i after commons images) i after
+  own_fits : Fits (with_transaction s i after shared images) i after
   own_fits =
       let fits = sound.fits i before was in
       record {
@@ -59,27 +59,27 @@ module _ (s : State) (i : ℕ) (before after : Transaction) (commons : Commons) 
         where_at = k.fits;
       }
 
-  other_fits : (j : ℕ) (t : Transaction) → j ≢ i → map.get s.txs j ≡ Some t → Fits (with_transaction s i after commons images) j t
+  other_fits : (j : ℕ) (t : Transaction) → j ≢ i → map.get s.txs j ≡ Some t → Fits (with_transaction s i after shared images) j t
   other_fits j t ne is =
       let fits = sound.fits j t is in
       record {
         number = fits.number;
         stands = fits.stands ∙ ap (λ l. l.transcripts j) (sym same_lists);
         few = fits.few;
-        where_at = still_fits t.at i j s (with_transaction s i after commons images) t (record { other = ne; runs = k.runs; basis = refl; reserved = k.reserved; max_ops = refl }) fits.where_at;
+        where_at = still_fits t.at i j s (with_transaction s i after shared images) t (record { other = ne; runs = k.runs; context = refl; reserved = k.reserved; max_ops = refl }) fits.where_at;
       }
 
-  fits_all : (j : ℕ) (t : Transaction) → map.get (map.insert s.txs i after) j ≡ Some t → Fits (with_transaction s i after commons images) j t
+  fits_all : (j : ℕ) (t : Transaction) → map.get (map.insert s.txs i after) j ≡ Some t → Fits (with_transaction s i after shared images) j t
   fits_all j t is = elim (cases_eq j i) [
     | inl here ↦
         let found : Some after ≡ Some t = sym (inserted_here s.txs i after) ∙ sym (ap (λ n. map.get (map.insert s.txs i after) n) here) ∙ is in
         let same : after ≡ t = cc in
-        subst (λ n. Fits (with_transaction s i after commons images) n t) (sym here) (subst (Fits (with_transaction s i after commons images) i) same own_fits)
+        subst (λ n. Fits (with_transaction s i after shared images) n t) (sym here) (subst (Fits (with_transaction s i after shared images) i) same own_fits)
     | inr differ ↦ other_fits j t differ (sym (inserted_elsewhere s.txs i after j differ) ∙ is)
   ]
 
   -- **All that is always true stays true.**
-  pub stays_sound : IsSound (with_transaction s i after commons images)
+  pub stays_sound : IsSound (with_transaction s i after shared images)
   stays_sound = record {
     match = match;
     running = k.runs.may;

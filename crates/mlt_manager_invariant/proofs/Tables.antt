@@ -46,10 +46,10 @@ kept_after s i after kept none j = elim (cases_eq j i) [
 ]
 
 -- who is open, where one that is open changes
-pub opened_after : (s : State) (i : ℕ) (before after : Transaction) → map.get s.txs i ≡ Some before → ((j : ℕ) → set.contains s.opens j ≡ is_some (map.get s.txs j))
-    → (j : ℕ) → set.contains s.opens j ≡ is_some (map.get (map.insert s.txs i after) j)
+pub opened_after : (s : State) (i : ℕ) (before after : Transaction) → map.get s.txs i ≡ Some before → ((j : ℕ) → set.contains s.active j ≡ is_some (map.get s.txs j))
+    → (j : ℕ) → set.contains s.active j ≡ is_some (map.get (map.insert s.txs i after) j)
 opened_after s i before after was opened j = elim (cases_eq j i) [
-  | inl here ↦ ap (λ n. set.contains s.opens n) here ∙ opened i ∙ ap is_some was ∙ sym (ap is_some (ap (λ n. map.get (map.insert s.txs i after) n) here ∙ inserted_here s.txs i after))
+  | inl here ↦ ap (λ n. set.contains s.active n) here ∙ opened i ∙ ap is_some was ∙ sym (ap is_some (ap (λ n. map.get (map.insert s.txs i after) n) here ∙ inserted_here s.txs i after))
   | inr differ ↦ opened j ∙ ap is_some (sym (inserted_elsewhere s.txs i after j differ))
 ]
 

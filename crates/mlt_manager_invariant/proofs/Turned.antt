@@ -2,16 +2,16 @@
 use Rattle.std.proofs.Common.{◌≡◌, ℕ, Option, is_some, true, unwrap_or, sym, ap, ◌∙◌}
 use Rattle.std.specs.FinMap as map
 use Rattle.mlt_page_subtx.specs.Images.{Images}
-use Rattle.mlt_hash_access.specs.Moments.{Moment}
+use Rattle.mlt_hash_access.specs.LocalStates.{LocalState}
 use Rattle.mlt_hash_access.proofs.OwnSteps.{step_keeps_tx}
-use Rattle.mlt_hash_subtx_laws.specs.Running.{AllMayStep, AllRunning, KeepsRunning, after_roll_back, after_step, clean_of, is_open, moment_of}
+use Rattle.mlt_hash_subtx_laws.specs.Running.{AllMayStep, AllRunning, KeepsRunning, after_roll_back, after_step, clean_of, is_open, local_of}
 use Rattle.mlt_hash_subtx_laws.proofs.AllEvents.{roll_back_clean, roll_back_keeps, step_leaves_clean, step_leaves_views}
 use Rattle.mlt_hash_access.specs.PageTurns.{TakesTurn, TurnsBack}
 use Rattle.mlt_manager_invariant.proofs.Tables.{inserted_here}
 use Rattle.mlt_manager_invariant.proofs.Closing.{one_after_another}
 
 -- what the next step of the transaction works on, after one that led here
-pub stepped : (all : AllRunning) (i : ℕ) (m : Moment) → m.running.tx ≡ i → moment_of (after_step all m) i ≡ m
+pub stepped : (all : AllRunning) (i : ℕ) (m : LocalState) → m.running.tx ≡ i → local_of (after_step all m) i ≡ m
 stepped all i m tx p = record {
   running = record {
     tx = sym tx p;
@@ -27,21 +27,21 @@ pub record LeavesAll (i : ℕ) (all new : AllRunning) : Type 0 where
   pub clean : clean_of new ≡ clean_of all
 
 module _ (all : AllRunning) (i : ℕ) (may : AllMayStep all) (opened : is_open all i ≡ true) where
-  still_open : (m : Moment) → m.running.tx ≡ i → is_open (after_step all m) i ≡ true
+  still_open : (m : LocalState) → m.running.tx ≡ i → is_open (after_step all m) i ≡ true
   still_open m tx = ap (λ (n : ℕ). is_some (map.get (map.insert all.images m.running.tx m.running.images) n)) (sym tx) ∙ ap is_some (inserted_here all.images m.running.tx m.running.images)
 
   pub rolled_back : LeavesAll i all (after_roll_back all i)
   rolled_back = record { keeps = roll_back_keeps all i may opened; clean = roll_back_clean all i may }
 
 -- **A turn leaves the clean pages, and all that others see.**
-pub turn_leaves : (all : AllRunning) (i : ℕ) (new : Moment) → AllMayStep all → is_open all i ≡ true → TakesTurn (moment_of all i) new → LeavesAll i all (after_step all new) × (new.running.tx ≡ i)
+pub turn_leaves : (all : AllRunning) (i : ℕ) (new : LocalState) → AllMayStep all → is_open all i ≡ true → TakesTurn (local_of all i) new → LeavesAll i all (after_step all new) × (new.running.tx ≡ i)
 turn_leaves all i new may opened turn = (
   record { keeps = step_leaves_views all i new may opened turn.touches turn.few; clean = step_leaves_clean all i new may opened turn.touches },
-  step_keeps_tx (moment_of all i) new turn.touches,
+  step_keeps_tx (local_of all i) new turn.touches,
 )
 
 -- **So does a turn that is rolled back.**
-pub turn_back_leaves : (all : AllRunning) (i : ℕ) (new : Moment) → AllMayStep all → is_open all i ≡ true → (back : TurnsBack (moment_of all i) new)
+pub turn_back_leaves : (all : AllRunning) (i : ℕ) (new : LocalState) → AllMayStep all → is_open all i ≡ true → (back : TurnsBack (local_of all i) new)
     → LeavesAll i all (after_roll_back (after_step all back.mid) i)
 turn_back_leaves all i new may opened back =
     let turned = turn_leaves all i back.mid may opened back.turn in

@@ -4,36 +4,36 @@ use Rattle.std.specs.FinMap as map
 use Rattle.mlt_object_locks.specs.Locks.{Locks, reservation_of}
 use Rattle.mlt_page_subtx.specs.Images.{Images, Running}
 use Rattle.mlt_object_undo.specs.Undo.{Undo}
-use Rattle.mlt_hash_access.specs.Moments.{Moment, moment}
+use Rattle.mlt_hash_access.specs.LocalStates.{LocalState, local}
 use Rattle.mlt_hash_subtx_laws.specs.CleanPages.{RunningImages}
-use Rattle.mlt_hash_subtx_laws.specs.Running.{AllRunning, KeepsRunning, after_step, clean_of, moment_of}
+use Rattle.mlt_hash_subtx_laws.specs.Running.{AllRunning, KeepsRunning, after_step, clean_of, local_of}
 use Rattle.mlt_hash_access.specs.PageTurns.{TakesTurn}
-use Rattle.mlt_tx.specs.declared.commons.Commons.{Commons}
+use Rattle.mlt_tx.specs.declared.shared.SharedState.{SharedState}
 use Rattle.mlt_tx.specs.declared.transaction.Transaction.{Transaction}
 use Rattle.mlt_manager_invariant.specs.Events.{KeepsCleanPages, with_transaction}
 use Rattle.mlt_manager_invariant.specs.Sound.{FitsAt, IsSound}
 use Rattle.mlt_manager_invariant.specs.States.{State, all_of, images_kept, is_undoing, room_of}
-use Rattle.mlt_manager_invariant.proofs.MaySteps.{is_open_now, same_moment}
+use Rattle.mlt_manager_invariant.proofs.MaySteps.{is_open_now, same_local}
 use Rattle.mlt_manager_invariant.proofs.Tables.{inserted_here}
 use Rattle.mlt_manager_invariant.proofs.Turned.{LeavesAll, turn_leaves}
 
 -- what the transaction works on after an event
-pub moment_now : (s : State) (i : ℕ) (after : Transaction) (commons : Commons) (images : RunningImages) → map.get images i ≡ Some after.subtx.images → after.subtx.tx ≡ i
-    → moment_of (all_of (with_transaction s i after commons images)) i ≡ moment after.subtx commons.pages
-moment_now s i after commons images own tx p = record {
+pub local_now : (s : State) (i : ℕ) (after : Transaction) (shared : SharedState) (images : RunningImages) → map.get images i ≡ Some after.subtx.images → after.subtx.tx ≡ i
+    → local_of (all_of (with_transaction s i after shared images)) i ≡ local after.subtx shared.pages
+local_now s i after shared images own tx p = record {
   running = record { tx = sym tx p; images = ap (λ (o : Option Images). unwrap_or o map.empty) own p };
-  locks = commons.pages.locks;
-  store = commons.pages.store;
+  locks = shared.pages.locks;
+  store = shared.pages.store;
 }
 
-module _ (s : State) (i : ℕ) (before after : Transaction) (commons : Commons)
+module _ (s : State) (i : ℕ) (before after : Transaction) (shared : SharedState)
     (sound : IsSound s) (was : map.get s.txs i ≡ Some before) where
   -- an event that leaves the rest
-  pub sound_after : (all : AllRunning) → LeavesAll i (all_of s) all → all_of (with_transaction s i after commons all.images) ≡ all
-      → map.get all.images i ≡ Some after.subtx.images → after.subtx.tx ≡ i → after.undo ≡ before.undo → commons.objects ≡ s.commons.objects
-      → commons.history.items ≡ s.commons.history.items → commons.history.room + room_of before ≡ s.commons.history.room + room_of after
-      → is_undoing after.at ≡ is_undoing before.at → FitsAt after.at (with_transaction s i after commons all.images) i after
-      → KeepsCleanPages s i before after commons
+  pub sound_after : (all : AllRunning) → LeavesAll i (all_of s) all → all_of (with_transaction s i after shared all.images) ≡ all
+      → map.get all.images i ≡ Some after.subtx.images → after.subtx.tx ≡ i → after.undo ≡ before.undo → shared.objects ≡ s.shared.objects
+      → shared.history.items ≡ s.shared.history.items → shared.history.room + room_of before ≡ s.shared.history.room + room_of after
+      → is_undoing after.at ≡ is_undoing before.at → FitsAt after.at (with_transaction s i after shared all.images) i after
+      → KeepsCleanPages s i before after shared
   sound_after all leaves same own tx undo objects items room undoing fits = (
     all.images,
     record {
@@ -54,22 +54,22 @@ module _ (s : State) (i : ℕ) (before after : Transaction) (commons : Commons)
   -- what a turn leaves
   pub record Turns (all : AllRunning) : Type 0 where
     pub leaves : LeavesAll i (all_of s) all
-    pub same : all_of (with_transaction s i after commons all.images) ≡ all
+    pub same : all_of (with_transaction s i after shared all.images) ≡ all
     pub own : map.get all.images i ≡ Some after.subtx.images
     pub number : after.subtx.tx ≡ i
 
-  pub turns_all : TakesTurn (moment before.subtx s.commons.pages) (moment after.subtx commons.pages) → (all : AllRunning) × Turns all
+  pub turns_all : TakesTurn (local before.subtx s.shared.pages) (local after.subtx shared.pages) → (all : AllRunning) × Turns all
   turns_all turn =
-      let m : Moment = moment after.subtx commons.pages in
-      let turn_here : TakesTurn (moment_of (all_of s) i) m = subst (λ (n : Moment). TakesTurn n m) (sym (same_moment s i before sound was)) turn in
+      let m : LocalState = local after.subtx shared.pages in
+      let turn_here : TakesTurn (local_of (all_of s) i) m = subst (λ (n : LocalState). TakesTurn n m) (sym (same_local s i before sound was)) turn in
       let leaves = turn_leaves (all_of s) i m sound.running (is_open_now s i before sound was) turn_here in
       let all = after_step (all_of s) m in
       let own : map.get all.images i ≡ Some after.subtx.images = ap (λ (n : ℕ). map.get all.images n) (sym leaves.1) ∙ inserted_here s.images after.subtx.tx after.subtx.images in
       (all, record { leaves = leaves.0; same = refl; own = own; number = leaves.1 })
 
-  pub stays_all : moment after.subtx commons.pages ≡ moment before.subtx s.commons.pages → Turns (all_of s)
+  pub stays_all : local after.subtx shared.pages ≡ local before.subtx s.shared.pages → Turns (all_of s)
   stays_all same =
-      let running : after.subtx ≡ before.subtx = ap (λ (m : Moment). m.running) same in
+      let running : after.subtx ≡ before.subtx = ap (λ (m : LocalState). m.running) same in
       record {
         leaves = record { keeps = record { may = sound.running; views = λ u ne. refl; images = λ u ne. refl; holders = λ u ne. refl }; clean = refl };
         same = λ p. record { images = s.images; locks = (same p).locks; store = (same p).store };

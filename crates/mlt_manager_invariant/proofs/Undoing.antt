@@ -19,53 +19,53 @@ use Rattle.mlt_trace.specs.Numbers.{CountsFrom, begun_txs, commit_numbers}
 use Rattle.mlt_trace.specs.Rooms.{total_room}
 use Rattle.mlt_trace.proofs.ItemLaws.{entries_of-append, no_begin, no_commit}
 use Rattle.mlt_trace.proofs.RoomLaws.{total_room-insert}
-use Rattle.mlt_tx_meaning.specs.Events.{with_undone as world_undone}
-use Rattle.mlt_tx_meaning.specs.Worlds.{PagesMeanHistory, lists_in}
+use Rattle.mlt_tx_meaning.specs.Events.{with_undone as state_undone}
+use Rattle.mlt_tx_meaning.specs.AbstractStates.{PagesMeanHistory, lists_in}
 use Rattle.mlt_tx_operation.specs.Operating.{OperationFields}
 use Rattle.mlt_event.specs.declared.answer.Answer.TheVariants as answer
-use Rattle.mlt_tx.specs.declared.commons.Commons.{Commons}
+use Rattle.mlt_tx.specs.declared.shared.SharedState.{SharedState}
 use Rattle.mlt_tx.specs.declared.transaction.At.{At}
 use Rattle.mlt_tx.specs.declared.transaction.Transaction.{Transaction}
 use Rattle.mlt_tx.specs.Steps.{TakesOne}
 use Rattle.mlt_manager_invariant.specs.Sound.{Fits, FitsAt, IsSound}
-use Rattle.mlt_manager_invariant.specs.States.{State, images_kept, is_undoing, room_of, undoing_of, world_of}
+use Rattle.mlt_manager_invariant.specs.States.{State, images_kept, is_undoing, room_of, undoing_of, abstract_state_of}
 use Rattle.mlt_manager_invariant.specs.Undoing.{LedBack, TakesLastBack, with_undone}
 use Rattle.mlt_manager_invariant.proofs.LastBack.{IsLeft, led_back, left, one_fewer, pages_now, room_after, room_before}
 use Rattle.mlt_manager_invariant.proofs.Others.{still_fits}
 use Rattle.mlt_manager_invariant.proofs.Tables.{inserted_elsewhere, inserted_here, same_undoing}
 
-module _ (s : State) (i : ℕ) (inverting : Option OperationFields) (before after : Transaction) (commons : Commons)
-    (sound : IsSound s) (was : map.get s.txs i ≡ Some before) (takes : TakesLastBack s inverting before after commons answer.Undone) where
-  abbrev one : TakesOne before.subtx.tx before.undo after.undo takes.ends.between commons
+module _ (s : State) (i : ℕ) (inverting : Option OperationFields) (before after : Transaction) (shared : SharedState)
+    (sound : IsSound s) (was : map.get s.txs i ≡ Some before) (takes : TakesLastBack s inverting before after shared answer.Undone) where
+  abbrev one : TakesOne before.subtx.tx before.undo after.undo takes.ends.between shared
   one = takes.ends.takes
 
-  abbrev led : (base : Base) × Step base one.off.last s.base × PagesMeanHistory (world_undone (world_of s) i (pages_now s i before after commons answer.Undone sound was inverting takes one.off) base)
-  led = led_back s i before after commons answer.Undone sound was inverting takes one.off
+  abbrev led : (base : Base) × Step base one.off.last s.base × PagesMeanHistory (state_undone (abstract_state_of s) i (pages_now s i before after shared answer.Undone sound was inverting takes one.off) base)
+  led = led_back s i before after shared answer.Undone sound was inverting takes one.off
 
-  abbrev rest : IsLeft s i after takes.ends.between commons one.off.last
-  rest = left s i before after commons answer.Undone sound was inverting takes one.off
+  abbrev rest : IsLeft s i after takes.ends.between shared one.off.last
+  rest = left s i before after shared answer.Undone sound was inverting takes one.off
 
   abbrev now : State
-  now = with_undone s i after commons led.0
+  now = with_undone s i after shared led.0
 
-  items_now : commons.history.items ≡ s.commons.history.items ++ trace.Back i ∷ []
+  items_now : shared.history.items ≡ s.shared.history.items ++ trace.Back i ∷ []
   items_now =
       one.items ∙ ap (λ (h : ItemsWithRoom). h.items ++ trace.Back before.subtx.tx ∷ []) rest.history
-      ∙ ap (λ n. s.commons.history.items ++ trace.Back n ∷ []) (sound.fits i before was).number
+      ∙ ap (λ n. s.shared.history.items ++ trace.Back n ∷ []) (sound.fits i before was).number
 
-  history_now : entries_of commons.history.items ≡ entries_of s.commons.history.items ++ TookBack i ∷ []
-  history_now = ap entries_of items_now ∙ entries_of-append s.commons.history.items (trace.Back i ∷ [])
+  history_now : entries_of shared.history.items ≡ entries_of s.shared.history.items ++ TookBack i ∷ []
+  history_now = ap entries_of items_now ∙ entries_of-append s.shared.history.items (trace.Back i ∷ [])
 
-  lists_now : lists_in (world_of now) ≡ after_entry (lists_in (world_of s)) (TookBack i)
-  lists_now = ap lists_of history_now ∙ after_entries-push (entries_of s.commons.history.items) no_lists (TookBack i)
+  lists_now : lists_in (abstract_state_of now) ≡ after_entry (lists_in (abstract_state_of s)) (TookBack i)
+  lists_now = ap lists_of history_now ∙ after_entries-push (entries_of s.shared.history.items) no_lists (TookBack i)
 
-  match : PagesMeanHistory (world_of now)
+  match : PagesMeanHistory (abstract_state_of now)
   match =
-      let pages = pages_now s i before after commons answer.Undone sound was inverting takes one.off in
+      let pages = pages_now s i before after shared answer.Undone sound was inverting takes one.off in
       let undoing : undoing_of s.txs ≡ undoing_of (map.insert s.txs i after) =
       sym (λ p j. same_undoing s.txs i before after was (ap is_undoing takes.is_at ∙ sym (ap is_undoing takes.was_at)) j p) in
-      subst (λ (h : List (Entry (ObjOp × ObjReply))). PagesMeanHistory (record (world_of s) { pages = pages; undoing = undoing_of (map.insert s.txs i after); history = h; base = led.0 })) (sym history_now)
-      (subst (λ (u : ℕ → Bool). PagesMeanHistory (record (world_of s) { pages = pages; undoing = u; history = entries_of s.commons.history.items ++ TookBack i ∷ []; base = led.0 })) undoing led.2)
+      subst (λ (h : List (Entry (ObjOp × ObjReply))). PagesMeanHistory (record (abstract_state_of s) { pages = pages; undoing = undoing_of (map.insert s.txs i after); history = h; base = led.0 })) (sym history_now)
+      (subst (λ (u : ℕ → Bool). PagesMeanHistory (record (abstract_state_of s) { pages = pages; undoing = u; history = entries_of s.shared.history.items ++ TookBack i ∷ []; base = led.0 })) undoing led.2)
 
   kept : (j : ℕ) → map.get (map.insert s.images i map.empty) j ≡ images_kept (map.get (map.insert s.txs i after) j)
   kept j = elim (cases_eq j i) [
@@ -74,14 +74,14 @@ module _ (s : State) (i : ℕ) (inverting : Option OperationFields) (before afte
     | inr differ ↦ inserted_elsewhere s.images i map.empty j differ ∙ sound.kept j ∙ ap images_kept (sym (inserted_elsewhere s.txs i after j differ))
   ]
 
-  opened : (j : ℕ) → set.contains s.opens j ≡ is_some (map.get (map.insert s.txs i after) j)
+  opened : (j : ℕ) → set.contains s.active j ≡ is_some (map.get (map.insert s.txs i after) j)
   opened j = elim (cases_eq j i) [
-    | inl here ↦ ap (λ n. set.contains s.opens n) here ∙ sound.opened i ∙ ap is_some was ∙ sym (ap is_some (ap (λ n. map.get (map.insert s.txs i after) n) here ∙ inserted_here s.txs i after))
+    | inl here ↦ ap (λ n. set.contains s.active n) here ∙ sound.opened i ∙ ap is_some was ∙ sym (ap is_some (ap (λ n. map.get (map.insert s.txs i after) n) here ∙ inserted_here s.txs i after))
     | inr differ ↦ sound.opened j ∙ ap is_some (sym (inserted_elsewhere s.txs i after j differ))
   ]
 
   abbrev old_lists : Lists (ObjOp × ObjReply)
-  old_lists = lists_in (world_of s)
+  old_lists = lists_in (abstract_state_of s)
 
   own_fits : Fits now i after
   own_fits =
@@ -91,23 +91,23 @@ module _ (s : State) (i : ℕ) (inverting : Option OperationFields) (before afte
       record {
         number = rest.number;
         stands = sym shorter ∙ ap (λ l. l.transcripts i) (sym lists_now);
-        few = let fewer = one_fewer s i before after commons answer.Undone sound was inverting takes one.off in let few = fits.few in omega (arith, fewer, few);
+        few = let fewer = one_fewer s i before after shared answer.Undone sound was inverting takes one.off in let few = fits.few in omega (arith, fewer, few);
         where_at = subst (λ (a : At). FitsAt a now i after) (sym takes.is_at) (rest.cleared.nothing, one.left);
       }
 
-  objects_kept : commons.objects ≡ s.commons.objects
+  objects_kept : shared.objects ≡ s.shared.objects
   objects_kept = one.objects ∙ rest.objects
 
   other_fits : (j : ℕ) (t : Transaction) → j ≢ i → map.get s.txs j ≡ Some t → Fits now j t
   other_fits j t ne is =
       let fits = sound.fits j t is in
-      let reserved : SameReservations s.commons.objects.reserved commons.objects.reserved i =
+      let reserved : SameReservations s.shared.objects.reserved shared.objects.reserved i =
       λ other n. ap (λ (l : Locks). reservation_of l.reserved other) objects_kept in
       record {
         number = fits.number;
         stands = fits.stands ∙ sym ((changed old_lists.transcripts i (but_last (old_lists.transcripts i))).1 j ne) ∙ ap (λ l. l.transcripts j) (sym lists_now);
         few = fits.few;
-        where_at = still_fits t.at i j s now t (record { other = ne; runs = rest.cleared.keeps; basis = refl; reserved = reserved; max_ops = refl }) fits.where_at;
+        where_at = still_fits t.at i j s now t (record { other = ne; runs = rest.cleared.keeps; context = refl; reserved = reserved; max_ops = refl }) fits.where_at;
       }
 
   fits_all : (j : ℕ) (t : Transaction) → map.get (map.insert s.txs i after) j ≡ Some t → Fits now j t
@@ -119,13 +119,13 @@ module _ (s : State) (i : ℕ) (inverting : Option OperationFields) (before afte
     | inr differ ↦ other_fits j t differ (sym (inserted_elsewhere s.txs i after j differ) ∙ is)
   ]
 
-  room_now : commons.history.room ≡ total_room room_of (map.insert s.txs i after)
+  room_now : shared.history.room ≡ total_room room_of (map.insert s.txs i after)
   room_now =
       let was_room = sound.room in
       let less = one.room ∙ ap (λ (h : ItemsWithRoom). h.room) rest.history in
       let total = total_room-insert room_of s.txs i before after was in
-      let old = room_before s i before after commons answer.Undone sound was inverting takes one.off in
-      let new = room_after s i before after commons answer.Undone sound was inverting takes one.off in
+      let old = room_before s i before after shared answer.Undone sound was inverting takes one.off in
+      let new = room_after s i before after shared answer.Undone sound was inverting takes one.off in
       omega (arith, was_room, less, total, old, new)
 
   now_sound : IsSound now
@@ -136,12 +136,12 @@ module _ (s : State) (i : ℕ) (inverting : Option OperationFields) (before afte
     opened = opened;
     fits = fits_all;
     held = λ j. ap (λ (l : Locks). items_of j l.held) objects_kept ∙ sound.held j ∙ ap (λ l. l.held j) (sym lists_now);
-    begun = subst (CountsFrom 1) (sym (ap begun_txs items_now ∙ no_begin s.commons.history.items (trace.Back i) refl)) sound.begun;
-    count = sound.count ∙ sym (ap length (ap begun_txs items_now ∙ no_begin s.commons.history.items (trace.Back i) refl));
-    commits = subst (CountsFrom 1) (sym (ap commit_numbers items_now ∙ no_commit s.commons.history.items (trace.Back i) refl)) sound.commits;
+    begun = subst (CountsFrom 1) (sym (ap begun_txs items_now ∙ no_begin s.shared.history.items (trace.Back i) refl)) sound.begun;
+    count = sound.count ∙ sym (ap length (ap begun_txs items_now ∙ no_begin s.shared.history.items (trace.Back i) refl));
+    commits = subst (CountsFrom 1) (sym (ap commit_numbers items_now ∙ no_commit s.shared.history.items (trace.Back i) refl)) sound.commits;
     room = room_now;
   }
 
   -- **All that is always true stays true, where others stand.**
-  pub undone_sound : LedBack s before after (with_undone s i after commons)
+  pub undone_sound : LedBack s before after (with_undone s i after shared)
   undone_sound = record { last = one.off.last; base = led.0; entries = one.off.entries; step = led.1; sound = now_sound }

@@ -12,60 +12,60 @@ use Rattle.mlt_object_kinds.specs.declared.operation.ObjReply.{ObjReply}
 use Rattle.mlt_hash_subtx_laws.specs.Running.{KeepsRunning, clean_of}
 use Rattle.mlt_tx_operation.specs.Operating.{OperationFields, started_for}
 use Rattle.mlt_event.specs.declared.answer.Answer.TheVariants as answer
-use Rattle.mlt_tx.specs.Transactions.{workplace_of}
+use Rattle.mlt_tx.specs.Transactions.{tx_state_of}
 use Rattle.mlt_tx.specs.declared.transaction.At.TheVariants as at
 use Rattle.mlt_tx.specs.Steps.{Ends}
-use Rattle.mlt_tx.specs.declared.commons.Commons.{Commons}
+use Rattle.mlt_tx.specs.declared.shared.SharedState.{SharedState}
 use Rattle.mlt_tx.specs.declared.transaction.Transaction.{Transaction}
 use Rattle.mlt_manager_invariant.specs.Sound.{FitsAt}
 use Rattle.mlt_manager_invariant.specs.States.{State, all_of, is_undoing, room_of}
 
 -- transaction i is now this one, and the pages, the locks and the history are these
-abbrev pub with_transaction : State → ℕ → Transaction → Commons → RunningImages → State
-with_transaction s i t commons images = record s {
-  commons = commons;
+abbrev pub with_transaction : State → ℕ → Transaction → SharedState → RunningImages → State
+with_transaction s i t shared images = record s {
+  shared = shared;
   txs = map.insert s.txs i t;
   images = images;
 }
 
 -- The clean pages, the items of the history and what is held stay, and so does all that others see, hold and reserve. The
 -- transaction keeps what it may take back, and whether its abort has begun, and is where it may be.
-pub record KeepsClean (s : State) (i : ℕ) (before after : Transaction) (commons : Commons)
+pub record KeepsClean (s : State) (i : ℕ) (before after : Transaction) (shared : SharedState)
     (images : RunningImages) : Type 0 where
-  pub runs : KeepsRunning i (all_of s) (all_of (with_transaction s i after commons images))
-  pub clean : clean_of (all_of (with_transaction s i after commons images)) ≡ clean_of (all_of s)
+  pub runs : KeepsRunning i (all_of s) (all_of (with_transaction s i after shared images))
+  pub clean : clean_of (all_of (with_transaction s i after shared images)) ≡ clean_of (all_of s)
   pub own : map.get images i ≡ Some after.subtx.images
   pub number : after.subtx.tx ≡ i
-  pub held : commons.objects.held ≡ s.commons.objects.held
-  pub reserved : SameReservations s.commons.objects.reserved commons.objects.reserved i
-  pub items : commons.history.items ≡ s.commons.history.items
-  pub room : commons.history.room + room_of before ≡ s.commons.history.room + room_of after
+  pub held : shared.objects.held ≡ s.shared.objects.held
+  pub reserved : SameReservations s.shared.objects.reserved shared.objects.reserved i
+  pub items : shared.history.items ≡ s.shared.history.items
+  pub room : shared.history.room + room_of before ≡ s.shared.history.room + room_of after
   pub entries : after.undo.entries ≡ before.undo.entries
   pub undoing : is_undoing after.at ≡ is_undoing before.at
-  pub fits : FitsAt after.at (with_transaction s i after commons images) i after
+  pub fits : FitsAt after.at (with_transaction s i after shared images) i after
 
 -- the event is one that leaves the clean pages, with some first images
-abbrev pub KeepsCleanPages : State → ℕ → Transaction → Transaction → Commons → Type 0
-KeepsCleanPages s i before after commons =
-    (images : RunningImages) × KeepsClean s i before after commons images
+abbrev pub KeepsCleanPages : State → ℕ → Transaction → Transaction → SharedState → Type 0
+KeepsCleanPages s i before after shared =
+    (images : RunningImages) × KeepsClean s i before after shared images
 
 -- The subtransaction of transaction i ends: what it has written is clean, and leads to this base.
-abbrev pub with_end : State → ℕ → Transaction → Commons → Base → State
-with_end s i t commons base = record (with_transaction s i t commons (map.insert s.images i map.empty)) {
+abbrev pub with_end : State → ℕ → Transaction → SharedState → Base → State
+with_end s i t shared base = record (with_transaction s i t shared (map.insert s.images i map.empty)) {
   base = base;
 }
 
 -- what the pending operation of transaction i leaves that is done
 pub record EndsPending (s : State) (i : ℕ) (o : OperationFields) (before after : Transaction)
-    (commons : Commons) (told : ObjReply) : Type 0 where
+    (shared : SharedState) (told : ObjReply) : Type 0 where
   pub pending : before.at ≡ at.Pending o
-  pub ends : Ends o (workplace_of before s.commons) (workplace_of after commons)
+  pub ends : Ends o (tx_state_of before s.shared) (tx_state_of after shared)
       (answer.Done told)
   pub idle : after.at ≡ at.Idle
 
 -- An idle transaction is called: its operation is pending, its cell is reserved, and there is room for its undo entry and
 -- for its items of the history.
-pub record Calls (s : State) (i : ℕ) (before after : Transaction) (commons : Commons) : Type 0 where
+pub record Calls (s : State) (i : ℕ) (before after : Transaction) (shared : SharedState) : Type 0 where
   pub op : ObjOp
   pub in_range : IsOpInRange op
   pub idle : before.at ≡ at.Idle
@@ -74,9 +74,9 @@ pub record Calls (s : State) (i : ℕ) (before after : Transaction) (commons : C
   pub subtx_kept : after.subtx ≡ before.subtx
   pub entries : after.undo.entries ≡ before.undo.entries
   pub spare : 1 ≤ after.undo.spare
-  pub pages : commons.pages ≡ s.commons.pages
-  pub held : commons.objects.held ≡ s.commons.objects.held
-  pub reserved : reservation_of commons.objects.reserved i ≡ Some (cell_of op)
-  pub others : SameReservations s.commons.objects.reserved commons.objects.reserved i
-  pub items : commons.history.items ≡ s.commons.history.items
-  pub room : commons.history.room ≡ s.commons.history.room + 2
+  pub pages : shared.pages ≡ s.shared.pages
+  pub held : shared.objects.held ≡ s.shared.objects.held
+  pub reserved : reservation_of shared.objects.reserved i ≡ Some (cell_of op)
+  pub others : SameReservations s.shared.objects.reserved shared.objects.reserved i
+  pub items : shared.history.items ≡ s.shared.history.items
+  pub room : shared.history.room ≡ s.shared.history.room + 2

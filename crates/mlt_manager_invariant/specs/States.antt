@@ -8,8 +8,8 @@ use Rattle.mlt_trace.specs.Entries.{entries_of}
 use Rattle.mlt_hash_subtx_laws.specs.CleanPages.{RunningImages, clean_pages}
 use Rattle.mlt_page_subtx.specs.Images.{Images}
 use Rattle.mlt_hash_subtx_laws.specs.Running.{AllRunning}
-use Rattle.mlt_tx_meaning.specs.Worlds.{World}
-use Rattle.mlt_tx.specs.declared.commons.Commons.{Commons}
+use Rattle.mlt_tx_meaning.specs.AbstractStates.{AbstractState}
+use Rattle.mlt_tx.specs.declared.shared.SharedState.{SharedState}
 use Rattle.mlt_tx.specs.declared.transaction.At.{At}
 use Rattle.mlt_tx.specs.declared.transaction.At.TheVariants as at
 use Rattle.mlt_tx.specs.declared.transaction.Transaction.{Transaction}
@@ -23,12 +23,12 @@ pub record State : Type 0 where
   pub max_depth : ℕ
   pub max_ops : ℕ
   -- the pages with their locks, the object locks and the history
-  pub commons : Commons
+  pub shared : SharedState
   -- The open transactions, the first images that each of them keeps, and their numbers. The numbers up to `begun` were
   -- given out.
   pub txs : map.FinMap nat_cmp Transaction
   pub images : RunningImages
-  pub opens : set.FinSet nat_cmp
+  pub active : set.FinSet nat_cmp
   pub begun : ℕ
   -- the base that the history leads to
   pub base : Base
@@ -37,8 +37,8 @@ pub record State : Type 0 where
 abbrev pub all_of : State → AllRunning
 all_of s = record {
   images = s.images;
-  locks = s.commons.pages.locks;
-  store = s.commons.pages.store;
+  locks = s.shared.pages.locks;
+  store = s.shared.pages.store;
 }
 
 -- whether the abort of a transaction has begun that is at this
@@ -54,17 +54,17 @@ is_undoing_at (Some t) = is_undoing t.at
 abbrev pub undoing_of : map.FinMap nat_cmp Transaction → ℕ → Bool
 undoing_of txs i = is_undoing_at (map.get txs i)
 
--- the world of a state: its clean pages and its history
-abbrev pub world_of : State → World
-world_of s = record {
+-- the abstract state of a state: its clean pages and its history
+abbrev pub abstract_state_of : State → AbstractState
+abstract_state_of s = record {
   bits = s.bits;
   root = s.root;
   max_depth = s.max_depth;
-  pages = clean_pages s.images s.commons.pages.store.pages;
+  pages = clean_pages s.images s.shared.pages.store.pages;
   begun = s.begun;
-  opens = s.opens;
+  active = s.active;
   undoing = undoing_of s.txs;
-  history = entries_of s.commons.history.items;
+  history = entries_of s.shared.history.items;
   base = s.base;
 }
 

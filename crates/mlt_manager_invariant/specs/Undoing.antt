@@ -6,8 +6,8 @@ use Rattle.mlt_object_kinds.specs.declared.operation.ObjOp.{ObjOp}
 use Rattle.mlt_object_kinds.specs.declared.operation.ObjReply.{ObjReply}
 use Rattle.mlt_tx_operation.specs.Operating.{OperationFields}
 use Rattle.mlt_event.specs.declared.answer.Answer.{Answer}
-use Rattle.mlt_tx.specs.Transactions.{workplace_of}
-use Rattle.mlt_tx.specs.declared.commons.Commons.{Commons}
+use Rattle.mlt_tx.specs.Transactions.{tx_state_of}
+use Rattle.mlt_tx.specs.declared.shared.SharedState.{SharedState}
 use Rattle.mlt_tx.specs.declared.transaction.At.TheVariants as at
 use Rattle.mlt_tx.specs.declared.transaction.Transaction.{Transaction}
 use Rattle.mlt_tx.specs.Steps.{EndsBack}
@@ -17,21 +17,21 @@ use Rattle.mlt_manager_invariant.specs.States.{State}
 use Rattle.mlt_manager_invariant.specs.Transactions.{without_transaction}
 
 -- transaction i is now this one and keeps no image, and the pages, the locks, the history and the base are these
-abbrev pub with_undone : State → ℕ → Transaction → Commons → Base → State
-with_undone s i t commons base =
+abbrev pub with_undone : State → ℕ → Transaction → SharedState → Base → State
+with_undone s i t shared base =
     let images = map.insert s.images i map.empty in
-    record (with_transaction s i t commons images) { base = base }
+    record (with_transaction s i t shared images) { base = base }
 
 -- transaction i is closed, and the pages, the locks, the history and the base are these
-abbrev pub with_aborted : State → ℕ → Commons → Base → State
-with_aborted s i commons base = record (without_transaction s i commons) { base = base }
+abbrev pub with_aborted : State → ℕ → SharedState → Base → State
+with_aborted s i shared base = record (without_transaction s i shared) { base = base }
 
 -- the abort of a transaction takes its last operation back, with this inverse or none, and is told this
 pub record TakesLastBack (s : State) (inverting : Option OperationFields) (before after : Transaction)
-    (commons : Commons) (told : Answer) : Type 0 where
+    (shared : SharedState) (told : Answer) : Type 0 where
   pub was_at : before.at ≡ at.Undoing inverting
   pub is_at : after.at ≡ at.Undoing None
-  pub ends : EndsBack inverting None (workplace_of before s.commons) (workplace_of after commons)
+  pub ends : EndsBack inverting None (tx_state_of before s.shared) (tx_state_of after shared)
       told
 
 -- The item that is taken back was the last, the base is one from which it leads to what it was, and the state with this

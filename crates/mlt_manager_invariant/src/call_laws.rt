@@ -3,7 +3,7 @@
 ghost use Rattle.std.specs.Prelude.{ℕ, ◌≡◌, Some};
 ghost use Rattle.std.specs.FinMap as map;
 ghost use Rattle.mlt_tx_operation.specs.Operating.{OperationFields};
-ghost use Rattle.mlt_tx.specs.declared.commons.Commons.{Commons};
+ghost use Rattle.mlt_tx.specs.declared.shared.SharedState.{SharedState};
 ghost use Rattle.mlt_tx.specs.declared.transaction.At.TheVariants as at;
 ghost use Rattle.mlt_tx.specs.declared.transaction.Transaction.{Transaction};
 ghost use Rattle.mlt_tx.specs.Transactions.{TellsOfCancel};
@@ -13,16 +13,16 @@ ghost use Rattle.mlt_manager_invariant.specs.States.{State};
 
 /// A call of an idle transaction, which makes an operation pending, keeps all that is always true.
 pub fn operation_that_is_called()
-    ensures { (s : State) (i : ℕ) (before after : Transaction) (commons : Commons)
-        → IsSound s → map.get s.txs i ≡ Some before → Calls s i before after commons
-        → IsSound (with_transaction s i after commons s.images) }
+    ensures { (s : State) (i : ℕ) (before after : Transaction) (shared : SharedState)
+        → IsSound s → map.get s.txs i ≡ Some before → Calls s i before after shared
+        → IsSound (with_transaction s i after shared s.images) }
 {}
 
 /// The cancel of a pending operation leaves the clean pages, the history and what is held as they were.
 pub fn operation_that_is_cancelled()
     ensures { (s : State) (i : ℕ) (o : OperationFields) (before after : Transaction)
-        (commons : Commons)
+        (shared : SharedState)
         → IsSound s → map.get s.txs i ≡ Some before → before.at ≡ at.Pending o
-        → TellsOfCancel before after s.commons commons
-        → KeepsCleanPages s i before after commons }
+        → TellsOfCancel before after s.shared shared
+        → KeepsCleanPages s i before after shared }
 {}

@@ -31,7 +31,7 @@ use Rattle.mlt_manager_laws.proofs.Seen.{StaysAs, changed_stays, clean_sees, sam
 same_stays : {P : Type 0} (m m' : ManagerFields P) (u : ℕ) (t : Transaction) → m' ≡ m → map.get m.txs u ≡ Some t → StaysAs m m' u t
 same_stays m m' u t same there = record {
   there = ap (λ (n : ManagerFields _). map.get n.txs u) same ∙ there;
-  sees = ap (λ (n : ManagerFields _). view_in t n.commons) same;
+  sees = ap (λ (n : ManagerFields _). view_in t n.shared) same;
   root = ap (λ (n : ManagerFields _). n.root) same;
 }
 
@@ -43,18 +43,18 @@ module _ {P : Type 0} (bits_of : P → ℕ → ℕ) (i u : ℕ) (t : Transaction
     called : (op : ObjOp) → HasCalled m m' i op → StaysAs m m' u t
     called op c = record {
       there = changed_stays bits_of m h i u t ne there m'.txs c.calls.changes.after c.calls.changes.is;
-      sees = same_sees bits_of m h i u t ne there m'.commons c.calls.tells.makes.pages;
+      sees = same_sees bits_of m h i u t ne there m'.shared c.calls.tells.makes.pages;
       root = ap (λ (n : ManagerFields P). n.root) c.rest;
     }
 
-    cancelled : IsOpenAt m.txs i IsPending → CancelsOne i m.txs m'.txs m.commons m'.commons → ChangesOpen m m' → StaysAs m m' u t
+    cancelled : IsOpenAt m.txs i IsPending → CancelsOne i m.txs m'.txs m.shared m'.shared → ChangesOpen m m' → StaysAs m m' u t
     cancelled open_here c rest =
         let ch = c.changes in
         let o = pending_of open_here.one.at open_here.is_at in
         let was_at : ch.before.at ≡ at.Pending o.0 = ap (λ (x : Transaction). x.at) (one_there m.txs i ch.before open_here.one ch.was open_here.there) ∙ o.1 in
         record {
           there = changed_stays bits_of m h i u t ne there m'.txs ch.after ch.is;
-          sees = clean_sees bits_of m h i u t ne there ch.before ch.after m'.commons (cancelled_sound (state_of bits_of m h.images h.base) i o.0 ch.before ch.after m'.commons h.sound ch.was was_at c.tells);
+          sees = clean_sees bits_of m h i u t ne there ch.before ch.after m'.shared (cancelled_sound (state_of bits_of m h.images h.base) i o.0 ch.before ch.after m'.shared h.sound ch.was was_at c.tells);
           root = ap (λ (n : ManagerFields P). n.root) rest;
         }
 
@@ -63,10 +63,10 @@ module _ {P : Type 0} (bits_of : P → ℕ → ℕ) (i u : ℕ) (t : Transaction
     dropped (answer.Blocked by) d = cancelled d.pending d.cancels d.rest
     dropped other same = same_stays m m' u t same there
 
-    ended : (txs : Table) → m'.txs ≡ map.remove m.txs i → m'.commons.pages ≡ m.commons.pages → m'.root ≡ m.root → StaysAs m m' u t
+    ended : (txs : Table) → m'.txs ≡ map.remove m.txs i → m'.shared.pages ≡ m.shared.pages → m'.root ≡ m.root → StaysAs m m' u t
     ended txs gone pages root = record {
       there = ap (λ (x : Table). map.get x u) gone ∙ removed_elsewhere m.txs i u ne ∙ there;
-      sees = same_sees bits_of m h i u t ne there m'.commons pages;
+      sees = same_sees bits_of m h i u t ne there m'.shared pages;
       root = root;
     }
 
@@ -88,7 +88,7 @@ module _ {P : Type 0} (bits_of : P → ℕ → ℕ) (i u : ℕ) (t : Transaction
     call_leaves op (Ok done) a = called m m' h there op a
     call_leaves op (Err refusal.OutOfMemory) a = record {
       there = changed_stays bits_of m h i u t ne there m'.txs a.1.changes.after a.1.changes.is;
-      sees = same_sees bits_of m h i u t ne there m'.commons a.1.tells.makes.pages;
+      sees = same_sees bits_of m h i u t ne there m'.shared a.1.tells.makes.pages;
       root = ap (λ (n : ManagerFields P). n.root) a.2;
     }
     call_leaves op (Err reason) a = same_stays m m' u t a.1 there
@@ -121,7 +121,7 @@ module _ {P : Type 0} (bits_of : P → ℕ → ℕ) (i u : ℕ) (t : Transaction
     abort_leaves true a = ended m m' h there m'.txs a.ends.txs a.ends.pages (ap (λ (n : ManagerFields P). n.root) a.rest)
     abort_leaves false a = record {
       there = changed_stays bits_of m h i u t ne there m'.txs a.puts.changes.after a.puts.changes.is;
-      sees = ap (λ (n : ManagerFields P). view_in t n.commons) a.rest;
+      sees = ap (λ (n : ManagerFields P). view_in t n.shared) a.rest;
       root = ap (λ (n : ManagerFields P). n.root) a.rest;
     }
 
@@ -156,7 +156,7 @@ of_begin bits_of u t m m' h there (told.Begun tx) a =
     let ne : u ≢ tx = λ same. is_older bits_of m h u t there (same ∙ a.number) in
     record {
       there = ap (λ (n : ManagerFields _). map.get n.txs u) a.rest ∙ inserted_elsewhere m.txs tx a.one u ne ∙ there;
-      sees = same_sees bits_of m h tx u t ne there m'.commons a.pages;
+      sees = same_sees bits_of m h tx u t ne there m'.shared a.pages;
       root = ap (λ (n : ManagerFields _). n.root) a.rest;
     }
 of_begin bits_of u t m m' h there (told.Refused reason) a = same_stays m m' u t a.1 there

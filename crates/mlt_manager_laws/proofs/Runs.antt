@@ -13,7 +13,7 @@ use Rattle.mlt_hash_form.specs.File.{FilePages, GivesPseudokeys, HasForm}
 use Rattle.mlt_hash_form.specs.Prefixes.{IsExtendibleHashFile}
 use Rattle.mlt_hash_form.specs.Records.{IsRecordMap, live_records}
 use Rattle.mlt_hash_form.specs.declared.root.Root.{Root}
-use Rattle.mlt_hash.specs.Walks.{basis_by}
+use Rattle.mlt_hash.specs.Walks.{context_by}
 use Rattle.mlt_event.specs.declared.answer.Answer.{Answer}
 use Rattle.mlt_event.specs.declared.answer.Answer.TheVariants as answer
 use Rattle.mlt_event.specs.declared.event.Event.{Event}
@@ -68,10 +68,10 @@ run_keeps bits_of (e ∷ es) (t ∷ ts) m m' h (next, meets, rest) = run_keeps b
 
 -- **So it is true of a manager to which events lead.**
 pub reached : {P : Type 0} (bits_of : P → ℕ → ℕ) (m : ManagerFields P) → ((pseudo : P) → GivesPseudokeys (bits_of pseudo)) → IsReached bits_of m → IsManager bits_of m
-reached bits_of m keys r = run_keeps bits_of r.events r.tolds r.opening m (new_kept bits_of r.opening r.limits r.pseudo (keys r.opening.root.pseudo) r.opens) r.run
+reached bits_of m keys r = run_keeps bits_of r.events r.tolds r.opening m (new_kept bits_of r.opening r.limits r.pseudo (keys r.opening.root.pseudo) r.is_new) r.run
 
 -- **And a run can be cut behind any of its events.**
-module _ {P : Type 0} (bits_of : P → ℕ → ℕ) (has_file : (bits : ℕ → ℕ) (opens : set.FinSet nat_cmp) (pages : FilePages) (root : ℕ) → GivesPseudokeys bits → HasForm bits pages root → IsExtendibleHashFile bits opens pages root)
+module _ {P : Type 0} (bits_of : P → ℕ → ℕ) (has_file : (bits : ℕ → ℕ) (active : set.FinSet nat_cmp) (pages : FilePages) (root : ℕ) → GivesPseudokeys bits → HasForm bits pages root → IsExtendibleHashFile bits active pages root)
     (has_records : (bits : ℕ → ℕ) (pages : map.FinMap nat_cmp Page) (root : ℕ) → GivesPseudokeys bits → HasForm bits (map.get pages) root → IsRecordMap (live_records pages) (map.get pages)) where
   cut : (before later : List Event) (tolds : List Told) (m m' : ManagerFields P) → IsManager bits_of m → IsRun bits_of m (before ++ later) tolds m' → IsCutBehind bits_of m m' before later tolds
   cut [] later tolds m m' h run = record { told_before = []; told_later = tolds; told = refl; between = m; leads = refl; goes_on = run; promises = promises_kept bits_of m h has_file has_records }
@@ -90,7 +90,7 @@ module _ {P : Type 0} (bits_of : P → ℕ → ℕ) (has_file : (bits : ℕ → 
 
   pub cut_run : ((pseudo : P) → GivesPseudokeys (bits_of pseudo)) → (opening new : ManagerFields P) (limits : Limits) (pseudo : P) (before later : List Event) (tolds : List Told)
       → IsNew opening limits pseudo → IsRun bits_of opening (before ++ later) tolds new → IsCutBehind bits_of opening new before later tolds
-  cut_run keys opening new limits pseudo before later tolds opens run = cut before later tolds opening new (new_kept bits_of opening limits pseudo (keys opening.root.pseudo) opens) run
+  cut_run keys opening new limits pseudo before later tolds is_new run = cut before later tolds opening new (new_kept bits_of opening limits pseudo (keys opening.root.pseudo) is_new) run
 
 -- an answer is the last of an abort, or is told before what is told later
 is_last : (a : Answer) → (a ≡ answer.Aborted) ⊎ (((txs : Table) (tx : ℕ) → txs_after a tx txs ≡ txs) × ((more : List Answer) → up_to_end a more ≡ with_answer a more))
@@ -102,43 +102,43 @@ is_last (answer.Blocked by) = inr (λ txs tx. refl, λ more. refl)
 is_last (answer.Done reply) = inr (λ txs tx. refl, λ more. refl)
 is_last (answer.Refused reason) = inr (λ txs tx. refl, λ more. refl)
 
-module _ {P : Type 0} (bits_of : P → ℕ → ℕ) (root : Root P) (opens : set.FinSet nat_cmp) (tx : ℕ) (m next : ManagerFields P) (h : IsManager bits_of m) (t : Transaction) (there : map.get m.txs tx ≡ Some t) (same_root : m.root ≡ root) (es : List Event) (tolds : List Told) where
+module _ {P : Type 0} (bits_of : P → ℕ → ℕ) (root : Root P) (active : set.FinSet nat_cmp) (tx : ℕ) (m next : ManagerFields P) (h : IsManager bits_of m) (t : Transaction) (there : map.get m.txs tx ≡ Some t) (same_root : m.root ≡ root) (es : List Event) (tolds : List Told) where
   -- what is so of the events behind this one
   abbrev Behind : Type 0
-  Behind = (t' : Transaction) → map.get next.txs tx ≡ Some t' → next.root ≡ root → HasOwnSteps (basis_by bits_of root opens tx) t' (view_in t' next.commons) tx es tolds
+  Behind = (t' : Transaction) → map.get next.txs tx ≡ Some t' → next.root ≡ root → HasOwnSteps (context_by bits_of root active tx) t' (view_in t' next.shared) tx es tolds
 
-  left_aside : (again : (t' : Transaction) → map.get next.txs tx ≡ Some t' → next.root ≡ root → HasOwnSteps (basis_by bits_of root opens tx) t' (view_in t' next.commons) tx es tolds)
+  left_aside : (again : (t' : Transaction) → map.get next.txs tx ≡ Some t' → next.root ≡ root → HasOwnSteps (context_by bits_of root active tx) t' (view_in t' next.shared) tx es tolds)
       → (e : Event) (told : Told) → StaysAs (counted m) next tx t → with_told tx e told (answers_to tx es tolds) ≡ answers_to tx es tolds
-      → HasOwnSteps (basis_by bits_of root opens tx) t (view_in t m.commons) tx (e ∷ es) (told ∷ tolds)
+      → HasOwnSteps (context_by bits_of root active tx) t (view_in t m.shared) tx (e ∷ es) (told ∷ tolds)
   left_aside again e told stays nothing =
       let rest = again t stays.there (stays.root ∙ same_root) in
       record {
         steps = rest.steps;
-        own = subst (λ (v : View). AreOwnSteps (basis_by bits_of root opens tx) t v rest.steps) stays.sees rest.own;
+        own = subst (λ (v : View). AreOwnSteps (context_by bits_of root active tx) t v rest.steps) stays.sees rest.own;
         answers = rest.answers ∙ sym nothing;
       }
 
   -- a step of its own
-  module _ (again : (t' : Transaction) → map.get next.txs tx ≡ Some t' → next.root ≡ root → HasOwnSteps (basis_by bits_of root opens tx) t' (view_in t' next.commons) tx es tolds)
+  module _ (again : (t' : Transaction) → map.get next.txs tx ≡ Some t' → next.root ≡ root → HasOwnSteps (context_by bits_of root active tx) t' (view_in t' next.shared) tx es tolds)
       (answer : Answer) (d : HasStepped bits_of (counted m) next tx answer) where
-    tells : TellsOfTransaction (basis_by bits_of root m.opens tx) t d.steps.changes.after m.commons next.commons answer
+    tells : TellsOfTransaction (context_by bits_of root m.active tx) t d.steps.changes.after m.shared next.shared answer
     tells =
         let c = d.steps.changes in
         let same : c.before ≡ t = one_there m.txs tx c.before t c.was there in
         let number = (h.sound.fits tx t there).number in
-        subst (λ (r : Root P). TellsOfTransaction (basis_by bits_of r m.opens tx) t c.after m.commons next.commons answer) same_root
-        (subst (λ (n : ℕ). TellsOfTransaction (basis_by bits_of m.root m.opens n) t c.after m.commons next.commons answer) number
-        (subst (λ (x : Transaction). TellsOfTransaction (basis_by bits_of m.root m.opens x.subtx.tx) x c.after m.commons next.commons answer) same d.steps.tells))
+        subst (λ (r : Root P). TellsOfTransaction (context_by bits_of r m.active tx) t c.after m.shared next.shared answer) same_root
+        (subst (λ (n : ℕ). TellsOfTransaction (context_by bits_of m.root m.active n) t c.after m.shared next.shared answer) number
+        (subst (λ (x : Transaction). TellsOfTransaction (context_by bits_of m.root m.active x.subtx.tx) x c.after m.shared next.shared answer) same d.steps.tells))
 
     root_still : next.root ≡ root
     root_still = ap (λ (n : ManagerFields P). n.root) d.rest ∙ same_root
 
-    own_step : HasOwnSteps (basis_by bits_of root opens tx) t (view_in t m.commons) tx (event.Step tx ∷ es) (told.Answered answer ∷ tolds)
+    own_step : HasOwnSteps (context_by bits_of root active tx) t (view_in t m.shared) tx (event.Step tx ∷ es) (told.Answered answer ∷ tolds)
     own_step =
         let here = cond-true (nat_eq tx tx) (up_to_end answer (answers_to tx es tolds)) (answers_to tx es tolds) (eq-eqb tx tx refl) in
         elim (is_last answer) [
           | inl last ↦ record {
-            steps = record { opens = m.opens; old = m.commons; new = next.commons; after = d.steps.changes.after; told = answer } ∷ [];
+            steps = record { active = m.active; old = m.shared; new = next.shared; after = d.steps.changes.after; told = answer } ∷ [];
             own = (refl, tells, tt);
             answers = ap (λ (a : Answer). with_answer a []) last ∙ sym (here ∙ ap (λ (a : Answer). up_to_end a (answers_to tx es tolds)) last);
           }
@@ -147,61 +147,61 @@ module _ {P : Type 0} (bits_of : P → ℕ → ℕ) (root : Root P) (opens : set
               ap (λ (n : ManagerFields P). map.get n.txs tx) d.rest ∙ ap (λ (x : Table). map.get x tx) (stays d.txs tx ∙ d.steps.changes.is) ∙ inserted_here m.txs tx d.steps.changes.after in
               let rest = again d.steps.changes.after after_there root_still in
               record {
-                steps = record { opens = m.opens; old = m.commons; new = next.commons; after = d.steps.changes.after; told = answer } ∷ rest.steps;
+                steps = record { active = m.active; old = m.shared; new = next.shared; after = d.steps.changes.after; told = answer } ∷ rest.steps;
                 own = (refl, tells, rest.own);
                 answers = ap (with_answer answer) rest.answers ∙ sym (here ∙ first (answers_to tx es tolds));
               }
         ]
 
-module _ {P : Type 0} (bits_of : P → ℕ → ℕ) (root : Root P) (opens : set.FinSet nat_cmp) (tx : ℕ) where
+module _ {P : Type 0} (bits_of : P → ℕ → ℕ) (root : Root P) (active : set.FinSet nat_cmp) (tx : ℕ) where
   not_told : (t0 : Told) (more : List Answer) (i : ℕ) → tx ≢ i → with_told tx (event.Step i) t0 more ≡ more
   not_told (told.Answered answer) more i differ = cond-false (nat_eq tx i) (up_to_end answer more) more (ne_eqb tx i differ)
   not_told other more i differ = refl
 
   by_told : (m next : ManagerFields P) (h : IsManager bits_of m) (t : Transaction) (there : map.get m.txs tx ≡ Some t) → m.root ≡ root → (es : List Event) (tolds : List Told)
-      → ((t' : Transaction) → map.get next.txs tx ≡ Some t' → next.root ≡ root → HasOwnSteps (basis_by bits_of root opens tx) t' (view_in t' next.commons) tx es tolds)
+      → ((t' : Transaction) → map.get next.txs tx ≡ Some t' → next.root ≡ root → HasOwnSteps (context_by bits_of root active tx) t' (view_in t' next.shared) tx es tolds)
       → (t0 : Told) → Meets bits_of (event.Step tx) t0 (counted m) next
-      → HasOwnSteps (basis_by bits_of root opens tx) t (view_in t m.commons) tx (event.Step tx ∷ es) (t0 ∷ tolds)
-  by_told m next h t there same es tolds again (told.Answered answer) a = own_step bits_of root opens tx m next h t there same es tolds again answer a.0
+      → HasOwnSteps (context_by bits_of root active tx) t (view_in t m.shared) tx (event.Step tx ∷ es) (t0 ∷ tolds)
+  by_told m next h t there same es tolds again (told.Answered answer) a = own_step bits_of root active tx m next h t there same es tolds again answer a.0
   by_told m next h t there same es tolds again (told.Refused reason) a =
-      left_aside bits_of root opens tx m next h t there same es tolds again (event.Step tx) (told.Refused reason)
+      left_aside bits_of root active tx m next h t there same es tolds again (event.Step tx) (told.Refused reason)
       (record {
         there = ap (λ (n : ManagerFields P). map.get n.txs tx) a.1 ∙ there;
-        sees = ap (λ (n : ManagerFields P). view_in t n.commons) a.1;
+        sees = ap (λ (n : ManagerFields P). view_in t n.shared) a.1;
         root = ap (λ (n : ManagerFields P). n.root) a.1;
       }) refl
   by_told m next h t there same es tolds again other none = absurd none
 
   -- the event of a number
   one_event : (m next : ManagerFields P) (h : IsManager bits_of m) (t : Transaction) (there : map.get m.txs tx ≡ Some t) → m.root ≡ root → (es : List Event) (tolds : List Told)
-      → ((t' : Transaction) → map.get next.txs tx ≡ Some t' → next.root ≡ root → HasOwnSteps (basis_by bits_of root opens tx) t' (view_in t' next.commons) tx es tolds)
+      → ((t' : Transaction) → map.get next.txs tx ≡ Some t' → next.root ≡ root → HasOwnSteps (context_by bits_of root active tx) t' (view_in t' next.shared) tx es tolds)
       → (e : Event) (t0 : Told) → IsStepOrAnothers tx e → Meets bits_of e t0 (counted m) next
-      → HasOwnSteps (basis_by bits_of root opens tx) t (view_in t m.commons) tx (e ∷ es) (t0 ∷ tolds)
+      → HasOwnSteps (context_by bits_of root active tx) t (view_in t m.shared) tx (e ∷ es) (t0 ∷ tolds)
   one_event m next h t there same es tolds again event.Begin t0 ne a =
-      left_aside bits_of root opens tx m next h t there same es tolds again event.Begin t0 (of_begin bits_of tx t (counted m) next (counted_keeps bits_of m h) there t0 a) refl
+      left_aside bits_of root active tx m next h t there same es tolds again event.Begin t0 (of_begin bits_of tx t (counted m) next (counted_keeps bits_of m h) there t0 a) refl
   one_event m next h t there same es tolds again (event.Call i op) t0 ne a =
-      left_aside bits_of root opens tx m next h t there same es tolds again (event.Call i op) t0 (of_call bits_of i tx t ne (counted m) next (counted_keeps bits_of m h) there op t0 a) refl
+      left_aside bits_of root active tx m next h t there same es tolds again (event.Call i op) t0 (of_call bits_of i tx t ne (counted m) next (counted_keeps bits_of m h) there op t0 a) refl
   one_event m next h t there same es tolds again (event.Cancel i) t0 ne a =
-      left_aside bits_of root opens tx m next h t there same es tolds again (event.Cancel i) t0 (of_cancel bits_of i tx t ne (counted m) next (counted_keeps bits_of m h) there t0 a) refl
+      left_aside bits_of root active tx m next h t there same es tolds again (event.Cancel i) t0 (of_cancel bits_of i tx t ne (counted m) next (counted_keeps bits_of m h) there t0 a) refl
   one_event m next h t there same es tolds again (event.Commit i) t0 ne a =
-      left_aside bits_of root opens tx m next h t there same es tolds again (event.Commit i) t0 (of_commit bits_of i tx t ne (counted m) next (counted_keeps bits_of m h) there t0 a) refl
+      left_aside bits_of root active tx m next h t there same es tolds again (event.Commit i) t0 (of_commit bits_of i tx t ne (counted m) next (counted_keeps bits_of m h) there t0 a) refl
   one_event m next h t there same es tolds again (event.Abort i) t0 ne a =
-      left_aside bits_of root opens tx m next h t there same es tolds again (event.Abort i) t0 (of_abort bits_of i tx t ne (counted m) next (counted_keeps bits_of m h) there t0 a) refl
+      left_aside bits_of root active tx m next h t there same es tolds again (event.Abort i) t0 (of_abort bits_of i tx t ne (counted m) next (counted_keeps bits_of m h) there t0 a) refl
   one_event m next h t there same es tolds again (event.Whole i op) t0 ne a =
-      left_aside bits_of root opens tx m next h t there same es tolds again (event.Whole i op) t0 (of_whole bits_of i tx t ne (counted m) next (counted_keeps bits_of m h) there op t0 a) refl
+      left_aside bits_of root active tx m next h t there same es tolds again (event.Whole i op) t0 (of_whole bits_of i tx t ne (counted m) next (counted_keeps bits_of m h) there op t0 a) refl
   one_event m next h t there same es tolds again (event.WholeUndo i) t0 ne a =
-      left_aside bits_of root opens tx m next h t there same es tolds again (event.WholeUndo i) t0 (of_whole_undo bits_of i tx t ne (counted m) next (counted_keeps bits_of m h) there t0 a) refl
+      left_aside bits_of root active tx m next h t there same es tolds again (event.WholeUndo i) t0 (of_whole_undo bits_of i tx t ne (counted m) next (counted_keeps bits_of m h) there t0 a) refl
   one_event m next h t there same es tolds again (event.Step i) t0 ne a = elim (cases_eq tx i) [
     | inr differ ↦
-        left_aside bits_of root opens tx m next h t there same es tolds again (event.Step i) t0 (of_step bits_of i tx t differ (counted m) next (counted_keeps bits_of m h) there t0 a) (not_told t0 (answers_to tx es tolds) i differ)
+        left_aside bits_of root active tx m next h t there same es tolds again (event.Step i) t0 (of_step bits_of i tx t differ (counted m) next (counted_keeps bits_of m h) there t0 a) (not_told t0 (answers_to tx es tolds) i differ)
     | inl own ↦
-        subst (λ (k : ℕ). HasOwnSteps (basis_by bits_of root opens tx) t (view_in t m.commons) tx (event.Step k ∷ es) (t0 ∷ tolds)) own
+        subst (λ (k : ℕ). HasOwnSteps (context_by bits_of root active tx) t (view_in t m.shared) tx (event.Step k ∷ es) (t0 ∷ tolds)) own
         (by_told m next h t there same es tolds again t0 (subst (λ (k : ℕ). Meets bits_of (event.Step k) t0 (counted m) next) (sym own) a))
   ]
 
   -- **The steps of a transaction in a run are steps of its own.**
   pub run_steps : (events : List Event) (tolds : List Told) (m m' : ManagerFields P) (t : Transaction) → IsManager bits_of m → map.get m.txs tx ≡ Some t → m.root ≡ root → OnlySteps tx events → IsRun bits_of m events tolds m'
-      → HasOwnSteps (basis_by bits_of root opens tx) t (view_in t m.commons) tx events tolds
+      → HasOwnSteps (context_by bits_of root active tx) t (view_in t m.shared) tx events tolds
   run_steps [] [] m m' t h there same only run = record { steps = []; own = tt; answers = refl }
   run_steps [] (t0 ∷ tolds) m m' t h there same only none = absurd none
   run_steps (e ∷ es) [] m m' t h there same only none = absurd none
@@ -217,17 +217,17 @@ from_call bits_of tx op events tolds m called new h call only run =
     let t = call.calls.changes.after in
     let there : map.get called.txs tx ≡ Some t = ap (λ (x : Table). map.get x tx) call.calls.changes.is ∙ inserted_here m.txs tx t in
     let h' = meets_keeps bits_of (counted m) called (counted_keeps bits_of m h) (event.Call tx op) told.Called call in
-    let has = run_steps bits_of called.root called.opens tx events tolds called new t h' there refl only run in
+    let has = run_steps bits_of called.root called.active tx events tolds called new t h' there refl only run in
     record {
       t = t;
       there = there;
-      takes = (has, pass_of (basis_by bits_of called.root called.opens tx) op t (view_in t called.commons) has.steps call.calls.tells.pending has.own);
+      takes = (has, pass_of (context_by bits_of called.root called.active tx) op t (view_in t called.shared) has.steps call.calls.tells.pending has.own);
     }
 
 -- **From the abort on.**
 pub from_abort : {P : Type 0} (bits_of : P → ℕ → ℕ) (tx : ℕ) (events : List Event) (tolds : List Told) (m new : ManagerFields P) (t : Transaction) (last : ObjOp × ObjReply) → IsManager bits_of m
     → map.get m.txs tx ≡ Some t → IsToTakeBack t last → OnlySteps tx events → IsRun bits_of m events tolds new
-    → TakesOwnSteps (basis_by bits_of m.root m.opens tx) t (view_in t m.commons) tx events tolds (TakesBackOf last)
+    → TakesOwnSteps (context_by bits_of m.root m.active tx) t (view_in t m.shared) tx events tolds (TakesBackOf last)
 from_abort bits_of tx events tolds m new t last h there to only run =
-    let has = run_steps bits_of m.root m.opens tx events tolds m new t h there refl only run in
-    (has, inverse_of_any (basis_by bits_of m.root m.opens tx) t last (view_in t m.commons) has.steps to has.own)
+    let has = run_steps bits_of m.root m.active tx events tolds m new t h there refl only run in
+    (has, inverse_of_any (context_by bits_of m.root m.active tx) t last (view_in t m.shared) has.steps to has.own)

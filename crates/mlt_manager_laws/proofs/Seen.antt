@@ -4,27 +4,27 @@ use Rattle.std.specs.FinMap as map
 use Rattle.mlt_page_locks.specs.Requests.{released}
 use Rattle.mlt_page_subtx.specs.Images.{Images, Running}
 use Rattle.mlt_hash_access.specs.declared.locked_store.LockedStore.{LockedStore}
-use Rattle.mlt_hash_access.specs.Moments.{moment}
+use Rattle.mlt_hash_access.specs.LocalStates.{local}
 use Rattle.mlt_hash_access.specs.Views.{view_of}
-use Rattle.mlt_hash_subtx_laws.specs.Running.{AllRunning, KeepsRunning, after_end, moment_of}
+use Rattle.mlt_hash_subtx_laws.specs.Running.{AllRunning, KeepsRunning, after_end, local_of}
 use Rattle.mlt_hash_subtx_laws.proofs.AllEvents.{end_keeps}
-use Rattle.mlt_hash.specs.Walks.{basis_by}
+use Rattle.mlt_hash.specs.Walks.{context_by}
 use Rattle.mlt_tx_operation.specs.Operating.{OperationFields}
-use Rattle.mlt_tx_meaning.specs.Worlds.{basis_of}
+use Rattle.mlt_tx_meaning.specs.AbstractStates.{context_of}
 use Rattle.mlt_event.specs.declared.answer.Answer.{Answer}
 use Rattle.mlt_event.specs.declared.answer.Answer.TheVariants as answer
-use Rattle.mlt_tx.specs.declared.commons.Commons.{Commons}
+use Rattle.mlt_tx.specs.declared.shared.SharedState.{SharedState}
 use Rattle.mlt_tx.specs.declared.transaction.At.{At}
 use Rattle.mlt_tx.specs.declared.transaction.At.TheVariants as at
 use Rattle.mlt_tx.specs.declared.transaction.Transaction.{Transaction}
 use Rattle.mlt_tx.specs.Endings.{EndsSubtx}
 use Rattle.mlt_tx.specs.Steps.{EndsBack}
-use Rattle.mlt_tx.specs.Transactions.{StepsBack, StepsPending, TellsAt, workplace_of}
+use Rattle.mlt_tx.specs.Transactions.{StepsBack, StepsPending, TellsAt, tx_state_of}
 use Rattle.mlt_tx_open.specs.Tables.{Table}
 use Rattle.mlt_manager_invariant.specs.Events.{KeepsCleanPages, with_transaction}
-use Rattle.mlt_manager_invariant.specs.States.{State, all_of, images_kept, world_of}
+use Rattle.mlt_manager_invariant.specs.States.{State, all_of, images_kept, abstract_state_of}
 use Rattle.mlt_manager_invariant.proofs.Inverting.{inverse_sound}
-use Rattle.mlt_manager_invariant.proofs.MaySteps.{is_open_now, same_moment}
+use Rattle.mlt_manager_invariant.proofs.MaySteps.{is_open_now, same_local}
 use Rattle.mlt_manager_invariant.proofs.Pending.{not_done_sound}
 use Rattle.mlt_manager_invariant.proofs.Tables.{inserted_elsewhere, removed_elsewhere}
 use Rattle.mlt_tx_step_counts.specs.OwnSteps.{view_in}
@@ -34,69 +34,69 @@ use Rattle.mlt_manager.specs.Managers.{IsManager, ManagerFields, state_of}
 -- a transaction is still what it was, and sees what it saw
 pub record StaysAs {P : Type 0} (m m' : ManagerFields P) (u : ℕ) (t : Transaction) : Type 0 where
   pub there : map.get m'.txs u ≡ Some t
-  pub sees : view_in t m'.commons ≡ view_in t m.commons
+  pub sees : view_in t m'.shared ≡ view_in t m.shared
   pub root : m'.root ≡ m.root
 
 module _ {P : Type 0} (bits_of : P → ℕ → ℕ) (m : ManagerFields P) (h : IsManager bits_of m) (i u : ℕ) (t : Transaction) (ne : u ≢ i) (there : map.get m.txs u ≡ Some t) where
   abbrev now : State
   now = state_of bits_of m h.images h.base
 
-  sees : (all : AllRunning) → KeepsRunning i (all_of (state_of bits_of m h.images h.base)) all → (commons : Commons) → all.locks ≡ commons.pages.locks → all.store ≡ commons.pages.store → view_in t commons ≡ view_in t m.commons
-  sees all keeps commons locks store =
+  sees : (all : AllRunning) → KeepsRunning i (all_of (state_of bits_of m h.images h.base)) all → (shared : SharedState) → all.locks ≡ shared.pages.locks → all.store ≡ shared.pages.store → view_in t shared ≡ view_in t m.shared
+  sees all keeps shared locks store =
       let number = (h.sound.fits u t there).number in
       let images = keeps.images u ne ∙ h.sound.kept u ∙ ap images_kept there in
-      let is : moment_of all u ≡ moment t.subtx commons.pages = (λ p. record {
+      let is : local_of all u ≡ local t.subtx shared.pages = (λ p. record {
         running = record { tx = sym number p; images = ap (λ (o : Option Images). unwrap_or o map.empty) images p };
         locks = locks p;
         store = store p;
       }) in
-      sym (ap view_of is) ∙ keeps.views u ne ∙ ap view_of (same_moment (state_of bits_of m h.images h.base) u t h.sound there)
+      sym (ap view_of is) ∙ keeps.views u ne ∙ ap view_of (same_local (state_of bits_of m h.images h.base) u t h.sound there)
 
-  pub clean_sees : (before after : Transaction) (commons : Commons) → KeepsCleanPages (state_of bits_of m h.images h.base) i before after commons → view_in t commons ≡ view_in t m.commons
-  clean_sees before after commons (images, keeps) = sees (all_of (with_transaction (state_of bits_of m h.images h.base) i after commons images)) keeps.runs commons refl refl
+  pub clean_sees : (before after : Transaction) (shared : SharedState) → KeepsCleanPages (state_of bits_of m h.images h.base) i before after shared → view_in t shared ≡ view_in t m.shared
+  clean_sees before after shared (images, keeps) = sees (all_of (with_transaction (state_of bits_of m h.images h.base) i after shared images)) keeps.runs shared refl refl
 
-  pub same_sees : (commons : Commons) → commons.pages ≡ m.commons.pages → view_in t commons ≡ view_in t m.commons
-  same_sees commons same = ap (λ (p : LockedStore). view_of (moment t.subtx p)) same
+  pub same_sees : (shared : SharedState) → shared.pages ≡ m.shared.pages → view_in t shared ≡ view_in t m.shared
+  same_sees shared same = ap (λ (p : LockedStore). view_of (local t.subtx p)) same
 
   module _ (before : Transaction) (was : map.get m.txs i ≡ Some before) where
-    end_sees : (running : Running) (commons : Commons) → EndsSubtx before.subtx running m.commons commons → view_in t commons ≡ view_in t m.commons
-    end_sees running commons ends =
+    end_sees : (running : Running) (shared : SharedState) → EndsSubtx before.subtx running m.shared shared → view_in t shared ≡ view_in t m.shared
+    end_sees running shared ends =
         let all = all_of (state_of bits_of m h.images h.base) in
-        sees (after_end all i) (end_keeps all i h.sound.running (is_open_now (state_of bits_of m h.images h.base) i before h.sound was)) commons
-        (ap (released m.commons.pages.locks) (sym (h.sound.fits i before was).number) ∙ sym ends.locks) (sym ends.store)
+        sees (after_end all i) (end_keeps all i h.sound.running (is_open_now (state_of bits_of m h.images h.base) i before h.sound was)) shared
+        (ap (released m.shared.pages.locks) (sym (h.sound.fits i before was).number) ∙ sym ends.locks) (sym ends.store)
 
-    by_pending : (o : OperationFields) (after : Transaction) (commons : Commons) (told : Answer) → before.at ≡ at.Pending o
-        → StepsPending (basis_of (world_of (state_of bits_of m h.images h.base)) i) o before after m.commons commons told → view_in t commons ≡ view_in t m.commons
-    by_pending o after commons answer.Going is s = clean_sees before after commons (not_done_sound (state_of bits_of m h.images h.base) i o before after commons answer.Going h.sound was is s (λ reply e. cc))
-    by_pending o after commons (answer.Waiting page by) is s = clean_sees before after commons (not_done_sound (state_of bits_of m h.images h.base) i o before after commons (answer.Waiting page by) h.sound was is s (λ reply e. cc))
-    by_pending o after commons (answer.Refused reason) is s = clean_sees before after commons (not_done_sound (state_of bits_of m h.images h.base) i o before after commons (answer.Refused reason) h.sound was is s (λ reply e. cc))
-    by_pending o after commons (answer.Blocked by) is s = clean_sees before after commons (not_done_sound (state_of bits_of m h.images h.base) i o before after commons (answer.Blocked by) h.sound was is s (λ reply e. cc))
-    by_pending o after commons (answer.Done reply) is s = ap (λ (c : Commons). view_in t c) s.leaves ∙ end_sees after.subtx s.between s.tells.tells.1.ends
-    by_pending o after commons answer.Undone is s = absurd s.tells
-    by_pending o after commons answer.Aborted is s = absurd s.tells
+    by_pending : (o : OperationFields) (after : Transaction) (shared : SharedState) (told : Answer) → before.at ≡ at.Pending o
+        → StepsPending (context_of (abstract_state_of (state_of bits_of m h.images h.base)) i) o before after m.shared shared told → view_in t shared ≡ view_in t m.shared
+    by_pending o after shared answer.Going is s = clean_sees before after shared (not_done_sound (state_of bits_of m h.images h.base) i o before after shared answer.Going h.sound was is s (λ reply e. cc))
+    by_pending o after shared (answer.Waiting page by) is s = clean_sees before after shared (not_done_sound (state_of bits_of m h.images h.base) i o before after shared (answer.Waiting page by) h.sound was is s (λ reply e. cc))
+    by_pending o after shared (answer.Refused reason) is s = clean_sees before after shared (not_done_sound (state_of bits_of m h.images h.base) i o before after shared (answer.Refused reason) h.sound was is s (λ reply e. cc))
+    by_pending o after shared (answer.Blocked by) is s = clean_sees before after shared (not_done_sound (state_of bits_of m h.images h.base) i o before after shared (answer.Blocked by) h.sound was is s (λ reply e. cc))
+    by_pending o after shared (answer.Done reply) is s = ap (λ (c : SharedState). view_in t c) s.leaves ∙ end_sees after.subtx s.between s.tells.tells.1.ends
+    by_pending o after shared answer.Undone is s = absurd s.tells
+    by_pending o after shared answer.Aborted is s = absurd s.tells
 
-    between_sees : (inverting next : Option OperationFields) (after : Transaction) (commons : Commons) (told : Answer) (e : EndsBack inverting next (workplace_of before m.commons) (workplace_of after commons) told)
-        → view_in t e.between ≡ view_in t m.commons
-    between_sees None next after commons told e = ap (λ (c : Commons). view_in t c) (e.at_once refl).0
-    between_sees (Some o) next after commons told e = end_sees after.subtx e.between (e.at_end o refl).1
+    between_sees : (inverting next : Option OperationFields) (after : Transaction) (shared : SharedState) (told : Answer) (e : EndsBack inverting next (tx_state_of before m.shared) (tx_state_of after shared) told)
+        → view_in t e.between ≡ view_in t m.shared
+    between_sees None next after shared told e = ap (λ (c : SharedState). view_in t c) (e.fast refl).0
+    between_sees (Some o) next after shared told e = end_sees after.subtx e.between (e.at_end o refl).1
 
-    by_undoing : (inverting : Option OperationFields) (after : Transaction) (commons : Commons) (told : Answer) → before.at ≡ at.Undoing inverting
-        → StepsBack (basis_of (world_of (state_of bits_of m h.images h.base)) i) inverting before after m.commons commons told → view_in t commons ≡ view_in t m.commons
-    by_undoing inverting after commons answer.Going is s = clean_sees before after commons (inverse_sound (state_of bits_of m h.images h.base) i inverting before after commons answer.Going h.sound was is s (λ e. cc) (λ e. cc))
-    by_undoing inverting after commons (answer.Waiting page by) is s = clean_sees before after commons (inverse_sound (state_of bits_of m h.images h.base) i inverting before after commons (answer.Waiting page by) h.sound was is s (λ e. cc) (λ e. cc))
-    by_undoing inverting after commons answer.Undone is s =
-        ap (λ (p : LockedStore). view_of (moment t.subtx p)) s.tells.takes.off.pages ∙ between_sees inverting s.next after commons answer.Undone s.tells
-    by_undoing inverting after commons answer.Aborted is s =
-        ap (λ (p : LockedStore). view_of (moment t.subtx p)) s.tells.takes.off.pages ∙ between_sees inverting s.next after commons answer.Aborted s.tells
-    by_undoing inverting after commons (answer.Blocked by) is s = absurd s.tells
-    by_undoing inverting after commons (answer.Done reply) is s = absurd s.tells
-    by_undoing inverting after commons (answer.Refused reason) is s = absurd s.tells
+    by_undoing : (inverting : Option OperationFields) (after : Transaction) (shared : SharedState) (told : Answer) → before.at ≡ at.Undoing inverting
+        → StepsBack (context_of (abstract_state_of (state_of bits_of m h.images h.base)) i) inverting before after m.shared shared told → view_in t shared ≡ view_in t m.shared
+    by_undoing inverting after shared answer.Going is s = clean_sees before after shared (inverse_sound (state_of bits_of m h.images h.base) i inverting before after shared answer.Going h.sound was is s (λ e. cc) (λ e. cc))
+    by_undoing inverting after shared (answer.Waiting page by) is s = clean_sees before after shared (inverse_sound (state_of bits_of m h.images h.base) i inverting before after shared (answer.Waiting page by) h.sound was is s (λ e. cc) (λ e. cc))
+    by_undoing inverting after shared answer.Undone is s =
+        ap (λ (p : LockedStore). view_of (local t.subtx p)) s.tells.takes.off.pages ∙ between_sees inverting s.next after shared answer.Undone s.tells
+    by_undoing inverting after shared answer.Aborted is s =
+        ap (λ (p : LockedStore). view_of (local t.subtx p)) s.tells.takes.off.pages ∙ between_sees inverting s.next after shared answer.Aborted s.tells
+    by_undoing inverting after shared (answer.Blocked by) is s = absurd s.tells
+    by_undoing inverting after shared (answer.Done reply) is s = absurd s.tells
+    by_undoing inverting after shared (answer.Refused reason) is s = absurd s.tells
 
-    by_at : (a : At) (after : Transaction) (commons : Commons) (told : Answer) → before.at ≡ a
-        → TellsAt a (basis_of (world_of (state_of bits_of m h.images h.base)) i) before after m.commons commons told → view_in t commons ≡ view_in t m.commons
-    by_at at.Idle after commons told is none = absurd none
-    by_at (at.Pending o) after commons told is s = by_pending o after commons told is s
-    by_at (at.Undoing inverting) after commons told is s = by_undoing inverting after commons told is s
+    by_at : (a : At) (after : Transaction) (shared : SharedState) (told : Answer) → before.at ≡ a
+        → TellsAt a (context_of (abstract_state_of (state_of bits_of m h.images h.base)) i) before after m.shared shared told → view_in t shared ≡ view_in t m.shared
+    by_at at.Idle after shared told is none = absurd none
+    by_at (at.Pending o) after shared told is s = by_pending o after shared told is s
+    by_at (at.Undoing inverting) after shared told is s = by_undoing inverting after shared told is s
 
   changed_there : (txs : Table) (after : Transaction) → txs ≡ map.insert m.txs i after → map.get txs u ≡ Some t
   changed_there txs after is = ap (λ (x : Table). map.get x u) is ∙ inserted_elsewhere m.txs i after u ne ∙ there
@@ -115,7 +115,7 @@ module _ {P : Type 0} (bits_of : P → ℕ → ℕ) (m : ManagerFields P) (h : I
       let number = (h.sound.fits i c.before c.was).number in
       record {
         there = ap (λ (n : ManagerFields P). map.get n.txs u) d.rest ∙ table_after told d.txs c.after c.is;
-        sees = by_at c.before c.was c.before.at c.after m'.commons told refl
-            (subst (λ (n : ℕ). TellsAt c.before.at (basis_by bits_of m.root m.opens n) c.before c.after m.commons m'.commons told) number d.steps.tells);
+        sees = by_at c.before c.was c.before.at c.after m'.shared told refl
+            (subst (λ (n : ℕ). TellsAt c.before.at (context_by bits_of m.root m.active n) c.before c.after m.shared m'.shared told) number d.steps.tells);
         root = ap (λ (n : ManagerFields P). n.root) d.rest;
       }

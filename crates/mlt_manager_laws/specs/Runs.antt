@@ -4,7 +4,7 @@ use Rattle.std.specs.FinMap as map
 use Rattle.mlt_types.specs.declared.limits.Limits.{Limits}
 use Rattle.mlt_object_kinds.specs.declared.operation.ObjOp.{ObjOp}
 use Rattle.mlt_hash_access.specs.Views.{View}
-use Rattle.mlt_hash.specs.Walks.{Basis, basis_by}
+use Rattle.mlt_hash.specs.Walks.{WalkContext, context_by}
 use Rattle.mlt_event.specs.declared.answer.Answer.{Answer}
 use Rattle.mlt_event.specs.declared.answer.Answer.TheVariants as answer
 use Rattle.mlt_event.specs.declared.event.Event.{Event}
@@ -58,7 +58,7 @@ pub record IsReached {P : Type 0} (bits_of : P → ℕ → ℕ) (m : ManagerFiel
   pub limits : Limits
   pub pseudo : P
   pub opening : ManagerFields P
-  pub opens : IsNew opening limits pseudo
+  pub is_new : IsNew opening limits pseudo
   pub events : List Event
   pub tolds : List Told
   pub run : IsRun bits_of opening events tolds m
@@ -76,22 +76,22 @@ pub record IsCutBehind {P : Type 0} (bits_of : P → ℕ → ℕ) (opening new :
   pub promises : KeepsPromises bits_of between
 
 -- The steps of a transaction in a run are steps of its own, between which others leave what it sees.
-pub record HasOwnSteps (basis : Basis) (t : Transaction) (seen : View) (tx : ℕ)
+pub record HasOwnSteps (context : WalkContext) (t : Transaction) (seen : View) (tx : ℕ)
     (events : List Event) (tolds : List Told) : Type 0 where
   pub steps : List OwnStep
-  pub own : AreOwnSteps basis t seen steps
+  pub own : AreOwnSteps context t seen steps
   pub answers : answers_of steps ≡ answers_to tx events tolds
 
 -- The steps of a transaction in a run are steps of its own, of which this is so.
-abbrev pub TakesOwnSteps : Basis → Transaction → View → ℕ → List Event → List Told
+abbrev pub TakesOwnSteps : WalkContext → Transaction → View → ℕ → List Event → List Told
     → (List OwnStep → Type 0) → Type 0
-TakesOwnSteps basis t seen tx events tolds Takes =
-    (has : HasOwnSteps basis t seen tx events tolds) × Takes has.steps
+TakesOwnSteps context t seen tx events tolds Takes =
+    (has : HasOwnSteps context t seen tx events tolds) × Takes has.steps
 
 -- The transaction of this number is open, and its steps are those of a first pass of this operation.
 pub record TakesPassInRun {P : Type 0} (bits_of : P → ℕ → ℕ) (m : ManagerFields P) (tx : ℕ)
     (op : ObjOp) (events : List Event) (tolds : List Told) : Type 0 where
   pub t : Transaction
   pub there : map.get m.txs tx ≡ Some t
-  pub takes : TakesOwnSteps (basis_by bits_of m.root m.opens tx) t (view_in t m.commons) tx
-      events tolds (TakesPassOf (basis_by bits_of m.root m.opens tx) op)
+  pub takes : TakesOwnSteps (context_by bits_of m.root m.active tx) t (view_in t m.shared) tx
+      events tolds (TakesPassOf (context_by bits_of m.root m.active tx) op)

@@ -5,7 +5,7 @@ ghost use Rattle.std.specs.FinMap as map;
 ghost use Rattle.mlt_types.specs.declared.limits.Limits.{Limits};
 ghost use Rattle.mlt_object_kinds.specs.declared.operation.ObjOp.{ObjOp};
 ghost use Rattle.mlt_object_kinds.specs.declared.operation.ObjReply.{ObjReply};
-ghost use Rattle.mlt_hash.specs.Walks.{basis_by};
+ghost use Rattle.mlt_hash.specs.Walks.{context_by};
 ghost use Rattle.mlt_event.specs.declared.event.Event.{Event};
 ghost use Rattle.mlt_event.specs.declared.event.Event.TheVariants as event;
 ghost use Rattle.mlt_event.specs.declared.told.Told.{Told};
@@ -44,7 +44,7 @@ pub fn steps_of_a_run_are_own_steps<P: Pseudo>()
         (tx : ℕ) (t : Transaction)
         → IsReached P.bits_of old → map.get old.txs tx ≡ Some t
         → OnlySteps tx events → IsRun P.bits_of old events tolds new
-        → HasOwnSteps (basis_by P.bits_of old.root old.opens tx) t (view_in t old.commons)
+        → HasOwnSteps (context_by P.bits_of old.root old.active tx) t (view_in t old.shared)
         tx events tolds }
 {}
 
@@ -68,6 +68,6 @@ pub fn aborts_of_a_run_take_few_steps<P: Pseudo>()
         (tx : ℕ) (t : Transaction) (last : ObjOp × ObjReply)
         → IsReached P.bits_of old → map.get old.txs tx ≡ Some t → IsToTakeBack t last
         → OnlySteps tx events → IsRun P.bits_of old events tolds new
-        → TakesOwnSteps (basis_by P.bits_of old.root old.opens tx) t (view_in t old.commons)
+        → TakesOwnSteps (context_by P.bits_of old.root old.active tx) t (view_in t old.shared)
         tx events tolds (TakesBackOf last) }
 {}

@@ -1,14 +1,14 @@
--- Circles of waits, link by link.
+-- Cycles of waits, link by link.
 use Rattle.std.proofs.Common.{◌≡◌, ◌+◌, ◌-◌, ◌<◌, ◌≤◌, ℕ, suc, List, [], ◌∷◌, ◌++◌, Option, Some, None, refl, sym, ap, ◌∙◌, arith, append_assoc, eq-eqb}
 use Rattle.std.proofs.lemmas.Bool.{ne_eqb}
 use Rattle.std.specs.Option.{option_map}
-use Rattle.mlt_manager_reasons.specs.Circles.{blocker_of, circle_of, links_by, links_to}
+use Rattle.mlt_manager_reasons.specs.Cycles.{blocker_of, cycle_of, links_by, links_to}
 use Rattle.mlt_manager_reasons.specs.Pendings.{Pendings}
 
--- so many links were found, and so the circle is these and what follows
+-- so many links were found, and so the cycle is these and what follows
 abbrev pub IsLinked : Pendings → ℕ → ℕ → ℕ → List (ℕ × ℕ) → Type 0
 IsLinked pendings tx count last links =
-    circle_of pendings tx ≡ option_map (λ further. links ++ further) (links_to pendings tx (64 - count) last)
+    cycle_of pendings tx ≡ option_map (λ further. links ++ further) (links_to pendings tx (64 - count) last)
 
 same_found : (found : Option (List (ℕ × ℕ))) → found ≡ option_map (λ further. [] ++ further) found
 same_found None = refl
@@ -28,16 +28,16 @@ next_one pendings tx count last by few is =
     let left : 64 - count ≡ suc (63 - count) = omega (arith, few) in
     ap (λ n. links_to pendings tx n last) left ∙ unfold_one pendings tx (63 - count) last ∙ ap (λ b. links_by tx last b (links_to pendings tx (63 - count))) is
 
-pub no_circle : (pendings : Pendings) (tx count last : ℕ) (links : List (ℕ × ℕ)) → count < 64 → IsLinked pendings tx count last links → blocker_of (pendings last) ≡ None → circle_of pendings tx ≡ None
-no_circle pendings tx count last links few linked none =
+pub no_cycle : (pendings : Pendings) (tx count last : ℕ) (links : List (ℕ × ℕ)) → count < 64 → IsLinked pendings tx count last links → blocker_of (pendings last) ≡ None → cycle_of pendings tx ≡ None
+no_cycle pendings tx count last links few linked none =
     linked ∙ ap (option_map (λ further. links ++ further)) (next_one pendings tx count last None few none)
 
 closing : (tx last by : ℕ) (rest : ℕ → Option (List (ℕ × ℕ))) → by ≡ tx → links_by tx last (Some by) rest ≡ Some ((last, by) ∷ [])
 closing tx last by rest same = rw (eq-eqb by tx same) refl
 
-pub is_circle : (pendings : Pendings) (tx count last by : ℕ) (links : List (ℕ × ℕ)) → count < 64 → IsLinked pendings tx count last links → blocker_of (pendings last) ≡ Some by → by ≡ tx
-    → circle_of pendings tx ≡ Some (links ++ (last, by) ∷ [])
-is_circle pendings tx count last by links few linked is same =
+pub is_cycle : (pendings : Pendings) (tx count last by : ℕ) (links : List (ℕ × ℕ)) → count < 64 → IsLinked pendings tx count last links → blocker_of (pendings last) ≡ Some by → by ≡ tx
+    → cycle_of pendings tx ≡ Some (links ++ (last, by) ∷ [])
+is_cycle pendings tx count last by links few linked is same =
     linked ∙ ap (option_map (λ further. links ++ further)) (next_one pendings tx count last (Some by) few is ∙ closing tx last by (links_to pendings tx (63 - count)) same)
 
 going_on : (tx last by : ℕ) (rest : ℕ → Option (List (ℕ × ℕ))) → (by ≡ tx → ⊥) → links_by tx last (Some by) rest ≡ option_map (λ links. (last, by) ∷ links) (rest by)
@@ -59,7 +59,7 @@ unfold_none : (pendings : Pendings) (tx last : ℕ) → links_to pendings tx 0 l
 unfolding links_to
 unfold_none pendings tx last = refl
 
-pub no_more_links : (pendings : Pendings) (tx count last : ℕ) (links : List (ℕ × ℕ)) → 64 ≤ count → IsLinked pendings tx count last links → circle_of pendings tx ≡ None
+pub no_more_links : (pendings : Pendings) (tx count last : ℕ) (links : List (ℕ × ℕ)) → 64 ≤ count → IsLinked pendings tx count last links → cycle_of pendings tx ≡ None
 no_more_links pendings tx count last links many linked =
     let left : 64 - count ≡ 0 = omega (arith, many) in
     linked ∙ ap (λ n. option_map (λ further. links ++ further) (links_to pendings tx n last)) left ∙ ap (option_map (λ further. links ++ further)) (unfold_none pendings tx last)

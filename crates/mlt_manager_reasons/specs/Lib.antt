@@ -1,4 +1,4 @@
-pub mod Circles
+pub mod Cycles
 pub mod Examples
 pub mod Explaining
 pub mod Histories

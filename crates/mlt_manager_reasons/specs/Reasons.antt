@@ -13,7 +13,7 @@ use Rattle.mlt_event.specs.declared.told.Told.{Told}
 use Rattle.mlt_event.specs.declared.told.Told.TheVariants as told
 use Rattle.mlt_trace.specs.declared.item.TraceItem.{TraceItem}
 use Rattle.mlt_manager_reasons.specs.declared.pending.Pending.{Pending}
-use Rattle.mlt_manager_reasons.specs.Circles.{circle_of}
+use Rattle.mlt_manager_reasons.specs.Cycles.{cycle_of}
 use Rattle.mlt_manager_reasons.specs.Examples.{AreExampleLines}
 use Rattle.mlt_manager_reasons.specs.Histories.{WouldBeTold, held_by, standing_of}
 use Rattle.mlt_manager_reasons.specs.Pendings.{Pendings, op_of}
@@ -51,7 +51,7 @@ IsInTheWay items by None = ⊥
 IsInTheWay items by (Some op) =
     (reply : ObjReply) → WouldBeTold items op reply → IsSome (first_clash (op, reply) (held_by items by))
 
--- ---- circles
+-- ---- cycles
 
 -- one who waits for another one
 abbrev pub link_text : ℕ × ℕ → List ℕ
@@ -62,10 +62,10 @@ abbrev pub next_link : ℕ × ℕ → List ℕ
 next_link link = codes ", " ++ link_text link
 
 -- who waits for whom, in a line
-abbrev pub circle_line : Option (List (ℕ × ℕ)) → List ℕ
-circle_line None = []
-circle_line (Some []) = []
-circle_line (Some (link ∷ links)) =
+abbrev pub cycle_line : Option (List (ℕ × ℕ)) → List ℕ
+cycle_line None = []
+cycle_line (Some []) = []
+cycle_line (Some (link ∷ links)) =
     codes "# a circle: " ++ (link_text link ++ (flat_map next_link links ++ 10 ∷ []))
 
 -- ---- waiting
@@ -92,12 +92,12 @@ wait_line page by pending last =
 
 -- ---- events
 
--- The lines behind an event that is blocked. A step: what is in the way, and the circle that has come about. A whole
--- operation is dropped then, and is in no circle.
+-- The lines behind an event that is blocked. A step: what is in the way, and the cycle that has come about. A whole
+-- operation is dropped then, and is in no cycle.
 abbrev pub AreBlockReasons : Event → ℕ → List TraceItem → Pendings → List ℕ → Type 0
 AreBlockReasons (event.Step tx) by items pendings text =
     (block : List ℕ) × AreBlockLines items by (op_of (pendings tx)) block
-    × (text ≡ block ++ circle_line (circle_of pendings tx))
+    × (text ≡ block ++ cycle_line (cycle_of pendings tx))
 AreBlockReasons (event.Whole tx op) by items pendings text = AreBlockLines items by (Some op) text
 AreBlockReasons event by items pendings text = text ≡ []
 

@@ -9,8 +9,8 @@ ghost use Rattle.mlt_manager_reasons.specs.Histories.{LeadsTo, WouldBeTold, held
 ghost use Rattle.mlt_manager_reasons.specs.Reasons.{last_of};
 ghost use Rattle.mlt_manager_reasons.specs.Tables.{Knows};
 
-use crate::deeds::{Deeds, put_deeds, take_deeds};
 use crate::replies::reply_in;
+use crate::tx_ops::{TxOps, put_tx_ops, take_tx_ops};
 use mlt_object_base::Base;
 use mlt_object_kinds::{Done, ObjOp, ObjReply};
 use mlt_object_undo::take_back;
@@ -24,7 +24,7 @@ use std::collections::BTreeMap;
 pub(crate) struct Ledger {
     alloc: Global,
     pub(crate) base: Base,
-    pub(crate) deeds: BTreeMap<u64, Deeds>,
+    pub(crate) tx_ops: BTreeMap<u64, TxOps>,
 }
 
 impl Ledger {
@@ -35,7 +35,7 @@ impl Ledger {
         Ledger {
             alloc,
             base: Base::new(alloc),
-            deeds: BTreeMap::new(alloc),
+            tx_ops: BTreeMap::new(alloc),
         }
     }
 
@@ -47,10 +47,10 @@ impl Ledger {
         ensures refusal { IsOkUnless result Refusal.OutOfMemory }
     {
         self.base.apply(&done.op())?;
-        let mut one = take_deeds(&mut self.deeds, self.alloc, tx);
+        let mut one = take_tx_ops(&mut self.tx_ops, self.alloc, tx);
         one.held.push(*done)?;
         one.standing.push(*done)?;
-        put_deeds(&mut self.deeds, tx, one)?;
+        put_tx_ops(&mut self.tx_ops, tx, one)?;
         Ok(())
     }
 
@@ -61,13 +61,13 @@ impl Ledger {
             → OnOk result (Knows self.new (items ++ TraceItem.Back tx ∷ [])) }
         ensures refusal { IsOkUnless result Refusal.OutOfMemory }
     {
-        let mut one = take_deeds(&mut self.deeds, self.alloc, tx);
+        let mut one = take_tx_ops(&mut self.tx_ops, self.alloc, tx);
         let Some(last) = one.standing.pop() else {
             // No history takes back what does not stand.
             return Ok(());
         };
         take_back(&mut self.base, &[last])?;
-        put_deeds(&mut self.deeds, tx, one)?;
+        put_tx_ops(&mut self.tx_ops, tx, one)?;
         Ok(())
     }
 
@@ -99,11 +99,11 @@ impl Ledger {
     // A transaction has ended, and holds nothing.
     fn end(&mut self, tx: u64)
         ensures base { self.new.base ≡ self.old.base }
-        ensures gone { tree.get nat_cmp self.new.deeds tx ≡ None }
+        ensures gone { tree.get nat_cmp self.new.tx_ops tx ≡ None }
         ensures others { (other : ℕ) → other ≢ tx
-            → tree.get nat_cmp self.new.deeds other ≡ tree.get nat_cmp self.old.deeds other }
+            → tree.get nat_cmp self.new.tx_ops other ≡ tree.get nat_cmp self.old.tx_ops other }
     {
-        self.deeds.remove(&tx);
+        self.tx_ops.remove(&tx);
     }
 
     // One more item of the history.
@@ -135,7 +135,7 @@ impl Ledger {
     pub(crate) fn held(&self, tx: TxId) -> &[Done]
         ensures { (items : List TraceItem) → Knows self.now items → result.now ≡ held_by items tx }
     {
-        match self.deeds.get(&tx.0) {
+        match self.tx_ops.get(&tx.0) {
             Some(one) => one.held.as_slice(),
             None => &[],
         }
@@ -146,7 +146,7 @@ impl Ledger {
         ensures { (items : List TraceItem) → Knows self.now items
             → result ≡ last_of (standing_of items tx) }
     {
-        self.deeds.get(&tx.0)?.standing.last().copied()
+        self.tx_ops.get(&tx.0)?.standing.last().copied()
     }
 
     // What an operation would be told.
@@ -160,13 +160,13 @@ impl Ledger {
     ///
     /// # Errors
     /// `OutOfMemory`, where a growth was refused.
-    pub(crate) fn follow(&mut self, items: &[KeptItem], known: usize) -> Result<(), Refusal>
+    pub(crate) fn follow(&mut self, items: &[KeptItem], replayed: usize) -> Result<(), Refusal>
         ensures follows { (state : ObjectBase)
-            → LeadsTo items.now state → Knows self.old (take known items.now)
+            → LeadsTo items.now state → Knows self.old (take replayed items.now)
             → OnOk result (Knows self.new items.now) }
         ensures refusal { IsOkUnless result Refusal.OutOfMemory }
     {
-        for place in known..items.len() {
+        for place in replayed..items.len() {
             self.take(&items[place].get())?;
         }
         Ok(())

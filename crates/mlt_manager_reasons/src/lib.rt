@@ -2,13 +2,13 @@
 //! and the text of that.
 #![tactic(auto)]
 
-mod circles;
-mod deeds;
+mod cycles;
 mod examples;
-mod known;
 mod ledger;
 mod pending;
 mod reasons;
+mod replayed;
 mod replies;
+mod tx_ops;
 
-pub use known::Known;
+pub use replayed::ReplayedState;

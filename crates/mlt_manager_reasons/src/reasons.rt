@@ -10,7 +10,7 @@ ghost use Rattle.mlt_manager_reasons.specs.Pendings.{op_of};
 ghost use Rattle.mlt_manager_reasons.specs.Reasons.{AreBlockLines, AreBlockReasons, AreClashLines, AreReasons, HasBlockReason, HasReason, IsInTheWay, activity_text, block_line, first_clash, last_of, wait_line};
 ghost use Rattle.mlt_manager_reasons.specs.Tables.{Knows, table_of};
 
-use crate::circles::push_circle;
+use crate::cycles::push_cycle;
 use crate::examples::push_example;
 use crate::ledger::Ledger;
 use crate::pending::PendingOps;
@@ -21,7 +21,7 @@ use mlt_types::{PageNo, Refusal, TxId};
 use std::alloc::Global;
 
 /// Appends the lines of the reasons of what an event was told: of a block which operation is in the way of which, with what
-/// that would be told, and the circle of waits that has come about; of a wait the page, and who has it. The ledger and the
+/// that would be told, and the cycle of waits that has come about; of a wait the page, and who has it. The ledger and the
 /// table are those behind the event.
 ///
 /// # Errors
@@ -73,7 +73,7 @@ fn push_block_reasons(
     }
 }
 
-// Appends what is in the way of a step, and the circle that has come about.
+// Appends what is in the way of a step, and the cycle that has come about.
 fn push_blocked_step(
     text: &mut String,
     alloc: Global,
@@ -89,7 +89,7 @@ fn push_blocked_step(
     ensures refusal { IsOkUnless result Refusal.OutOfMemory }
 {
     push_block(text, ledger, by, pending_op(pending, tx))?;
-    push_circle(text, alloc, pending, tx)?;
+    push_cycle(text, alloc, pending, tx)?;
     Ok(())
 }
 

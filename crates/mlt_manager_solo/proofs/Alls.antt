@@ -73,6 +73,6 @@ module _ {P : Type 0} (bits_of : P → ℕ → ℕ) where
           serial = (last.commits, subst (λ (n : ℕ). AreRuns scripts empty_base n outcomes led.0 last.commits) new.commits led.2, refl);
           can = ran.can;
           numbered = ran.numbered;
-          manager = record { opening = m; opens = new; exchanges = ran.exchanges; told = ran.told; run = ran.run; leads = led.1 };
+          manager = record { opening = m; is_new = new; exchanges = ran.exchanges; told = ran.told; run = ran.run; leads = led.1 };
           is = refl;
         }

@@ -51,7 +51,7 @@ module _ {P : Type 0} (bits_of : P → ℕ → ℕ) (old new : ManagerFields P) 
 
   pub closed_commits_none : HasClosed old new tx → KeepsCommitted old new
   closed_commits_none c = record {
-    committed = ap committed_by c.ends.items ∙ abort_commits_none old.commons.history.items tx;
+    committed = ap committed_by c.ends.items ∙ abort_commits_none old.shared.history.items tx;
     commits = ap (λ (n : ManagerFields P). n.commits) c.rest;
   }
 
@@ -64,7 +64,7 @@ abort_begins bits_of old new tx one a =
         alone = λ i ne. ap (λ (t : Table). map.get t i) ch.is ∙ inserted_elsewhere old.txs tx ch.after i ne ∙ one.alone i ne;
         limit = subst (λ (n : ℕ). 1 ≤ n) (sym (ap (λ (n : ManagerFields _). n.max_open) a.rest)) one.limit;
       },
-      record { committed = ap (λ (n : ManagerFields _). committed_by n.commons.history.items) a.rest; commits = ap (λ (n : ManagerFields _). n.commits) a.rest },
+      record { committed = ap (λ (n : ManagerFields _). committed_by n.shared.history.items) a.rest; commits = ap (λ (n : ManagerFields _). n.commits) a.rest },
     )
 
 module _ {P : Type 0} (bits_of : P → ℕ → ℕ) (old new : ManagerFields P) (tx : ℕ) (one : HasOneUndoing bits_of old tx) where
@@ -73,7 +73,7 @@ module _ {P : Type 0} (bits_of : P → ℕ → ℕ) (old new : ManagerFields P) 
 
   pub back_commits_nothing : StepsBackUpTo bits_of old new tx answer.Aborted → UndoingLeavesBase answer.Aborted old new tx → KeepsCommitted old new
   back_commits_nothing s base = record {
-    committed = ap committed_by base.items ∙ backs_commit_none (length base.taken) old.commons.history.items tx;
+    committed = ap committed_by base.items ∙ backs_commit_none (length base.taken) old.shared.history.items tx;
     commits = (back_beside answer.Aborted s).commits;
   }
 

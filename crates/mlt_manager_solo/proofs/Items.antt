@@ -54,17 +54,17 @@ backs_commit_none (suc count) items tx =
 module _ {P : Type 0} (bits_of : P → ℕ → ℕ) (m : ManagerFields P) (rest : IsAtRest bits_of m) where
   not_running : (i : ℕ) → (lists_by m).stage i ≢ Running
   not_running i runs =
-      let inside : set.contains m.opens i ≡ true = (rest.manager.sound.match.records.running i).1 runs in
-      let outside : set.contains m.opens i ≡ false = rest.manager.sound.opened i ∙ ap is_some (rest.nobody i) in
+      let inside : set.contains m.active i ≡ true = (rest.manager.sound.match.records.running i).1 runs in
+      let outside : set.contains m.active i ≡ false = rest.manager.sound.opened i ∙ ap is_some (rest.nobody i) in
       cc
 
   nothing_open : (i : ℕ) → (lists_by m).transcripts i ≡ []
-  nothing_open i = nothing_of_others m.commons.history.items rest.manager.base rest.manager.sound.match.records.history i (not_running i)
+  nothing_open i = nothing_of_others m.shared.history.items rest.manager.base rest.manager.sound.match.records.history i (not_running i)
 
   -- the base that is left is that of the committed transcripts
   left_is_serial : IsSerialBase Step empty_base (lists_by m).committed rest.manager.base
   left_is_serial =
-      let s = serializable m.commons.history.items rest.manager.base rest.manager.sound.match.records.history in
+      let s = serializable m.shared.history.items rest.manager.base rest.manager.sound.match.records.history in
       let same : s.0 ≡ rest.manager.base = s.2 [] (λ i. sym (nothing_open i)) in
       subst (IsSerialBase Step empty_base (lists_by m).committed) same s.1
 
@@ -79,10 +79,10 @@ module _ {P : Type 0} (bits_of : P → ℕ → ℕ) (m : ManagerFields P) (rest 
 
 -- a commit of an open transaction leaves the base
 pub commit_keeps_base : {P : Type 0} (bits_of : P → ℕ → ℕ) (m : ManagerFields P) (h : IsManager bits_of m) (tx number : ℕ) (one : Transaction) → map.get m.txs tx ≡ Some one
-    → (base : Base) → HasBase m base → (m' : ManagerFields P) → m'.commons.history.items ≡ m.commons.history.items ++ trace.Commit tx number ∷ [] → HasBase m' base
+    → (base : Base) → HasBase m base → (m' : ManagerFields P) → m'.shared.history.items ≡ m.shared.history.items ++ trace.Commit tx number ∷ [] → HasBase m' base
 commit_keeps_base bits_of m h tx number one there base leads m' items =
-    let inside : set.contains m.opens tx ≡ true = h.sound.opened tx ∙ ap is_some there in
+    let inside : set.contains m.active tx ≡ true = h.sound.opened tx ∙ ap is_some there in
     let running : (lists_by m).stage tx ≡ Running = (h.sound.match.records.running tx).0 inside in
-    let grown = follow_push Step (entries_of m.commons.history.items) no_lists empty_base base base (Committed tx) leads (running, refl) in
-    let same : entries_of m'.commons.history.items ≡ entries_of m.commons.history.items ++ Committed tx ∷ [] = ap entries_of items ∙ entries_of-append m.commons.history.items (trace.Commit tx number ∷ []) in
+    let grown = follow_push Step (entries_of m.shared.history.items) no_lists empty_base base base (Committed tx) leads (running, refl) in
+    let same : entries_of m'.shared.history.items ≡ entries_of m.shared.history.items ++ Committed tx ∷ [] = ap entries_of items ∙ entries_of-append m.shared.history.items (trace.Commit tx number ∷ []) in
     subst (λ (es : List (Entry (ObjOp × ObjReply))). IsHistory Step empty_base es base) (sym same) grown

@@ -72,7 +72,7 @@ module _ {P : Type 0} (bits_of : P → ℕ → ℕ) where
           record {
             meets = r;
             leads = r.1.leads;
-            keeps = record { committed = ap committed_by r.1.items ∙ op_commits_none old.commons.history.items tx (op, reply); commits = beside.commits };
+            keeps = record { committed = ap committed_by r.1.items ∙ op_commits_none old.shared.history.items tx (op, reply); commits = beside.commits };
           },
         )
 
@@ -200,13 +200,13 @@ module _ {P : Type 0} (bits_of : P → ℕ → ℕ) where
     }
 
     begun_committed : KeepsCommitted old m
-    begun_committed = record { committed = ap committed_by begun.items ∙ begin_commits_none old.commons.history.items tx; commits = ap (λ (n : ManagerFields P). n.commits) begun.rest }
+    begun_committed = record { committed = ap committed_by begun.items ∙ begin_commits_none old.shared.history.items tx; commits = ap (λ (n : ManagerFields P). n.commits) begun.rest }
 
     begun_base : (base : Base) → HasBase old base → HasBase m base
     begun_base base leads =
         let fresh : (lists_by old).stage tx ≡ Fresh = rest.manager.sound.match.records.fresh tx (omega (arith, begun.number)) in
-        let grown = follow_push Step (entries_of old.commons.history.items) no_lists empty_base base base (Begun tx) leads (fresh, refl) in
-        let same : entries_of m.commons.history.items ≡ entries_of old.commons.history.items ++ Begun tx ∷ [] = ap entries_of begun.items ∙ entries_of-append old.commons.history.items (trace.Begin tx ∷ []) in
+        let grown = follow_push Step (entries_of old.shared.history.items) no_lists empty_base base base (Begun tx) leads (fresh, refl) in
+        let same : entries_of m.shared.history.items ≡ entries_of old.shared.history.items ++ Begun tx ∷ [] = ap entries_of begun.items ∙ entries_of-append old.shared.history.items (trace.Begin tx ∷ []) in
         subst (λ (es : List (Entry (ObjOp × ObjReply))). IsHistory Step empty_base es base) (sym same) grown
 
     pub run_begun : (s : ScriptForm) (new : ManagerFields P) (t : Transcript) (end : End) → HasEndedScript bits_of s m new tx t end → HasRunScript bits_of s old new tx t end

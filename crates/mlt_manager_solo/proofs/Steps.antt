@@ -4,18 +4,18 @@ use Rattle.std.specs.FinMap as map
 use Rattle.mlt_types.specs.declared.refusal.Refusal.{Refusal}
 use Rattle.mlt_types.specs.declared.refusal.Refusal.TheVariants as refusal
 use Rattle.mlt_object_kinds.specs.declared.operation.ObjReply.{ObjReply}
-use Rattle.mlt_hash_access.specs.Moments.{Moment}
-use Rattle.mlt_hash.specs.Walks.{Basis, basis_by}
+use Rattle.mlt_hash_access.specs.LocalStates.{LocalState}
+use Rattle.mlt_hash.specs.Walks.{WalkContext, context_by}
 use Rattle.mlt_object_base.specs.declared.request.Request.{Request}
-use Rattle.mlt_tx_two_records.specs.declared.double.Double.TheVariants.{First, Owing, Wide}
-use Rattle.mlt_tx_two_records.specs.declared.double.Leg.TheVariants as leg
-use Rattle.mlt_tx_operation.specs.declared.course.Course.{Course}
-use Rattle.mlt_tx_operation.specs.declared.course.Course.TheVariants.{One, Two}
+use Rattle.mlt_tx_two_records.specs.declared.two_records.TwoRecordWalk.TheVariants.{First, Owing, Wide}
+use Rattle.mlt_tx_two_records.specs.declared.two_records.WideStage.TheVariants as wide_stage
+use Rattle.mlt_tx_operation.specs.declared.access_path.AccessPath.{AccessPath}
+use Rattle.mlt_tx_operation.specs.declared.access_path.AccessPath.TheVariants.{One, Two}
 use Rattle.mlt_tx_operation.specs.Answers.{CauseBy, IsCauseOf}
 use Rattle.mlt_tx_operation.specs.Operating.{OperationFields}
 use Rattle.mlt_event.specs.declared.answer.Answer.{Answer}
 use Rattle.mlt_event.specs.declared.answer.Answer.TheVariants as answer
-use Rattle.mlt_tx.specs.declared.commons.Commons.{Commons}
+use Rattle.mlt_tx.specs.declared.shared.SharedState.{SharedState}
 use Rattle.mlt_tx.specs.declared.transaction.At.{At}
 use Rattle.mlt_tx.specs.declared.transaction.At.TheVariants as at
 use Rattle.mlt_tx.specs.declared.transaction.Transaction.{Transaction}
@@ -60,28 +60,28 @@ after_others answer.Aborted txs tx i ne = removed_elsewhere txs tx i ne
 after_others other txs tx i ne = refl
 
 -- why a step may be refused
-can_mark_by : (reason : Refusal) (course : Course) (basis : Basis) (old mid : Moment) (request : Request) → CauseBy course reason basis old mid request → CanMark reason
-can_mark_by refusal.NoRoom course basis old mid request cause = tt
-can_mark_by refusal.OutOfMemory course basis old mid request cause = tt
-can_mark_by other (One walk) basis old mid request none = absurd none
-can_mark_by other (Two (First pair)) basis old mid request none = absurd none
-can_mark_by other (Two (Owing pair reply)) basis old mid request none = absurd none
-can_mark_by other (Two (Wide leg.Own walk)) basis old mid request none = absurd none
-can_mark_by other (Two (Wide leg.Size walk)) basis old mid request (since, put, none) = absurd none
+can_mark_by : (reason : Refusal) (access_path : AccessPath) (context : WalkContext) (old mid : LocalState) (request : Request) → CauseBy access_path reason context old mid request → CanMark reason
+can_mark_by refusal.NoRoom access_path context old mid request cause = tt
+can_mark_by refusal.OutOfMemory access_path context old mid request cause = tt
+can_mark_by other (One walk) context old mid request none = absurd none
+can_mark_by other (Two (First pair)) context old mid request none = absurd none
+can_mark_by other (Two (Owing pair reply)) context old mid request none = absurd none
+can_mark_by other (Two (Wide wide_stage.Own walk)) context old mid request none = absurd none
+can_mark_by other (Two (Wide wide_stage.Size walk)) context old mid request (since, put, none) = absurd none
 
-step_can_mark : (reason : Refusal) (basis : Basis) (old mid : Moment) (before : OperationFields) → IsCauseOf reason basis old mid before → CanMark reason
-step_can_mark reason basis old mid before cause = can_mark_by reason before.course basis old mid before.request cause
+step_can_mark : (reason : Refusal) (context : WalkContext) (old mid : LocalState) (before : OperationFields) → IsCauseOf reason context old mid before → CanMark reason
+step_can_mark reason context old mid before cause = can_mark_by reason before.access_path context old mid before.request cause
 
 -- an operation that is done or refused leaves its transaction at nothing
-done_at : (a : At) (basis : Basis) (before after : Transaction) (old new : Commons) (reply : ObjReply) → TellsAt a basis before after old new (answer.Done reply) → IsIdle after.at
-done_at at.Idle basis before after old new reply none = absurd none
-done_at (at.Pending o) basis before after old new reply s = subst IsIdle (sym s.now_at) tt
-done_at (at.Undoing inverting) basis before after old new reply s = absurd s.tells
+done_at : (a : At) (context : WalkContext) (before after : Transaction) (old new : SharedState) (reply : ObjReply) → TellsAt a context before after old new (answer.Done reply) → IsIdle after.at
+done_at at.Idle context before after old new reply none = absurd none
+done_at (at.Pending o) context before after old new reply s = subst IsIdle (sym s.now_at) tt
+done_at (at.Undoing inverting) context before after old new reply s = absurd s.tells
 
-refused_at : (a : At) (basis : Basis) (before after : Transaction) (old new : Commons) (reason : Refusal) → TellsAt a basis before after old new (answer.Refused reason) → IsIdle after.at × CanMark reason
-refused_at at.Idle basis before after old new reason none = absurd none
-refused_at (at.Pending o) basis before after old new reason s = (subst IsIdle (sym s.now_at) tt, step_can_mark reason _ _ _ o s.tells.tells.cause)
-refused_at (at.Undoing inverting) basis before after old new reason s = absurd s.tells
+refused_at : (a : At) (context : WalkContext) (before after : Transaction) (old new : SharedState) (reason : Refusal) → TellsAt a context before after old new (answer.Refused reason) → IsIdle after.at × CanMark reason
+refused_at at.Idle context before after old new reason none = absurd none
+refused_at (at.Pending o) context before after old new reason s = (subst IsIdle (sym s.now_at) tt, step_can_mark reason _ _ _ o s.tells.tells.cause)
+refused_at (at.Undoing inverting) context before after old new reason s = absurd s.tells
 
 -- one step
 module _ {P : Type 0} (bits_of : P → ℕ → ℕ) (m m' : ManagerFields P) (tx : ℕ) where
@@ -102,12 +102,12 @@ module _ {P : Type 0} (bits_of : P → ℕ → ℕ) (m m' : ManagerFields P) (tx
   done_idles reply d = record {
     one = d.steps.changes.after;
     there = there_still (answer.Done reply) d refl;
-    is_at = done_at d.steps.changes.before.at (basis_by bits_of m.root m.opens d.steps.changes.before.subtx.tx) d.steps.changes.before d.steps.changes.after m.commons m'.commons reply d.steps.tells;
+    is_at = done_at d.steps.changes.before.at (context_by bits_of m.root m.active d.steps.changes.before.subtx.tx) d.steps.changes.before d.steps.changes.after m.shared m'.shared reply d.steps.tells;
   }
 
   pub refused_idles : (reason : Refusal) → HasStepped bits_of m m' tx (answer.Refused reason) → IsOpenAt m'.txs tx IsIdle × CanMark reason
   refused_idles reason d =
-      let r = refused_at d.steps.changes.before.at (basis_by bits_of m.root m.opens d.steps.changes.before.subtx.tx) d.steps.changes.before d.steps.changes.after m.commons m'.commons reason d.steps.tells in
+      let r = refused_at d.steps.changes.before.at (context_by bits_of m.root m.active d.steps.changes.before.subtx.tx) d.steps.changes.before d.steps.changes.after m.shared m'.shared reason d.steps.tells in
       (record { one = d.steps.changes.after; there = there_still (answer.Refused reason) d refl; is_at = r.0 }, r.1)
 
 -- **Steps change no other transaction.**

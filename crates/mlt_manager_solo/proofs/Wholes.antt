@@ -26,7 +26,7 @@ use Rattle.mlt_manager_solo.specs.Asking.{CanMark}
 use Rattle.mlt_manager_solo.proofs.Steps.{StaysBeside, beside_both, beside_same, changed_beside, changed_here, done_idles, refused_idles, step_beside, steps_beside}
 
 -- the same items lead to the same base
-pub same_items_base : {P : Type 0} (m m' : ManagerFields P) (base : Base) → m'.commons.history.items ≡ m.commons.history.items → HasBase m base → HasBase m' base
+pub same_items_base : {P : Type 0} (m m' : ManagerFields P) (base : Base) → m'.shared.history.items ≡ m.shared.history.items → HasBase m base → HasBase m' base
 same_items_base m m' base same leads = subst (λ (items : List TraceItem). IsHistory Step empty_base (entries_of items) base) (sym same) leads
 
 -- a manager of which one transaction alone is open, after an event of that one
@@ -104,7 +104,7 @@ stands_behind_nobody bits_of old new tx other one beside another not_done not_re
 
 -- an operation that is refused at its call
 pub call_refused : {P : Type 0} (bits_of : P → ℕ → ℕ) (old new : ManagerFields P) (tx : ℕ) (op : ObjOp) (reason : Refusal) → IsOpenAt old.txs tx IsIdle → AnswersCall old new tx op (Err reason)
-    → IsOpenAt new.txs tx IsIdle × (new.commons.history.items ≡ old.commons.history.items) × StaysBeside old new tx × CanMark reason
+    → IsOpenAt new.txs tx IsIdle × (new.shared.history.items ≡ old.shared.history.items) × StaysBeside old new tx × CanMark reason
 call_refused bits_of old new tx op refusal.OutOfMemory idle a =
     let none = a.1 in
     let ch = none.changes in
@@ -117,7 +117,7 @@ call_refused bits_of old new tx op refusal.OutOfMemory idle a =
     )
 call_refused bits_of old new tx op refusal.LogFull idle a = (
   subst (λ (n : ManagerFields _). IsOpenAt n.txs tx IsIdle) (sym a.1) idle,
-  ap (λ (n : ManagerFields _). n.commons.history.items) a.1,
+  ap (λ (n : ManagerFields _). n.shared.history.items) a.1,
   beside_same old new tx a.1,
   tt,
 )

@@ -6,7 +6,7 @@ use Rattle.mlt_object_kinds.specs.Bases.{Base}
 use Rattle.mlt_script.specs.Grammar.{Spells}
 use Rattle.mlt_script_tree.specs.Scripts.{ScriptForm}
 use Rattle.mlt_script_serial.specs.declared.outcome.Outcome.{Outcome}
-use Rattle.mlt_script_serial.specs.declared.report.Form.TheVariants.{Solo}
+use Rattle.mlt_script_serial.specs.declared.report.ReportForm.TheVariants.{Solo}
 use Rattle.mlt_script_serial.specs.Serial.{AreNumbered, IsSerialRun}
 use Rattle.mlt_script_serial.specs.Texts.{report_text}
 use Rattle.mlt_manager.specs.Bases.{HasBase}
@@ -21,7 +21,7 @@ pub record IsRunByManager {P : Type 0} (bits_of : P → ℕ → ℕ) (limits : L
     (scripts : List ScriptForm) (outcomes : List Outcome) (base : Base) (new : ManagerFields P)
     : Type 0 where
   pub opening : ManagerFields P
-  pub opens : IsNew opening limits pseudo
+  pub is_new : IsNew opening limits pseudo
   pub exchanges : List Exchange
   pub told : AreEventsOfAll scripts outcomes exchanges
   pub run : IsRunOf bits_of opening exchanges new

@@ -43,7 +43,7 @@ where
         × IsSoloText P.bits_of limits pseudo input text manager)
         × Appends (W.contents writer.old) (W.contents writer.new) text) }
     // all of the history is there
-    ensures history { IfOk result (λ manager. manager.commons.history.handed ≡ []) }
+    ensures history { IfOk result (λ manager. manager.shared.history.handed ≡ []) }
     // a fault is the first one of the input
     ensures fault { (line : ℕ) (cause : ScriptCause) → result ≡ Err (Refusal.ScriptFault line cause)
         → (input : List ℕ) × GivesWhole (R.remaining reader.old) (R.remaining reader.new) input

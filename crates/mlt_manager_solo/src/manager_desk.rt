@@ -14,7 +14,7 @@ use mlt_types::{Pseudo, Refusal, TxId};
 /// back, which is two. All of the history stays in the manager.
 pub(crate) struct ManagerDesk<P: Pseudo> {
     pub(crate) manager: Manager<P>,
-    ghost history: { manager.commons.history.handed ≡ [] },
+    ghost history: { manager.shared.history.handed ≡ [] },
 }
 
 /// What an operation answers that was told this. One that is to wait, or is blocked, is given up.

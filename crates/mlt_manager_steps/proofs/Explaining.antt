@@ -33,7 +33,7 @@ use Rattle.mlt_manager.specs.Managers.{IsManager, ManagerFields}
 use Rattle.mlt_manager.specs.Openings.{IsNew}
 use Rattle.mlt_manager.specs.Promises.{KeepsPromises}
 use Rattle.mlt_manager.proofs.Tolds.{history_told}
-use Rattle.mlt_manager_reasons.specs.declared.known.Known.{Known}
+use Rattle.mlt_manager_reasons.specs.declared.replayed.ReplayedState.{ReplayedState}
 use Rattle.mlt_manager_reasons.specs.Explaining.{Explains}
 use Rattle.mlt_manager_reasons.specs.Histories.{LeadsTo, held_by}
 use Rattle.mlt_manager_reasons.specs.Pendings.{Pendings, none_pending, op_of, pending_after}
@@ -76,35 +76,35 @@ one_is_found test (y ∷ ys) x h passes = some_by (test y) y (find test ys) (eli
 
 -- what a history says that is held is all that is held
 abbrev IsHeldAsTold : {P : Type 0} → ManagerFields P → Type 0
-IsHeldAsTold m = (i : ℕ) → items_of i m.commons.objects.held ≡ held_by m.commons.history.items i
+IsHeldAsTold m = (i : ℕ) → items_of i m.shared.objects.held ≡ held_by m.shared.history.items i
 
 -- what blocks an operation is in its way, whatever it would be told
-in_the_way : {P : Type 0} (m m' : ManagerFields P) → IsHeldAsTold m → m'.commons.history.items ≡ m.commons.history.items
-    → (tx by : ℕ) (item : ObjOp × ObjReply) → IsBlockedBy m tx item by → IsInTheWay m'.commons.history.items by (Some item.0)
+in_the_way : {P : Type 0} (m m' : ManagerFields P) → IsHeldAsTold m → m'.shared.history.items ≡ m.shared.history.items
+    → (tx by : ℕ) (item : ObjOp × ObjReply) → IsBlockedBy m tx item by → IsInTheWay m'.shared.history.items by (Some item.0)
 in_the_way m m' as_told same tx by item blocked = λ reply would.
-    let leads : LeadsTo m.commons.history.items would.base = subst (λ (items : List TraceItem). LeadsTo items would.base) same would.leads in
+    let leads : LeadsTo m.shared.history.items would.base = subst (λ (items : List TraceItem). LeadsTo items would.base) same would.leads in
     let step = blocked.steps would.base leads in
     let told : reply ≡ item.1 = (base_one_answer would.base would.next step.0 item.0 reply item.1 would.step step.1).0 in
     let clash = blocked.lowest.0.1 in
-    let held : Contains (held_by m'.commons.history.items by) clash.0 =
+    let held : Contains (held_by m'.shared.history.items by) clash.0 =
     subst (λ (items : List TraceItem). Contains (held_by items by) clash.0) (sym same)
-    (subst (λ (l : List (ObjOp × ObjReply)). Contains l clash.0) (as_told by) (under_number by m.commons.objects.held clash.0 clash.1))
+    (subst (λ (l : List (ObjOp × ObjReply)). Contains l clash.0) (as_told by) (under_number by m.shared.objects.held clash.0 clash.1))
     in
-    subst (λ (r : ObjReply). IsSome (first_clash (item.0, r) (held_by m'.commons.history.items by))) (sym told)
-    (one_is_found (λ one. clashes one item) (held_by m'.commons.history.items by) clash.0 held clash.2)
+    subst (λ (r : ObjReply). IsSome (first_clash (item.0, r) (held_by m'.shared.history.items by))) (sym told)
+    (one_is_found (λ one. clashes one item) (held_by m'.shared.history.items by) clash.0 held clash.2)
 
 has_block_reason : {P : Type 0} (bits_of : P → ℕ → ℕ) (e : Event) (by : ℕ) (pendings : Pendings) (m m' : ManagerFields P) → IsHeldAsTold m → Agree (ops_of pendings) m
-    → Meets bits_of e (told.Answered (answer.Blocked by)) m m' → HasBlockReason e by m'.commons.history.items (pending_after e (told.Answered (answer.Blocked by)) pendings)
+    → Meets bits_of e (told.Answered (answer.Blocked by)) m m' → HasBlockReason e by m'.shared.history.items (pending_after e (told.Answered (answer.Blocked by)) pendings)
 has_block_reason bits_of (event.Step tx) by pendings m m' as_told agree (d, (keeps, (item, blocks)), named) =
     let called : op_of (pendings tx) ≡ Some item.0 = agree tx blocks.pending.one blocks.pending.there item.0 blocks.pending.is_at in
-    subst (IsInTheWay m'.commons.history.items by) (sym (behind_keeps pendings tx (Some by) tx ∙ called)) (in_the_way m m' as_told keeps.items tx by item blocks.blocked)
+    subst (IsInTheWay m'.shared.history.items by) (sym (behind_keeps pendings tx (Some by) tx ∙ called)) (in_the_way m m' as_told keeps.items tx by item blocks.blocked)
 has_block_reason bits_of (event.Whole tx op) by pendings m m' as_told agree (runs, (keeps, (reply, blocked)), named) =
     in_the_way m m' as_told keeps.items tx by (op, reply) blocked
 has_block_reason bits_of e by pendings m m' as_told agree meets = tt
 
 -- **Whatever an event was told, where it is blocked there is a reason.**
 has_reason : {P : Type 0} (bits_of : P → ℕ → ℕ) (e : Event) (t : Told) (pendings : Pendings) (m m' : ManagerFields P) → IsHeldAsTold m → Agree (ops_of pendings) m
-    → Meets bits_of e t m m' → HasReason e t m'.commons.history.items (pending_after e t pendings)
+    → Meets bits_of e t m m' → HasReason e t m'.shared.history.items (pending_after e t pendings)
 has_reason bits_of e (told.Answered (answer.Blocked by)) pendings m m' as_told agree meets = has_block_reason bits_of e by pendings m m' as_told agree meets
 has_reason bits_of e t pendings m m' as_told agree meets = tt
 
@@ -117,10 +117,10 @@ pendings_behind (e ∷ es) [] pendings = pendings
 pendings_behind (e ∷ es) (t ∷ ts) pendings = pendings_behind es ts (pending_after e t pendings)
 
 -- what the explanation of an event keeps, where it has a reason
-abbrev pub CanExplain : Known → Known → Event → Told → List TraceItem → List ℕ → List ℕ → Type 0
-CanExplain known now e t items text after =
+abbrev pub CanExplain : ReplayedState → ReplayedState → Event → Told → List TraceItem → List ℕ → List ℕ → Type 0
+CanExplain replayed now e t items text after =
     (before later : List TraceItem) (pendings : Pendings) (state : Base) → items ≡ before ++ later → LeadsTo items state
-    → KnowsSoFar known before pendings → HasReason e t items (pending_after e t pendings)
+    → KnowsSoFar replayed before pendings → HasReason e t items (pending_after e t pendings)
     → Explains now e t items (pending_after e t pendings) text after
 
 -- the first events and the next one; and all of them
@@ -156,7 +156,7 @@ module _ {P : Type 0} (bits_of : P → ℕ → ℕ) where
   -- one more event that is explained
   explained_on : (es : List Event) (ts : List Told) (e : Event) (t : Told) (old m m' : ManagerFields P) (pendings : Pendings) (text reasons : List ℕ)
       → AreExplained bits_of old pendings es ts m text → Meets bits_of e t (counted m) m'
-      → AreReasons e t m'.commons.history.items (pending_after e t (pendings_behind es ts pendings)) reasons
+      → AreReasons e t m'.shared.history.items (pending_after e t (pendings_behind es ts pendings)) reasons
       → AreExplained bits_of old pendings (es ++ e ∷ []) (ts ++ t ∷ []) m' (text ++ (told_line t ++ reasons))
   unfolding pendings_behind
   explained_on [] [] e t old m m' pendings text reasons h meets are =
@@ -187,52 +187,52 @@ module _ {P : Type 0} (bits_of : P → ℕ → ℕ) where
 
   module _ (limits : Limits) (pseudo : P) where
     -- The events so far are explained, and what is known behind them is known.
-    pub record IsSoFar (events : List Event) (manager : ManagerFields P) (known : Known) (text : List ℕ) : Type 0 where
+    pub record IsSoFar (events : List Event) (manager : ManagerFields P) (replayed : ReplayedState) (text : List ℕ) : Type 0 where
       pub opening : ManagerFields P
-      pub opens : IsNew opening limits pseudo
+      pub is_new : IsNew opening limits pseudo
       pub tolds : List Told
       pub explained : AreExplained bits_of opening none_pending events tolds manager text
       pub is : IsManager bits_of manager
       pub agree : Agree (ops_of (pendings_behind events tolds none_pending)) manager
-      pub knows : KnowsSoFar known manager.commons.history.items (pendings_behind events tolds none_pending)
+      pub knows : KnowsSoFar replayed manager.shared.history.items (pendings_behind events tolds none_pending)
 
-    pub at_first : (manager : ManagerFields P) (known : Known) (text : List ℕ) → IsNew manager limits pseudo → IsManager bits_of manager → KnowsSoFar known [] none_pending → text ≡ [] → IsSoFar [] manager known text
-    at_first manager known text opens is knows none = record {
+    pub at_first : (manager : ManagerFields P) (replayed : ReplayedState) (text : List ℕ) → IsNew manager limits pseudo → IsManager bits_of manager → KnowsSoFar replayed [] none_pending → text ≡ [] → IsSoFar [] manager replayed text
+    at_first manager replayed text is_new is knows none = record {
       opening = manager;
-      opens = opens;
+      is_new = is_new;
       tolds = [];
       explained = (refl, none);
       is = is;
-      agree = λ u one there. let is : None ≡ Some one = sym (map.get-empty {X = Transaction} nat_cmp u) ∙ sym (ap (λ (t : Table). map.get t u) opens.txs) ∙ there in absurd cc;
-      knows = subst (KnowsSoFar known manager.commons.history.items) (sym nothing_behind) (subst (λ (items : List TraceItem). KnowsSoFar known items none_pending) (sym opens.items) knows);
+      agree = λ u one there. let is : None ≡ Some one = sym (map.get-empty {X = Transaction} nat_cmp u) ∙ sym (ap (λ (t : Table). map.get t u) is_new.txs) ∙ there in absurd cc;
+      knows = subst (KnowsSoFar replayed manager.shared.history.items) (sym nothing_behind) (subst (λ (items : List TraceItem). KnowsSoFar replayed items none_pending) (sym is_new.items) knows);
     }
 
     -- one more event, where its explanation keeps what is known
-    pub one_more : (events more : List Event) (manager next : ManagerFields P) (known now : Known) (text after : List ℕ) (e : Event) (t : Told) (items : List TraceItem)
-        → items ≡ next.commons.history.items → more ≡ events ++ e ∷ [] → IsSoFar events manager known text → Meets bits_of e t (counted manager) next → IsManager bits_of next
-        → CanExplain known now e t items text after
+    pub one_more : (events more : List Event) (manager next : ManagerFields P) (replayed now : ReplayedState) (text after : List ℕ) (e : Event) (t : Told) (items : List TraceItem)
+        → items ≡ next.shared.history.items → more ≡ events ++ e ∷ [] → IsSoFar events manager replayed text → Meets bits_of e t (counted manager) next → IsManager bits_of next
+        → CanExplain replayed now e t items text after
         → IsSoFar more next now after
-    one_more events more manager next known now text after e t items same is_more h meets is can =
-        let explains : CanExplain known now e t next.commons.history.items text after = subst (λ (those : List TraceItem). CanExplain known now e t those text after) same can in
+    one_more events more manager next replayed now text after e t items same is_more h meets is can =
+        let explains : CanExplain replayed now e t next.shared.history.items text after = subst (λ (those : List TraceItem). CanExplain replayed now e t those text after) same can in
         let pendings = pendings_behind events h.tolds none_pending in
         let grows = event_grows bits_of e t pendings (counted manager) next h.agree meets in
         let way = has_reason bits_of e t pendings (counted manager) next h.is.sound.held h.agree meets in
-        let ex = explains manager.commons.history.items grows.0.0 pendings is.base grows.0.1 is.sound.match.records.history h.knows way in
+        let ex = explains manager.shared.history.items grows.0.0 pendings is.base grows.0.1 is.sound.match.records.history h.knows way in
         let behind : pendings_behind (events ++ e ∷ []) (h.tolds ++ t ∷ []) none_pending ≡ pending_after e t pendings = pendings_on events h.tolds e t h.opening manager none_pending text h.explained in
         subst (λ (es : List Event). IsSoFar es next now after) (sym is_more) (record {
           opening = h.opening;
-          opens = h.opens;
+          is_new = h.is_new;
           tolds = h.tolds ++ t ∷ [];
           explained = subst (AreExplained bits_of h.opening none_pending (events ++ e ∷ []) (h.tolds ++ t ∷ []) next) (sym ex.appended)
               (explained_on events h.tolds e t h.opening manager next none_pending text ex.reasons h.explained meets ex.are);
           is = is;
           agree = subst (λ (p : Pendings). Agree (ops_of p) next) (sym behind) grows.1;
-          knows = subst (KnowsSoFar now next.commons.history.items) (sym behind) ex.knows;
+          knows = subst (KnowsSoFar now next.shared.history.items) (sym behind) ex.knows;
         })
 
-    pub all_explained : (events : List Event) (i : ℕ) (manager : ManagerFields P) (known : Known) (text : List ℕ) → length events ≤ i → IsSoFar (take i events) manager known text → KeepsPromises bits_of manager
+    pub all_explained : (events : List Event) (i : ℕ) (manager : ManagerFields P) (replayed : ReplayedState) (text : List ℕ) → length events ≤ i → IsSoFar (take i events) manager replayed text → KeepsPromises bits_of manager
         → IsExplainedRun bits_of limits pseudo events manager text
-    all_explained events i manager known text over h promises =
+    all_explained events i manager replayed text over h promises =
         let explained : AreExplained bits_of h.opening none_pending events h.tolds manager text =
         subst (λ (es : List Event). AreExplained bits_of h.opening none_pending es h.tolds manager text) (take_all events i over) h.explained
         in
@@ -241,9 +241,9 @@ module _ {P : Type 0} (bits_of : P → ℕ → ℕ) where
           tolds = h.tolds;
           played = record {
             first = h.opening;
-            is_new = h.opens;
+            is_new = h.is_new;
             run = run;
-            told = history_told bits_of limits pseudo events h.tolds h.opening manager h.opens run;
+            told = history_told bits_of limits pseudo events h.tolds h.opening manager h.is_new run;
             promises = promises;
           };
           explained = explained;

@@ -19,7 +19,7 @@ use Rattle.mlt_manager_reasons.specs.Pendings.{Pendings, behind, op_of, pending_
 
 -- the history has grown by some items
 abbrev pub Grows : {P : Type 0} → ManagerFields P → ManagerFields P → Type 0
-Grows m m' = (here : List TraceItem) × (m'.commons.history.items ≡ m.commons.history.items ++ here)
+Grows m m' = (here : List TraceItem) × (m'.shared.history.items ≡ m.shared.history.items ++ here)
 
 -- ---- the pending operations are those that were called
 

@@ -20,7 +20,7 @@ AreExplained bits_of old pendings [] [] new text = (new ≡ old) × (text ≡ []
 AreExplained {P = P} bits_of old pendings (event ∷ events) (told ∷ tolds) new text =
     (next : ManagerFields P) × (reasons : List ℕ) × (later : List ℕ)
     × Meets bits_of event told (counted old) next
-    × AreReasons event told next.commons.history.items (pending_after event told pendings) reasons
+    × AreReasons event told next.shared.history.items (pending_after event told pendings) reasons
     × AreExplained bits_of next (pending_after event told pendings) events tolds new later
     × (text ≡ told_line told ++ (reasons ++ later))
 AreExplained bits_of old pendings events tolds new text = ⊥

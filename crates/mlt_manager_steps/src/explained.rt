@@ -6,7 +6,7 @@ ghost use Rattle.mlt_manager_steps.specs.Explained.{IsExplainedRun};
 
 use mlt_event::Event;
 use mlt_manager::Manager;
-use mlt_manager_reasons::Known;
+use mlt_manager_reasons::ReplayedState;
 use mlt_types::{Limits, Pseudo, Refusal};
 use std::alloc::Global;
 
@@ -22,11 +22,11 @@ where
     ensures explained { IfOk result (λ played.
         IsExplainedRun P.bits_of limits pseudo events.now played.0 (string_bytes played.1)) }
     // all of the history is there
-    ensures history { IfOk result (λ played. played.0.commons.history.handed ≡ []) }
+    ensures history { IfOk result (λ played. played.0.shared.history.handed ≡ []) }
     ensures refusal { IsOkUnless result Refusal.OutOfMemory }
 {
     let mut text = String::new(alloc);
-    let mut known = Known::new(alloc);
+    let mut replayed = ReplayedState::new(alloc);
     let mut manager = Manager::new(alloc, limits, pseudo)?;
     manager.keeps_its_invariant();
     for event in events {
@@ -35,7 +35,7 @@ where
         let Some(history) = manager.history() else {
             unreachable!()
         };
-        if let Err(refusal) = known.explain(&mut text, event, &told, history) {
+        if let Err(refusal) = replayed.explain(&mut text, event, &told, history) {
             manager.close();
             return Err(refusal);
         }

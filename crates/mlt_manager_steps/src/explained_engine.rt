@@ -19,7 +19,7 @@ use std::io::{Read, Write};
 
 /// Reads events to the end of the input, and plays them in order from a new manager, as [`steps`](crate::steps) does.
 /// Behind the line of an event that is blocked or waits it writes lines that begin with `#`, with the reason: which
-/// operation is in the way of which, with what that would be told, and an example of the conflict; which circle of waits
+/// operation is in the way of which, with what that would be told, and an example of the conflict; which cycle of waits
 /// has come about; or which page is locked, and what its holder is at.
 ///
 /// # Errors
@@ -42,7 +42,7 @@ where
         × IsExplainedText P.bits_of limits pseudo input text manager)
         × Appends (W.contents writer.old) (W.contents writer.new) text) }
     // all of its history is there
-    ensures history { IfOk result (λ manager. manager.commons.history.handed ≡ []) }
+    ensures history { IfOk result (λ manager. manager.shared.history.handed ≡ []) }
     // a fault is the first one of the input
     ensures fault { (line : ℕ) (cause : ScriptCause) → result ≡ Err (Refusal.ScriptFault line cause)
         → (input : List ℕ) × GivesWhole (R.remaining reader.old) (R.remaining reader.new) input

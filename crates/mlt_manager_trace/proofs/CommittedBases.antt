@@ -10,5 +10,5 @@ HasCommittedBase s = (base : Base) × IsCommittedBase s base
 
 pub with_base : (s : State) → IsSound s → HasCommittedBase s
 with_base s sound =
-    let led = serializable s.commons.history.items s.base sound.match.records.history in
+    let led = serializable s.shared.history.items s.base sound.match.records.history in
     (led.0, record { serial = led.1; undone = led.2 })

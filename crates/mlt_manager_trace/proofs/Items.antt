@@ -18,8 +18,8 @@ use Rattle.mlt_trace_laws.proofs.Places.{whole_begin, whole_more}
 use Rattle.mlt_tx_operation.specs.Operating.{OperationFields}
 use Rattle.mlt_event.specs.declared.answer.Answer.{Answer}
 use Rattle.mlt_event.specs.declared.answer.Answer.TheVariants as answer
-use Rattle.mlt_tx.specs.Transactions.{workplace_of}
-use Rattle.mlt_tx.specs.declared.commons.Commons.{Commons}
+use Rattle.mlt_tx.specs.Transactions.{tx_state_of}
+use Rattle.mlt_tx.specs.declared.shared.SharedState.{SharedState}
 use Rattle.mlt_tx.specs.declared.transaction.Transaction.{Transaction}
 use Rattle.mlt_tx.specs.Steps.{EndsBack}
 use Rattle.mlt_manager_invariant.specs.Events.{EndsPending, with_end}
@@ -39,39 +39,39 @@ whole_as items new item i is other whole = subst (λ (l : List TraceItem). IsWho
 
 -- ---- a transaction begins
 
-pub begin_traced : (s : State) (t : Transaction) (commons : Commons) → IsSound s → IsTraced s → Begins s t commons → IsTraced (with_next s t commons)
-begin_traced s t commons sound traced begins =
-    let items = s.commons.history.items in
+pub begin_traced : (s : State) (t : Transaction) (shared : SharedState) → IsSound s → IsTraced s → Begins s t shared → IsTraced (with_next s t shared)
+begin_traced s t shared sound traced begins =
+    let items = s.shared.history.items in
     let next = s.begun + 1 in
     let place = begin_place s sound in
     record {
-      placed = placed_as items commons.history.items (trace.Begin next) begins.items traced.placed place;
-      whole = whole_with s.txs next t commons.history.items (others_more s.txs next items commons.history.items (trace.Begin next) begins.items (λ j differ e. cc e) (others_of s next traced))
+      placed = placed_as items shared.history.items (trace.Begin next) begins.items traced.placed place;
+      whole = whole_with s.txs next t shared.history.items (others_more s.txs next items shared.history.items (trace.Begin next) begins.items (λ j differ e. cc e) (others_of s next traced))
           (λ forward. subst (λ (l : List TraceItem). IsWhole l next) (sym begins.items) (whole_begin items next traced.placed place));
     }
 
 -- ---- an operation is done
 
-pub done_traced : (s : State) (i : ℕ) (o : OperationFields) (before after : Transaction) (commons : Commons) (told_reply : ObjReply) (base : Base) → IsSound s → IsTraced s → map.get s.txs i ≡ Some before
-    → EndsPending s i o before after commons told_reply → IsTraced (with_end s i after commons base)
-done_traced s i o before after commons told_reply base sound traced was ends =
-    let items = s.commons.history.items in
+pub done_traced : (s : State) (i : ℕ) (o : OperationFields) (before after : Transaction) (shared : SharedState) (told_reply : ObjReply) (base : Base) → IsSound s → IsTraced s → map.get s.txs i ≡ Some before
+    → EndsPending s i o before after shared told_reply → IsTraced (with_end s i after shared base)
+done_traced s i o before after shared told_reply base sound traced was ends =
+    let items = s.shared.history.items in
     let done : ObjOp × ObjReply = (ends.ends.op, ends.ends.reply) in
     let tells = ends.ends.tells in
-    let is : commons.history.items ≡ items ++ trace.Op i done ∷ [] = tells.1.items ∙ ap (λ n. items ++ trace.Op n done ∷ []) (sound.fits i before was).number in
+    let is : shared.history.items ≡ items ++ trace.Op i done ∷ [] = tells.1.items ∙ ap (λ n. items ++ trace.Op n done ∷ []) (sound.fits i before was).number in
     let whole = traced.whole i before was (ap is_undoing ends.pending) in
     record {
-      placed = placed_as items commons.history.items (trace.Op i done) is traced.placed (done_place s i before sound was done whole);
-      whole = whole_with s.txs i after commons.history.items (others_more s.txs i items commons.history.items (trace.Op i done) is (λ j differ e. cc e) (others_of s i traced))
-          (λ forward. whole_as items commons.history.items (trace.Op i done) i is (λ e. cc e) whole);
+      placed = placed_as items shared.history.items (trace.Op i done) is traced.placed (done_place s i before sound was done whole);
+      whole = whole_with s.txs i after shared.history.items (others_more s.txs i items shared.history.items (trace.Op i done) is (λ j differ e. cc e) (others_of s i traced))
+          (λ forward. whole_as items shared.history.items (trace.Op i done) i is (λ e. cc e) whole);
     }
 
 -- ---- the last operation is taken back
 
-items_between : (inverting : Option OperationFields) (s : State) (before after : Transaction) (commons : Commons) (answered : Answer)
-    → (ends : EndsBack inverting None (workplace_of before s.commons) (workplace_of after commons) answered) → ends.between.history.items ≡ s.commons.history.items
-items_between None s before after commons answered ends = ap (λ (c : Commons). c.history.items) (ends.at_once refl).0
-items_between (Some o) s before after commons answered ends = ap (λ (h : ItemsWithRoom). h.items) (ends.at_end o refl).3
+items_between : (inverting : Option OperationFields) (s : State) (before after : Transaction) (shared : SharedState) (answered : Answer)
+    → (ends : EndsBack inverting None (tx_state_of before s.shared) (tx_state_of after shared) answered) → ends.between.history.items ≡ s.shared.history.items
+items_between None s before after shared answered ends = ap (λ (c : SharedState). c.history.items) (ends.fast refl).0
+items_between (Some o) s before after shared answered ends = ap (λ (h : ItemsWithRoom). h.items) (ends.at_end o refl).3
 
 not_empty : (xs : List (ObjOp × ObjReply)) (x : ObjOp × ObjReply) → xs ++ x ∷ [] ≡ [] → ⊥
 not_empty [] x e = cc e
@@ -80,17 +80,17 @@ not_empty (y ∷ xs) x e = cc e
 other_back : (i j : ℕ) → j ≢ i → trace.Back i ≢ trace.Back j
 other_back i j differ e = let same : i ≡ j = cc e in differ (sym same)
 
-pub undone_traced : (s : State) (i : ℕ) (inverting : Option OperationFields) (before after : Transaction) (commons : Commons) (base : Base) → IsSound s → IsTraced s → map.get s.txs i ≡ Some before
-    → TakesLastBack s inverting before after commons answer.Undone → IsTraced (with_undone s i after commons base)
-undone_traced s i inverting before after commons base sound traced was takes =
-    let items = s.commons.history.items in
+pub undone_traced : (s : State) (i : ℕ) (inverting : Option OperationFields) (before after : Transaction) (shared : SharedState) (base : Base) → IsSound s → IsTraced s → map.get s.txs i ≡ Some before
+    → TakesLastBack s inverting before after shared answer.Undone → IsTraced (with_undone s i after shared base)
+undone_traced s i inverting before after shared base sound traced was takes =
+    let items = s.shared.history.items in
     let one = takes.ends.takes in
-    let is : commons.history.items ≡ items ++ trace.Back i ∷ [] =
-    one.items ∙ ap (λ (l : List TraceItem). l ++ trace.Back before.subtx.tx ∷ []) (items_between inverting s before after commons answer.Undone takes.ends) ∙ ap (λ n. items ++ trace.Back n ∷ []) (sound.fits i before was).number in
+    let is : shared.history.items ≡ items ++ trace.Back i ∷ [] =
+    one.items ∙ ap (λ (l : List TraceItem). l ++ trace.Back before.subtx.tx ∷ []) (items_between inverting s before after shared answer.Undone takes.ends) ∙ ap (λ n. items ++ trace.Back n ∷ []) (sound.fits i before was).number in
     let some : before.undo.entries ≡ [] → ⊥ = λ none. not_empty after.undo.entries one.off.last (sym one.off.entries ∙ none) in
     record {
-      placed = placed_as items commons.history.items (trace.Back i) is traced.placed (back_place s i before sound was some);
-      whole = whole_with s.txs i after commons.history.items (others_more s.txs i items commons.history.items (trace.Back i) is (λ j differ. other_back i j differ) (others_of s i traced))
+      placed = placed_as items shared.history.items (trace.Back i) is traced.placed (back_place s i before sound was some);
+      whole = whole_with s.txs i after shared.history.items (others_more s.txs i items shared.history.items (trace.Back i) is (λ j differ. other_back i j differ) (others_of s i traced))
           (λ forward. absurd (let f : true ≡ false = sym (ap is_undoing takes.is_at) ∙ forward in cc f));
     }
 
@@ -103,41 +103,41 @@ closes_behind items i front last place stands none =
       ap (λ (l : Lists (ObjOp × ObjReply)). l.transcripts i) after ∙ (changed (told items).transcripts i _).0 ∙ ap but_last stands ∙ but_last-push front last ∙ none,
     )
 
-pub last_undone_traced : (s : State) (i : ℕ) (inverting : Option OperationFields) (before after : Transaction) (commons : Commons) (base : Base) → IsSound s → IsTraced s → map.get s.txs i ≡ Some before
-    → TakesLastBack s inverting before after commons answer.Aborted → IsTraced (with_aborted s i commons base)
-last_undone_traced s i inverting before after commons base sound traced was takes =
-    let items = s.commons.history.items in
+pub last_undone_traced : (s : State) (i : ℕ) (inverting : Option OperationFields) (before after : Transaction) (shared : SharedState) (base : Base) → IsSound s → IsTraced s → map.get s.txs i ≡ Some before
+    → TakesLastBack s inverting before after shared answer.Aborted → IsTraced (with_aborted s i shared base)
+last_undone_traced s i inverting before after shared base sound traced was takes =
+    let items = s.shared.history.items in
     let mid = items ++ trace.Back i ∷ [] in
     let last = takes.ends.takes in
-    let is : commons.history.items ≡ mid ++ trace.Abort i ∷ [] =
-    last.items ∙ ap (λ (l : List TraceItem). l ++ trace.Back before.subtx.tx ∷ trace.Abort before.subtx.tx ∷ []) (items_between inverting s before after commons answer.Aborted takes.ends)
+    let is : shared.history.items ≡ mid ++ trace.Abort i ∷ [] =
+    last.items ∙ ap (λ (l : List TraceItem). l ++ trace.Back before.subtx.tx ∷ trace.Abort before.subtx.tx ∷ []) (items_between inverting s before after shared answer.Aborted takes.ends)
     ∙ ap (λ n. items ++ trace.Back n ∷ trace.Abort n ∷ []) (sound.fits i before was).number ∙ sym (append_assoc items (trace.Back i ∷ []) (trace.Abort i ∷ [])) in
     let some : before.undo.entries ≡ [] → ⊥ = λ none. not_empty after.undo.entries last.off.last (sym last.off.entries ∙ none) in
     let place = back_place s i before sound was some in
     let others = others_more s.txs i items mid (trace.Back i) refl (λ j differ. other_back i j differ) (others_of s i traced) in
     record {
-      placed = placed_as mid commons.history.items (trace.Abort i) is (placed_more items (trace.Back i) traced.placed place)
+      placed = placed_as mid shared.history.items (trace.Abort i) is (placed_more items (trace.Back i) traced.placed place)
           (closes_behind items i after.undo.entries last.off.last place (sym (sound.fits i before was).stands ∙ last.off.entries) last.none);
-      whole = whole_without s.txs i commons.history.items (others_more s.txs i mid commons.history.items (trace.Abort i) is (λ j differ e. cc e) others);
+      whole = whole_without s.txs i shared.history.items (others_more s.txs i mid shared.history.items (trace.Abort i) is (λ j differ e. cc e) others);
     }
 
 -- ---- a transaction ends
 
-pub commit_traced : (s : State) (i : ℕ) (before : Transaction) (commons : Commons) → IsSound s → IsTraced s → map.get s.txs i ≡ Some before
-    → Ends s i before commons (trace.Commit i (commit_count s.commons.history.items + 1)) → IsTraced (without_transaction s i commons)
-commit_traced s i before commons sound traced was ends =
-    let items = s.commons.history.items in
+pub commit_traced : (s : State) (i : ℕ) (before : Transaction) (shared : SharedState) → IsSound s → IsTraced s → map.get s.txs i ≡ Some before
+    → Ends s i before shared (trace.Commit i (commit_count s.shared.history.items + 1)) → IsTraced (without_transaction s i shared)
+commit_traced s i before shared sound traced was ends =
+    let items = s.shared.history.items in
     let item = trace.Commit i (commit_count items + 1) in
     record {
-      placed = placed_as items commons.history.items item ends.items traced.placed (commit_place s i before sound was (traced.whole i before was (ap is_undoing ends.idle)));
-      whole = whole_without s.txs i commons.history.items (others_more s.txs i items commons.history.items item ends.items (λ j differ e. cc e) (others_of s i traced));
+      placed = placed_as items shared.history.items item ends.items traced.placed (commit_place s i before sound was (traced.whole i before was (ap is_undoing ends.idle)));
+      whole = whole_without s.txs i shared.history.items (others_more s.txs i items shared.history.items item ends.items (λ j differ e. cc e) (others_of s i traced));
     }
 
-pub close_traced : (s : State) (i : ℕ) (before : Transaction) (commons : Commons) → IsSound s → IsTraced s → map.get s.txs i ≡ Some before → before.undo.entries ≡ []
-    → Ends s i before commons (trace.Abort i) → IsTraced (without_transaction s i commons)
-close_traced s i before commons sound traced was none ends =
-    let items = s.commons.history.items in
+pub close_traced : (s : State) (i : ℕ) (before : Transaction) (shared : SharedState) → IsSound s → IsTraced s → map.get s.txs i ≡ Some before → before.undo.entries ≡ []
+    → Ends s i before shared (trace.Abort i) → IsTraced (without_transaction s i shared)
+close_traced s i before shared sound traced was none ends =
+    let items = s.shared.history.items in
     record {
-      placed = placed_as items commons.history.items (trace.Abort i) ends.items traced.placed (close_place s i before sound was none);
-      whole = whole_without s.txs i commons.history.items (others_more s.txs i items commons.history.items (trace.Abort i) ends.items (λ j differ e. cc e) (others_of s i traced));
+      placed = placed_as items shared.history.items (trace.Abort i) ends.items traced.placed (close_place s i before sound was none);
+      whole = whole_without s.txs i shared.history.items (others_more s.txs i items shared.history.items (trace.Abort i) ends.items (λ j differ e. cc e) (others_of s i traced));
     }

@@ -19,24 +19,24 @@ counts_below (k ∷ ns) first n counts h = elim (first_or_later k ns n h) [
   | inr later ↦ let rest = counts_below ns (first + 1) n counts.1 later in omega (arith, rest)
 ]
 
-pub begin_place : (s : State) → IsSound s → HasPlace s.commons.history.items (trace.Begin (s.begun + 1))
+pub begin_place : (s : State) → IsSound s → HasPlace s.shared.history.items (trace.Begin (s.begun + 1))
 begin_place s sound other h =
-    let below = counts_below (begun_txs s.commons.history.items) 1 other sound.begun h in
-    let count : s.begun ≡ length (begun_txs s.commons.history.items) = sound.count in
+    let below = counts_below (begun_txs s.shared.history.items) 1 other sound.begun h in
+    let count : s.begun ≡ length (begun_txs s.shared.history.items) = sound.count in
     omega (arith, below, count)
 
 module _ (s : State) (i : ℕ) (t : Transaction) (sound : IsSound s) (was : map.get s.txs i ≡ Some t) where
-  pub runs_now : IsRunning s.commons.history.items i
+  pub runs_now : IsRunning s.shared.history.items i
   runs_now = (sound.match.records.running i).0 (sound.opened i ∙ ap is_some was)
 
-  pub done_place : (done : ObjOp × ObjReply) → IsWhole s.commons.history.items i → HasPlace s.commons.history.items (trace.Op i done)
+  pub done_place : (done : ObjOp × ObjReply) → IsWhole s.shared.history.items i → HasPlace s.shared.history.items (trace.Op i done)
   done_place done whole = (runs_now, whole)
 
-  pub back_place : (t.undo.entries ≡ [] → ⊥) → HasPlace s.commons.history.items (trace.Back i)
+  pub back_place : (t.undo.entries ≡ [] → ⊥) → HasPlace s.shared.history.items (trace.Back i)
   back_place some = (runs_now, λ none. some ((sound.fits i t was).stands ∙ none))
 
-  pub commit_place : IsWhole s.commons.history.items i → HasPlace s.commons.history.items (trace.Commit i (commit_count s.commons.history.items + 1))
+  pub commit_place : IsWhole s.shared.history.items i → HasPlace s.shared.history.items (trace.Commit i (commit_count s.shared.history.items + 1))
   commit_place whole = (runs_now, whole, refl)
 
-  pub close_place : t.undo.entries ≡ [] → HasPlace s.commons.history.items (trace.Abort i)
+  pub close_place : t.undo.entries ≡ [] → HasPlace s.shared.history.items (trace.Abort i)
   close_place none = (runs_now, sym (sound.fits i t was).stands ∙ none)

@@ -15,106 +15,106 @@ use Rattle.mlt_trace.specs.Ranges.{AllFit}
 use Rattle.mlt_trace_laws.proofs.Histories.{accepted_history, accepted_where_nothing_is_open, nothing_of_others}
 use Rattle.mlt_trace_laws.proofs.Places.{nothing_placed, writable}
 use Rattle.mlt_hash_subtx_laws.specs.CleanPages.{RunningImages}
-use Rattle.mlt_hash.specs.Walks.{Basis}
+use Rattle.mlt_hash.specs.Walks.{WalkContext}
 use Rattle.mlt_tx_operation.specs.Operating.{OperationFields}
 use Rattle.mlt_event.specs.declared.answer.Answer.{Answer}
 use Rattle.mlt_event.specs.declared.answer.Answer.TheVariants as answer
-use Rattle.mlt_tx_meaning.specs.Worlds.{lists_in}
-use Rattle.mlt_tx.specs.declared.commons.Commons.{Commons}
+use Rattle.mlt_tx_meaning.specs.AbstractStates.{lists_in}
+use Rattle.mlt_tx.specs.declared.shared.SharedState.{SharedState}
 use Rattle.mlt_tx.specs.declared.transaction.At.TheVariants as at
 use Rattle.mlt_tx.specs.declared.transaction.Transaction.{Transaction}
 use Rattle.mlt_tx.specs.Steps.{TellsOfBack, TellsOfPending}
-use Rattle.mlt_tx.specs.Transactions.{LeavesRoom, StepsBack, StepsPending, TellsOfCancel, workplace_of}
+use Rattle.mlt_tx.specs.Transactions.{LeavesRoom, StepsBack, StepsPending, TellsOfCancel, tx_state_of}
 use Rattle.mlt_manager_invariant.specs.Events.{Calls, KeepsClean, with_transaction}
 use Rattle.mlt_manager_invariant.specs.Opening.{opening_state}
 use Rattle.mlt_manager_invariant.specs.Sound.{IsSound}
-use Rattle.mlt_manager_invariant.specs.States.{State, is_undoing, world_of}
+use Rattle.mlt_manager_invariant.specs.States.{State, is_undoing, abstract_state_of}
 use Rattle.mlt_manager_invariant.specs.Transactions.{BeginsAbort}
 use Rattle.mlt_manager_trace.specs.Traced.{IsTraced}
 use Rattle.mlt_manager_trace.proofs.Wholes.{others_of, whole_with}
 
-pub opening_traced : (bits : ℕ → ℕ) (root max_depth max_ops : ℕ) (commons : Commons) → commons.history.items ≡ [] → IsTraced (opening_state bits root max_depth max_ops commons)
-opening_traced bits root max_depth max_ops commons none = record {
+pub opening_traced : (bits : ℕ → ℕ) (root max_depth max_ops : ℕ) (shared : SharedState) → shared.history.items ≡ [] → IsTraced (opening_state bits root max_depth max_ops shared)
+opening_traced bits root max_depth max_ops shared none = record {
   placed = subst ArePlaced (sym none) nothing_placed;
   whole = λ i t found. let nobody = map.get-empty {X = Transaction} nat_cmp i in absurd (let f : None ≡ Some t = sym nobody ∙ found in cc f);
 }
 
-module _ (s : State) (i : ℕ) (before after : Transaction) (commons : Commons) (images : RunningImages) (traced : IsTraced s) (was : map.get s.txs i ≡ Some before) where
+module _ (s : State) (i : ℕ) (before after : Transaction) (shared : SharedState) (images : RunningImages) (traced : IsTraced s) (was : map.get s.txs i ≡ Some before) where
   -- the items stay, and an abort that has begun goes on
-  stays : commons.history.items ≡ s.commons.history.items → (is_undoing after.at ≡ false → is_undoing before.at ≡ false) → IsTraced (with_transaction s i after commons images)
+  stays : shared.history.items ≡ s.shared.history.items → (is_undoing after.at ≡ false → is_undoing before.at ≡ false) → IsTraced (with_transaction s i after shared images)
   stays items forward = record {
     placed = subst ArePlaced (sym items) traced.placed;
-    whole = whole_with s.txs i after commons.history.items
+    whole = whole_with s.txs i after shared.history.items
         (λ j t differ found not_undone. subst (λ (l : List TraceItem). IsWhole l j) (sym items) (others_of s i traced j t differ found not_undone))
         (λ not_undone. subst (λ (l : List TraceItem). IsWhole l i) (sym items) (traced.whole i before was (forward not_undone)));
   }
 
-  same_items : commons.history ≡ s.commons.history → commons.history.items ≡ s.commons.history.items
+  same_items : shared.history ≡ s.shared.history → shared.history.items ≡ s.shared.history.items
   same_items history = ap (λ (h : ItemsWithRoom). h.items) history
 
   never_forward : (inverting : Option OperationFields) → after.at ≡ at.Undoing inverting → is_undoing after.at ≡ false → is_undoing before.at ≡ false
   never_forward inverting is not_undone = absurd (let f : true ≡ false = sym (ap is_undoing is) ∙ not_undone in cc f)
 
-  pub clean_traced : KeepsClean s i before after commons images → IsTraced (with_transaction s i after commons images)
+  pub clean_traced : KeepsClean s i before after shared images → IsTraced (with_transaction s i after shared images)
   clean_traced keeps = stays keeps.items (λ not_undone. sym keeps.undoing ∙ not_undone)
 
-  pub called_traced : Calls s i before after commons → IsTraced (with_transaction s i after commons images)
+  pub called_traced : Calls s i before after shared → IsTraced (with_transaction s i after shared images)
   called_traced calls = stays calls.items (λ not_undone. ap is_undoing calls.idle)
 
-  pub cancelled_traced : (o : OperationFields) → before.at ≡ at.Pending o → TellsOfCancel before after s.commons commons → IsTraced (with_transaction s i after commons images)
+  pub cancelled_traced : (o : OperationFields) → before.at ≡ at.Pending o → TellsOfCancel before after s.shared shared → IsTraced (with_transaction s i after shared images)
   cancelled_traced o pending c = stays (c.room.items ∙ ap (λ (h : ItemsWithRoom). h.items) c.history) (λ not_undone. ap is_undoing pending)
 
-  by_answer : (basis : Basis) (o next : OperationFields) (between : Commons) (told_answer : Answer) → TellsOfPending basis o next (workplace_of before s.commons) (workplace_of after between) told_answer
-      → LeavesRoom told_answer between commons → ((reply : ObjReply) → told_answer ≡ answer.Done reply → ⊥) → commons.history.items ≡ s.commons.history.items
-  by_answer basis o next between answer.Going tells same apart = ap (λ (c : Commons). c.history.items) same ∙ ap (λ (h : ItemsWithRoom). h.items) tells.rest.history
-  by_answer basis o next between (answer.Waiting page by) tells same apart = ap (λ (c : Commons). c.history.items) same ∙ ap (λ (h : ItemsWithRoom). h.items) tells.rest.history
-  by_answer basis o next between (answer.Blocked by) (ends, anew) same apart = ap (λ (c : Commons). c.history.items) same ∙ ap (λ (h : ItemsWithRoom). h.items) ends.tells.history
-  by_answer basis o next between (answer.Done reply) tells same apart = absurd (apart reply refl)
-  by_answer basis o next between (answer.Refused reason) tells gives apart = gives.items ∙ ap (λ (h : ItemsWithRoom). h.items) tells.rest.history
-  by_answer basis o next between answer.Undone tells same apart = absurd tells
-  by_answer basis o next between answer.Aborted tells same apart = absurd tells
+  by_answer : (context : WalkContext) (o next : OperationFields) (between : SharedState) (told_answer : Answer) → TellsOfPending context o next (tx_state_of before s.shared) (tx_state_of after between) told_answer
+      → LeavesRoom told_answer between shared → ((reply : ObjReply) → told_answer ≡ answer.Done reply → ⊥) → shared.history.items ≡ s.shared.history.items
+  by_answer context o next between answer.Going tells same apart = ap (λ (c : SharedState). c.history.items) same ∙ ap (λ (h : ItemsWithRoom). h.items) tells.rest.history
+  by_answer context o next between (answer.Waiting page by) tells same apart = ap (λ (c : SharedState). c.history.items) same ∙ ap (λ (h : ItemsWithRoom). h.items) tells.rest.history
+  by_answer context o next between (answer.Blocked by) (ends, anew) same apart = ap (λ (c : SharedState). c.history.items) same ∙ ap (λ (h : ItemsWithRoom). h.items) ends.tells.history
+  by_answer context o next between (answer.Done reply) tells same apart = absurd (apart reply refl)
+  by_answer context o next between (answer.Refused reason) tells gives apart = gives.items ∙ ap (λ (h : ItemsWithRoom). h.items) tells.rest.history
+  by_answer context o next between answer.Undone tells same apart = absurd tells
+  by_answer context o next between answer.Aborted tells same apart = absurd tells
 
-  pub not_done_traced : (basis : Basis) (o : OperationFields) (told_answer : Answer) → before.at ≡ at.Pending o → StepsPending basis o before after s.commons commons told_answer
-      → ((reply : ObjReply) → told_answer ≡ answer.Done reply → ⊥) → IsTraced (with_transaction s i after commons images)
-  not_done_traced basis o told_answer pending steps apart =
-      stays (by_answer basis o steps.next steps.between told_answer steps.tells steps.leaves apart) (λ not_undone. ap is_undoing pending)
+  pub not_done_traced : (context : WalkContext) (o : OperationFields) (told_answer : Answer) → before.at ≡ at.Pending o → StepsPending context o before after s.shared shared told_answer
+      → ((reply : ObjReply) → told_answer ≡ answer.Done reply → ⊥) → IsTraced (with_transaction s i after shared images)
+  not_done_traced context o told_answer pending steps apart =
+      stays (by_answer context o steps.next steps.between told_answer steps.tells steps.leaves apart) (λ not_undone. ap is_undoing pending)
 
-  by_back : (basis : Basis) (inverting next : Option OperationFields) (told_answer : Answer) → TellsOfBack basis inverting next (workplace_of before s.commons) (workplace_of after commons) told_answer
-      → (told_answer ≡ answer.Undone → ⊥) → (told_answer ≡ answer.Aborted → ⊥) → commons.history.items ≡ s.commons.history.items
-  by_back basis inverting next answer.Going tells undone aborted = same_items tells.rest.history
-  by_back basis inverting next (answer.Waiting page by) tells undone aborted = same_items tells.rest.history
-  by_back basis inverting next answer.Undone tells undone aborted = absurd (undone refl)
-  by_back basis inverting next answer.Aborted tells undone aborted = absurd (aborted refl)
-  by_back basis inverting next other tells undone aborted = absurd tells
+  by_back : (context : WalkContext) (inverting next : Option OperationFields) (told_answer : Answer) → TellsOfBack context inverting next (tx_state_of before s.shared) (tx_state_of after shared) told_answer
+      → (told_answer ≡ answer.Undone → ⊥) → (told_answer ≡ answer.Aborted → ⊥) → shared.history.items ≡ s.shared.history.items
+  by_back context inverting next answer.Going tells undone aborted = same_items tells.rest.history
+  by_back context inverting next (answer.Waiting page by) tells undone aborted = same_items tells.rest.history
+  by_back context inverting next answer.Undone tells undone aborted = absurd (undone refl)
+  by_back context inverting next answer.Aborted tells undone aborted = absurd (aborted refl)
+  by_back context inverting next other tells undone aborted = absurd tells
 
-  pub inverse_traced : (basis : Basis) (inverting : Option OperationFields) (told_answer : Answer) → StepsBack basis inverting before after s.commons commons told_answer
-      → (told_answer ≡ answer.Undone → ⊥) → (told_answer ≡ answer.Aborted → ⊥) → IsTraced (with_transaction s i after commons images)
-  inverse_traced basis inverting told_answer steps undone aborted =
-      stays (by_back basis inverting steps.next told_answer steps.tells undone aborted) (never_forward steps.next steps.now_at)
+  pub inverse_traced : (context : WalkContext) (inverting : Option OperationFields) (told_answer : Answer) → StepsBack context inverting before after s.shared shared told_answer
+      → (told_answer ≡ answer.Undone → ⊥) → (told_answer ≡ answer.Aborted → ⊥) → IsTraced (with_transaction s i after shared images)
+  inverse_traced context inverting told_answer steps undone aborted =
+      stays (by_back context inverting steps.next told_answer steps.tells undone aborted) (never_forward steps.next steps.now_at)
 
-pub abort_traced : (s : State) (i : ℕ) (before after : Transaction) (images : RunningImages) → IsTraced s → map.get s.txs i ≡ Some before → BeginsAbort before after → IsTraced (with_transaction s i after s.commons images)
+pub abort_traced : (s : State) (i : ℕ) (before after : Transaction) (images : RunningImages) → IsTraced s → map.get s.txs i ≡ Some before → BeginsAbort before after → IsTraced (with_transaction s i after s.shared images)
 abort_traced s i before after images traced was begins =
-    stays s i before after s.commons images traced was refl (never_forward s i before after s.commons images traced was None begins.undoing)
+    stays s i before after s.shared images traced was refl (never_forward s i before after s.shared images traced was None begins.undoing)
 
 -- ---- the text
 
 abbrev AcceptedWithOpen : State → Type 0
-AcceptedWithOpen s = (base : Base) × IsAcceptedTrace (trace_text s.commons.history.items) (committed_txs s.commons.history.items) base × UndoneTo Step base (lists_in (world_of s)).transcripts s.base
+AcceptedWithOpen s = (base : Base) × IsAcceptedTrace (trace_text s.shared.history.items) (committed_txs s.shared.history.items) base × UndoneTo Step base (lists_in (abstract_state_of s)).transcripts s.base
 
-pub text_accepted : (s : State) → IsSound s → IsTraced s → AllFit s.commons.history.items → AcceptedWithOpen s
+pub text_accepted : (s : State) → IsSound s → IsTraced s → AllFit s.shared.history.items → AcceptedWithOpen s
 text_accepted s sound traced fit =
-    let items = s.commons.history.items in
+    let items = s.shared.history.items in
     accepted_history items s.base (writable items traced.placed sound.begun fit) traced.placed sound.match.records.history
 
-pub nobody_runs : (s : State) → IsSound s → ((i : ℕ) → map.get s.txs i ≡ None) → (i : ℕ) → (told s.commons.history.items).stage i ≢ Running
+pub nobody_runs : (s : State) → IsSound s → ((i : ℕ) → map.get s.txs i ≡ None) → (i : ℕ) → (told s.shared.history.items).stage i ≢ Running
 nobody_runs s sound none i running =
     let opened = (sound.match.records.running i).1 running in
     let f : true ≡ false = sym opened ∙ sound.opened i ∙ ap is_some (none i) in
     cc f
 
-pub text_accepted_where_nobody_is_open : (s : State) → IsSound s → IsTraced s → AllFit s.commons.history.items → ((i : ℕ) → map.get s.txs i ≡ None)
-    → IsAcceptedTrace (trace_text s.commons.history.items) (committed_txs s.commons.history.items) s.base
+pub text_accepted_where_nobody_is_open : (s : State) → IsSound s → IsTraced s → AllFit s.shared.history.items → ((i : ℕ) → map.get s.txs i ≡ None)
+    → IsAcceptedTrace (trace_text s.shared.history.items) (committed_txs s.shared.history.items) s.base
 text_accepted_where_nobody_is_open s sound traced fit none =
-    let items = s.commons.history.items in
+    let items = s.shared.history.items in
     accepted_where_nothing_is_open items s.base (writable items traced.placed sound.begun fit) traced.placed sound.match.records.history
     (λ tx. nothing_of_others items s.base sound.match.records.history tx (nobody_runs s sound none tx))

@@ -40,5 +40,5 @@ pub others_more : (txs : map.FinMap nat_cmp Transaction) (i : ℕ) (items new : 
 others_more txs i items new item is apart others j t differ found forward =
     subst (λ (l : List TraceItem). IsWhole l j) (sym is) (whole_more items item j (apart j differ) (others j t differ found forward))
 
-pub others_of : (s : State) (i : ℕ) → IsTraced s → OthersWhole s.txs i s.commons.history.items
+pub others_of : (s : State) (i : ℕ) → IsTraced s → OthersWhole s.txs i s.shared.history.items
 others_of s i traced j t differ found forward = traced.whole j t found forward

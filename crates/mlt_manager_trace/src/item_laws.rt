@@ -8,7 +8,7 @@ ghost use Rattle.mlt_trace.specs.declared.item.TraceItem.TheVariants as trace;
 ghost use Rattle.mlt_trace.specs.Numbers.{commit_count};
 ghost use Rattle.mlt_tx_operation.specs.Operating.{OperationFields};
 ghost use Rattle.mlt_event.specs.declared.answer.Answer.TheVariants as answer;
-ghost use Rattle.mlt_tx.specs.declared.commons.Commons.{Commons};
+ghost use Rattle.mlt_tx.specs.declared.shared.SharedState.{SharedState};
 ghost use Rattle.mlt_tx.specs.declared.transaction.Transaction.{Transaction};
 ghost use Rattle.mlt_manager_invariant.specs.Events.{EndsPending, with_end};
 ghost use Rattle.mlt_manager_invariant.specs.Sound.{IsSound};
@@ -19,38 +19,38 @@ ghost use Rattle.mlt_manager_trace.specs.Traced.{IsTraced};
 
 /// The begin of the next number has its place.
 pub fn transaction_that_begins_is_traced()
-    ensures { (s : State) (t : Transaction) (commons : Commons)
-        → IsSound s → IsTraced s → Begins s t commons → IsTraced (with_next s t commons) }
+    ensures { (s : State) (t : Transaction) (shared : SharedState)
+        → IsSound s → IsTraced s → Begins s t shared → IsTraced (with_next s t shared) }
 {}
 
 /// An operation that is done has its place, and so has one that is taken back. Where it was the last, so has the
 /// end of the transaction behind it.
 pub fn operations_are_traced()
     ensures done { (s : State) (i : ℕ) (o : OperationFields) (before after : Transaction)
-        (commons : Commons) (told : ObjReply) (base : Base)
+        (shared : SharedState) (told : ObjReply) (base : Base)
         → IsSound s → IsTraced s → map.get s.txs i ≡ Some before
-        → EndsPending s i o before after commons told
-        → IsTraced (with_end s i after commons base) }
+        → EndsPending s i o before after shared told
+        → IsTraced (with_end s i after shared base) }
     ensures undone { (s : State) (i : ℕ) (inverting : Option OperationFields)
-        (before after : Transaction) (commons : Commons) (base : Base)
+        (before after : Transaction) (shared : SharedState) (base : Base)
         → IsSound s → IsTraced s → map.get s.txs i ≡ Some before
-        → TakesLastBack s inverting before after commons answer.Undone
-        → IsTraced (with_undone s i after commons base) }
+        → TakesLastBack s inverting before after shared answer.Undone
+        → IsTraced (with_undone s i after shared base) }
     ensures last_undone { (s : State) (i : ℕ) (inverting : Option OperationFields)
-        (before after : Transaction) (commons : Commons) (base : Base)
+        (before after : Transaction) (shared : SharedState) (base : Base)
         → IsSound s → IsTraced s → map.get s.txs i ≡ Some before
-        → TakesLastBack s inverting before after commons answer.Aborted
-        → IsTraced (with_aborted s i commons base) }
+        → TakesLastBack s inverting before after shared answer.Aborted
+        → IsTraced (with_aborted s i shared base) }
 {}
 
 /// A commit under the next number has its place, and so has a close where nothing stands.
 pub fn ends_of_transactions_are_traced()
-    ensures commit { (s : State) (i : ℕ) (before : Transaction) (commons : Commons)
+    ensures commit { (s : State) (i : ℕ) (before : Transaction) (shared : SharedState)
         → IsSound s → IsTraced s → map.get s.txs i ≡ Some before
-        → Ends s i before commons (trace.Commit i (commit_count s.commons.history.items + 1))
-        → IsTraced (without_transaction s i commons) }
-    ensures close { (s : State) (i : ℕ) (before : Transaction) (commons : Commons)
+        → Ends s i before shared (trace.Commit i (commit_count s.shared.history.items + 1))
+        → IsTraced (without_transaction s i shared) }
+    ensures close { (s : State) (i : ℕ) (before : Transaction) (shared : SharedState)
         → IsSound s → IsTraced s → map.get s.txs i ≡ Some before → before.undo.entries ≡ []
-        → Ends s i before commons (trace.Abort i)
-        → IsTraced (without_transaction s i commons) }
+        → Ends s i before shared (trace.Abort i)
+        → IsTraced (without_transaction s i shared) }
 {}

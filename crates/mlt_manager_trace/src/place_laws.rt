@@ -15,18 +15,18 @@ ghost use Rattle.mlt_manager_invariant.specs.States.{State};
 /// operation and commit; one with something to take back may do so, and one with nothing may close.
 pub fn sound_states_give_places()
     ensures begin { (s : State) → IsSound s
-        → HasPlace s.commons.history.items (trace.Begin (s.begun + 1)) }
+        → HasPlace s.shared.history.items (trace.Begin (s.begun + 1)) }
     ensures done { (s : State) (i : ℕ) (t : Transaction) (done : ObjOp × ObjReply)
-        → IsSound s → map.get s.txs i ≡ Some t → IsWhole s.commons.history.items i
-        → HasPlace s.commons.history.items (trace.Op i done) }
+        → IsSound s → map.get s.txs i ≡ Some t → IsWhole s.shared.history.items i
+        → HasPlace s.shared.history.items (trace.Op i done) }
     ensures back { (s : State) (i : ℕ) (t : Transaction)
         → IsSound s → map.get s.txs i ≡ Some t → (t.undo.entries ≡ [] → ⊥)
-        → HasPlace s.commons.history.items (trace.Back i) }
+        → HasPlace s.shared.history.items (trace.Back i) }
     ensures commit { (s : State) (i : ℕ) (t : Transaction)
-        → IsSound s → map.get s.txs i ≡ Some t → IsWhole s.commons.history.items i
-        → HasPlace s.commons.history.items
-        (trace.Commit i (commit_count s.commons.history.items + 1)) }
+        → IsSound s → map.get s.txs i ≡ Some t → IsWhole s.shared.history.items i
+        → HasPlace s.shared.history.items
+        (trace.Commit i (commit_count s.shared.history.items + 1)) }
     ensures close { (s : State) (i : ℕ) (t : Transaction)
         → IsSound s → map.get s.txs i ≡ Some t → t.undo.entries ≡ []
-        → HasPlace s.commons.history.items (trace.Abort i) }
+        → HasPlace s.shared.history.items (trace.Abort i) }
 {}

@@ -21,7 +21,7 @@ use Rattle.mlt_object_kinds.specs.Cells.{CellStep}
 use Rattle.mlt_object_kinds.specs.Cells.CellState.{ElementState}
 use Rattle.mlt_object_kinds.specs.Operations.{cell_of}
 use Rattle.mlt_object_kinds.specs.Sizes.{put_into, taken_from}
-use Rattle.mlt_object_base.specs.declared.record.Changes.{Changes}
+use Rattle.mlt_object_base.specs.declared.record.RecordChanges.{RecordChanges}
 use Rattle.mlt_object_base.specs.declared.record.RecChange.{RecChange}
 use Rattle.mlt_object_base.specs.Effects.{changes_on, inverse_of, own_change_on, size_change_of, size_change_on, size_inverse_of, size_reply_of}
 use Rattle.mlt_object_base.specs.Meaning.{Means, changes_back, changes_of, record_in, records_after, size_record_in, told_by}
@@ -141,7 +141,7 @@ module _ (records : map.FinMap nat_cmp ℕ) (b : Base) (h : Means records b) whe
       }
 
 -- all that an operation on an element changes
-pub element_changes : (records : map.FinMap nat_cmp ℕ) (s e : ℕ) (o : ElementOp) (changes : Changes) → IsInRange (Element s e)
+pub element_changes : (records : map.FinMap nat_cmp ℕ) (s e : ℕ) (o : ElementOp) (changes : RecordChanges) → IsInRange (Element s e)
     → records_after records (changes_on (op.Element s e o) changes)
     ≡ changed (changed records (Element s e) (record_after changes.own (record_in records (Element s e)))) (Size s) (record_after changes.size (record_in records (Size s)))
 element_changes records s e o changes range =

@@ -17,7 +17,7 @@ use Rattle.mlt_object_kinds.specs.Bases.{Base, size_at}
 use Rattle.mlt_object_kinds.specs.Cells.{CellStep}
 use Rattle.mlt_object_kinds.specs.Operations.{cell_of}
 use Rattle.mlt_object_kinds.specs.Sizes.{put_into, taken_from}
-use Rattle.mlt_object_base.specs.declared.record.Changes.{Changes}
+use Rattle.mlt_object_base.specs.declared.record.RecordChanges.{RecordChanges}
 use Rattle.mlt_object_base.specs.declared.record.RecChange.{RecChange}
 use Rattle.mlt_object_base.specs.declared.request.Request.{Request}
 use Rattle.mlt_object_base.specs.declared.request.Request.TheVariants.{Do, TakeBack}
@@ -53,12 +53,12 @@ own_beside records o own t range is apart =
     ap (λ (r : map.FinMap nat_cmp ℕ). record_in r (Size t)) (after_own records o own) ∙ record_beside records (cell_of o) (Size t) now range is apart
 
 -- a size record is what it was, or what the change of a size leaves
-abbrev IsKept : map.FinMap nat_cmp ℕ → ObjOp → Changes → ℕ → Type 0
+abbrev IsKept : map.FinMap nat_cmp ℕ → ObjOp → RecordChanges → ℕ → Type 0
 IsKept records o changes t =
     let after = record_in (records_after records (changes_on o changes)) (Size t) in
     (after ≡ record_in records (Size t)) ⊎ (after ≡ record_after changes.size (record_in records (Size t)))
 
-element_keeps : (records : map.FinMap nat_cmp ℕ) (s e : ℕ) (o : ElementOp) (changes : Changes) (t : ℕ) → IsInRange (Element s e) → t < 2 ^ 16 → IsKept records (op.Element s e o) changes t
+element_keeps : (records : map.FinMap nat_cmp ℕ) (s e : ℕ) (o : ElementOp) (changes : RecordChanges) (t : ℕ) → IsInRange (Element s e) → t < 2 ^ 16 → IsKept records (op.Element s e o) changes t
 element_keeps records s e o changes t range is =
     let own = record_after changes.own (record_in records (Element s e)) in
     let between = changed records (Element s e) own in

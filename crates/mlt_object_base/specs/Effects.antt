@@ -17,7 +17,7 @@ use Rattle.mlt_object_kinds.specs.declared.operation.ObjReply.{ObjReply}
 use Rattle.mlt_object_kinds.specs.declared.operation.ObjReply.TheVariants as told
 use Rattle.mlt_object_kinds.specs.Accounts.{max_balance}
 use Rattle.mlt_object_kinds.specs.Operations.{cell_of}
-use Rattle.mlt_object_base.specs.declared.record.Changes.{Changes}
+use Rattle.mlt_object_base.specs.declared.record.RecordChanges.{RecordChanges}
 use Rattle.mlt_object_base.specs.declared.record.RecChange.{RecChange}
 use Rattle.mlt_object_base.specs.declared.record.RecChange.TheVariants.{Add, Set, ToGhost, Revive, Plus, Minus}
 
@@ -94,7 +94,7 @@ size_change_on _ _ = []
 
 -- the changes of records that an operation makes, each with its cell: of its own record, and then
 -- of its set's size
-abbrev pub changes_on : ObjOp → Changes → List (Cell × RecChange)
+abbrev pub changes_on : ObjOp → RecordChanges → List (Cell × RecChange)
 changes_on op changes = own_change_on op changes.own ++ size_change_on op changes.size
 
 -- the change that undoes the operation that was told the reply

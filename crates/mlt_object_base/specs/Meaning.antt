@@ -12,7 +12,7 @@ use Rattle.mlt_object_kinds.specs.declared.operation.ObjReply.{ObjReply}
 use Rattle.mlt_object_kinds.specs.Bases.{Base, size_at, state_at}
 use Rattle.mlt_object_kinds.specs.Cells.{CellStep}
 use Rattle.mlt_object_kinds.specs.Operations.{cell_of}
-use Rattle.mlt_object_base.specs.declared.record.Changes.{Changes}
+use Rattle.mlt_object_base.specs.declared.record.RecordChanges.{RecordChanges}
 use Rattle.mlt_object_base.specs.declared.record.RecChange.{RecChange}
 use Rattle.mlt_object_base.specs.Effects.{changes_on, inverse_of, reply_of, size_change_of, size_inverse_of}
 use Rattle.mlt_object_base.specs.Records.{IsRecord, counter_of_record, record_after, state_of_record}
@@ -47,14 +47,14 @@ size_record_in records _ = None
 abbrev pub told_by : map.FinMap nat_cmp ℕ → ObjOp → ObjReply
 told_by records op = (reply_of op (record_in records (cell_of op))).0
 
-abbrev pub changes_of : map.FinMap nat_cmp ℕ → ObjOp → Changes
+abbrev pub changes_of : map.FinMap nat_cmp ℕ → ObjOp → RecordChanges
 changes_of records op = record {
   own = (reply_of op (record_in records (cell_of op))).1;
   size = size_change_of (op, told_by records op) (size_record_in records op);
 }
 
 -- what undoes an operation that was told its reply
-abbrev pub changes_back : ObjOp × ObjReply → Changes
+abbrev pub changes_back : ObjOp × ObjReply → RecordChanges
 changes_back x = record { own = inverse_of x; size = size_inverse_of x }
 
 -- the records after all that an operation changes of them, and after all that undoing it changes

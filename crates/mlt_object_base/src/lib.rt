@@ -15,6 +15,6 @@ mod text;
 
 pub use base::Base;
 pub use meaning::{records_mean_bases, size_records_can_be_changed};
-pub use record::{Changes, RecChange, access, inverse, reply};
+pub use record::{RecChange, RecordChanges, access, inverse, reply};
 pub use request::Request;
 pub use text::write_base;

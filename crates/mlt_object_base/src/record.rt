@@ -48,7 +48,7 @@ impl RecChange {
 /// What an operation, or the undoing of one, changes: the record of its own cell, and the size record of its set. Only
 /// where an element is added or removed, or that is undone, there is a change of a size.
 #[derive(Clone, Copy, Debug, PartialEq, Eq)]
-pub struct Changes {
+pub struct RecordChanges {
     /// The change of the record of the operation's cell.
     pub own: Option<RecChange>,
     /// The change of the size record of the element's set.

@@ -5,14 +5,14 @@ use Rattle.mlt_object_kinds.specs.declared.operation.ObjReply.{ObjReply}
 use Rattle.mlt_object_conflicts.specs.declared.example.Example.{Example}
 use Rattle.mlt_object_conflicts.specs.Tables.{IsExample}
 use Rattle.mlt_object_tables.specs.declared.cell_value.CellValue.{CellValue}
-use Rattle.mlt_object_tables.specs.declared.orders.Order.{Order}
+use Rattle.mlt_object_tables.specs.declared.orders.OpOrder.{OpOrder}
 use Rattle.mlt_object_tables.specs.declared.orders.Orders.{Orders}
 
 -- from the state the first operation is done and then the second, each with the reply that it is told, and the cell holds
 -- then what they leave
 pub record IsOrder {S O R : Type 0} (step : S → O → R → S → Type 0)
     (done_of : O → R → ObjOp × ObjReply) (value_of : S → CellValue)
-    (state : S) (first second : O) (order : Order) : Type 0 where
+    (state : S) (first second : O) (order : OpOrder) : Type 0 where
   pub between : S
   pub after : S
   pub reply : R

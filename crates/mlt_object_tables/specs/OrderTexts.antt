@@ -3,7 +3,7 @@ use Rattle.std.specs.Prelude.{ℕ, List, [], ◌∷◌, ◌++◌, true, false, S
 use Rattle.mlt_object_kinds.specs.Texts.{done_text, with_number}
 use Rattle.mlt_object_tables.specs.declared.cell_value.CellValue.{CellValue}
 use Rattle.mlt_object_tables.specs.declared.cell_value.CellValue.TheVariants.{Account, Element, Counter}
-use Rattle.mlt_object_tables.specs.declared.orders.Order.{Order}
+use Rattle.mlt_object_tables.specs.declared.orders.OpOrder.{OpOrder}
 use Rattle.mlt_object_tables.specs.declared.orders.Orders.{Orders}
 
 -- what a cell holds, as the text of a base has it
@@ -15,7 +15,7 @@ value_text (Element s e false) = with_number (with_number (codes "no element") s
 value_text (Counter c value) = with_number (with_number (codes "counter") c) value
 
 -- a line with what each is told in this order, and what they leave
-abbrev pub order_line : List ℕ → List ℕ → List ℕ → Order → List ℕ
+abbrev pub order_line : List ℕ → List ℕ → List ℕ → OpOrder → List ℕ
 order_line lead first second order =
     lead ++ (first ++ 32 ∷ (done_text order.first ++ (codes ", " ++ (second ++ 32 ∷ (done_text order.second
     ++ (codes ": " ++ (value_text order.after ++ 10 ∷ [])))))))

@@ -6,18 +6,18 @@ use Rattle.mlt_object_kinds.specs.declared.operation.ObjReply.{ObjReply}
 use Rattle.mlt_object_conflicts.specs.declared.elements.ElementClass.{ElementClass}
 use Rattle.mlt_object_conflicts.specs.declared.sizes.SizeExample.{SizeExample}
 use Rattle.mlt_object_conflicts.specs.Sizes.{IsSizeExample, told_size}
-use Rattle.mlt_object_tables.specs.declared.orders.Order.{Order}
+use Rattle.mlt_object_tables.specs.declared.orders.OpOrder.{OpOrder}
 use Rattle.mlt_object_tables.specs.declared.orders.Orders.{Orders}
 use Rattle.mlt_object_tables.specs.Words.{element_value, on_element}
 
 -- The one is held and the other one asked for: in the held one's order, and in the other. Both leave the element as it
 -- is said.
-abbrev pub held_then : Bool → Order → Order → Orders
+abbrev pub held_then : Bool → OpOrder → OpOrder → Orders
 held_then present held_first asked_first =
     record { before = element_value present; held_first = held_first; asked_first = asked_first }
 
 -- one operation and then another one, and whether the element is in the set then
-abbrev pub order_of : ObjOp × ObjReply → ObjOp × ObjReply → Bool → Order
+abbrev pub order_of : ObjOp × ObjReply → ObjOp × ObjReply → Bool → OpOrder
 order_of first second present = record { first = first; second = second; after = element_value present }
 
 -- There is an example of an operation of the class and of sizes of its set. These are its orders where the operation is

@@ -5,7 +5,7 @@ ghost use Rattle.mlt_object_conflicts.specs.Tables.{ClassesCommute};
 ghost use Rattle.mlt_object_tables.specs.Examples.{IsExampleInOrders, IsOrder};
 
 use crate::named::NamedTable;
-use crate::orders::{Order, Orders};
+use crate::orders::{OpOrder, Orders};
 
 /// An example of a conflict of the classes, of a held operation and one that is asked for, in both orders; None where
 /// they never conflict.
@@ -26,7 +26,7 @@ where
 }
 
 // Two operations from a state, one after the other.
-fn order<K: NamedTable>(state: &K::State, first: &K::Op, second: &K::Op) -> Order
+fn order<K: NamedTable>(state: &K::State, first: &K::Op, second: &K::Op) -> OpOrder
 where
     K::State: Copy,
     K::Op: Copy,
@@ -36,7 +36,7 @@ where
 {
     let (between, reply) = K::apply(state, first);
     let (after, answer) = K::apply(&between, second);
-    Order {
+    OpOrder {
         first: K::done(first, &reply),
         second: K::done(second, &answer),
         after: K::value(&after),

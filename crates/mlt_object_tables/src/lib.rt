@@ -13,6 +13,6 @@ mod tables;
 pub use cell_value::CellValue;
 pub use examples::orders_of;
 pub use named::NamedTable;
-pub use orders::{Order, Orders, push_orders};
+pub use orders::{OpOrder, Orders, push_orders};
 pub use sizes::size_orders;
 pub use tables::{TableName, write_tables};

@@ -10,7 +10,7 @@ use mlt_types::Refusal;
 
 /// Two operations on a cell, one after the other, with what each is told, and what they leave.
 #[derive(Clone, Copy, Debug, PartialEq, Eq)]
-pub struct Order {
+pub struct OpOrder {
     /// The one that is done first, with its reply.
     pub first: Done,
     /// The one that is done next, with its reply.
@@ -25,9 +25,9 @@ pub struct Orders {
     /// The cell before both.
     pub before: CellValue,
     /// The held operation and then the other one.
-    pub held_first: Order,
+    pub held_first: OpOrder,
     /// The operation that is asked for and then the held one.
-    pub asked_first: Order,
+    pub asked_first: OpOrder,
 }
 
 /// Appends a line for each order, behind this lead.
@@ -39,13 +39,13 @@ pub fn push_orders(text: &mut String, lead: &str, orders: &Orders) -> Result<(),
         (string_bytes text.new ≡ string_bytes text.old ++ orders_text lead.now orders.now) }
     ensures refusal { IsOkUnless result Refusal.OutOfMemory }
 {
-    let Order {
+    let OpOrder {
         first,
         second,
         after,
     } = &orders.held_first;
     writeln!(text, "{lead}held {first}, asked {second}: {after}")?;
-    let Order {
+    let OpOrder {
         first,
         second,
         after,

@@ -6,7 +6,7 @@ ghost use Rattle.mlt_object_tables.specs.SizeOrders.{order_of};
 ghost use Rattle.mlt_object_tables.specs.Tables.{AreSizeOrdersOf};
 
 use crate::named::NamedTable;
-use crate::orders::{Order, Orders};
+use crate::orders::{OpOrder, Orders};
 use mlt_object_conflicts::ElementClass;
 use mlt_object_kinds::{Done, Element, Kind, ObjOp, ObjReply};
 
@@ -34,10 +34,10 @@ pub fn size_orders(class: ElementClass) -> Option<(Orders, Orders)>
 }
 
 // One operation and then another one, and whether the element is in the set then.
-fn order(first: &Done, second: &Done, present: bool) -> Order
+fn order(first: &Done, second: &Done, present: bool) -> OpOrder
     ensures { result ≡ order_of first.now second.now present }
 {
-    Order {
+    OpOrder {
         first: *first,
         second: *second,
         after: Element::value(&present),

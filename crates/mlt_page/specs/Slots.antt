@@ -20,9 +20,9 @@ is_ghost_of key owner (Ghost own value left_by) = (own == key) && (left_by == ow
 
 -- a record, or a ghost of an open transaction: its room is taken
 abbrev pub is_kept : set.FinSet nat_cmp → Slot → Bool
-is_kept opens Free = false
-is_kept opens (Live key value) = true
-is_kept opens (Ghost key value owner) = set.contains opens owner
+is_kept active Free = false
+is_kept active (Live key value) = true
+is_kept active (Ghost key value owner) = set.contains active owner
 
 -- the key of a slot that is not free; of a free one the number says nothing
 abbrev pub key_of : Slot → ℕ
@@ -38,4 +38,4 @@ kept_if false s = Free
 -- what stands at a slot's place in one half of a split: the slot itself, where its room is taken and the
 -- pseudokey of its key has this bit behind its first n, and else a free slot
 abbrev pub half : (ℕ → ℕ) → set.FinSet nat_cmp → ℕ → ℕ → Slot → Slot
-half bits opens n bit s = kept_if (is_kept opens s && (bit_at n (bits (key_of s)) == bit)) s
+half bits active n bit s = kept_if (is_kept active s && (bit_at n (bits (key_of s)) == bit)) s

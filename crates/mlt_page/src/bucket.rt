@@ -65,11 +65,11 @@ impl Bucket {
     }
 
     /// The lowest slot that a record may be put into: free, or a ghost whose owner is not open.
-    pub fn room(&self, opens: &OpenSet) -> Option<usize>
-        ensures place { result ≡ position (λ slot. not (is_kept opens.now slot)) self.now.slots }
+    pub fn room(&self, active: &OpenSet) -> Option<usize>
+        ensures place { result ≡ position (λ slot. not (is_kept active.now slot)) self.now.slots }
         ensures within { IfSome result (λ at. at < 8) }
     {
-        self.slots.iter().position(|slot| !slot.is_kept(opens))
+        self.slots.iter().position(|slot| !slot.is_kept(active))
     }
 
     /// Sets slot `at`. No other slot changes.
@@ -83,17 +83,17 @@ impl Bucket {
     /// The two halves of a split by the bit behind the first `place` of pseudokeys: of the keys with 0 there,
     /// and of those with 1. Records and ghosts of open owners go to the same place of their half, and all
     /// other slots of both are free.
-    pub fn part<P: Pseudo>(&self, place: u8, pseudo: &P, opens: &OpenSet) -> (Bucket, Bucket)
+    pub fn part<P: Pseudo>(&self, place: u8, pseudo: &P, active: &OpenSet) -> (Bucket, Bucket)
         requires { place < 64 }
-        ensures zeros { let zero = half (P.bits_of pseudo.now) opens.now place 0 in
+        ensures zeros { let zero = half (P.bits_of pseudo.now) active.now place 0 in
             result.0 ≡ record { depth = place + 1; slots = map zero self.now.slots } }
-        ensures ones { let one = half (P.bits_of pseudo.now) opens.now place 1 in
+        ensures ones { let one = half (P.bits_of pseudo.now) active.now place 1 in
             result.1 ≡ record { depth = place + 1; slots = map one self.now.slots } }
     {
         let mut zeros = [Slot::Free; SLOTS];
         let mut ones = [Slot::Free; SLOTS];
         for at in 0..SLOTS {
-            let (zero, one) = self.slots[at].halves(place, pseudo, opens);
+            let (zero, one) = self.slots[at].halves(place, pseudo, active);
             zeros[at] = zero;
             ones[at] = one;
         }

@@ -40,25 +40,25 @@ impl Slot {
     }
 
     /// Whether the slot's room is taken: by a record, or by a ghost whose owner is open.
-    pub fn is_kept(&self, opens: &OpenSet) -> bool
-        ensures { result ≡ is_kept opens.now self.now }
+    pub fn is_kept(&self, active: &OpenSet) -> bool
+        ensures { result ≡ is_kept active.now self.now }
     {
         match self {
             Slot::Free => false,
             Slot::Live(_, _) => true,
-            Slot::Ghost(_, _, owner) => opens.contains(*owner),
+            Slot::Ghost(_, _, owner) => active.contains(*owner),
         }
     }
 
     /// What stands at this place in the two halves of a split by the bit behind the first `place` of
     /// pseudokeys: in the half of the keys with 0 there, and in that of the keys with 1.
-    pub(crate) fn halves<P: Pseudo>(&self, place: u8, pseudo: &P, opens: &OpenSet) -> (Slot, Slot)
+    pub(crate) fn halves<P: Pseudo>(&self, place: u8, pseudo: &P, active: &OpenSet) -> (Slot, Slot)
         requires { place < 64 }
-        ensures zero { result.0 ≡ half (P.bits_of pseudo.now) opens.now place 0 self.now }
-        ensures one { result.1 ≡ half (P.bits_of pseudo.now) opens.now place 1 self.now }
+        ensures zero { result.0 ≡ half (P.bits_of pseudo.now) active.now place 0 self.now }
+        ensures one { result.1 ≡ half (P.bits_of pseudo.now) active.now place 1 self.now }
     {
         match self {
-            Slot::Live(key, _) | Slot::Ghost(key, _, _) if self.is_kept(opens) => {
+            Slot::Live(key, _) | Slot::Ghost(key, _, _) if self.is_kept(active) => {
                 if bit_at(pseudo.bits(key), place) == 0 {
                     (*self, Slot::Free)
                 } else {

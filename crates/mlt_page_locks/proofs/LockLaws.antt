@@ -93,15 +93,15 @@ page_count-granted table tx q mode u =
     grind (arith, nat_tests, pages_of-granted table tx q mode u, map.len-insert nat_cmp_total (pages_of table tx) q (stronger (mode_held table tx q) mode))
 
 -- the holders are still among the open transactions, where tx is one of them
-pub among_granted : (table : LockTable) (tx q : ℕ) (mode : Mode) (opens : List ℕ) → HoldersAreAmong table opens → list_any (λ n. eqb n tx) opens ≡ true → HoldersAreAmong (granted table tx q mode) opens
-among_granted table tx q mode opens among one u holds = grind (arith, nat_tests, get_inserted table.held tx (with_page (pages_of table tx) q mode) u, among u)
+pub among_granted : (table : LockTable) (tx q : ℕ) (mode : Mode) (active : List ℕ) → HoldersAreAmong table active → list_any (λ n. eqb n tx) active ≡ true → HoldersAreAmong (granted table tx q mode) active
+among_granted table tx q mode active among one u holds = grind (arith, nat_tests, get_inserted table.held tx (with_page (pages_of table tx) q mode) u, among u)
 
 -- who has released its locks holds none
 pub no_holder-released : (table : LockTable) (tx : ℕ) → is_holder (released table tx) tx ≡ false
 no_holder-released table tx = grind (arith, nat_tests, get_removed table.held tx tx)
 
-pub among_released : (table : LockTable) (tx : ℕ) (opens : List ℕ) → HoldersAreAmong table opens → HoldersAreAmong (released table tx) opens
-among_released table tx opens among u holds = grind (arith, nat_tests, get_removed table.held tx u, among u)
+pub among_released : (table : LockTable) (tx : ℕ) (active : List ℕ) → HoldersAreAmong table active → HoldersAreAmong (released table tx) active
+among_released table tx active among u holds = grind (arith, nat_tests, get_removed table.held tx u, among u)
 
 pub not_some : {X : Type 0} (o : Option X) → ¬ (is_some o ≡ true) → o ≡ None
 not_some None h = refl
@@ -130,11 +130,11 @@ page_for table tx q mode most more =
     ]
 
 -- where all holders are among the open transactions, which are no more than there is room for, there is room for a lock
-pub room_to_grant : (table : LockTable) (tx q : ℕ) (mode : Mode) (opens : List ℕ) → HoldersAreAmong table opens → list_any (λ n. eqb n tx) opens ≡ true → length opens ≤ table.max_open
+pub room_to_grant : (table : LockTable) (tx q : ℕ) (mode : Mode) (active : List ℕ) → HoldersAreAmong table active → list_any (λ n. eqb n tx) active ≡ true → length active ≤ table.max_open
     → ((u : ℕ) → page_count table u ≤ 300) → (page_count table tx < 300) ⊎ (can_read table tx q ≡ true) → HasRoom (granted table tx q mode)
-room_to_grant table tx q mode opens among one few pages more = record {
+room_to_grant table tx q mode active among one few pages more = record {
   holders =
-      let within : map.len (granted table tx q mode).held ≤ length opens = keys_within opens (granted table tx q mode).held (among_granted table tx q mode opens among one) in
+      let within : map.len (granted table tx q mode).held ≤ length active = keys_within active (granted table tx q mode).held (among_granted table tx q mode active among one) in
       omega arith;
   pages = λ u. grind (arith, nat_tests, pages_of-granted table tx q mode u, pages u, page_for table tx q mode (pages tx) more);
 }

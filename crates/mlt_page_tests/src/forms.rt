@@ -1,6 +1,6 @@
 //! Pseudokeys and their places, new buckets' places, when an addition finds room, and what a split moves.
 
-use mlt_hash_form::{NewPlaces, Place, depth_with_room, first_bits};
+use mlt_hash_form::{DirSlot, NewPlaces, depth_with_room, first_bits};
 use mlt_page::{Bucket, Page, SLOTS, Slot};
 use mlt_test_tools::{same, same_at};
 use mlt_types::{Cell, Key, Low, Mult, OpenSet, Pseudo, TxId};
@@ -28,11 +28,11 @@ fn places_of_pseudokeys(rt: HostRuntime) -> Result<(), Fail> {
     let bits = Mult.bits(&account(1));
     for (depth, first, dir, entry) in PLACES {
         assert!(rt; *depth <= 16);
-        let place = Place {
+        let place = DirSlot {
             dir: *dir,
             entry: *entry,
         };
-        let found = (first_bits(bits, *depth), Place::of(bits, *depth));
+        let found = (first_bits(bits, *depth), DirSlot::of(bits, *depth));
         same_at(depth, &found, &(*first, place))?;
     }
     Ok(())
@@ -79,11 +79,11 @@ fn depths_with_room(rt: HostRuntime) -> Result<(), Fail> {
     for at in 0..SLOTS {
         neighbors.slots[at] = Slot::Live(account(at as u32), 0);
     }
-    let opens = OpenSet::new();
+    let active = OpenSet::new();
     for (number, most, depth) in DEPTHS {
         assert!(rt; *most <= 16);
         let bits = Low.bits(&account(*number));
-        let found = depth_with_room(&neighbors, *most, bits, &Low, &opens);
+        let found = depth_with_room(&neighbors, *most, bits, &Low, &active);
         same_at(&(number, most), &found, depth)?;
     }
     Ok(())
@@ -93,9 +93,9 @@ fn depths_with_room(rt: HostRuntime) -> Result<(), Fail> {
 // of the closed transaction 6.
 #[test]
 fn halves_of_a_split(rt: HostRuntime) -> Result<(), Fail> {
-    let mut opens = OpenSet::new();
-    assert!(rt; !opens.is_full());
-    opens.insert(TxId(5));
+    let mut active = OpenSet::new();
+    assert!(rt; !active.is_full());
+    active.insert(TxId(5));
     let mut bucket = Bucket::empty(0);
     bucket.slots[0] = Slot::Live(account(0), 10);
     bucket.slots[1] = Slot::Live(account(32_768), 11);
@@ -103,7 +103,7 @@ fn halves_of_a_split(rt: HostRuntime) -> Result<(), Fail> {
     bucket.slots[3] = Slot::Ghost(account(32_769), 0, TxId(5));
     bucket.slots[4] = Slot::Ghost(account(2), 0, TxId(6));
     bucket.slots[7] = Slot::Live(account(4), 12);
-    let halves = bucket.part(0, &Low, &opens);
+    let halves = bucket.part(0, &Low, &active);
     let mut zeros = Bucket::empty(1);
     zeros.slots[0] = bucket.slots[0];
     zeros.slots[2] = bucket.slots[2];

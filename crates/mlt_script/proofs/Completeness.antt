@@ -6,8 +6,8 @@ use Rattle.mlt_types.specs.declared.refusal.ScriptCause.{ScriptCause}
 use Rattle.mlt_types.specs.declared.refusal.ScriptCause.TheVariants as cause
 use Rattle.mlt_script.specs.declared.forms.LineForm.{LineForm}
 use Rattle.mlt_script.specs.declared.forms.LineForm.TheVariants.{Begins, Says, Closes}
-use Rattle.mlt_script.specs.declared.line.Reading.{Reading}
-use Rattle.mlt_script.specs.declared.line.Reading.TheVariants.{Bad, Skip, Form}
+use Rattle.mlt_script.specs.declared.line.ScriptReading.{ScriptReading}
+use Rattle.mlt_script.specs.declared.line.ScriptReading.TheVariants.{Bad, Skip, Form}
 use Rattle.mlt_script_tree.specs.declared.statement.Asking.{Asking}
 use Rattle.mlt_script_tree.specs.declared.statement.Wanted.{Wanted}
 use Rattle.mlt_script_tree.specs.declared.statement.Statement.{Statement}
@@ -21,34 +21,34 @@ use Rattle.mlt_script.specs.Readings.{reading}
 use Rattle.mlt_script_tree.specs.Scripts.{ScriptForm, IsScript, one_more}
 use Rattle.mlt_script_tree.specs.TreeLaws.{grow_nothing, grow_twice}
 use Rattle.mlt_script.specs.Grammar.{AreScripts, IsSpelled, IsSpelledOpen, IsSpelledScript, AreSpelled, IsLawful, AreLawful, form_in, forms_of, AreWhole, AreOpen, IsSound, IsNoBegin, HasNoPlace, IsAskingHere, IsFault, IsFirstFaultOf}
-use Rattle.mlt_script.specs.Scan.{State, scan, advance, step, said, after, line_fault}
-use Rattle.mlt_script.specs.Scan.State.{Outside, Inside}
+use Rattle.mlt_script.specs.Scan.{ScanState, scan, advance, step, said, after, line_fault}
+use Rattle.mlt_script.specs.Scan.ScanState.{Outside, Inside}
 use Rattle.mlt_script.proofs.Placing.{path_grow, depth_grow}
 
-abbrev and_then : Result State ScriptCause → (State → Result State ScriptCause) → Result State ScriptCause
+abbrev and_then : Result ScanState ScriptCause → (ScanState → Result ScanState ScriptCause) → Result ScanState ScriptCause
 and_then (Ok s) next = next s
 and_then (Err c) next = Err c
 
 -- form by form
-walk : State → List LineForm → Result State ScriptCause
+walk : ScanState → List LineForm → Result ScanState ScriptCause
 walk s [] = Ok s
 walk s (f ∷ fs) = and_then (step s f) (λ t. walk t fs)
 
 -- the state after lines of these forms
-abbrev Leads : State → List LineForm → State → Type 0
+abbrev Leads : ScanState → List LineForm → ScanState → Type 0
 Leads s forms t = walk s forms ≡ Ok t
 
-walk_one : (s t : State) (f : LineForm) (fs : List LineForm) → step s f ≡ Ok t → walk s (f ∷ fs) ≡ walk t fs
+walk_one : (s t : ScanState) (f : LineForm) (fs : List LineForm) → step s f ≡ Ok t → walk s (f ∷ fs) ≡ walk t fs
 unfolding walk
 walk_one s t f fs e = ap (λ r. and_then r (λ t. walk t fs)) e
 
-walk_end : (s : State) → walk s [] ≡ Ok s
+walk_end : (s : ScanState) → walk s [] ≡ Ok s
 unfolding walk
 walk_end s = refl
 
 module _ (scripts : List ScriptForm) (client : ℕ) where
   -- up to here in the script
-  abbrev here : Open → State
+  abbrev here : Open → ScanState
   here o = Inside scripts client o
 
   says : (o : Open) (l : Line) (fs : List LineForm) → line_fault o l ≡ None → walk (here o) (Says l ∷ fs) ≡ walk (here (one_more o l)) fs
@@ -147,27 +147,27 @@ open_leads raws scripts client o (all, small, within, lawful, (x, ls, p, q, k)) 
     ∙ ap (walk (Inside scripts client (Top Nothing))) (sym (append-nil (map Says ls)))
     ∙ opens scripts client o ls [] q within.0 within.1 ∙ walk_end (Inside scripts client o)
 
-abbrev Scans : State → List Raw → List Raw → State → ℕ → Type 0
+abbrev Scans : ScanState → List Raw → List Raw → ScanState → ℕ → Type 0
 Scans s raws more t n = scan s n (raws ++ more) ≡ scan t (n + length raws) more
 
-stepped : (wanted : Result State ScriptCause) (fs : List LineForm) (t : State) (n : ℕ) (next : State → Result (List ScriptForm) (ℕ × ScriptCause)) (total : Result (List ScriptForm) (ℕ × ScriptCause))
-    → and_then wanted (λ u. walk u fs) ≡ Ok t → ((u : State) → walk u fs ≡ Ok t → next u ≡ total) → after wanted n next ≡ total
+stepped : (wanted : Result ScanState ScriptCause) (fs : List LineForm) (t : ScanState) (n : ℕ) (next : ScanState → Result (List ScriptForm) (ℕ × ScriptCause)) (total : Result (List ScriptForm) (ℕ × ScriptCause))
+    → and_then wanted (λ u. walk u fs) ≡ Ok t → ((u : ScanState) → walk u fs ≡ Ok t → next u ≡ total) → after wanted n next ≡ total
 stepped (Ok u) fs t n next total e go = go u e
 stepped (Err c) fs t n next total e go = absurd (cc e)
 
-read_goes : (r : Reading) (s t : State) (fs : List LineForm) (n : ℕ) (next : State → Result (List ScriptForm) (ℕ × ScriptCause)) (total : Result (List ScriptForm) (ℕ × ScriptCause))
-    → IsLawful r → walk s (form_in r ++ fs) ≡ Ok t → ((u : State) → walk u fs ≡ Ok t → next u ≡ total) → after (advance s r) n next ≡ total
+read_goes : (r : ScriptReading) (s t : ScanState) (fs : List LineForm) (n : ℕ) (next : ScanState → Result (List ScriptForm) (ℕ × ScriptCause)) (total : Result (List ScriptForm) (ℕ × ScriptCause))
+    → IsLawful r → walk s (form_in r ++ fs) ≡ Ok t → ((u : ScanState) → walk u fs ≡ Ok t → next u ≡ total) → after (advance s r) n next ≡ total
 unfolding walk
 read_goes (Bad c) s t fs n next total l e go = absurd l
 read_goes Skip s t fs n next total l e go = go s e
 read_goes (Form f) s t fs n next total l e go = stepped (step s f) fs t n next total e go
 
-same_state : (s t : State) → Leads s [] t → s ≡ t
+same_state : (s t : ScanState) → Leads s [] t → s ≡ t
 unfolding walk
 same_state s t e = cc
 
 -- lines without a fault are gone over
-goes : (raws more : List Raw) (s t : State) (n : ℕ) → AreLawful raws → Leads s (forms_of raws) t → Scans s raws more t n
+goes : (raws more : List Raw) (s t : ScanState) (n : ℕ) → AreLawful raws → Leads s (forms_of raws) t → Scans s raws more t n
 unfolding scan
 goes [] more s t n l e = ap (λ u. scan u n more) (same_state s t e) ∙ ap (λ k. scan t k more) (omega arith)
 goes (raw ∷ raws) more s t n l e =
@@ -180,11 +180,11 @@ finds_scripts raws scripts h =
     ap (scan (Outside []) 0) (sym (append-nil raws)) ∙ goes raws [] (Outside []) (Outside scripts) 0 h.1 (whole_leads raws scripts h)
 
 -- the state that lines without a fault lead to
-up_to : (before : List Raw) → IsSound before → (s : State) × AreLawful before × Leads (Outside []) (forms_of before) s
+up_to : (before : List Raw) → IsSound before → (s : ScanState) × AreLawful before × Leads (Outside []) (forms_of before) s
 up_to before (inl (scripts, h)) = (Outside scripts, h.1, whole_leads before scripts h)
 up_to before (inr (o, (scripts, client, h))) = (Inside scripts client o, h.3, open_leads before scripts client o h)
 
-fault_at : (before : List Raw) (raw : Raw) (after_it : List Raw) (s : State) (r : Reading) (c : ScriptCause) → AreLawful before → Leads (Outside []) (forms_of before) s
+fault_at : (before : List Raw) (raw : Raw) (after_it : List Raw) (s : ScanState) (r : ScriptReading) (c : ScriptCause) → AreLawful before → Leads (Outside []) (forms_of before) s
     → reading raw ≡ r → advance s r ≡ Err c → scan (Outside []) 0 (before ++ raw ∷ after_it) ≡ Err (length before + 1, c)
 unfolding scan
 fault_at before raw after_it s r c l h e a =

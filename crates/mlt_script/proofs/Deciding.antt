@@ -7,7 +7,7 @@ use Rattle.mlt_types.specs.declared.refusal.ScriptCause.{ScriptCause}
 use Rattle.mlt_script.specs.Grammar.{Spells, IsFirstFault, IsDecided}
 use Rattle.mlt_text_words.specs.Lines.{lines}
 use Rattle.mlt_script.specs.Scan.{scan, Gives, Refuses}
-use Rattle.mlt_script.specs.Scan.State.{Outside}
+use Rattle.mlt_script.specs.Scan.ScanState.{Outside}
 use Rattle.mlt_script_tree.specs.Scripts.{ScriptForm}
 use Rattle.mlt_script.proofs.Soundness.{Answers, answers}
 use Rattle.mlt_script.proofs.Completeness.{finds_scripts, finds_fault}

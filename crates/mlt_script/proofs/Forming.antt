@@ -11,7 +11,7 @@ use Rattle.mlt_text_words.specs.declared.keyword.Keyword.TheVariants as key
 use Rattle.mlt_text_words.specs.declared.keyword.Word.{Word}
 use Rattle.mlt_text_words.specs.declared.keyword.Word.TheVariants.{Key, Variable, Number, Other}
 use Rattle.mlt_text_words.specs.declared.letter.Letter.{Letter}
-use Rattle.mlt_script.specs.declared.line.Reading.TheVariants.{Bad, Skip}
+use Rattle.mlt_script.specs.declared.line.ScriptReading.TheVariants.{Bad, Skip}
 use Rattle.mlt_script_tree.specs.declared.statement.Ending.TheVariants.{Commit, Abort}
 use Rattle.mlt_script_tree.specs.declared.statement.Statement.TheVariants.{Ask, Need, Let}
 use Rattle.mlt_script_tree.specs.declared.statement.Line.TheVariants.{Plain, If, Else, End}

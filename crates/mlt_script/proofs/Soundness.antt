@@ -6,8 +6,8 @@ use Rattle.mlt_types.specs.declared.refusal.ScriptCause.{ScriptCause}
 use Rattle.mlt_types.specs.declared.refusal.ScriptCause.TheVariants as cause
 use Rattle.mlt_script.specs.declared.forms.LineForm.{LineForm}
 use Rattle.mlt_script.specs.declared.forms.LineForm.TheVariants.{Begins, Says, Closes}
-use Rattle.mlt_script.specs.declared.line.Reading.{Reading}
-use Rattle.mlt_script.specs.declared.line.Reading.TheVariants.{Bad, Skip, Form}
+use Rattle.mlt_script.specs.declared.line.ScriptReading.{ScriptReading}
+use Rattle.mlt_script.specs.declared.line.ScriptReading.TheVariants.{Bad, Skip, Form}
 use Rattle.mlt_script_tree.specs.declared.statement.Asking.{Asking}
 use Rattle.mlt_script_tree.specs.declared.statement.Wanted.{Wanted}
 use Rattle.mlt_script_tree.specs.declared.statement.Statement.{Statement}
@@ -21,13 +21,13 @@ use Rattle.mlt_text_words.specs.Lines.{Raw}
 use Rattle.mlt_script.specs.Readings.{reading, IsReading}
 use Rattle.mlt_script_tree.specs.Scripts.{ScriptForm, IsScript, one_more}
 use Rattle.mlt_script.specs.Grammar.{AreScripts, IsSpelled, IsSpelledOpen, IsSpelledScript, AreSpelled, AreSpelledOpen, IsLawful, AreLawful, form_in, forms_of, AreWhole, AreOpen, IsSound, IsFault, IsFirstFaultOf}
-use Rattle.mlt_script.specs.Scan.{State, scan, advance, after, at_end, said, ended, line_fault}
-use Rattle.mlt_script.specs.Scan.State.{Outside, Inside}
+use Rattle.mlt_script.specs.Scan.{ScanState, scan, advance, after, at_end, said, ended, line_fault}
+use Rattle.mlt_script.specs.Scan.ScanState.{Outside, Inside}
 use Rattle.mlt_script.proofs.Forming.{readings}
 use Rattle.mlt_script.proofs.Placing.{widest_grow, deepest_grow, path_widest, depth_deepest, not_long, not_deep}
 
 -- these lines lead to the state
-abbrev Reached : List Raw → State → Type 0
+abbrev Reached : List Raw → ScanState → Type 0
 Reached before (Outside scripts) = AreWhole before scripts
 Reached before (Inside scripts client o) = AreOpen before scripts client o
 
@@ -131,7 +131,7 @@ forms_more [] raw = append-nil (form_in (reading raw))
 forms_more (x ∷ xs) raw = ap (λ (fs : List LineForm). form_in (reading x) ++ fs) (forms_more xs raw) ∙ sym (append_assoc (form_in (reading x)) (forms_of xs) (form_in (reading raw)))
 
 -- one more line that says a form
-forms_are : (xs : List Raw) (raw : Raw) (forms : List LineForm) (r : Reading) → reading raw ≡ r → forms_of xs ≡ forms → forms_of (xs ++ raw ∷ []) ≡ forms ++ form_in r
+forms_are : (xs : List Raw) (raw : Raw) (forms : List LineForm) (r : ScriptReading) → reading raw ≡ r → forms_of xs ≡ forms → forms_of (xs ++ raw ∷ []) ≡ forms ++ form_in r
 forms_are xs raw forms r e h = forms_more xs raw ∙ ap (λ r. forms_of xs ++ form_in r) e ∙ ap (λ (fs : List LineForm). fs ++ form_in r) h
 
 all_more : (scripts : List ScriptForm) (s : ScriptForm) → AreScripts scripts → IsScript s → AreScripts (scripts ++ s ∷ [])
@@ -142,10 +142,10 @@ are_spelled_more : (scripts : List ScriptForm) (s : ScriptForm) (x y : List Line
 are_spelled_more [] s x y h k = (y, [], k, refl, ap (λ (fs : List LineForm). fs ++ y) h ∙ sym (append-nil y))
 are_spelled_more (t ∷ scripts) s x y (u, v, p, q, e) k = (u, v ++ y, p, are_spelled_more scripts s v y q k, ap (λ (fs : List LineForm). fs ++ y) e ∙ append_assoc u v y)
 
-is_lawful : (raw : Raw) (r : Reading) → reading raw ≡ r → IsLawful r → IsLawful (reading raw)
+is_lawful : (raw : Raw) (r : ScriptReading) → reading raw ≡ r → IsLawful r → IsLawful (reading raw)
 is_lawful raw r e l = subst IsLawful (sym e) l
 
-skipped : (before : List Raw) (raw : Raw) (s : State) → reading raw ≡ Skip → Reached before s → Reached (before ++ raw ∷ []) s
+skipped : (before : List Raw) (raw : Raw) (s : ScanState) → reading raw ≡ Skip → Reached before s → Reached (before ++ raw ∷ []) s
 skipped before raw (Outside scripts) e h =
     let same = forms_are before raw (forms_of before) Skip e refl ∙ append-nil (forms_of before) in
     (h.0, lawful_more before raw h.1 (is_lawful raw Skip e tt), subst (AreSpelled scripts) (sym same) h.2)
@@ -192,11 +192,11 @@ one_ended before raw scripts client b end e (all, small, within, lawful, (x, ls,
           (are_spelled_more scripts s x forms p (ls, q, refl)),
     )
 
-sound_so_far : (before : List Raw) (s : State) → Reached before s → IsSound before
+sound_so_far : (before : List Raw) (s : ScanState) → Reached before s → IsSound before
 sound_so_far before (Outside scripts) h = inl (scripts, h)
 sound_so_far before (Inside scripts client o) h = inr (o, (scripts, client, h))
 
-bad : (before : List Raw) (raw : Raw) (raws : List Raw) (s : State) (c : ScriptCause) → (c ≡ cause.Line) ⊎ (c ≡ cause.Words) → reading raw ≡ Bad c → Reached before s → IsFault before raw raws c
+bad : (before : List Raw) (raw : Raw) (raws : List Raw) (s : ScanState) (c : ScriptCause) → (c ≡ cause.Line) ⊎ (c ≡ cause.Words) → reading raw ≡ Bad c → Reached before s → IsFault before raw raws c
 bad before raw raws s c (inl k) e h = subst (IsFault before raw raws) (sym k) (sound_so_far before s h, e ∙ ap Bad k)
 bad before raw raws s c (inr k) e h = subst (IsFault before raw raws) (sym k) (sound_so_far before s h, e ∙ ap Bad k)
 
@@ -204,9 +204,9 @@ faulty : (before : List Raw) (raw : Raw) (raws : List Raw) (c : ScriptCause) →
 faulty before raw raws c h = (before, raw, raws, refl, refl, h)
 
 abbrev Goes : List Raw → Raw → List Raw → Type 0
-Goes before raw raws = (t : State) → Reached (before ++ raw ∷ []) t → Answers (before ++ raw ∷ raws) (scan t (length before + 1) raws)
+Goes before raw raws = (t : ScanState) → Reached (before ++ raw ∷ []) t → Answers (before ++ raw ∷ raws) (scan t (length before + 1) raws)
 
-abbrev Advanced : List Raw → Raw → List Raw → Result State ScriptCause → Type 0
+abbrev Advanced : List Raw → Raw → List Raw → Result ScanState ScriptCause → Type 0
 Advanced before raw raws wanted = Answers (before ++ raw ∷ raws) (after wanted (length before + 1) (λ t. scan t (length before + 1) raws))
 
 -- Why the line may not stand here, as the grammar says it.
@@ -253,7 +253,7 @@ line_ended before raw raws scripts client (InFirst o a w first) end e h go =
 line_ended before raw raws scripts client (InSecond o a w first second) end e h go =
     faulty before raw raws cause.Place (inr (InSecond o a w first second, (scripts, client, h), (Closes end, e, omega arith)))
 
-line_goes : (before : List Raw) (raw : Raw) (raws : List Raw) (s : State) (r : Reading) → reading raw ≡ r → IsReading r → Reached before s → Goes before raw raws
+line_goes : (before : List Raw) (raw : Raw) (raws : List Raw) (s : ScanState) (r : ScriptReading) → reading raw ≡ r → IsReading r → Reached before s → Goes before raw raws
     → Advanced before raw raws (advance s r)
 line_goes before raw raws s (Bad c) e i h go = faulty before raw raws c (bad before raw raws s c i e h)
 line_goes before raw raws s Skip e i h go = go s (skipped before raw s e h)
@@ -280,17 +280,17 @@ unfinished (x ∷ xs) scripts client o h =
     let l = last_of x xs in
     (l.0, l.1, [], l.2, l.3, (refl, (o, (scripts, client, subst (λ (raws : List Raw). AreOpen raws scripts client o) l.2 h))))
 
-at_the_end : (before : List Raw) (s : State) → Reached before s → Answers before (at_end s (length before))
+at_the_end : (before : List Raw) (s : ScanState) → Reached before s → Answers before (at_end s (length before))
 at_the_end before (Outside scripts) h = h
 at_the_end before (Inside scripts client o) h = unfinished before scripts client o h
 
-moved : (before : List Raw) (raw : Raw) (raws : List Raw) (t : State) → Answers ((before ++ raw ∷ []) ++ raws) (scan t (length (before ++ raw ∷ [])) raws)
+moved : (before : List Raw) (raw : Raw) (raws : List Raw) (t : ScanState) → Answers ((before ++ raw ∷ []) ++ raws) (scan t (length (before ++ raw ∷ [])) raws)
     → Answers (before ++ raw ∷ raws) (scan t (length before + 1) raws)
 moved before raw raws t h =
     let l : length (before ++ raw ∷ []) ≡ length before + 1 = rw length-append (omega arith) in
     subst (λ n. Answers (before ++ raw ∷ raws) (scan t n raws)) l (subst (λ (all : List Raw). Answers all (scan t (length (before ++ raw ∷ [])) raws)) (append_assoc before (raw ∷ []) raws) h)
 
-goes : (raws before : List Raw) (s : State) → Reached before s → Answers (before ++ raws) (scan s (length before) raws)
+goes : (raws before : List Raw) (s : ScanState) → Reached before s → Answers (before ++ raws) (scan s (length before) raws)
 unfolding scan
 goes [] before s h = subst (λ (all : List Raw). Answers all (at_end s (length before))) (sym (append-nil before)) (at_the_end before s h)
 goes (raw ∷ raws) before s h =

@@ -4,8 +4,8 @@ use Rattle.mlt_types.specs.declared.refusal.ScriptCause.{ScriptCause}
 use Rattle.mlt_types.specs.declared.refusal.ScriptCause.TheVariants as cause
 use Rattle.mlt_script.specs.declared.forms.LineForm.{LineForm}
 use Rattle.mlt_script.specs.declared.forms.LineForm.TheVariants.{Begins, Says, Closes}
-use Rattle.mlt_script.specs.declared.line.Reading.{Reading}
-use Rattle.mlt_script.specs.declared.line.Reading.TheVariants.{Bad, Form}
+use Rattle.mlt_script.specs.declared.line.ScriptReading.{ScriptReading}
+use Rattle.mlt_script.specs.declared.line.ScriptReading.TheVariants.{Bad, Form}
 use Rattle.mlt_script_tree.specs.declared.statement.Asking.{Asking}
 use Rattle.mlt_script_tree.specs.declared.statement.Wanted.{Wanted}
 use Rattle.mlt_script_tree.specs.declared.statement.Line.{Line}
@@ -63,7 +63,7 @@ AreSpelled (s ∷ scripts) forms =
     × AreSpelled scripts y
     × (forms ≡ x ++ y)
 
-abbrev pub IsLawful : Reading → Type 0
+abbrev pub IsLawful : ScriptReading → Type 0
 IsLawful (Bad c) = ⊥
 IsLawful r = Unit {0}
 
@@ -72,7 +72,7 @@ abbrev pub AreLawful : List Raw → Type 0
 AreLawful [] = Unit {0}
 AreLawful (raw ∷ raws) = IsLawful (reading raw) × AreLawful raws
 
-abbrev pub form_in : Reading → List LineForm
+abbrev pub form_in : ScriptReading → List LineForm
 form_in (Form form) = form ∷ []
 form_in r = []
 

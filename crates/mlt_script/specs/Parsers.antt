@@ -2,13 +2,13 @@
 use Rattle.std.specs.Prelude.{List, Option, Some, None}
 use Rattle.mlt_script.specs.declared.open_script.OpenScript.{OpenScript}
 use Rattle.mlt_script.specs.declared.parser.Parser.{Parser}
-use Rattle.mlt_script.specs.Scan.{State}
-use Rattle.mlt_script.specs.Scan.State.{Outside, Inside}
+use Rattle.mlt_script.specs.Scan.{ScanState}
+use Rattle.mlt_script.specs.Scan.ScanState.{Outside, Inside}
 use Rattle.mlt_script_tree.specs.Scripts.{ScriptForm, open_of}
 
-abbrev pub state_with : List ScriptForm → Option OpenScript → State
+abbrev pub state_with : List ScriptForm → Option OpenScript → ScanState
 state_with scripts None = Outside scripts
 state_with scripts (Some script) = Inside scripts script.client (open_of script.lines.items)
 
-abbrev pub state_of : Parser → State
+abbrev pub state_of : Parser → ScanState
 state_of parser = state_with parser.scripts.items parser.begun

@@ -3,7 +3,7 @@ use Rattle.std.specs.Prelude.{◌≡◌, ◌<◌, ℕ, List, ◌∷◌, ◌++◌
 use Rattle.mlt_object_kinds.specs.declared.operation.ObjOp.{ObjOp}
 use Rattle.mlt_object_kinds.specs.declared.operation.ObjReply.{ObjReply}
 use Rattle.mlt_script.specs.declared.forms.LineForm.{LineForm}
-use Rattle.mlt_script.specs.declared.line.Reading.TheVariants.{Form}
+use Rattle.mlt_script.specs.declared.line.ScriptReading.TheVariants.{Form}
 use Rattle.mlt_script.specs.Forms.{asking_at, op_at, reply_at}
 use Rattle.mlt_script.specs.Readings.{reading}
 use Rattle.mlt_script_tree.specs.declared.statement.Asking.TheVariants.{Fixed}

@@ -6,8 +6,8 @@ use Rattle.mlt_types.specs.declared.refusal.ScriptCause.{ScriptCause}
 use Rattle.mlt_types.specs.declared.refusal.ScriptCause.TheVariants.{Place, Deep, Long, Unfinished}
 use Rattle.mlt_script.specs.declared.forms.LineForm.{LineForm}
 use Rattle.mlt_script.specs.declared.forms.LineForm.TheVariants.{Begins, Says, Closes}
-use Rattle.mlt_script.specs.declared.line.Reading.{Reading}
-use Rattle.mlt_script.specs.declared.line.Reading.TheVariants.{Bad, Skip, Form}
+use Rattle.mlt_script.specs.declared.line.ScriptReading.{ScriptReading}
+use Rattle.mlt_script.specs.declared.line.ScriptReading.TheVariants.{Bad, Skip, Form}
 use Rattle.mlt_script_tree.specs.declared.statement.Ending.{Ending}
 use Rattle.mlt_script_tree.specs.declared.statement.Line.{Line}
 use Rattle.mlt_script_tree.specs.declared.statement.Line.TheVariants as line
@@ -19,9 +19,9 @@ use Rattle.mlt_script.specs.Readings.{reading}
 use Rattle.mlt_script_tree.specs.Scripts.{ScriptForm, one_more}
 
 -- after these scripts: outside a script, or inside one of this client, up to here
-pub data State : Type 0 where
-  Outside : List ScriptForm → State
-  Inside : List ScriptForm → ℕ → Open → State
+pub data ScanState : Type 0 where
+  Outside : List ScriptForm → ScanState
+  Inside : List ScriptForm → ℕ → Open → ScanState
 
 abbrev pub long_fault : Open → Option ScriptCause
 long_fault o = if nat_lt (path o) 256 then None else Some Long
@@ -41,37 +41,37 @@ line_fault o (line.If a w) = if nat_lt (depth o) 16 then long_fault o else Some 
 line_fault o line.Else = else_fault o
 line_fault o line.End = end_fault o
 
-abbrev pub said : List ScriptForm → ℕ → Open → Option ScriptCause → Result State ScriptCause
+abbrev pub said : List ScriptForm → ℕ → Open → Option ScriptCause → Result ScanState ScriptCause
 said scripts client o None = Ok (Inside scripts client o)
 said scripts client o (Some fault) = Err fault
 
-abbrev pub ended : List ScriptForm → ℕ → Open → Ending → Result State ScriptCause
+abbrev pub ended : List ScriptForm → ℕ → Open → Ending → Result ScanState ScriptCause
 ended scripts client (Top b) e = Ok (Outside (scripts ++ record { client = client; block = b; ending = e } ∷ []))
 ended scripts client o e = Err Place
 
 -- the state after a line of the form, or why it may not stand there
-abbrev pub step : State → LineForm → Result State ScriptCause
+abbrev pub step : ScanState → LineForm → Result ScanState ScriptCause
 step (Outside scripts) (Begins client) = Ok (Inside scripts client (Top Nothing))
 step (Outside scripts) form = Err Place
 step (Inside scripts client o) (Begins other) = Err Place
 step (Inside scripts client o) (Says l) = said scripts client (one_more o l) (line_fault o l)
 step (Inside scripts client o) (Closes e) = ended scripts client o e
 
-abbrev pub advance : State → Reading → Result State ScriptCause
+abbrev pub advance : ScanState → ScriptReading → Result ScanState ScriptCause
 advance state (Bad fault) = Err fault
 advance state Skip = Ok state
 advance state (Form form) = step state form
 
-abbrev pub at_end : State → ℕ → Result (List ScriptForm) (ℕ × ScriptCause)
+abbrev pub at_end : ScanState → ℕ → Result (List ScriptForm) (ℕ × ScriptCause)
 at_end (Outside scripts) n = Ok scripts
 at_end (Inside scripts client o) n = Err (n, Unfinished)
 
-abbrev pub after : Result State ScriptCause → ℕ → (State → Result (List ScriptForm) (ℕ × ScriptCause)) → Result (List ScriptForm) (ℕ × ScriptCause)
+abbrev pub after : Result ScanState ScriptCause → ℕ → (ScanState → Result (List ScriptForm) (ℕ × ScriptCause)) → Result (List ScriptForm) (ℕ × ScriptCause)
 after (Err fault) line next = Err (line, fault)
 after (Ok state) line next = next state
 
 -- the scripts of the lines, or the number of the first faulty line and the cause; n lines stand before
-unfoldable pub scan : State → ℕ → List Raw → Result (List ScriptForm) (ℕ × ScriptCause)
+unfoldable pub scan : ScanState → ℕ → List Raw → Result (List ScriptForm) (ℕ × ScriptCause)
 scan state n [] = at_end state n
 scan state n (raw ∷ raws) = after (advance state (reading raw)) (n + 1) (λ next. scan next (n + 1) raws)
 
@@ -87,7 +87,7 @@ Gives view (Ok found) wanted = wanted ≡ Ok (view found)
 Gives view (Err refusal) wanted = Refuses refusal wanted
 
 -- a function of the program went over the line of this number, into the state after it, or refused
-abbrev pub Advances : Result (Unit {0}) Refusal → ℕ → Result State ScriptCause → State → Type 0
+abbrev pub Advances : Result (Unit {0}) Refusal → ℕ → Result ScanState ScriptCause → ScanState → Type 0
 Advances (Ok done) line wanted after = wanted ≡ Ok after
 Advances (Err OutOfMemory) line wanted after = Unit {0}
 Advances (Err (ScriptFault n fault)) line wanted after = (n ≡ line) × (wanted ≡ Err fault)

@@ -8,12 +8,12 @@ ghost use Rattle.mlt_text_words.specs.Words.{words_of};
 
 use crate::forms::{LineForm, line_form};
 use crate::plain::frame_line;
-use mlt_text_words::{Line, has_word, is_comment_line, read_line};
+use mlt_text_words::{LineText, has_word, is_comment_line, read_line};
 use mlt_types::ScriptCause;
 
 /// What a line is by itself.
 #[derive(Clone, Copy)]
-pub enum Reading {
+pub enum ScriptReading {
     /// A fault, which is Line or Words.
     Bad(ScriptCause),
     /// Blank, or a comment.
@@ -23,37 +23,38 @@ pub enum Reading {
 }
 
 #[tactic(auto, using(crate::proofs::Saying::said_form, crate::proofs::Saying::said_nothing))]
-fn read_words(line: &[u8]) -> Reading
+fn read_words(line: &[u8]) -> ScriptReading
     ensures { result ≡ said_by (words_of line.now) }
 {
     match line_form(line) {
-        Some(form) => Reading::Form(form),
-        None if has_word(line) => Reading::Bad(ScriptCause::Words),
-        None => Reading::Skip,
+        Some(form) => ScriptReading::Form(form),
+        None if has_word(line) => ScriptReading::Bad(ScriptCause::Words),
+        None => ScriptReading::Skip,
     }
 }
 
 // What a line says.
 #[tactic(auto, unfolding(crate::specs::Readings::reading))]
-fn said(line: Line) -> Reading
+fn said(line: LineText) -> ScriptReading
     ensures { (raw : Raw) → Tells line.entry raw → result ≡ reading raw }
 {
     match line {
-        Line::Faulty(bytes) | Line::Allowed(bytes, _) if is_comment_line(bytes) => Reading::Skip,
-        Line::Allowed(bytes, _) => read_words(bytes),
-        Line::TooLong | Line::Faulty(_) => Reading::Bad(ScriptCause::Line),
+        LineText::Faulty(bytes) | LineText::Allowed(bytes, _) if is_comment_line(bytes) =>
+            ScriptReading::Skip,
+        LineText::Allowed(bytes, _) => read_words(bytes),
+        LineText::TooLong | LineText::Faulty(_) => ScriptReading::Bad(ScriptCause::Line),
     }
 }
 
 /// What the first line of a text is, and the text after it. A plain operation is read faster by `op_line`.
-pub fn read_first(text: &[u8]) -> (Reading, &[u8])
+pub fn read_first(text: &[u8]) -> (ScriptReading, &[u8])
     requires { 0 < length text.now }
     ensures first { (raw : Raw) × (lines text.now ≡ raw ∷ lines result.1.now)
         × (result.0 ≡ reading raw) }
     ensures less { length result.1.now < length text.now }
 {
     if let Some((form, rest)) = frame_line(text) {
-        return (Reading::Form(form), rest);
+        return (ScriptReading::Form(form), rest);
     }
     let (line, rest) = read_line(text);
     (said(line), rest)

@@ -6,11 +6,11 @@ ghost use Rattle.mlt_script.specs.Grammar.{Spells, IsFirstFault, IsDecided};
 ghost use Rattle.mlt_text_words.specs.Lines.{lines};
 ghost use Rattle.mlt_script.specs.Readings.{IsReading};
 ghost use Rattle.mlt_script.specs.Scan.{scan, step, ended, advance, at_end, Gives, Advances};
-ghost use Rattle.mlt_script.specs.Scan.State.{Outside, Inside};
+ghost use Rattle.mlt_script.specs.Scan.ScanState.{Outside, Inside};
 ghost use Rattle.mlt_script_tree.specs.Scripts.{ScriptForm, open_of};
 
 use crate::forms::LineForm;
-use crate::line::{Reading, read_first};
+use crate::line::{ScriptReading, read_first};
 use crate::open_script::{OpenScript, give_back};
 use crate::plain::op_line;
 use mlt_script_tree::{Asking, Ending, Line, Script, Statement};
@@ -47,7 +47,7 @@ impl Parser {
 
     /// Goes over a line outside a script.
     fn begin(&mut self, alloc: Global, line: u64, form: LineForm) -> Result<(), Refusal>
-        requires { IsReading (Reading.Form form) }
+        requires { IsReading (ScriptReading.Form form) }
         ensures { Advances result line (step (Outside self.old.scripts.items) form)
             (state_of self.new) }
     {
@@ -120,7 +120,7 @@ impl Parser {
 
     /// Goes over a line of a form.
     fn step(&mut self, alloc: Global, line: u64, form: LineForm) -> Result<(), Refusal>
-        requires { IsReading (Reading.Form form) }
+        requires { IsReading (ScriptReading.Form form) }
         ensures { Advances result line (step (state_of self.old) form) (state_of self.new) }
     {
         if let LineForm::Says(Line::Plain(statement)) = form {
@@ -133,14 +133,14 @@ impl Parser {
     }
 
     /// Goes over a line.
-    fn read(&mut self, alloc: Global, line: u64, reading: Reading) -> Result<(), Refusal>
+    fn read(&mut self, alloc: Global, line: u64, reading: ScriptReading) -> Result<(), Refusal>
         requires { IsReading reading }
         ensures { Advances result line (advance (state_of self.old) reading) (state_of self.new) }
     {
         match reading {
-            Reading::Bad(cause) => Err(Refusal::ScriptFault { line, cause }),
-            Reading::Skip => Ok(()),
-            Reading::Form(form) => self.step(alloc, line, form),
+            ScriptReading::Bad(cause) => Err(Refusal::ScriptFault { line, cause }),
+            ScriptReading::Skip => Ok(()),
+            ScriptReading::Form(form) => self.step(alloc, line, form),
         }
     }
 

@@ -4,8 +4,8 @@ use Rattle.std.specs.List.{list_all}
 use Rattle.std.proofs.lemmas.List.{append-nil, map-append}
 use Rattle.mlt_script.specs.declared.forms.LineForm.{LineForm}
 use Rattle.mlt_script.specs.declared.forms.LineForm.TheVariants.{Begins, Says, Closes}
-use Rattle.mlt_script.specs.declared.line.Reading.{Reading}
-use Rattle.mlt_script.specs.declared.line.Reading.TheVariants.{Form}
+use Rattle.mlt_script.specs.declared.line.ScriptReading.{ScriptReading}
+use Rattle.mlt_script.specs.declared.line.ScriptReading.TheVariants.{Form}
 use Rattle.mlt_script_tree.specs.declared.statement.Line.{Line}
 use Rattle.mlt_script_tree.specs.declared.statement.Line.TheVariants as line
 use Rattle.mlt_script_print.specs.Again.{IsReadAs, IsReadAgain, AreReadAgain, second_lines, written, forms_of_script, IsScriptAgain, AreScriptsAgain}
@@ -27,7 +27,7 @@ pub reads_line : (t : List ℕ) (form : LineForm) → reading record { bytes = t
 reads_line t form e h = λ rest.
     let raw : Raw = record { bytes = t; ended = true } in
     let c : lines (as_line t ++ rest) ≡ raw ∷ lines rest = ap lines (append_assoc t (10 ∷ []) rest) ∙ line_cut t rest h in
-    (λ lawful. subst AreLawful (sym c) (subst IsLawful (sym e) tt, lawful), ap forms_of c ∙ ap (λ (r : Reading). form_in r ++ forms_of (lines rest)) e)
+    (λ lawful. subst AreLawful (sym c) (subst IsLawful (sym e) tt, lawful), ap forms_of c ∙ ap (λ (r : ScriptReading). form_in r ++ forms_of (lines rest)) e)
 
 pub reads_both : (t u : List ℕ) (fs gs : List LineForm) → IsReadAs t fs → IsReadAs u gs → IsReadAs (t ++ u) (fs ++ gs)
 reads_both t u fs gs h k = λ rest.

@@ -17,7 +17,7 @@ use Rattle.mlt_text_words.specs.declared.keyword.Keyword.{Keyword}
 use Rattle.mlt_text_words.specs.declared.keyword.Keyword.TheVariants as key
 use Rattle.mlt_text_words.specs.declared.keyword.Word.{Word}
 use Rattle.mlt_text_words.specs.declared.keyword.Word.TheVariants.{Key, Variable, Number}
-use Rattle.mlt_script.specs.declared.line.Reading.TheVariants.{Form}
+use Rattle.mlt_script.specs.declared.line.ScriptReading.TheVariants.{Form}
 use Rattle.mlt_text_words.specs.declared.letter.Letter.{Letter}
 use Rattle.mlt_script_tree.specs.declared.statement.AmountOp.{AmountOp}
 use Rattle.mlt_script_tree.specs.declared.statement.AmountOp.TheVariants as amount

@@ -12,7 +12,7 @@ use Rattle.mlt_types.specs.declared.refusal.Refusal.{Refusal}
 use Rattle.mlt_script_serial.specs.declared.outcome.End.{End}
 use Rattle.mlt_script_serial.specs.declared.outcome.End.TheVariants.{Committed, Aborted, Refused}
 use Rattle.mlt_script_serial.specs.declared.outcome.Outcome.{Outcome}
-use Rattle.mlt_script_serial.specs.Serial.{IsScriptRun, AreRuns, mark_of, mark_of_end, story_of}
+use Rattle.mlt_script_serial.specs.Serial.{IsScriptRun, AreRuns, mark_of, mark_of_end, answers_of}
 use Rattle.mlt_script_cursor.proofs.Transcripts.{reaches_front}
 use Rattle.mlt_script_cursor.specs.Follows.Questions.{Ends, Asks}
 
@@ -96,7 +96,7 @@ one_run s b c d n k j t u (Refused p) (Refused q) m h g =
 
 -- One list of scripts, one base and one list of marks have one run.
 pub one_serial_run : (ss : List ScriptForm) (b c d : Base) (n k j : ℕ) (os ps : List Outcome) → map mark_of os ≡ map mark_of ps → AreRuns ss b n os c k → AreRuns ss b n ps d j
-    → (map story_of os ≡ map story_of ps) × (c ≡ d)
+    → (map answers_of os ≡ map answers_of ps) × (c ≡ d)
 one_serial_run [] b c d n k j [] [] m h g = (refl, sym h.0 ∙ g.0)
 one_serial_run [] b c d n k j [] (p ∷ ps) m h g = absurd g
 one_serial_run [] b c d n k j (o ∷ os) ps m h g = absurd h
@@ -108,6 +108,6 @@ one_serial_run (s ∷ ss) b c d n k j (o ∷ os) (p ∷ ps) m h g =
     let one = one_run s b h.0 g.0 n h.1 g.1 o.done p.done o.end p.end first h.2 g.2 in
     let g' : AreRuns ss h.0 h.1 ps d j = subst (λ (z : Base). AreRuns ss z h.1 ps d j) (sym one.2) (subst (λ (z : ℕ). AreRuns ss g.0 z ps d j) (sym one.3) g.3) in
     let rest = one_serial_run ss h.0 c d h.1 k j os ps later h.3 g' in
-    let story : story_of o ≡ story_of p = λ i. (one.0 i, one.1 i) in
-    let stories : story_of o ∷ map story_of os ≡ story_of p ∷ map story_of ps = λ i. story i ∷ rest.0 i in
-    (stories, rest.1)
+    let answered_one : answers_of o ≡ answers_of p = λ i. (one.0 i, one.1 i) in
+    let answered : answers_of o ∷ map answers_of os ≡ answers_of p ∷ map answers_of ps = λ i. answered_one i ∷ rest.0 i in
+    (answered, rest.1)

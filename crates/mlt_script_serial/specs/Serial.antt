@@ -64,8 +64,8 @@ commits_after n (Committed number) = number
 commits_after n end = n
 
 -- what is told of an outcome: what was done, and how it ended
-abbrev pub story_of : Outcome → Transcript × End
-story_of o = (o.done, o.end)
+abbrev pub answers_of : Outcome → Transcript × End
+answers_of o = (o.done, o.end)
 
 -- no transaction has a number, since none was begun by a manager
 abbrev pub AreWithoutTx : List Outcome → Type 0

@@ -11,8 +11,8 @@ use Rattle.mlt_object_base.specs.BaseText.{base_text}
 use Rattle.mlt_script_serial.specs.declared.outcome.End.{End}
 use Rattle.mlt_script_serial.specs.declared.outcome.End.TheVariants.{Committed, Aborted, Refused}
 use Rattle.mlt_script_serial.specs.declared.outcome.Outcome.{Outcome}
-use Rattle.mlt_script_serial.specs.declared.report.Form.{Form}
-use Rattle.mlt_script_serial.specs.declared.report.Form.TheVariants.{Solo, Run}
+use Rattle.mlt_script_serial.specs.declared.report.ReportForm.{ReportForm}
+use Rattle.mlt_script_serial.specs.declared.report.ReportForm.TheVariants.{Solo, Run}
 
 -- a text and the LF that ends it
 abbrev pub line : List ℕ → List ℕ
@@ -40,6 +40,6 @@ abbrev pub script_line : Outcome → List ℕ
 script_line o = line (with_number (with_number (codes "client") o.client ++ 32 ∷ codes "script") o.number)
 
 -- the outcomes alone, or each behind its script's line and then the base
-abbrev pub report_text : Form → List Outcome → Base → List ℕ
+abbrev pub report_text : ReportForm → List Outcome → Base → List ℕ
 report_text Solo outcomes base = flat_map outcome_text outcomes
 report_text Run outcomes base = flat_map (λ o. script_line o ++ outcome_text o) outcomes ++ base_text base

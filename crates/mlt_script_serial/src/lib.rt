@@ -7,5 +7,5 @@ mod report;
 mod run;
 
 pub use outcome::{End, Outcome, Outcomes, Transcript};
-pub use report::{Form, Report, push_reply, write_outcomes, write_report};
+pub use report::{Report, ReportForm, push_reply, write_outcomes, write_report};
 pub use run::{scripts_and_marks_fix_the_run, serial, serial_with_marks};

@@ -28,7 +28,7 @@ pub struct Report {
 
 /// Which text a report has.
 #[derive(Clone, Copy, Debug, PartialEq, Eq)]
-pub enum Form {
+pub enum ReportForm {
     /// The outcomes alone.
     Solo,
     /// Each outcome behind a line that names its script, and then the base.
@@ -101,15 +101,15 @@ fn run_text(alloc: Global, outcomes: &[Outcome]) -> Result<Vec<u8>, AllocError>
     Ok(text)
 }
 
-fn text_of(alloc: Global, report: &Report, form: Form) -> Result<Vec<u8>, Refusal>
+fn text_of(alloc: Global, report: &Report, form: ReportForm) -> Result<Vec<u8>, Refusal>
     ensures text { IfOk result
         (λ text. text.items ≡ report_text form report.now.outcomes report.now.base) }
     ensures refusal { IsOkUnless result Refusal.OutOfMemory }
 {
     let outcomes = report.outcomes.as_slice();
     match form {
-        Form::Solo => Ok(solo_text(alloc, outcomes)?),
-        Form::Run => {
+        ReportForm::Solo => Ok(solo_text(alloc, outcomes)?),
+        ReportForm::Run => {
             let mut text = run_text(alloc, outcomes)?;
             // A vector fails to take bytes only where a growth was refused.
             write_base(&report.base, &mut text).map_err(|_| Refusal::OutOfMemory)?;
@@ -126,7 +126,7 @@ fn text_of(alloc: Global, report: &Report, form: Form) -> Result<Vec<u8>, Refusa
 pub fn write_report<W: Write>(
     alloc: Global,
     report: &Report,
-    form: Form,
+    form: ReportForm,
     writer: &mut W,
 ) -> Result<(), Refusal>
     ensures ok { OnOk result

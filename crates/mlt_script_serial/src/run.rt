@@ -5,7 +5,7 @@ ghost use Rattle.mlt_types.specs.declared.refusal.Refusal.{Refusal as RefusalFor
 ghost use Rattle.mlt_object_kinds.specs.Bases.{Base as ObjectBase};
 ghost use Rattle.mlt_script_cursor.specs.Follows.{AsksAtMost, questions_of_script};
 ghost use Rattle.mlt_script_tree.specs.Scripts.{ScriptForm};
-ghost use Rattle.mlt_script_serial.specs.Serial.{AreMarksOf, AreNumbered, AreWithoutTx, IsScriptRun, IsSerialRun, commits_after, mark_of, story_of, unmarked};
+ghost use Rattle.mlt_script_serial.specs.Serial.{AreMarksOf, AreNumbered, AreWithoutTx, IsScriptRun, IsSerialRun, commits_after, mark_of, answers_of, unmarked};
 ghost use Rattle.mlt_script_serial.specs.declared.outcome.Outcome.{Outcome as OutcomeForm};
 
 use crate::base_desk::BaseDesk;
@@ -166,5 +166,5 @@ pub fn scripts_and_marks_fix_the_run()
     ensures { (scripts : List ScriptForm) (marks : List (Option (ℕ × RefusalForm)))
         (one other : List OutcomeForm) (reached last : ObjectBase)
         → IsSerialRun scripts marks one reached → IsSerialRun scripts marks other last
-        → (map story_of one ≡ map story_of other) × (reached ≡ last) }
+        → (map answers_of one ≡ map answers_of other) × (reached ≡ last) }
 {}

@@ -1,13 +1,13 @@
 //! Runs one after another, and texts of reports.
 
 use mlt_script::parse;
-use mlt_script_serial::{Form, serial, write_report};
+use mlt_script_serial::{ReportForm, serial, write_report};
 use mlt_test_tools::same_at;
 use std::alloc::Global;
 use std::test::Fail;
 
 // The report of each text of scripts has this text.
-fn are_reported(alloc: Global, form: Form, table: &[(&[u8], &str)]) -> Result<(), Fail> {
+fn are_reported(alloc: Global, form: ReportForm, table: &[(&[u8], &str)]) -> Result<(), Fail> {
     for (text, wanted) in table {
         let scripts = parse(alloc, text)?;
         let report = serial(alloc, &scripts)?;
@@ -59,5 +59,5 @@ client 3 script 2\nnotempty\naborted\naccount 1 5\n",
 
 #[test]
 fn scripts_run_in_order(rt: HostRuntime) -> Result<(), Fail> {
-    are_reported(rt.alloc(), Form::Run, BY_CLIENT)
+    are_reported(rt.alloc(), ReportForm::Run, BY_CLIENT)
 }

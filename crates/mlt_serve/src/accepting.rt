@@ -6,7 +6,7 @@ ghost use Rattle.mlt_serve.specs.Endings.{result_of_accepting};
 use crate::door::Door;
 use crate::tuning::ACCEPT_PAUSE_MILLISECONDS;
 use crossbeam_channel::Sender;
-use mlt_serve_notes::{Ended, Note, Notes};
+use mlt_serve_notes::{ListenerEnd, Note, Notes};
 use mlt_serve_socket::Accepted;
 use mlt_types::Refusal;
 use std::alloc::Global;
@@ -95,7 +95,7 @@ impl<'a, R: Wait + Clock> Acceptor<'a, R> {
     ///
     /// # Errors
     /// Why there is none.
-    fn next(&mut self) -> Result<TcpStream, Ended> {
+    fn next(&mut self) -> Result<TcpStream, ListenerEnd> {
         for _ in self.rt.forever() {
             let accepted = self.door.accept();
             if let Some(ended) = self.ended() {
@@ -110,18 +110,18 @@ impl<'a, R: Wait + Clock> Acceptor<'a, R> {
                 }
                 Accepted::Again(error) => self.try_again(false, Note::AcceptFailed(error)),
                 Accepted::Pause(error) => self.try_again(true, Note::AcceptPauses(error)),
-                Accepted::Failed(error) => return Err(Ended::Accept(error)),
+                Accepted::Failed(error) => return Err(ListenerEnd::Accept(error)),
             }
         }
         unreachable!()
     }
 
     /// Why nobody is to be let in any more, if so.
-    fn ended(&self) -> Option<Ended> {
+    fn ended(&self) -> Option<ListenerEnd> {
         if self.door.stops() {
-            Some(Ended::Stop)
+            Some(ListenerEnd::Stop)
         } else if self.door.is_short() {
-            Some(Ended::Memory)
+            Some(ListenerEnd::Memory)
         } else {
             None
         }
@@ -159,7 +159,11 @@ impl<'a, R: Wait + Clock> Acceptor<'a, R> {
     }
 
     /// Accepts as many as the limit says, and sends each on as it comes.
-    fn accept_all(&mut self, connections: &Sender<Connection, Global>, limit: u32) -> (u32, Ended)
+    fn accept_all(
+        &mut self,
+        connections: &Sender<Connection, Global>,
+        limit: u32,
+    ) -> (u32, ListenerEnd)
         ensures { result.0 ≤ limit }
     {
         for before in 0..limit {
@@ -171,11 +175,11 @@ impl<'a, R: Wait + Clock> Acceptor<'a, R> {
             self.door.count_accepted();
             let sent = connections.send(self.rt, Connection { client, stream });
             if sent.is_err() {
-                return (before, Ended::Memory);
+                return (before, ListenerEnd::Memory);
             }
             self.warn(client, limit);
         }
-        (limit, Ended::Limit(limit))
+        (limit, ListenerEnd::Limit(limit))
     }
 
     /// Tells once nine in ten of the connections are taken.
@@ -225,11 +229,11 @@ pub(crate) fn accept_all<R: Wait + Clock>(
     }
 }
 
-fn end_of(ended: &Ended) -> AcceptEnd {
+fn end_of(ended: &ListenerEnd) -> AcceptEnd {
     match ended {
-        Ended::Limit(_) => AcceptEnd::Limit,
-        Ended::Stop => AcceptEnd::Stop,
-        Ended::Accept(_) => AcceptEnd::Failed,
-        Ended::Memory => AcceptEnd::Short,
+        ListenerEnd::Limit(_) => AcceptEnd::Limit,
+        ListenerEnd::Stop => AcceptEnd::Stop,
+        ListenerEnd::Accept(_) => AcceptEnd::Failed,
+        ListenerEnd::Memory => AcceptEnd::Short,
     }
 }

@@ -5,15 +5,15 @@ use std::time::{Clock, Duration};
 
 /// Whether there is nothing left to do.
 #[derive(Drop)]
-pub(crate) struct Ending {
+pub(crate) struct DoneSignal {
     is_over: Mutex<bool>,
     condvar: Condvar,
 }
 
-impl Ending {
+impl DoneSignal {
     /// There is.
-    pub(crate) fn new() -> Ending {
-        Ending {
+    pub(crate) fn new() -> DoneSignal {
+        DoneSignal {
             is_over: Mutex::new(false),
             condvar: Condvar::new(),
         }

@@ -47,7 +47,7 @@ fn served_of<P: Pseudo + Drop>(
     requires clients { ended.gathered.is_short ≡ false
         → AreOfClients ended.gathered.last ended.gathered.outcomes.told.outcomes }
     requires told { ended.gathered.is_short ≡ false
-        → TellsOutcomes ended.manager.commons.history.items
+        → TellsOutcomes ended.manager.shared.history.items
         ended.gathered.outcomes.told.outcomes }
     ensures manager { IfOk result (λ got. got.manager ≡ ended.manager) }
     ensures begun { IfOk result
@@ -57,7 +57,7 @@ fn served_of<P: Pseudo + Drop>(
     ensures clients { IfOk result
         (λ got. AreOfClients got.connections got.tally.told.outcomes) }
     ensures told { IfOk result
-        (λ got. TellsOutcomes got.manager.commons.history.items got.tally.told.outcomes) }
+        (λ got. TellsOutcomes got.manager.shared.history.items got.tally.told.outcomes) }
     ensures few { IfOk result (λ got. got.connections ≤ limit) }
     ensures refusal { IfErr result (λ refusal.
         (refusal ≡ Refusal.Io) ⊎ (refusal ≡ Refusal.OutOfMemory) ⊎ (refusal ≡ Refusal.Audit)) }
@@ -121,7 +121,7 @@ where
     // the history of the manager tells all that is in an outcome: that the transaction has begun, each of its operations with its
     // reply, and its commit
     ensures told { IfOk result
-        (λ got. TellsOutcomes got.manager.commons.history.items got.tally.told.outcomes) }
+        (λ got. TellsOutcomes got.manager.shared.history.items got.tally.told.outcomes) }
     // each outcome was that of one of the connections, which are no more than the options say
     ensures clients { IfOk result
         (λ got. AreOfClients got.connections got.tally.told.outcomes) }

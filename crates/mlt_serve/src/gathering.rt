@@ -95,9 +95,9 @@ impl<K: Receipts + Drop> Gathered<K> {
             → AreOfClients self.new.last (K.receipts self.new.outcomes) }
         ensures manager { desks.new.state.manager ≡ desks.old.state.manager }
         ensures told { self.new.is_short ≡ false
-            → TellsOutcomes desks.old.state.manager.commons.history.items
+            → TellsOutcomes desks.old.state.manager.shared.history.items
             (K.receipts self.old.outcomes)
-            → TellsOutcomes desks.old.state.manager.commons.history.items
+            → TellsOutcomes desks.old.state.manager.shared.history.items
             (K.receipts self.new.outcomes) }
         ensures short { self.new.is_short ≡ false
             → (self.old.is_short ≡ false) × (thread.is_short ≡ false) }
@@ -140,7 +140,7 @@ pub(crate) fn gather<P: Pseudo, L: MadeWith<P>, K: Receipts + Drop>(
         → AreOfClients result.last (K.receipts result.outcomes) }
     ensures manager { desks.new.state.manager ≡ desks.old.state.manager }
     ensures told { result.is_short ≡ false
-        → TellsOutcomes desks.old.state.manager.commons.history.items
+        → TellsOutcomes desks.old.state.manager.shared.history.items
         (K.receipts result.outcomes) }
     ensures short { result.is_short ≡ false → AllHaveMemory threads.items }
 {

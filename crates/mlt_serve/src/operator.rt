@@ -1,11 +1,13 @@
 //! What an operator sees and does.
 
 use crate::service::Service;
-use mlt_serve_admin::{Awaited, Counts, Operated, SessionView, TransactionView, View, WaitView};
+use mlt_serve_admin::{
+    Counts, Operated, ServerView, SessionView, TransactionView, WaitReason, WaitView,
+};
 use mlt_serve_notes::Cut;
 use mlt_serve_seats::{OpenTransaction, SessionState};
 use mlt_types::{Pseudo, TxId};
-use mlt_work_desk::{Look, MadeWith};
+use mlt_work_desk::{DeskStatistics, MadeWith};
 use mlt_work_waits::Waiting;
 use std::alloc::{AllocError, Global};
 use std::sync::Wait;
@@ -38,7 +40,7 @@ impl<'a, 'b, 'c, P: Pseudo, L: MadeWith<P>, R: Wait + Clock> Operator<'a, 'b, 'c
         }
     }
 
-    fn counts(&self, look: &Look, sessions: usize, now: Option<Instant>) -> Counts {
+    fn counts(&self, statistics: &DeskStatistics, sessions: usize, now: Option<Instant>) -> Counts {
         let Service {
             options,
             door,
@@ -61,19 +63,19 @@ impl<'a, 'b, 'c, P: Pseudo, L: MadeWith<P>, R: Wait + Clock> Operator<'a, 'b, 'c
             aborts: totals.aborts,
             gave_up: totals.gave_up,
             deadlocks: totals.deadlocks,
-            events: look.events,
-            items: look.items as u64,
-            bytes: self.bytes_kept(look, totals.ended(), totals.operations),
-            pages: look.pages as u64,
+            events: statistics.events,
+            items: statistics.items as u64,
+            bytes: self.bytes_kept(statistics, totals.ended(), totals.operations),
+            pages: statistics.pages as u64,
             most_pages: u64::from(options.limits.max_pages),
-            depth: u64::from(look.depth),
+            depth: u64::from(statistics.depth),
             is_stopping: door.stops(),
         }
     }
 
     /// How many bytes are kept of the history, and of the outcomes of so many transactions, of so many operations, if these are.
-    fn bytes_kept(&self, look: &Look, outcomes: u64, operations: u64) -> u64 {
-        let items = look.items as u64;
+    fn bytes_kept(&self, statistics: &DeskStatistics, outcomes: u64, operations: u64) -> u64 {
+        let items = statistics.items as u64;
         if self.service.is_endless {
             bytes_kept(items, 0, 0)
         } else {
@@ -83,27 +85,27 @@ impl<'a, 'b, 'c, P: Pseudo, L: MadeWith<P>, R: Wait + Clock> Operator<'a, 'b, 'c
 }
 
 impl<P: Pseudo, L: MadeWith<P>, R: Wait + Clock> Operated for Operator<'_, '_, '_, P, L, R> {
-    fn view(&self, alloc: Global) -> Result<View, AllocError> {
+    fn view(&self, alloc: Global) -> Result<ServerView, AllocError> {
         let now = Instant::now(self.rt).ok();
-        let look = self.service.shared.look(self.rt);
+        let statistics = self.service.shared.statistics(self.rt);
         let states = self.service.seats.states(self.rt, alloc)?;
         let mut sessions = Vec::new(alloc);
         for state in &states {
             sessions.push(session_view(alloc, state, now)?)?;
         }
         let mut waits = Vec::new(alloc);
-        for wait in &look.for_objects {
+        for wait in &statistics.for_objects {
             let awaited = match wait.timestamp {
-                Some(_) => Awaited::Object,
-                None => Awaited::Turn,
+                Some(_) => WaitReason::Object,
+                None => WaitReason::Turn,
             };
             waits.push(wait_view(wait, awaited, &states, now))?;
         }
-        for wait in &look.for_pages {
-            waits.push(wait_view(wait, Awaited::Page, &states, now))?;
+        for wait in &statistics.for_pages {
+            waits.push(wait_view(wait, WaitReason::Page, &states, now))?;
         }
-        Ok(View {
-            counts: self.counts(&look, states.len(), now),
+        Ok(ServerView {
+            counts: self.counts(&statistics, states.len(), now),
             sessions,
             waits,
         })
@@ -155,7 +157,7 @@ fn transaction_view(
 
 fn wait_view(
     wait: &Waiting,
-    awaited: Awaited,
+    awaited: WaitReason,
     states: &[SessionState],
     now: Option<Instant>,
 ) -> WaitView {

@@ -54,9 +54,9 @@ pub(crate) fn outcomes_of<P: Pseudo>(
     limit: u32,
     manager: &Manager<P>,
 ) -> Result<Outcomes, Refusal>
-    requires { manager.now.commons.history.handed ≡ [] }
+    requires { manager.now.shared.history.handed ≡ [] }
     ensures same { IfOk result (λ outcomes. IsPermutation gathered.outcomes.items outcomes) }
-    ensures agrees { IfOk result (λ outcomes. Agrees outcomes manager.now.commons.history.items) }
+    ensures agrees { IfOk result (λ outcomes. Agrees outcomes manager.now.shared.history.items) }
     ensures clients { IfOk result (λ outcomes. AreOfClients accepting.connections outcomes) }
     ensures order { IfOk result (λ outcomes. AreByClientAndNumber outcomes) }
     ensures few { IfOk result (λ _. accepting.connections ≤ limit) }

@@ -93,12 +93,12 @@ where
     requires most { options.now.sessions ≤ 64 }
     ensures made { IfOk result (λ ended. IsMadeWith ended.manager options.now.limits pseudo) }
     ensures history { L.hands_out ≡ false
-        → IfOk result (λ ended. ended.manager.commons.history.handed ≡ []) }
+        → IfOk result (λ ended. ended.manager.shared.history.handed ≡ []) }
     ensures events { IfOk result (λ ended. ended.manager.events ≡ ended.gathered.events) }
     ensures clients { IfOk result (λ ended. ended.gathered.is_short ≡ false
         → AreOfClients ended.gathered.last (K.receipts ended.gathered.outcomes)) }
     ensures told { IfOk result (λ ended. ended.gathered.is_short ≡ false
-        → TellsOutcomes ended.manager.commons.history.items
+        → TellsOutcomes ended.manager.shared.history.items
         (K.receipts ended.gathered.outcomes)) }
     ensures refusal { IsOkUnless result Refusal.OutOfMemory }
 {
@@ -154,10 +154,10 @@ fn served_of<P: Pseudo + Drop>(
     ended: Ended<P, Vec<Outcome>>,
     limit: u32,
 ) -> Result<Served<P>, Refusal>
-    requires { ended.manager.commons.history.handed ≡ [] }
+    requires { ended.manager.shared.history.handed ≡ [] }
     ensures manager { IfOk result (λ got. got.manager ≡ ended.manager) }
     ensures outcomes { IfOk result
-        (λ got. Agrees got.outcomes got.manager.commons.history.items) }
+        (λ got. Agrees got.outcomes got.manager.shared.history.items) }
     ensures clients { IfOk result (λ got. AreOfClients got.connections got.outcomes) }
     ensures few { IfOk result (λ got. got.connections ≤ limit) }
     ensures order { IfOk result (λ got. AreByClientAndNumber got.outcomes) }
@@ -221,10 +221,10 @@ where
     // the manager has these limits and this function from keys to pseudokeys
     ensures made { IfOk result (λ got. IsMadeWith got.manager options.now.limits pseudo) }
     // all of its history is there
-    ensures history { IfOk result (λ got. got.manager.commons.history.handed ≡ []) }
+    ensures history { IfOk result (λ got. got.manager.shared.history.handed ≡ []) }
     // what clients were told is what the manager has done
     ensures outcomes { IfOk result
-        (λ got. Agrees got.outcomes got.manager.commons.history.items) }
+        (λ got. Agrees got.outcomes got.manager.shared.history.items) }
     // each outcome is that of one of the connections, which are no more than the options say
     ensures clients { IfOk result (λ got. AreOfClients got.connections got.outcomes) }
     ensures few { IfOk result (λ got. got.connections ≤ options.now.connections) }

@@ -1,6 +1,6 @@
 //! What a thread looks after while sessions are served: that none holds others up for ever, and that a server which is to stop does.
 
-use crate::ending::Ending;
+use crate::ending::DoneSignal;
 use crate::operating::EndSignal;
 use crate::service::Service;
 use crate::tuning::{LOOK_MILLISECONDS, LOOKS_FOR_THREADS, STOP_SECONDS};
@@ -30,7 +30,7 @@ struct Supervisor<'a, 'b, 'c, P: Pseudo, L: MadeWith<P>, R: Wait + Clock> {
 pub(crate) fn supervise<P: Pseudo, L: MadeWith<P>, R: Wait + Clock, S: EndSignal + Drop>(
     rt: &R,
     service: &Service<'_, P, L>,
-    ending: &Ending,
+    ending: &DoneSignal,
     mut signal: S,
 ) {
     let mut supervisor = Supervisor {
@@ -71,7 +71,7 @@ impl<P: Pseudo, L: MadeWith<P>, R: Wait + Clock> Supervisor<'_, '_, '_, P, L, R>
     fn look_after_sessions(&self) {
         for seat in self.service.seats.all() {
             if let Some(tx) = seat.look_after(self.rt, &self.patience) {
-                self.service.shared.rouse(self.rt, tx);
+                self.service.shared.wake_waiter(self.rt, tx);
             }
         }
     }
@@ -122,7 +122,7 @@ impl<P: Pseudo, L: MadeWith<P>, R: Wait + Clock> Supervisor<'_, '_, '_, P, L, R>
             self.has_told_numbers = true;
             self.tell(Note::FewNumbersLeft(begun, most));
         }
-        let pages = self.service.shared.look(self.rt).pages as u64;
+        let pages = self.service.shared.statistics(self.rt).pages as u64;
         let most = u64::from(self.service.options.limits.max_pages);
         if !self.has_told_pages && is_nearly(pages, most) {
             self.has_told_pages = true;

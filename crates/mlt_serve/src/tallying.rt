@@ -27,7 +27,7 @@ pub(crate) fn tally_of<P: Pseudo>(
     requires clients { gathered.is_short ≡ false
         → AreOfClients gathered.last gathered.outcomes.told.outcomes }
     requires told { gathered.is_short ≡ false
-        → TellsOutcomes manager.now.commons.history.items gathered.outcomes.told.outcomes }
+        → TellsOutcomes manager.now.shared.history.items gathered.outcomes.told.outcomes }
     ensures same { IfOk result (λ tally. tally ≡ gathered.outcomes) }
     ensures begun { IfOk result (λ tally. length tally.told.outcomes ≡ manager.now.begun) }
     ensures commits { IfOk result
@@ -35,7 +35,7 @@ pub(crate) fn tally_of<P: Pseudo>(
     ensures clients { IfOk result
         (λ tally. AreOfClients accepting.connections tally.told.outcomes) }
     ensures told { IfOk result
-        (λ tally. TellsOutcomes manager.now.commons.history.items tally.told.outcomes) }
+        (λ tally. TellsOutcomes manager.now.shared.history.items tally.told.outcomes) }
     ensures few { IfOk result (λ _. accepting.connections ≤ limit) }
     ensures served { IfOk result (λ _. gathered.connections ≡ accepting.connections) }
     ensures early { IfErr (result_of_accepting accepting.end) (λ refusal. result ≡ Err refusal) }

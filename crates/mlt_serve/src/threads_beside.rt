@@ -3,7 +3,7 @@
 ghost use Rattle.std.specs.Prelude.{◌≡◌, ◌<◌, length};
 
 use crate::accepting::Accepting;
-use crate::ending::Ending;
+use crate::ending::DoneSignal;
 use crate::operating::{Admin, EndSignal, Operating, TraceFile};
 use crate::operator::Operator;
 use crate::service::Service;
@@ -106,7 +106,7 @@ where
     S: EndSignal + Send + Drop,
     requires { 0 < length threads.old }
 {
-    let watch_ending = Ending::new();
+    let watch_ending = DoneSignal::new();
     let ending = &watch_ending;
     thread::scope(
         thread::scope_env(),
@@ -153,7 +153,7 @@ where
     let Ok(next) = room_for_items(alloc) else {
         return Ran::none();
     };
-    let trace_ending = Ending::new();
+    let trace_ending = DoneSignal::new();
     let ending = &trace_ending;
     thread::scope(
         thread::scope_env(),

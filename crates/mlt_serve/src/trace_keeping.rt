@@ -3,7 +3,7 @@
 ghost use Rattle.std.specs.Prelude.{◌≡◌, ◌≤◌, ◌<◌, true, IfOk, length, take};
 ghost use Rattle.mlt_trace_live.specs.Lines.{AddsLines};
 
-use crate::ending::Ending;
+use crate::ending::DoneSignal;
 use crate::operating::TraceFile;
 use crate::service::Service;
 use crate::tuning::{ITEMS_PER_HOLD, LEAST_PAUSE_MILLISECONDS, LOOK_MILLISECONDS, MANY_ITEMS};
@@ -105,7 +105,7 @@ impl<'a, P: Pseudo, L: MadeWith<P>, T: TraceFile + Drop> TraceKeeper<'a, P, L, T
         mut self,
         rt: &R,
         notes: &Notes,
-        ending: &Ending,
+        ending: &DoneSignal,
     ) -> Option<io::Error> {
         let mut pause = LOOK_MILLISECONDS;
         for _ in rt.forever() {
@@ -210,7 +210,7 @@ pub(crate) fn keep_trace<P: Pseudo, L: MadeWith<P>, R: Wait + Clock, T: TraceFil
     service: &Service<'_, P, L>,
     file: Option<T>,
     next: Vec<KeptItem>,
-    ending: &Ending,
+    ending: &DoneSignal,
 ) -> Option<io::Error> {
     let keeper = TraceKeeper::new(service.shared, file, next, service.is_endless);
     keeper.keep_on(rt, service.notes, ending)

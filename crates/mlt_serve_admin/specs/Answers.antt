@@ -8,26 +8,26 @@ use Rattle.http.specs.FieldValue.{FieldValue}
 use Rattle.http.specs.Uri.{uri_path}
 use Rattle.http_server.specs.declared.response.Response.{Response}
 use Rattle.http_server.specs.Response.{IsResponse}
-use Rattle.mlt_serve_admin.specs.declared.places.Place.{Place}
-use Rattle.mlt_serve_admin.specs.declared.places.Place.TheVariants.{Page, Status, Metrics, Waits, Sessions, Stop, SessionEnd}
+use Rattle.mlt_serve_admin.specs.declared.resources.Resource.{Resource}
+use Rattle.mlt_serve_admin.specs.declared.resources.Resource.TheVariants.{Page, Status, Metrics, Waits, Sessions, Stop, SessionEnd}
 use Rattle.mlt_serve_admin.specs.declared.replies.Content.{Content}
 use Rattle.mlt_serve_admin.specs.declared.replies.Content.TheVariants as content
 use Rattle.mlt_serve_admin.specs.declared.routes.Route.{Route}
 use Rattle.mlt_serve_admin.specs.declared.routes.Route.TheVariants as route
-use Rattle.mlt_serve_admin.specs.declared.view.View.{View}
+use Rattle.mlt_serve_admin.specs.declared.view.ServerView.{ServerView}
 use Rattle.mlt_serve_admin.specs.Lists.{sessions_text, waits_text}
 use Rattle.mlt_serve_admin.specs.Metrics.{metrics_text}
-use Rattle.mlt_serve_admin.specs.Places.{method_of}
+use Rattle.mlt_serve_admin.specs.Resources.{method_of}
 use Rattle.mlt_serve_admin.specs.Replies.{headers_of, IsReply}
 use Rattle.mlt_serve_admin.specs.Routes.{IsRouteOf}
 use Rattle.mlt_serve_admin.specs.Status.{status_text}
 
 -- the reply shows this of some view
-abbrev pub Shows : Content → (View → List ℕ) → Response → Type 0
-Shows content text response = (view : View) × IsReply 200 content (text view) response
+abbrev pub Shows : Content → (ServerView → List ℕ) → Response → Type 0
+Shows content text response = (view : ServerView) × IsReply 200 content (text view) response
 
--- the answer to a request that is open for this place
-abbrev pub IsAnswerAt : Place → Response → Type 0
+-- the answer to a request that is open for this resource
+abbrev pub IsAnswerAt : Resource → Response → Type 0
 IsAnswerAt Page response = (body : List ℕ) × IsReply 200 content.Page body response
 IsAnswerAt Status response = Shows content.Json (λ view. status_text view.counts) response
 IsAnswerAt Metrics response = Shows content.Metrics (λ view. metrics_text view.counts) response
@@ -39,17 +39,17 @@ IsAnswerAt (SessionEnd client) response =
     IsReply 200 content.Json (codes "{\"ended\":" ++ decimal client ++ codes "}\n") response
     ⊎ IsReply 404 content.Line (codes "No such client is served.\n") response
 
--- the answer to a request by another method than that of the place
-abbrev pub IsRefusedMethod : Place → Response → Type 0
-IsRefusedMethod place response = IsResponse 405
-    (headers_of content.Line ++ (codes "allow", method_of place) ∷ [])
+-- the answer to a request by another method than that of the resource
+abbrev pub IsRefusedMethod : Resource → Response → Type 0
+IsRefusedMethod resource response = IsResponse 405
+    (headers_of content.Line ++ (codes "allow", method_of resource) ∷ [])
     (codes "This wants another method.\n") response
 
 -- the answer by a route
 abbrev pub IsAnswerBy : Route → Response → Type 0
-IsAnswerBy (route.Open place) response = IsAnswerAt place response
+IsAnswerBy (route.Open resource) response = IsAnswerAt resource response
 IsAnswerBy route.NotFound response = IsReply 404 content.Line (codes "Nothing is here.\n") response
-IsAnswerBy (route.MethodNotAllowed place) response = IsRefusedMethod place response
+IsAnswerBy (route.MethodNotAllowed resource) response = IsRefusedMethod resource response
 IsAnswerBy route.Forbidden response =
     IsReply 403 content.Line (codes "This wants the header X-Mltx: 1.\n") response
 

@@ -3,7 +3,7 @@ pub mod Figures
 pub mod Json
 pub mod Lists
 pub mod Metrics
-pub mod Places
+pub mod Resources
 pub mod Replies
 pub mod Routes
 pub mod Status

@@ -1,20 +1,20 @@
 -- The sessions and the waits of a server, in JSON.
 use Rattle.std.specs.Prelude.{ℕ, List, [], ◌∷◌, ◌++◌, codes}
 use Rattle.std.specs.Fmt.{decimal}
-use Rattle.mlt_serve_admin.specs.declared.view.Awaited.{Awaited}
-use Rattle.mlt_serve_admin.specs.declared.view.Awaited.TheVariants.{Object, Page, Turn}
+use Rattle.mlt_serve_admin.specs.declared.view.WaitReason.{WaitReason}
+use Rattle.mlt_serve_admin.specs.declared.view.WaitReason.TheVariants.{Object, Page, Turn}
 use Rattle.mlt_serve_admin.specs.declared.view.SessionView.{SessionView}
 use Rattle.mlt_serve_admin.specs.declared.view.TransactionView.{TransactionView}
 use Rattle.mlt_serve_admin.specs.declared.view.WaitView.{WaitView}
 use Rattle.mlt_serve_admin.specs.Json.{array, done_json, member, object, op_json, or_null, quoted}
 
 -- what is waited for
-abbrev pub awaited_word : Awaited → List ℕ
+abbrev pub awaited_word : WaitReason → List ℕ
 awaited_word Object = codes "object"
 awaited_word Page = codes "page"
 awaited_word Turn = codes "turn"
 
-abbrev pub awaited_json : Awaited → List ℕ
+abbrev pub awaited_json : WaitReason → List ℕ
 awaited_json awaited = quoted (awaited_word awaited)
 
 -- a transaction that waits

@@ -1,22 +1,22 @@
 -- How a request is answered, by its method, its path and whether it is marked.
 use Rattle.std.specs.Prelude.{◌≡◌, ◌≢◌, ℕ, List, Bool, IsTrue, IsFalse}
-use Rattle.mlt_serve_admin.specs.declared.places.Place.{Place}
+use Rattle.mlt_serve_admin.specs.declared.resources.Resource.{Resource}
 use Rattle.mlt_serve_admin.specs.declared.routes.Route.{Route}
 use Rattle.mlt_serve_admin.specs.declared.routes.Route.TheVariants as route
-use Rattle.mlt_serve_admin.specs.Places.{changes, IsAt, method_of}
+use Rattle.mlt_serve_admin.specs.Resources.{changes, IsAt, method_of}
 
--- the route of a request for this place
-abbrev pub IsRouteTo : Place → List ℕ → Bool → Route → Type 0
-IsRouteTo place method is_marked (route.Open shown) =
-    (shown ≡ place) × (method ≡ method_of place) × (IsTrue (changes place) → IsTrue is_marked)
-IsRouteTo place method is_marked route.NotFound = ⊥
-IsRouteTo place method is_marked (route.MethodNotAllowed refused) =
-    (refused ≡ place) × (method ≢ method_of place)
-IsRouteTo place method is_marked route.Forbidden =
-    (method ≡ method_of place) × IsTrue (changes place) × IsFalse is_marked
+-- the route of a request for this resource
+abbrev pub IsRouteTo : Resource → List ℕ → Bool → Route → Type 0
+IsRouteTo resource method is_marked (route.Open shown) =
+    (shown ≡ resource) × (method ≡ method_of resource) × (IsTrue (changes resource) → IsTrue is_marked)
+IsRouteTo resource method is_marked route.NotFound = ⊥
+IsRouteTo resource method is_marked (route.MethodNotAllowed refused) =
+    (refused ≡ resource) × (method ≢ method_of resource)
+IsRouteTo resource method is_marked route.Forbidden =
+    (method ≡ method_of resource) × IsTrue (changes resource) × IsFalse is_marked
 
--- the route of a request: that to the place at its path, or NotFound where nothing stands there
+-- the route of a request: that to the resource at its path, or NotFound where nothing stands there
 abbrev pub IsRouteOf : List ℕ → List ℕ → Bool → Route → Type 0
-IsRouteOf method path is_marked route.NotFound = (place : Place) → ¬ (IsAt path place)
+IsRouteOf method path is_marked route.NotFound = (resource : Resource) → ¬ (IsAt path resource)
 IsRouteOf method path is_marked found =
-    (place : Place) × IsAt path place × IsRouteTo place method is_marked found
+    (resource : Resource) × IsAt path resource × IsRouteTo resource method is_marked found

@@ -7,8 +7,8 @@ mod lists;
 mod metrics;
 mod operated;
 mod page;
-mod places;
 mod replies;
+mod resources;
 mod routes;
 mod service;
 mod serving;
@@ -17,4 +17,4 @@ mod view;
 
 pub use operated::Operated;
 pub use serving::serve_admin;
-pub use view::{Awaited, Counts, SessionView, TransactionView, View, WaitView};
+pub use view::{Counts, ServerView, SessionView, TransactionView, WaitReason, WaitView};

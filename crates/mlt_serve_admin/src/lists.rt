@@ -5,7 +5,7 @@ ghost use Rattle.std.specs.String.{string_bytes};
 ghost use Rattle.mlt_serve_admin.specs.Lists.{awaited_word, sessions_text, waits_text};
 
 use crate::json::{Json, push_array, push_member, push_next};
-use crate::view::{Awaited, SessionView, TransactionView, WaitView};
+use crate::view::{SessionView, TransactionView, WaitReason, WaitView};
 use std::alloc::{AllocError, Global};
 
 /// Who waits for whom, as /waits tells it.
@@ -30,19 +30,19 @@ pub(crate) fn sessions_text(alloc: Global, sessions: &[SessionView]) -> Result<S
     Ok(text)
 }
 
-impl Awaited {
+impl WaitReason {
     fn word(self) -> &'static str
         ensures { result.now ≡ awaited_word self }
     {
         match self {
-            Awaited::Object => "object",
-            Awaited::Page => "page",
-            Awaited::Turn => "turn",
+            WaitReason::Object => "object",
+            WaitReason::Page => "page",
+            WaitReason::Turn => "turn",
         }
     }
 }
 
-impl Json for Awaited {
+impl Json for WaitReason {
     ghost use Rattle.mlt_serve_admin.specs.Lists.{awaited_json};
 
     ghost json = { awaited_json };

@@ -1,6 +1,6 @@
 //! What an operator sees and does, of any server.
 
-use crate::view::View;
+use crate::view::ServerView;
 use std::alloc::{AllocError, Global};
 
 /// A server that is looked at, and told to end.
@@ -9,7 +9,7 @@ pub trait Operated {
     ///
     /// # Errors
     /// Where a growth was refused.
-    fn view(&self, alloc: Global) -> Result<View, AllocError>;
+    fn view(&self, alloc: Global) -> Result<ServerView, AllocError>;
 
     /// Tells the server to end in order. It may go on for a while; told again, it ends as it does.
     fn stop(&self);

@@ -183,7 +183,7 @@ function showSessions(sessions) {
   at("nobody").hidden = sessions.length > 0;
 }
 
-// Who waits stands above whom it waits for, but for circles.
+// Who waits stands above whom it waits for, but for cycles.
 function rowsOf(waits) {
   const rows = new Map();
   for (const wait of waits) for (const tx of [wait.waiter, wait.holder]) rows.set(tx, 0);

@@ -3,17 +3,17 @@
 ghost use Rattle.std.specs.Prelude.{◌≡◌};
 ghost use Rattle.mlt_serve_admin.specs.Routes.{IsRouteOf, IsRouteTo};
 
-use crate::places::{Place, place_at};
+use crate::resources::{Resource, resource_at};
 
 /// How a request is answered.
 #[derive(Clone, Copy)]
 pub(crate) enum Route {
-    /// The place is shown, or what stands there is done.
-    Open(Place),
+    /// The resource is shown, or what stands there is done.
+    Open(Resource),
     /// Nothing stands at the path.
     NotFound,
-    /// The place is asked for by another method.
-    MethodNotAllowed(Place),
+    /// The resource is asked for by another method.
+    MethodNotAllowed(Resource),
     /// What would change the server is not marked.
     Forbidden,
 }
@@ -23,20 +23,20 @@ pub(crate) enum Route {
 pub(crate) fn route_of(method: &str, path: &str, is_marked: bool) -> Route
     ensures { IsRouteOf method.now path.now is_marked result }
 {
-    match place_at(path) {
-        Some(place) => route_to(place, method, is_marked),
+    match resource_at(path) {
+        Some(resource) => route_to(resource, method, is_marked),
         None => Route::NotFound,
     }
 }
 
-fn route_to(place: Place, method: &str, is_marked: bool) -> Route
-    ensures { IsRouteTo place method.now is_marked result }
+fn route_to(resource: Resource, method: &str, is_marked: bool) -> Route
+    ensures { IsRouteTo resource method.now is_marked result }
 {
-    if method != place.method() {
-        Route::MethodNotAllowed(place)
-    } else if place.changes() && !is_marked {
+    if method != resource.method() {
+        Route::MethodNotAllowed(resource)
+    } else if resource.changes() && !is_marked {
         Route::Forbidden
     } else {
-        Route::Open(place)
+        Route::Open(resource)
     }
 }

@@ -3,18 +3,18 @@
 ghost use Rattle.std.specs.Prelude.{◌≡◌, ◌↔◌, ◌⊎◌, codes, IsTrue, OnErr, OnOk};
 ghost use Rattle.http.specs.Request.{head_of};
 ghost use Rattle.http_server.specs.Response.{IsBlank};
-ghost use Rattle.mlt_serve_admin.specs.declared.places.Place.TheVariants.{Metrics, SessionEnd, Sessions, Status, Stop, Waits};
+ghost use Rattle.mlt_serve_admin.specs.declared.resources.Resource.TheVariants.{Metrics, SessionEnd, Sessions, Status, Stop, Waits};
 ghost use Rattle.mlt_serve_admin.specs.declared.replies.Content.TheVariants as content;
 ghost use Rattle.mlt_serve_admin.specs.Replies.{IsReply};
 ghost use Rattle.mlt_serve_admin.specs.Answers.{IsAnswerAt, IsAnswerBy, IsMarked, IsRefusedMethod, IsRouteFor};
-ghost use Rattle.mlt_serve_admin.specs.Places.{method_of};
+ghost use Rattle.mlt_serve_admin.specs.Resources.{method_of};
 
 use crate::lists::{sessions_text, waits_text};
 use crate::metrics::metrics_text;
 use crate::operated::Operated;
 use crate::page::page;
-use crate::places::Place;
 use crate::replies::{Content, fill};
+use crate::resources::Resource;
 use crate::routes::{Route, route_of};
 use crate::status::status_text;
 use bytes::Bytes;
@@ -52,7 +52,7 @@ impl<O: Operated> OperatorService<'_, O> {
         ensures { OnOk result (IsAnswerBy route response.new) }
     {
         match route {
-            Route::Open(place) => self.answer_at(place, response),
+            Route::Open(resource) => self.answer_at(resource, response),
             Route::NotFound => {
                 fill(
                     response,
@@ -61,7 +61,7 @@ impl<O: Operated> OperatorService<'_, O> {
                     "Nothing is here.\n",
                 )
             }
-            Route::MethodNotAllowed(place) => refuse_method(place, response),
+            Route::MethodNotAllowed(resource) => refuse_method(resource, response),
             Route::Forbidden => fill(
                 response,
                 StatusCode::FORBIDDEN,
@@ -72,18 +72,18 @@ impl<O: Operated> OperatorService<'_, O> {
     }
 
     // Shows what stands there, or does it.
-    fn answer_at(&self, place: Place, response: &mut Response) -> Result<(), AllocError>
+    fn answer_at(&self, resource: Resource, response: &mut Response) -> Result<(), AllocError>
         requires { IsBlank response.old }
-        ensures { OnOk result (IsAnswerAt place response.new) }
+        ensures { OnOk result (IsAnswerAt resource response.new) }
     {
-        match place {
-            Place::Page => fill(response, StatusCode::OK, Content::Page, page()),
-            Place::Status => self.show_status(response),
-            Place::Metrics => self.show_metrics(response),
-            Place::Waits => self.show_waits(response),
-            Place::Sessions => self.show_sessions(response),
-            Place::Stop => self.stop(response),
-            Place::SessionEnd(client) => self.end_session(client, response),
+        match resource {
+            Resource::Page => fill(response, StatusCode::OK, Content::Page, page()),
+            Resource::Status => self.show_status(response),
+            Resource::Metrics => self.show_metrics(response),
+            Resource::Waits => self.show_waits(response),
+            Resource::Sessions => self.show_sessions(response),
+            Resource::Stop => self.stop(response),
+            Resource::SessionEnd(client) => self.end_session(client, response),
         }
     }
 
@@ -170,10 +170,10 @@ fn route_for(request: &Request<Bytes>) -> Route
     )
 }
 
-// Refuses a request by another method than that of the place.
-fn refuse_method(place: Place, response: &mut Response) -> Result<(), AllocError>
+// Refuses a request by another method than that of the resource.
+fn refuse_method(resource: Resource, response: &mut Response) -> Result<(), AllocError>
     requires { IsBlank response.old }
-    ensures { OnOk result (IsRefusedMethod place response.new) }
+    ensures { OnOk result (IsRefusedMethod resource response.new) }
 {
     fill(
         response,
@@ -181,13 +181,13 @@ fn refuse_method(place: Place, response: &mut Response) -> Result<(), AllocError
         Content::Line,
         "This wants another method.\n",
     )?;
-    response.add_header(HeaderName::from_static("allow"), allow(place))
+    response.add_header(HeaderName::from_static("allow"), allow(resource))
 }
 
-fn allow(place: Place) -> HeaderValue
-    ensures { result.bytes ≡ method_of place }
+fn allow(resource: Resource) -> HeaderValue
+    ensures { result.bytes ≡ method_of resource }
 {
-    if place.changes() {
+    if resource.changes() {
         HeaderValue::from_static("POST")
     } else {
         HeaderValue::from_static("GET")

@@ -5,7 +5,7 @@ use mlt_types::TxId;
 
 /// What a server is at one moment.
 #[derive(Drop)]
-pub struct View {
+pub struct ServerView {
     /// The numbers of the whole server.
     pub counts: Counts,
     /// The sessions that are served, in any order.
@@ -41,7 +41,7 @@ pub struct Counts {
     pub aborts: u64,
     /// How many operations were given up.
     pub gave_up: u64,
-    /// How many operations were given up to end a circle of waits.
+    /// How many operations were given up to end a cycle of waits.
     pub deadlocks: u64,
     /// How many events the manager had.
     pub events: u64,
@@ -95,7 +95,7 @@ pub struct WaitView {
     /// The transaction that it waits for.
     pub holder: TxId,
     /// What it waits for.
-    pub awaited: Awaited,
+    pub awaited: WaitReason,
     /// The operation that it has called, if there is one.
     pub operation: Option<ObjOp>,
     /// For how many thousandths of a second it has waited.
@@ -104,7 +104,7 @@ pub struct WaitView {
 
 /// What a transaction waits for.
 #[derive(Clone, Copy, Debug, PartialEq, Eq)]
-pub enum Awaited {
+pub enum WaitReason {
     /// An operation of the other one conflicts with its own: the end of the other transaction.
     Object,
     /// The other one's operation has a page: the end of that operation.

@@ -16,7 +16,7 @@ use std::time::Clock;
 
 /// Where a session is.
 #[derive(Clone, Copy, Debug, PartialEq, Eq)]
-enum Place {
+enum AdmissionState {
     /// Not at work.
     Outside,
     /// At work, past the queue.
@@ -33,7 +33,7 @@ enum Place {
 pub struct Admission<'a, R: Wait + Clock> {
     rt: &'a R,
     admission_queue: &'a AdmissionQueue,
-    place: Cell<Place>,
+    place: Cell<AdmissionState>,
     /// How many events it has made since it came.
     events: Cell<u32>,
     /// Before a restarted transaction begins it waits outside.
@@ -53,7 +53,7 @@ impl<'a, R: Wait + Clock> Admission<'a, R> {
         Admission {
             rt,
             admission_queue,
-            place: Cell::new(Place::Outside),
+            place: Cell::new(AdmissionState::Outside),
             events: Cell::new(0),
             restarts,
             sitting,
@@ -64,7 +64,7 @@ impl<'a, R: Wait + Clock> Admission<'a, R> {
     fn go_on(&self, bytes: usize) {
         self.events.set(0);
         if bytes <= MOST_BYPASSING_BYTES && self.admission_queue.bypass() {
-            self.place.set(Place::Bypassing);
+            self.place.set(AdmissionState::Bypassing);
         } else {
             self.enter();
         }
@@ -72,15 +72,15 @@ impl<'a, R: Wait + Clock> Admission<'a, R> {
 
     fn enter(&self) {
         self.admission_queue.enter(self.rt);
-        self.place.set(Place::Admitted);
+        self.place.set(AdmissionState::Admitted);
     }
 
     /// Leaves, if it is at work. What it has done until now it shows to others.
     pub fn leave(&self) {
-        match self.place.replace(Place::Outside) {
-            Place::Outside => (),
-            Place::Bypassing => self.admission_queue.end_bypass(),
-            Place::Admitted => self.admission_queue.leave(self.rt),
+        match self.place.replace(AdmissionState::Outside) {
+            AdmissionState::Outside => (),
+            AdmissionState::Bypassing => self.admission_queue.end_bypass(),
+            AdmissionState::Admitted => self.admission_queue.leave(self.rt),
         }
         self.sitting.show();
     }

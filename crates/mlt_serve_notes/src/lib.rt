@@ -5,6 +5,6 @@ mod note;
 mod notes;
 mod writing;
 
-pub use note::{Cut, Ended, Note};
+pub use note::{Cut, ListenerEnd, Note};
 pub use notes::{Notes, Outlet};
 pub use writing::write_notes;

@@ -4,7 +4,7 @@ use std::{fmt, io};
 
 /// Why no more connections are taken.
 #[derive(Clone, Copy, Debug)]
-pub enum Ended {
+pub enum ListenerEnd {
     /// As many were taken as may be.
     Limit(u32),
     /// An accept failed by a fault of the listener, of which the system says this.
@@ -46,7 +46,7 @@ pub enum Note {
     /// Accepting goes on after pauses.
     AcceptGoesOn,
     /// No more connections are taken.
-    AcceptEnded(Ended),
+    AcceptEnded(ListenerEnd),
     /// The session of this client was cut.
     SessionCut(u32, Cut),
     /// So many connections were taken, of so many that may be: nine in ten.
@@ -61,13 +61,13 @@ pub enum Note {
     TraceFailed(io::Error),
 }
 
-impl fmt::Display for Ended {
+impl fmt::Display for ListenerEnd {
     fn fmt<W: fmt::Write>(&self, f: &mut fmt::Formatter<W>) -> fmt::Result {
         match self {
-            Ended::Limit(limit) => write!(f, "the limit of {limit} is reached"),
-            Ended::Accept(error) => write!(f, "an accept failed: {error}"),
-            Ended::Memory => write!(f, "memory was refused"),
-            Ended::Stop => write!(f, "the server is to stop"),
+            ListenerEnd::Limit(limit) => write!(f, "the limit of {limit} is reached"),
+            ListenerEnd::Accept(error) => write!(f, "an accept failed: {error}"),
+            ListenerEnd::Memory => write!(f, "memory was refused"),
+            ListenerEnd::Stop => write!(f, "the server is to stop"),
         }
     }
 }

@@ -15,7 +15,7 @@ const LAST_WRITES_SECONDS: u64 = 5;
 
 /// A note that was told.
 #[derive(Clone, Copy, Debug, Drop)]
-pub(crate) struct Told {
+pub(crate) struct TimedNote {
     pub(crate) note: Note,
     /// How many seconds after the start of 1970 it was told, if a clock could say so.
     pub(crate) seconds: Option<u64>,
@@ -24,7 +24,7 @@ pub(crate) struct Told {
 /// Where notes are told. Nobody who tells one waits: where too many are on their way it is lost, and only counted.
 #[derive(Drop)]
 pub struct Notes {
-    to: Sender<Told, Global>,
+    to: Sender<TimedNote, Global>,
     lost: Arc<AtomicU64>,
     /// Nothing comes by it. It is closed once the outlet is gone.
     outlet_is_gone: Receiver<(), Global>,
@@ -33,7 +33,7 @@ pub struct Notes {
 /// Where notes come out. It needs nothing of who tells them, so a thread that writes them may go on when all others have ended.
 #[derive(Drop)]
 pub struct Outlet {
-    from: Receiver<Told, Global>,
+    from: Receiver<TimedNote, Global>,
     lost: Arc<AtomicU64>,
     _here: Sender<(), Global>,
 }
@@ -63,7 +63,7 @@ impl Notes {
     /// Tells a note, at once.
     pub fn tell<R: Wait + Clock>(&self, rt: &R, note: Note) {
         let seconds = seconds_now(rt);
-        if self.to.try_send(rt, Told { note, seconds }).is_err() {
+        if self.to.try_send(rt, TimedNote { note, seconds }).is_err() {
             self.lost.fetch_add(1, Ordering::SeqCst);
         }
     }
@@ -84,7 +84,7 @@ impl Notes {
 
 impl Outlet {
     /// The next note, once there is one. None follows that.
-    pub(crate) fn next<R: Wait>(&self, rt: &R) -> Option<Told> {
+    pub(crate) fn next<R: Wait>(&self, rt: &R) -> Option<TimedNote> {
         self.from.recv(rt).ok()
     }
 

@@ -1,6 +1,6 @@
 //! Lines of notes.
 
-use crate::notes::{Outlet, Told};
+use crate::notes::{Outlet, TimedNote};
 use httpdate::HttpDate;
 use mlt_text::write_text;
 use std::alloc::{AllocError, Global};
@@ -22,7 +22,7 @@ pub fn write_notes<R: Wait, W: Write>(rt: &R, alloc: Global, outlet: &Outlet, wr
     }
 }
 
-fn write_note<W: Write>(alloc: Global, told: &Told, writer: &mut W) {
+fn write_note<W: Write>(alloc: Global, told: &TimedNote, writer: &mut W) {
     if let Ok(line) = line_of(alloc, told) {
         // Nobody can be told that a note was lost so.
         let _ = write_text(writer, line.as_bytes());
@@ -36,7 +36,7 @@ fn write_lost<W: Write>(alloc: Global, lost: u64, writer: &mut W) {
 }
 
 /// The line of a note, with its time as HTTP writes it (RFC 9110, section 5.6.7), if it has one.
-fn line_of(alloc: Global, told: &Told) -> Result<String, AllocError> {
+fn line_of(alloc: Global, told: &TimedNote) -> Result<String, AllocError> {
     let note = &told.note;
     match told.seconds.map(HttpDate::from_unix_secs) {
         Some(Ok(date)) => format!(in alloc; "mltx: note {date}: {note}\n"),

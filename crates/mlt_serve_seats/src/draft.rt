@@ -1,6 +1,6 @@
 //! What a session does, in cells of its own thread.
 
-use crate::session::{DEEDS, Deed, SessionState};
+use crate::session::{RECENT_OPS, RecentOp, SessionState};
 use mlt_object_kinds::Done;
 use mlt_types::TxId;
 use std::array;
@@ -15,7 +15,7 @@ pub(crate) struct Draft {
     /// How many operations it has done.
     operations: Cell<u64>,
     /// The last of them, as in `OpenTransaction`.
-    deeds: [Cell<Deed>; DEEDS],
+    recent_ops: [Cell<RecentOp>; RECENT_OPS],
     /// How many of its operations others see, if they see it.
     shown: Cell<Option<u64>>,
 }
@@ -27,7 +27,7 @@ impl Draft {
             number: Cell::new(TxId(0)),
             is_open: Cell::new(false),
             operations: Cell::new(0),
-            deeds: array::from_fn(|_| Cell::new(None)),
+            recent_ops: array::from_fn(|_| Cell::new(None)),
             shown: Cell::new(None),
         }
     }
@@ -51,7 +51,7 @@ impl Draft {
     pub(crate) fn add(&self, done: Done) {
         if self.is_open.get() {
             let operations = self.operations.get();
-            self.deeds[(operations % DEEDS as u64) as usize].set(Some(done));
+            self.recent_ops[(operations % RECENT_OPS as u64) as usize].set(Some(done));
             self.operations.set(operations.saturating_add(1));
         }
     }
@@ -83,8 +83,11 @@ impl Draft {
                 0
             }
         };
-        for number in seen.max(operations.saturating_sub(DEEDS as u64))..operations {
-            state.put_deed(number, self.deeds[(number % DEEDS as u64) as usize].get());
+        for number in seen.max(operations.saturating_sub(RECENT_OPS as u64))..operations {
+            state.put_recent_op(
+                number,
+                self.recent_ops[(number % RECENT_OPS as u64) as usize].get(),
+            );
         }
     }
 }

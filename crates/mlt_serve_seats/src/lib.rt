@@ -9,5 +9,5 @@ mod sitting;
 
 pub use count::Count;
 pub use seat::{Patience, Seat, Seats, Totals};
-pub use session::{Awaits, Deed, OpenTransaction, SessionState, WaitState};
+pub use session::{Awaits, OpenTransaction, RecentOp, SessionState, WaitState};
 pub use sitting::Sitting;

@@ -41,7 +41,7 @@ pub struct Seat {
     pub aborts: Count,
     /// How many operations gave up.
     pub gave_up: Count,
-    /// How many of these did since their transaction was the youngest of a circle of waits.
+    /// How many of these did since their transaction was the youngest of a cycle of waits.
     pub deadlocks: Count,
     /// Whether an operation of the session that is to wait is given up.
     hurries: AtomicBool,

@@ -11,7 +11,7 @@ use std::sync::Arc;
 use std::time::Instant;
 
 /// How many of the operations of a transaction are kept: the last ones.
-pub(crate) const DEEDS: usize = 16;
+pub(crate) const RECENT_OPS: usize = 16;
 
 /// What an operation waits for.
 #[derive(Clone, Copy, Debug, PartialEq, Eq)]
@@ -23,7 +23,7 @@ pub enum Awaits {
 }
 
 /// An operation that was done, with its reply.
-pub type Deed = Option<Done>;
+pub type RecentOp = Option<Done>;
 
 /// A wait of an operation, from the first time that it was told to wait.
 #[derive(Clone, Copy, Debug)]
@@ -45,7 +45,7 @@ pub struct OpenTransaction {
     /// How many operations it has done.
     pub operations: u64,
     /// The last of them, the operation with the number n, from 0, at n modulo their count.
-    pub deeds: [Deed; DEEDS],
+    pub recent_ops: [RecentOp; RECENT_OPS],
 }
 
 /// What others see of a session.
@@ -93,7 +93,7 @@ impl SessionState {
             number,
             since,
             operations: 0,
-            deeds: [None; DEEDS],
+            recent_ops: [None; RECENT_OPS],
         });
     }
 
@@ -124,9 +124,9 @@ impl SessionState {
     }
 
     /// Of its transaction this is the operation with this number, from 0, and the last one.
-    pub(crate) fn put_deed(&mut self, number: u64, deed: Deed) {
+    pub(crate) fn put_recent_op(&mut self, number: u64, recent_op: RecentOp) {
         if let Some(transaction) = &mut self.transaction {
-            transaction.deeds[(number % DEEDS as u64) as usize] = deed;
+            transaction.recent_ops[(number % RECENT_OPS as u64) as usize] = recent_op;
             transaction.operations = number.saturating_add(1);
         }
     }
@@ -151,10 +151,10 @@ impl OpenTransaction {
     /// # Errors
     /// Where a growth is refused.
     pub fn last(&self, alloc: Global) -> Result<Vec<Done>, AllocError> {
-        let count = self.operations.min(DEEDS as u64);
+        let count = self.operations.min(RECENT_OPS as u64);
         let mut last = Vec::new(alloc);
         for number in self.operations - count..self.operations {
-            if let Some(done) = self.deeds[(number % DEEDS as u64) as usize] {
+            if let Some(done) = self.recent_ops[(number % RECENT_OPS as u64) as usize] {
                 last.push(done)?;
             }
         }

@@ -61,7 +61,7 @@ impl<'a, R: Wait + Clock> Sitting<'a, R> {
         !self.seat.hurries()
     }
 
-    /// Its operation is given up since its transaction is the youngest of a circle of waits.
+    /// Its operation is given up since its transaction is the youngest of a cycle of waits.
     pub fn deadlock(&self) {
         self.tallies.deadlocks.add_one();
     }

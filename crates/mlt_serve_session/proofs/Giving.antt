@@ -3,8 +3,8 @@ use Rattle.std.proofs.Common.{◌≡◌, ◌⊎◌, inl, inr, ℕ, ◌+◌, List
 use Rattle.std.proofs.lemmas.List.Elements.{All-append, All-nil, All-push}
 use Rattle.mlt_object_kinds.specs.declared.operation.ObjOp.{ObjOp}
 use Rattle.mlt_event_text.specs.declared.command.Command.TheVariants as command
-use Rattle.mlt_event_text.specs.declared.session_line.Line.{Line}
-use Rattle.mlt_event_text.specs.declared.session_line.Line.TheVariants.{Says, TooLong}
+use Rattle.mlt_event_text.specs.declared.session_line.SessionLine.{SessionLine}
+use Rattle.mlt_event_text.specs.declared.session_line.SessionLine.TheVariants.{Says, TooLong}
 use Rattle.mlt_script_serial.specs.declared.outcome.End.{End}
 use Rattle.mlt_script_serial.specs.declared.outcome.End.TheVariants as end
 use Rattle.mlt_script_cursor.specs.declared.call.DeskAnswer.{DeskAnswer}
@@ -15,7 +15,7 @@ use Rattle.mlt_script_cursor.specs.Calls.{Moves, answer_to}
 use Rattle.mlt_serve_session.specs.Given.{Gave, GaveAll, GaveEnd, GaveReply, LeadsTo}
 use Rattle.mlt_serve_session.specs.Outcomes.{all_done, before_next, begins_by, begun_in, call_of, done_in, end_in, ended_by, outcome_behind, outcome_if, outcomes_of, up_to}
 use Rattle.mlt_serve_session.specs.Talks.{Turn, call_for, open_after}
-use Rattle.mlt_serve_session.specs.Turns.{Asked, Goes, Place}
+use Rattle.mlt_serve_session.specs.Turns.{Asked, Goes, TalkState}
 
 -- the transaction is open, or none is
 abbrev pub IsOpenOrNone : ℕ → Option ℕ → Type 0
@@ -35,23 +35,23 @@ module _ {D : Type 0} (moves : Moves D) (last : D) where
   AreGiven before (t ∷ ts) = (t.open_before ≡ before) × GaveIf (call_of t) t.answer × AreGiven (open_after t.open_before t.answer) ts
 
   -- from before the turns the desk came to its last state
-  one_leads : (client : ℕ) (p q : Place D) (c : Option DeskCall) (a : Option DeskAnswer) → Asked moves client p c a q → LeadsTo moves q.desk last → LeadsTo moves p.desk last
+  one_leads : (client : ℕ) (p q : TalkState D) (c : Option DeskCall) (a : Option DeskAnswer) → Asked moves client p c a q → LeadsTo moves q.desk last → LeadsTo moves p.desk last
   one_leads client p q None None h k = subst (λ d. LeadsTo moves d last) h.0 k
   one_leads client p q None (Some a) h k = absurd h
   one_leads client p q (Some c) None h k = absurd h
   one_leads client p q (Some c) (Some a) h k = record { calls = c ∷ k.calls; answers = a ∷ k.answers; run = (q.desk, h.0, k.run) }
 
-  all_lead : (client : ℕ) (p q : Place D) (ts : List Turn) → Goes moves client p ts q → LeadsTo moves q.desk last → LeadsTo moves p.desk last
+  all_lead : (client : ℕ) (p q : TalkState D) (ts : List Turn) → Goes moves client p ts q → LeadsTo moves q.desk last → LeadsTo moves p.desk last
   all_lead client p q [] h k = subst (λ r. LeadsTo moves r.desk last) h k
   all_lead client p q (t ∷ ts) h k = one_leads client p h.0 (call_of t) t.answer h.1.asked (all_lead client h.0 q ts h.2 k)
 
-  gave_asked : (client : ℕ) (p q : Place D) (c : Option DeskCall) (a : Option DeskAnswer) → Asked moves client p c a q → LeadsTo moves q.desk last → GaveIf c a
+  gave_asked : (client : ℕ) (p q : TalkState D) (c : Option DeskCall) (a : Option DeskAnswer) → Asked moves client p c a q → LeadsTo moves q.desk last → GaveIf c a
   gave_asked client p q None None h k = tt
   gave_asked client p q None (Some a) h k = absurd h
   gave_asked client p q (Some c) None h k = absurd h
   gave_asked client p q (Some c) (Some a) h k = (h.0.0, record { before = p.desk; after = q.desk; moved = h.0.1; leads = k })
 
-  given_turns : (client : ℕ) (p q : Place D) (ts : List Turn) → Goes moves client p ts q → LeadsTo moves q.desk last → AreGiven p.progress.tx ts
+  given_turns : (client : ℕ) (p q : TalkState D) (ts : List Turn) → Goes moves client p ts q → LeadsTo moves q.desk last → AreGiven p.progress.tx ts
   given_turns client p q [] h k = tt
   given_turns client p q (t ∷ ts) h k =
       let on : h.0.progress.tx ≡ open_after t.open_before t.answer = ap (λ r. r.tx) h.1.after ∙ ap (λ b. open_after b t.answer) (sym h.1.before) in (
@@ -106,7 +106,7 @@ module _ {D : Type 0} (moves : Moves D) (last : D) where
   asks_abort tx (Some Aborted) g = record { done = All-nil (GaveReply moves last tx); end = λ e k. k; stays = λ _. inr refl }
   asks_abort tx (Some (Refused r)) g = record { done = All-nil (GaveReply moves last tx); end = λ e k. k; stays = λ _. inl refl }
 
-  turned_within : (tx : ℕ) (line : Line) (a : Option DeskAnswer) → GaveIf (call_for (Some tx) line) a → Turned tx (Some tx) (call_for (Some tx) line) a
+  turned_within : (tx : ℕ) (line : SessionLine) (a : Option DeskAnswer) → GaveIf (call_for (Some tx) line) a → Turned tx (Some tx) (call_for (Some tx) line) a
   turned_within tx (Says command.Begin) a g = asks_nothing tx (Some tx) a (inl refl) g
   turned_within tx (Says (command.Op op)) a g = asks_operation tx op a g
   turned_within tx (Says command.Commit) a g = asks_commit tx a g
@@ -116,7 +116,7 @@ module _ {D : Type 0} (moves : Moves D) (last : D) where
   turned_within tx (Says command.Other) a g = asks_nothing tx (Some tx) a (inl refl) g
   turned_within tx TooLong a g = asks_abort tx a g
 
-  turned_alone : (tx : ℕ) (line : Line) (a : Option DeskAnswer) → GaveIf (call_for None line) a → Turned tx None (call_for None line) a
+  turned_alone : (tx : ℕ) (line : SessionLine) (a : Option DeskAnswer) → GaveIf (call_for None line) a → Turned tx None (call_for None line) a
   turned_alone tx (Says command.Begin) a g = asks_begin tx None a (inr refl) g
   turned_alone tx (Says (command.Op op)) a g = asks_nothing tx None a (inr refl) g
   turned_alone tx (Says command.Commit) a g = asks_nothing tx None a (inr refl) g
@@ -126,7 +126,7 @@ module _ {D : Type 0} (moves : Moves D) (last : D) where
   turned_alone tx (Says command.Other) a g = asks_nothing tx None a (inr refl) g
   turned_alone tx TooLong a g = asks_nothing tx None a (inr refl) g
 
-  turned : (tx : ℕ) (before : Option ℕ) (line : Line) (a : Option DeskAnswer) → IsOpenOrNone tx before → GaveIf (call_for before line) a → Turned tx before (call_for before line) a
+  turned : (tx : ℕ) (before : Option ℕ) (line : SessionLine) (a : Option DeskAnswer) → IsOpenOrNone tx before → GaveIf (call_for before line) a → Turned tx before (call_for before line) a
   turned tx before line a (inl is) g = subst (λ b. Turned tx b (call_for b line) a) (sym is) (turned_within tx line a (subst (λ b. GaveIf (call_for b line) a) is g))
   turned tx before line a (inr is) g = subst (λ b. Turned tx b (call_for b line) a) (sym is) (turned_alone tx line a (subst (λ b. GaveIf (call_for b line) a) is g))
 
@@ -178,5 +178,5 @@ module _ {D : Type 0} (moves : Moves D) (last : D) where
       (given_outcomes client (begun + begins_by t.answer) (open_after t.open_before t.answer) ts h.2)
 
   -- all that is in the outcomes of turns is what the desk answered
-  pub gave_all : (client begun : ℕ) (p q : Place D) (ts : List Turn) → Goes moves client p ts q → LeadsTo moves q.desk last → All (GaveAll moves last) (outcomes_of client begun ts)
+  pub gave_all : (client begun : ℕ) (p q : TalkState D) (ts : List Turn) → Goes moves client p ts q → LeadsTo moves q.desk last → All (GaveAll moves last) (outcomes_of client begun ts)
   gave_all client begun p q ts h k = given_outcomes client begun p.progress.tx ts (given_turns client p q ts h k)

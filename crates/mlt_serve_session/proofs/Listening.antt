@@ -7,18 +7,18 @@ use Rattle.std.specs.List.{flat_map}
 use Rattle.std.specs.Io.KnownBytes.{Appends, Consumes, IsAtEnd}
 use Rattle.std.proofs.KnownBytes.{Appends-nil, Appends-trans, Consumes-nil, Consumes-trans}
 use Rattle.mlt_text.specs.Texts.{AppendsFront}
-use Rattle.mlt_event_text.specs.declared.session_line.Line.{Line}
+use Rattle.mlt_event_text.specs.declared.session_line.SessionLine.{SessionLine}
 use Rattle.mlt_serve_session.specs.Batches.{Answered, Covers, IsRest, front, lines_in}
 use Rattle.mlt_event_text.specs.Inputs.{lines_of, Begins, Splits}
 use Rattle.mlt_serve_session.specs.Rounds.{Replied, Stopped, Unwritten, Listens, Talked, Broken, BrokenHeard, AreLines, EndsInput, streams}
 use Rattle.mlt_serve_session.specs.Talks.{Turn, turn_text}
-use Rattle.mlt_serve_session.specs.Turns.{Place, Goes}
+use Rattle.mlt_serve_session.specs.Turns.{TalkState, Goes}
 use Rattle.mlt_event_text.proofs.Splitting.{splits_none, splits_both, prefix_lines, prefix_begins}
 use Rattle.mlt_script_cursor.specs.Calls.{Moves}
 use Rattle.mlt_serve_session.proofs.Reaching.{covers_all, covers_begin}
 
 -- turns, and then more turns
-goes_on : {D : Type 0} (moves : Moves D) (client : ℕ) (p m q : Place D) (ts us : List Turn) → Goes moves client p ts m → Goes moves client m us q → Goes moves client p (ts ++ us) q
+goes_on : {D : Type 0} (moves : Moves D) (client : ℕ) (p m q : TalkState D) (ts us : List Turn) → Goes moves client p ts m → Goes moves client m us q → Goes moves client p (ts ++ us) q
 goes_on moves client p m q [] us h k = subst (λ o. Goes moves client o us q) h k
 goes_on moves client p m q (t ∷ ts) us h k = (h.0, h.1, goes_on moves client h.0 m q ts us h.2 k)
 
@@ -29,7 +29,7 @@ text_join : (ts us : List Turn) → flat_map turn_text (ts ++ us) ≡ flat_map t
 text_join ts us = flat_map-append turn_text ts us
 
 -- a session of which nothing was read
-pub starts : {D : Type 0} (moves : Moves D) (client : ℕ) (p : Place D) (a w : Option (List ℕ)) → p.progress.lines ≡ 0 → lines_of [] ≡ [] → Listens moves client p (streams a a w w) [] 0 p
+pub starts : {D : Type 0} (moves : Moves D) (client : ℕ) (p : TalkState D) (a w : Option (List ℕ)) → p.progress.lines ≡ 0 → lines_of [] ≡ [] → Listens moves client p (streams a a w w) [] 0 p
 starts moves client p a w l e =
     record {
       turns = [];
@@ -54,7 +54,7 @@ taken_length : (prefix held piece : List ℕ) (total most : ℕ) → total ≡ l
 taken_length prefix held piece total most e l = omega (arith, length-append (prefix ++ held) piece, length-append prefix held)
 
 -- the input ended
-pub ends_here : {D : Type 0} (moves : Moves D) (client : ℕ) (p q : Place D) (a b c w v : Option (List ℕ)) (held piece : List ℕ) (total : ℕ)
+pub ends_here : {D : Type 0} (moves : Moves D) (client : ℕ) (p q : TalkState D) (a b c w v : Option (List ℕ)) (held piece : List ℕ) (total : ℕ)
     → Listens moves client p (streams a b w v) held total q → total + length piece ≤ 16777216 → q.progress.over ≡ false → length piece ≡ 0 → Consumes b c piece → IsAtEnd c → Talked moves client p (streams a c w v) q
 ends_here moves client p q a b c w v held piece total h fits o n read end =
     record {
@@ -64,7 +64,7 @@ ends_here moves client p q a b c w v held piece total h fits o n read end =
       within = taken_length h.prefix held piece total 16777216 h.sum fits;
       goes = h.goes;
       lines = subst (λ over. AreLines over ((h.prefix ++ held) ++ piece) (lines_in h.turns)) (sym o)
-          (ap lines_of (no_piece piece n (h.prefix ++ held)) ∙ prefix_lines h.prefix held (lines_in h.turns) h.splits h.lines ∙ ap (λ (l : List Line). lines_in h.turns ++ l) h.rest ∙ append-nil (lines_in h.turns));
+          (ap lines_of (no_piece piece n (h.prefix ++ held)) ∙ prefix_lines h.prefix held (lines_in h.turns) h.splits h.lines ∙ ap (λ (l : List SessionLine). lines_in h.turns ++ l) h.rest ∙ append-nil (lines_in h.turns));
       wrote = h.wrote;
       ended = subst (λ over. EndsInput over c) (sym o) end;
     }
@@ -73,7 +73,7 @@ prefix_of_all : (w v : Option (List ℕ)) (text : List ℕ) → Appends w v text
 prefix_of_all w v text h = (text, [], sym (append-nil text), h)
 
 -- a read failed, or gave too much
-pub breaks : {D : Type 0} (moves : Moves D) (client : ℕ) (p q : Place D) (a b c w v : Option (List ℕ)) (held piece : List ℕ) (total : ℕ)
+pub breaks : {D : Type 0} (moves : Moves D) (client : ℕ) (p q : TalkState D) (a b c w v : Option (List ℕ)) (held piece : List ℕ) (total : ℕ)
     → Listens moves client p (streams a b w v) held total q → total + length piece ≤ 16777217 → Consumes b c piece → Broken moves client p (streams a c w v) q
 breaks moves client p q a b c w v held piece total h fits read =
     record {
@@ -92,7 +92,7 @@ up_to_limit front piece limit fits (inl none) = ap (take limit) (no_piece piece 
 up_to_limit front piece limit fits (inr full) = subst (λ (n : ℕ). take n (front ++ piece) ≡ front) full (take-append_seam front piece)
 
 -- a read failed, or gave too much: all lines up to the limit were heard
-pub breaks_heard : {D : Type 0} (moves : Moves D) (client : ℕ) (p q : Place D) (a b c w v : Option (List ℕ)) (held piece : List ℕ) (total : ℕ)
+pub breaks_heard : {D : Type 0} (moves : Moves D) (client : ℕ) (p q : TalkState D) (a b c w v : Option (List ℕ)) (held piece : List ℕ) (total : ℕ)
     → Listens moves client p (streams a b w v) held total q → total ≤ 16777216 → total + length piece ≤ 16777217 → (length piece ≡ 0) ⊎ (total ≡ 16777216) → q.progress.over ≡ false
     → Consumes b c piece → BrokenHeard moves client p (streams a c w v) q
 unfolding breaks
@@ -103,7 +103,7 @@ breaks_heard moves client p q a b c w v held piece total h fits few cut o read =
     record {
       broken = breaks moves client p q a b c w v held piece total h few read;
       lines = subst (λ over. AreLines over (take 16777216 ((h.prefix ++ held) ++ piece)) (lines_in h.turns)) (sym o)
-          (ap lines_of front ∙ prefix_lines h.prefix held (lines_in h.turns) h.splits h.lines ∙ ap (λ (l : List Line). lines_in h.turns ++ l) h.rest ∙ append-nil (lines_in h.turns));
+          (ap lines_of front ∙ prefix_lines h.prefix held (lines_in h.turns) h.splits h.lines ∙ ap (λ (l : List SessionLine). lines_in h.turns ++ l) h.rest ∙ append-nil (lines_in h.turns));
       whole = λ _. h.wrote;
     }
 
@@ -112,7 +112,7 @@ appends_prefix_trans w v u xs ys h k =
     (xs ++ k.0, k.1, ap (λ (t : List ℕ). xs ++ t) k.2 ∙ sym (append_assoc xs k.0 k.1), Appends-trans w v u xs k.0 h k.3)
 
 -- an answer was not written, or not kept
-pub stops : {D : Type 0} (moves : Moves D) (client : ℕ) (p m q : Place D) (a b c w v u : Option (List ℕ)) (held piece text : List ℕ) (total : ℕ)
+pub stops : {D : Type 0} (moves : Moves D) (client : ℕ) (p m q : TalkState D) (a b c w v u : Option (List ℕ)) (held piece text : List ℕ) (total : ℕ)
     → Listens moves client p (streams a b w v) held total m → total + length piece ≤ 16777217 → Consumes b c piece → text ≡ held ++ piece → Stopped moves client m text v u q → Broken moves client p (streams a c w u) q
 stops moves client p m q a b c w v u held piece text total h fits read e s =
     record {
@@ -128,7 +128,7 @@ stops moves client p m q a b c w v u held piece text total h fits read e s =
     }
 
 -- the lines of a text were answered, and the answers not all written
-pub not_written : {D : Type 0} (moves : Moves D) (client : ℕ) (p q : Place D) (text before out : List ℕ) (at : ℕ) (w v : Option (List ℕ))
+pub not_written : {D : Type 0} (moves : Moves D) (client : ℕ) (p q : TalkState D) (text before out : List ℕ) (at : ℕ) (w v : Option (List ℕ))
     → Answered moves client p (front text at) before out q → before ≡ [] → AppendsFront w v out → Unwritten moves client p text w v q
 not_written moves client p q text before out at w v (r, rest) none written =
     record {
@@ -142,12 +142,12 @@ not_written moves client p q text before out at w v (r, rest) none written =
     }
 
 -- the lines of a text behind those that were heard
-lines_behind : (over : Bool) (prefix text : List ℕ) (ls ms : List Line) → Splits prefix → lines_of prefix ≡ ls → AreLines over text ms → AreLines over (prefix ++ text) (ls ++ ms)
-lines_behind false prefix text ls ms s e h = prefix_lines prefix text ls s e ∙ ap (λ (l : List Line). ls ++ l) h
+lines_behind : (over : Bool) (prefix text : List ℕ) (ls ms : List SessionLine) → Splits prefix → lines_of prefix ≡ ls → AreLines over text ms → AreLines over (prefix ++ text) (ls ++ ms)
+lines_behind false prefix text ls ms s e h = prefix_lines prefix text ls s e ∙ ap (λ (l : List SessionLine). ls ++ l) h
 lines_behind true prefix text ls ms s e h = prefix_begins prefix text ls ms s e h
 
 -- an answer was not written: all lines were heard
-pub stops_heard : {D : Type 0} (moves : Moves D) (client : ℕ) (p m q : Place D) (a b c w v u : Option (List ℕ)) (held piece text : List ℕ) (total : ℕ)
+pub stops_heard : {D : Type 0} (moves : Moves D) (client : ℕ) (p m q : TalkState D) (a b c w v u : Option (List ℕ)) (held piece text : List ℕ) (total : ℕ)
     → Listens moves client p (streams a b w v) held total m → total + length piece ≤ 16777216 → Consumes b c piece → text ≡ held ++ piece → Unwritten moves client m text v u q
     → BrokenHeard moves client p (streams a c w u) q
 unfolding stops
@@ -164,7 +164,7 @@ stops_heard moves client p m q a b c w v u held piece text total h fits read e s
     }
 
 -- a line ended the session
-pub is_over : {D : Type 0} (moves : Moves D) (client : ℕ) (p m q : Place D) (a b c w v u : Option (List ℕ)) (held piece text : List ℕ) (total at : ℕ)
+pub is_over : {D : Type 0} (moves : Moves D) (client : ℕ) (p m q : TalkState D) (a b c w v u : Option (List ℕ)) (held piece text : List ℕ) (total at : ℕ)
     → Listens moves client p (streams a b w v) held total m → total + length piece ≤ 16777216 → Consumes b c piece → text ≡ held ++ piece → Replied moves client m (front text at) v u q → q.progress.over ≡ true → Talked moves client p (streams a c w u) q
 is_over moves client p m q a b c w v u held piece text total at h fits read e r o =
     let begins = subst (λ over. Covers over text at (lines_in r.turns)) o r.covers in
@@ -183,7 +183,7 @@ is_over moves client p m q a b c w v u held piece text total at h fits read e r 
     }
 
 -- the session goes on
-pub goes_further : {D : Type 0} (moves : Moves D) (client : ℕ) (p m q : Place D) (a b c w v u : Option (List ℕ)) (held piece text left : List ℕ) (total at : ℕ)
+pub goes_further : {D : Type 0} (moves : Moves D) (client : ℕ) (p m q : TalkState D) (a b c w v u : Option (List ℕ)) (held piece text left : List ℕ) (total at : ℕ)
     → Listens moves client p (streams a b w v) held total m → Consumes b c piece → text ≡ held ++ piece → Replied moves client m (front text at) v u q → q.progress.over ≡ false
     → q.progress.lines ≤ m.progress.lines + at → left ≡ drop at text → Listens moves client p (streams a c w u) left (total + length piece) q
 goes_further moves client p m q a b c w v u held piece text left total at h read e r o few same =
@@ -199,7 +199,7 @@ goes_further moves client p m q a b c w v u held piece text left total at h read
       consumed = subst (Consumes a c) (sym whole) (Consumes-trans a b c (h.prefix ++ held) piece h.consumed read);
       wrote = subst (Appends w u) (sym (text_join h.turns r.turns)) (Appends-trans w v u (flat_map turn_text h.turns) (flat_map turn_text r.turns) h.wrote r.wrote);
       splits = splits_both h.prefix (take at text) h.splits covers.0;
-      lines = prefix_lines h.prefix (take at text) (lines_in h.turns) h.splits h.lines ∙ ap (λ (l : List Line). lines_in h.turns ++ l) covers.1 ∙ sym (lines_join h.turns r.turns);
+      lines = prefix_lines h.prefix (take at text) (lines_in h.turns) h.splits h.lines ∙ ap (λ (l : List SessionLine). lines_in h.turns ++ l) covers.1 ∙ sym (lines_join h.turns r.turns);
       rest = ap lines_of same ∙ rest.0;
       short = subst (λ (l : List ℕ). length l ≤ 200) (sym same) rest.1;
       sum = (let t = h.sum in omega (arith, ap length whole, length-append (h.prefix ++ take at text) left, length-append (h.prefix ++ held) piece, length-append h.prefix held));

@@ -6,8 +6,8 @@ use Rattle.std.proofs.lemmas.Grind.{flat_map-append}
 use Rattle.std.proofs.lemmas.Result.{err_from_is_err_and}
 use Rattle.std.specs.List.{flat_map}
 use Rattle.std.specs.Prelude.{Result, Err, IsErrAnd, IsErrOf}
-use Rattle.mlt_event_text.specs.declared.session_line.Line.{Line}
-use Rattle.mlt_event_text.specs.declared.session_line.Line.TheVariants.{Says, TooLong}
+use Rattle.mlt_event_text.specs.declared.session_line.SessionLine.{SessionLine}
+use Rattle.mlt_event_text.specs.declared.session_line.SessionLine.TheVariants.{Says, TooLong}
 use Rattle.mlt_serve_session.specs.declared.said.Said.{Said}
 use Rattle.mlt_serve_session.specs.Batches.{Covers, IsRest, Reaches, BrokeOff, front, lines_in}
 use Rattle.mlt_serve_session.specs.Rounds.{AreLines}
@@ -15,7 +15,7 @@ use Rattle.mlt_event_text.specs.Inputs.{lines_of, Splits, Begins, NextLine, IsNe
 use Rattle.mlt_event_text.proofs.Splitting.{splits_both}
 use Rattle.mlt_serve_session.specs.Talks.{Turn, turn_text, ends}
 use Rattle.mlt_serve_session.specs.Texts.{said_text}
-use Rattle.mlt_serve_session.specs.Turns.{Place, Step, Goes, TakesTurn}
+use Rattle.mlt_serve_session.specs.Turns.{TalkState, Step, Goes, TakesTurn}
 use Rattle.mlt_script_cursor.specs.Calls.{Moves}
 
 -- an error that was passed on is the same one
@@ -27,33 +27,33 @@ same_error {S} {T} {E} result e x passed is =
     ap (λ z. Err z) (sym p.2 ∙ same)
 
 -- one more turn
-pub goes_more : {D : Type 0} (moves : Moves D) (client : ℕ) (p m q : Place D) (ts : List Turn) (t : Turn)
+pub goes_more : {D : Type 0} (moves : Moves D) (client : ℕ) (p m q : TalkState D) (ts : List Turn) (t : Turn)
     → Goes moves client p ts m → Step moves client m t q → Goes moves client p (ts ++ t ∷ []) q
-goes_more {D} moves client p m q [] t h s = (q, subst (λ (o : Place D). Step moves client o t q) h s, refl)
+goes_more {D} moves client p m q [] t h s = (q, subst (λ (o : TalkState D). Step moves client o t q) h s, refl)
 goes_more moves client p m q (u ∷ ts) t h s = (h.0, h.1, goes_more moves client h.0 m q ts t h.2 s)
 
 -- the lines up to here are the first ones
-pub covers_begin : (over : Bool) (text : List ℕ) (at : ℕ) (ls : List Line) → Covers over text at ls → Begins text ls
+pub covers_begin : (over : Bool) (text : List ℕ) (at : ℕ) (ls : List SessionLine) → Covers over text at ls → Begins text ls
 covers_begin true text at ls h = h
 covers_begin false text at ls h =
-    (lines_of (drop at text), ap lines_of (sym (take-append-drop at text)) ∙ h.0 (drop at text) ∙ ap (λ (prefix : List Line). prefix ++ lines_of (drop at text)) h.1)
+    (lines_of (drop at text), ap lines_of (sym (take-append-drop at text)) ∙ h.0 (drop at text) ∙ ap (λ (prefix : List SessionLine). prefix ++ lines_of (drop at text)) h.1)
 
 -- they are all its lines
-pub covers_all : (over : Bool) (text : List ℕ) (at : ℕ) (ls : List Line) → Covers over text at ls → IsRest over (drop at text) → AreLines over text ls
+pub covers_all : (over : Bool) (text : List ℕ) (at : ℕ) (ls : List SessionLine) → Covers over text at ls → IsRest over (drop at text) → AreLines over text ls
 covers_all true text at ls h rest = h
 covers_all false text at ls h rest =
-    ap lines_of (sym (take-append-drop at text)) ∙ h.0 (drop at text) ∙ ap (λ (prefix : List Line). prefix ++ lines_of (drop at text)) h.1
-    ∙ ap (λ (more : List Line). ls ++ more) rest.0 ∙ append-nil ls
+    ap lines_of (sym (take-append-drop at text)) ∙ h.0 (drop at text) ∙ ap (λ (prefix : List SessionLine). prefix ++ lines_of (drop at text)) h.1
+    ∙ ap (λ (more : List SessionLine). ls ++ more) rest.0 ∙ append-nil ls
 
-more_covered : (text : List ℕ) (at n : ℕ) (ls : List Line) (l : Line) → Covers false text at ls → lines_of (take n (drop at text)) ≡ l ∷ [] → Splits (take n (drop at text))
+more_covered : (text : List ℕ) (at n : ℕ) (ls : List SessionLine) (l : SessionLine) → Covers false text at ls → lines_of (take n (drop at text)) ≡ l ∷ [] → Splits (take n (drop at text))
     → Covers false text (at + n) (ls ++ l ∷ [])
 more_covered text at n ls l h e s =
     let cut = take-add at n text in (
       subst Splits (sym cut) (splits_both (take at text) (take n (drop at text)) h.0 s),
-      ap lines_of cut ∙ h.0 (take n (drop at text)) ∙ ap (λ (prefix : List Line). prefix ++ lines_of (take n (drop at text))) h.1 ∙ ap (λ (rest : List Line). ls ++ rest) e,
+      ap lines_of cut ∙ h.0 (take n (drop at text)) ∙ ap (λ (prefix : List SessionLine). prefix ++ lines_of (take n (drop at text))) h.1 ∙ ap (λ (rest : List SessionLine). ls ++ rest) e,
     )
 
-covers_more : (text : List ℕ) (at n : ℕ) (ls : List Line) (l : Line) (over : Bool) → over ≡ ends l → Covers false text at ls → IsNext (drop at text) l n
+covers_more : (text : List ℕ) (at n : ℕ) (ls : List SessionLine) (l : SessionLine) (over : Bool) → over ≡ ends l → Covers false text at ls → IsNext (drop at text) l n
     → Covers over text (at + n) (ls ++ l ∷ [])
 covers_more text at n ls (Says r) false e h i = more_covered text at n ls (Says r) h i.0 i.1
 covers_more text at n ls (Says r) true e h i = covers_begin false text (at + n) (ls ++ Says r ∷ []) (more_covered text at n ls (Says r) h i.0 i.1)
@@ -61,8 +61,8 @@ covers_more text at n ls TooLong false e h i = absurd (cc e)
 covers_more text at n ls TooLong true e h i =
     let b = covers_begin false text at ls h in (
       i.0,
-      ap lines_of (sym (take-append-drop at text)) ∙ h.0 (drop at text) ∙ ap (λ (prefix : List Line). prefix ++ lines_of (drop at text)) h.1
-          ∙ ap (λ (rest : List Line). ls ++ rest) i.1 ∙ sym (append_assoc ls (TooLong ∷ []) i.0),
+      ap lines_of (sym (take-append-drop at text)) ∙ h.0 (drop at text) ∙ ap (λ (prefix : List SessionLine). prefix ++ lines_of (drop at text)) h.1
+          ∙ ap (λ (rest : List SessionLine). ls ++ rest) i.1 ∙ sym (append_assoc ls (TooLong ∷ []) i.0),
     )
 
 line_at_end : (ts : List Turn) (t : Turn) → lines_in (ts ++ t ∷ []) ≡ lines_in ts ++ t.line ∷ []
@@ -72,7 +72,7 @@ text_at_end : (ts : List Turn) (t : Turn) → flat_map turn_text (ts ++ t ∷ []
 text_at_end ts t = flat_map-append turn_text ts (t ∷ []) ∙ ap (λ (rest : List ℕ). flat_map turn_text ts ++ rest) (append-nil (turn_text t))
 
 -- one more line was answered
-pub reaches_more : {D : Type 0} (moves : Moves D) (client : ℕ) (p m q : Place D) (text before mid after : List ℕ) (at n : ℕ) (line : Line) (said : Said)
+pub reaches_more : {D : Type 0} (moves : Moves D) (client : ℕ) (p m q : TalkState D) (text before mid after : List ℕ) (at n : ℕ) (line : SessionLine) (said : Said)
     → Reaches moves client p (front text at) before mid m → m.progress.over ≡ false → NextLine (take (length text - at) (drop at text)) (Some (line, n)) → TakesTurn moves client m line said q
     → after ≡ mid ++ said_text said → Reaches moves client p (front text (at + n)) before after q
 reaches_more moves client p m q text before mid after at n line said r o next t e =
@@ -90,13 +90,13 @@ reaches_more moves client p m q text before mid after at n line said r o next t 
     }
 
 -- nothing more was asked
-pub broke_before : {D : Type 0} (moves : Moves D) (client : ℕ) (p m q : Place D) (text before mid : List ℕ) (at : ℕ)
+pub broke_before : {D : Type 0} (moves : Moves D) (client : ℕ) (p m q : TalkState D) (text before mid : List ℕ) (at : ℕ)
     → Reaches moves client p (front text at) before mid m → q ≡ m → BrokeOff moves client p text q
 broke_before moves client p m q text before mid at r e =
     record { turns = r.turns; goes = subst (Goes moves client p r.turns) (sym e) r.goes; begins = covers_begin m.progress.over text at (lines_in r.turns) r.covers }
 
 -- a line was answered, and its answer not kept
-pub broke_after : {D : Type 0} (moves : Moves D) (client : ℕ) (p m q : Place D) (text before mid : List ℕ) (at n : ℕ) (line : Line) (said : Said)
+pub broke_after : {D : Type 0} (moves : Moves D) (client : ℕ) (p m q : TalkState D) (text before mid : List ℕ) (at n : ℕ) (line : SessionLine) (said : Said)
     → Reaches moves client p (front text at) before mid m → m.progress.over ≡ false → NextLine (take (length text - at) (drop at text)) (Some (line, n)) → TakesTurn moves client m line said q
     → BrokeOff moves client p text q
 broke_after moves client p m q text before mid at n line said r o next t =
@@ -104,12 +104,12 @@ broke_after moves client p m q text before mid at n line said r o next t =
     broke_before moves client p q q text before (mid ++ said_text said) (at + n) all refl
 
 -- at the start
-pub reaches_none : {D : Type 0} (moves : Moves D) (client : ℕ) (p : Place D) (text before : List ℕ) → p.progress.over ≡ false → lines_of [] ≡ [] → Reaches moves client p (front text 0) before before p
+pub reaches_none : {D : Type 0} (moves : Moves D) (client : ℕ) (p : TalkState D) (text before : List ℕ) → p.progress.over ≡ false → lines_of [] ≡ [] → Reaches moves client p (front text 0) before before p
 reaches_none moves client p text before o e =
     record {
       turns = [];
       goes = refl;
       says = sym (append-nil before);
       within = omega arith;
-      covers = subst (λ b. Covers b text 0 []) (sym o) (λ more. ap (λ (prefix : List Line). prefix ++ lines_of more) (sym e), e);
+      covers = subst (λ b. Covers b text 0 []) (sym o) (λ more. ap (λ (prefix : List SessionLine). prefix ++ lines_of more) (sym e), e);
     }

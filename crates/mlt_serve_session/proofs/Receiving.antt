@@ -10,8 +10,8 @@ use Rattle.mlt_script_cursor.specs.declared.call.DeskAnswer.{DeskAnswer}
 use Rattle.mlt_script_cursor.specs.declared.call.DeskAnswer.TheVariants.{Begun, Replied, Committed, Aborted, Refused}
 use Rattle.mlt_script_cursor.specs.declared.call.DeskCall.{DeskCall}
 use Rattle.mlt_script_cursor.specs.declared.call.DeskCall.TheVariants as call
-use Rattle.mlt_event_text.specs.declared.session_line.Line.{Line}
-use Rattle.mlt_event_text.specs.declared.session_line.Line.TheVariants.{Says, TooLong}
+use Rattle.mlt_event_text.specs.declared.session_line.SessionLine.{SessionLine}
+use Rattle.mlt_event_text.specs.declared.session_line.SessionLine.TheVariants.{Says, TooLong}
 use Rattle.mlt_serve_session.specs.Noting.{noted}
 use Rattle.mlt_serve_session.specs.Outcomes.{outcome_of, begins_by, begun_in, done_in, end_in, call_of, up_to, before_next, all_done, ended_by, outcome_behind, outcome_if, outcomes_of}
 use Rattle.mlt_serve_session.proofs.Closing.{at_last_end}
@@ -100,7 +100,7 @@ open_noted client b rs r [] = ap (λ (l : List (ObjOp × ObjReply)). rs ++ recor
 open_noted client b rs r (t ∷ ts) = open_case client b rs r t ts (begun_in (call_of t) t.answer) refl (λ n ss s. open_noted client n ss s ts)
 
 -- turns with nothing open before them
-pub all_noted : (client b : ℕ) (rs : List Outcome) (ls : List Line) (answers : List DeskAnswer) → noted_all client b rs (turns None ls answers) ≡ rs ++ outcomes_of client b (turns None ls answers)
+pub all_noted : (client b : ℕ) (rs : List Outcome) (ls : List SessionLine) (answers : List DeskAnswer) → noted_all client b rs (turns None ls answers) ≡ rs ++ outcomes_of client b (turns None ls answers)
 unfolding grown
 all_noted client b rs [] answers = sym (append-nil rs)
 all_noted client b rs (Says command.Begin ∷ ls) [] = sym (append-nil rs)

@@ -5,7 +5,7 @@ use Rattle.mlt_script_cursor.specs.declared.call.DeskAnswer.TheVariants.{Committ
 use Rattle.mlt_script_cursor.specs.declared.call.DeskCall.{DeskCall}
 use Rattle.mlt_serve_session.specs.declared.notes.Progress.{Progress}
 use Rattle.mlt_serve_session.specs.Noting.{noted}
-use Rattle.mlt_serve_session.specs.Turns.{Place, Asked, after_answer}
+use Rattle.mlt_serve_session.specs.Turns.{TalkState, Asked, after_answer}
 use Rattle.mlt_script_cursor.specs.Calls.{Moves}
 use Rattle.mlt_serve_session.specs.Desks.{Moved}
 
@@ -23,6 +23,6 @@ committed p q n e =
     ap (λ (r : Progress). record r { commits = r.commits + 1 }) e ∙ rw begun refl
 
 -- the call was made
-pub asks : {D : Type 0} (moves : Moves D) (client : ℕ) (p q : Place D) (asked : Option DeskCall) (c : DeskCall) (a : DeskAnswer)
+pub asks : {D : Type 0} (moves : Moves D) (client : ℕ) (p q : TalkState D) (asked : Option DeskCall) (c : DeskCall) (a : DeskAnswer)
     → asked ≡ Some c → Moved moves p.desk c a q.desk → q.outcomes ≡ noted client p.progress.begun p.outcomes c a → Asked moves client p asked (Some a) q
 asks moves client p q asked c a e m n = subst (λ (o : Option DeskCall). Asked moves client p o (Some a) q) (sym e) (m, n)

@@ -1,10 +1,10 @@
 -- The complete lines of one read.
 use Rattle.std.specs.Prelude.{◌≡◌, ◌≤◌, ℕ, List, [], ◌++◌, length, take, drop, map, Bool, true, false}
 use Rattle.std.specs.List.{flat_map}
-use Rattle.mlt_event_text.specs.declared.session_line.Line.{Line}
+use Rattle.mlt_event_text.specs.declared.session_line.SessionLine.{SessionLine}
 use Rattle.mlt_event_text.specs.Inputs.{lines_of, Splits, Begins}
 use Rattle.mlt_serve_session.specs.Talks.{Turn, turn_text}
-use Rattle.mlt_serve_session.specs.Turns.{Place, Goes}
+use Rattle.mlt_serve_session.specs.Turns.{TalkState, Goes}
 use Rattle.mlt_script_cursor.specs.Calls.{Moves}
 
 -- a text, and how far into it
@@ -16,7 +16,7 @@ abbrev pub front : List ℕ → ℕ → Front
 front text at = record { text = text; at = at }
 
 -- up to here, these are the lines; or the session is over
-abbrev pub Covers : Bool → List ℕ → ℕ → List Line → Type 0
+abbrev pub Covers : Bool → List ℕ → ℕ → List SessionLine → Type 0
 Covers false bytes at lines = Splits (take at bytes) × (lines_of (take at bytes) ≡ lines)
 Covers true bytes at lines = Begins bytes lines
 
@@ -25,12 +25,12 @@ abbrev pub IsRest : Bool → List ℕ → Type 0
 IsRest false rest = (lines_of rest ≡ []) × (length rest ≤ 200)
 IsRest true rest = Unit {0}
 
-abbrev pub lines_in : List Turn → List Line
+abbrev pub lines_in : List Turn → List SessionLine
 lines_in ts = map (λ t. t.line) ts
 
 -- so far into the text, by these turns
-pub record Reaches {D : Type 0} (moves : Moves D) (client : ℕ) (p : Place D) (up_to : Front)
-    (before after : List ℕ) (q : Place D) : Type 0 where
+pub record Reaches {D : Type 0} (moves : Moves D) (client : ℕ) (p : TalkState D) (up_to : Front)
+    (before after : List ℕ) (q : TalkState D) : Type 0 where
   pub turns : List Turn
   pub goes : Goes moves client p turns q
   pub says : after ≡ before ++ flat_map turn_text turns
@@ -38,14 +38,14 @@ pub record Reaches {D : Type 0} (moves : Moves D) (client : ℕ) (p : Place D) (
   pub covers : Covers q.progress.over up_to.text up_to.at (lines_in turns)
 
 -- the complete lines of the text were answered, and these took so many bytes
-abbrev pub Answered : {D : Type 0} → Moves D → ℕ → Place D → Front → List ℕ → List ℕ → Place D
+abbrev pub Answered : {D : Type 0} → Moves D → ℕ → TalkState D → Front → List ℕ → List ℕ → TalkState D
     → Type 0
 Answered moves client p up_to before after q = Reaches moves client p up_to before after q
     × IsRest q.progress.over (drop up_to.at up_to.text)
 
 -- want of memory came before the last line was answered
-pub record BrokeOff {D : Type 0} (moves : Moves D) (client : ℕ) (p : Place D) (text : List ℕ)
-    (q : Place D) : Type 0 where
+pub record BrokeOff {D : Type 0} (moves : Moves D) (client : ℕ) (p : TalkState D) (text : List ℕ)
+    (q : TalkState D) : Type 0 where
   pub turns : List Turn
   pub goes : Goes moves client p turns q
   pub begins : Begins text (lines_in turns)

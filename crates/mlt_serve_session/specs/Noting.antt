@@ -8,7 +8,7 @@ use Rattle.mlt_script_cursor.specs.declared.call.DeskAnswer.{DeskAnswer}
 use Rattle.mlt_script_cursor.specs.declared.call.DeskAnswer.TheVariants.{Begun, Replied, Committed}
 use Rattle.mlt_script_cursor.specs.declared.call.DeskCall.{DeskCall}
 use Rattle.mlt_script_cursor.specs.declared.call.DeskCall.TheVariants as call
-use Rattle.mlt_serve_session.specs.declared.notes.Notes.{Notes}
+use Rattle.mlt_serve_session.specs.declared.notes.SessionRecord.{SessionRecord}
 use Rattle.mlt_serve_session.specs.declared.receipts.Receipts.{Ghosts}
 use Rattle.mlt_serve_session.specs.Outcomes.{outcome_of}
 
@@ -18,7 +18,7 @@ pending client number None done = []
 pending client number (Some tx) done = outcome_of client number tx done end.Aborted ∷ []
 
 -- all outcomes so far, that of the open transaction among them
-abbrev pub outcomes_in : {K : Type 0} {of : Ghosts K} → ℕ → Notes K of → List Outcome
+abbrev pub outcomes_in : {K : Type 0} {of : Ghosts K} → ℕ → SessionRecord K of → List Outcome
 outcomes_in {of = of} client notes = of.receipts notes.outcomes
     ++ pending client notes.progress.begun notes.progress.tx notes.done.items
 

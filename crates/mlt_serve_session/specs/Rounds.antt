@@ -3,12 +3,12 @@ use Rattle.std.specs.Prelude.{◌≡◌, ◌≤◌, ◌+◌, ℕ, List, [], ◌+
 use Rattle.std.specs.List.{flat_map}
 use Rattle.std.specs.Io.KnownBytes.{Appends, Consumes, IsAtEnd}
 use Rattle.mlt_text.specs.Texts.{AppendsFront}
-use Rattle.mlt_event_text.specs.declared.session_line.Line.{Line}
+use Rattle.mlt_event_text.specs.declared.session_line.SessionLine.{SessionLine}
 use Rattle.mlt_serve_session.specs.Batches.{Covers, Front, IsRest, lines_in}
 use Rattle.mlt_event_text.specs.Inputs.{lines_of, Splits, Begins}
 use Rattle.mlt_script_cursor.specs.Calls.{Moves}
 use Rattle.mlt_serve_session.specs.Talks.{Turn, turn_text}
-use Rattle.mlt_serve_session.specs.Turns.{Place, Goes}
+use Rattle.mlt_serve_session.specs.Turns.{TalkState, Goes}
 
 -- the bytes that a reader has left and those that a writer took, where these are known, before and after
 pub record Streams : Type 0 where
@@ -27,8 +27,8 @@ streams read_before read_after wrote_before wrote_after =
     }
 
 -- the complete lines of the text were answered, and the answers written
-pub record Replied {D : Type 0} (moves : Moves D) (client : ℕ) (p : Place D) (up_to : Front)
-    (before after : Option (List ℕ)) (q : Place D) : Type 0 where
+pub record Replied {D : Type 0} (moves : Moves D) (client : ℕ) (p : TalkState D) (up_to : Front)
+    (before after : Option (List ℕ)) (q : TalkState D) : Type 0 where
   pub turns : List Turn
   pub goes : Goes moves client p turns q
   pub wrote : Appends before after (flat_map turn_text turns)
@@ -37,28 +37,28 @@ pub record Replied {D : Type 0} (moves : Moves D) (client : ℕ) (p : Place D) (
   pub rest : IsRest q.progress.over (drop up_to.at up_to.text)
 
 -- some lines of the text were answered, and a prefix of the answers written
-pub record Stopped {D : Type 0} (moves : Moves D) (client : ℕ) (p : Place D) (text : List ℕ)
-    (before after : Option (List ℕ)) (q : Place D) : Type 0 where
+pub record Stopped {D : Type 0} (moves : Moves D) (client : ℕ) (p : TalkState D) (text : List ℕ)
+    (before after : Option (List ℕ)) (q : TalkState D) : Type 0 where
   pub turns : List Turn
   pub goes : Goes moves client p turns q
   pub begins : Begins text (lines_in turns)
   pub wrote : AppendsFront before after (flat_map turn_text turns)
 
 -- these are the lines of the input; or the session is over, and they are the first
-abbrev pub AreLines : Bool → List ℕ → List Line → Type 0
+abbrev pub AreLines : Bool → List ℕ → List SessionLine → Type 0
 AreLines false bytes lines = lines_of bytes ≡ lines
 AreLines true bytes lines = Begins bytes lines
 
 -- all complete lines of the text were answered, and a prefix of the answers written
-pub record Unwritten {D : Type 0} (moves : Moves D) (client : ℕ) (p : Place D) (text : List ℕ)
-    (before after : Option (List ℕ)) (q : Place D) : Type 0 where
+pub record Unwritten {D : Type 0} (moves : Moves D) (client : ℕ) (p : TalkState D) (text : List ℕ)
+    (before after : Option (List ℕ)) (q : TalkState D) : Type 0 where
   pub stopped : Stopped moves client p text before after q
   pub lines : AreLines q.progress.over text (lines_in stopped.turns)
 
 -- a session that goes on: its lines up to here, and the bytes that it holds, which are no complete
 -- line
-pub record Listens {D : Type 0} (moves : Moves D) (client : ℕ) (p : Place D)
-    (bytes : Streams) (held : List ℕ) (total : ℕ) (q : Place D) : Type 0 where
+pub record Listens {D : Type 0} (moves : Moves D) (client : ℕ) (p : TalkState D)
+    (bytes : Streams) (held : List ℕ) (total : ℕ) (q : TalkState D) : Type 0 where
   pub turns : List Turn
   pub prefix : List ℕ
   pub goes : Goes moves client p turns q
@@ -76,8 +76,8 @@ EndsInput false rest = IsAtEnd rest
 EndsInput true rest = Unit {0}
 
 -- a session that ended by itself: all that was read was answered, up to the line that ended it
-pub record Talked {D : Type 0} (moves : Moves D) (client : ℕ) (p : Place D)
-    (bytes : Streams) (q : Place D) : Type 0 where
+pub record Talked {D : Type 0} (moves : Moves D) (client : ℕ) (p : TalkState D)
+    (bytes : Streams) (q : TalkState D) : Type 0 where
   pub taken : List ℕ
   pub turns : List Turn
   pub consumed : Consumes bytes.read_before bytes.read_after taken
@@ -88,8 +88,8 @@ pub record Talked {D : Type 0} (moves : Moves D) (client : ℕ) (p : Place D)
   pub ended : EndsInput q.progress.over bytes.read_after
 
 -- a session that was broken off
-pub record Broken {D : Type 0} (moves : Moves D) (client : ℕ) (p : Place D)
-    (bytes : Streams) (q : Place D) : Type 0 where
+pub record Broken {D : Type 0} (moves : Moves D) (client : ℕ) (p : TalkState D)
+    (bytes : Streams) (q : TalkState D) : Type 0 where
   pub taken : List ℕ
   pub turns : List Turn
   pub consumed : Consumes bytes.read_before bytes.read_after taken
@@ -100,8 +100,8 @@ pub record Broken {D : Type 0} (moves : Moves D) (client : ℕ) (p : Place D)
 
 -- a session that a read, a write or the byte limit broke off: all that was read up to the limit was
 -- answered
-pub record BrokenHeard {D : Type 0} (moves : Moves D) (client : ℕ) (p : Place D)
-    (bytes : Streams) (q : Place D) : Type 0 where
+pub record BrokenHeard {D : Type 0} (moves : Moves D) (client : ℕ) (p : TalkState D)
+    (bytes : Streams) (q : TalkState D) : Type 0 where
   pub broken : Broken moves client p bytes q
   pub lines : AreLines q.progress.over (take 16777216 broken.taken) (lines_in broken.turns)
   pub whole : length broken.taken ≡ 16777217

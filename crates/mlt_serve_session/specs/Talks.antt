@@ -7,20 +7,20 @@ use Rattle.mlt_script_cursor.specs.declared.call.DeskAnswer.{DeskAnswer}
 use Rattle.mlt_script_cursor.specs.declared.call.DeskAnswer.TheVariants.{Begun, Replied, Committed, Aborted, Refused}
 use Rattle.mlt_script_cursor.specs.declared.call.DeskCall.{DeskCall}
 use Rattle.mlt_script_cursor.specs.declared.call.DeskCall.TheVariants as call
-use Rattle.mlt_event_text.specs.declared.session_line.Line.{Line}
-use Rattle.mlt_event_text.specs.declared.session_line.Line.TheVariants.{Says, TooLong}
+use Rattle.mlt_event_text.specs.declared.session_line.SessionLine.{SessionLine}
+use Rattle.mlt_event_text.specs.declared.session_line.SessionLine.TheVariants.{Says, TooLong}
 use Rattle.mlt_serve_session.specs.declared.said.Said.{Said}
 use Rattle.mlt_serve_session.specs.declared.said.Said.TheVariants as said
 use Rattle.mlt_event_text.specs.Inputs.{lines_of}
 use Rattle.mlt_serve_session.specs.Texts.{said_text}
 
 -- what a line asks of the desk, with no transaction open
-abbrev pub call_alone : Line → Option DeskCall
+abbrev pub call_alone : SessionLine → Option DeskCall
 call_alone (Says command.Begin) = Some call.Begin
 call_alone line = None
 
 -- what a line asks of the desk, with this transaction open
-abbrev pub call_within : ℕ → Line → Option DeskCall
+abbrev pub call_within : ℕ → SessionLine → Option DeskCall
 call_within tx (Says (command.Op op)) = Some (call.Operation tx op)
 call_within tx (Says command.Commit) = Some (call.Commit tx)
 call_within tx (Says command.Abort) = Some (call.Abort tx)
@@ -28,14 +28,14 @@ call_within tx (Says command.Quit) = Some (call.Abort tx)
 call_within tx TooLong = Some (call.Abort tx)
 call_within tx line = None
 
-abbrev pub call_for : Option ℕ → Line → Option DeskCall
+abbrev pub call_for : Option ℕ → SessionLine → Option DeskCall
 call_for None line = call_alone line
 call_for (Some tx) line = call_within tx line
 
 -- a line, the transaction that is open before it, and what the desk answered where it was asked
 pub record Turn : Type 0 where
   pub open_before : Option ℕ
-  pub line : Line
+  pub line : SessionLine
   pub answer : Option DeskAnswer
 
 -- the transaction that is open after an answer
@@ -48,20 +48,20 @@ open_after before (Some Aborted) = None
 open_after before (Some (Refused r)) = before
 
 -- whether a line ends the session
-abbrev pub ends : Line → Bool
+abbrev pub ends : SessionLine → Bool
 ends (Says command.Quit) = true
 ends TooLong = true
 ends line = false
 
-abbrev pub is_long : Line → Bool
+abbrev pub is_long : SessionLine → Bool
 is_long (Says command) = false
 is_long TooLong = true
 
-abbrev pub unless_ended : Line → List Turn → List Turn
+abbrev pub unless_ended : SessionLine → List Turn → List Turn
 unless_ended line rest = if ends line then [] else rest
 
 -- one turn, and those of the lines behind it; where the desk did not answer the session broke off
-abbrev pub one_turn : Option ℕ → Line → Option DeskCall → List DeskAnswer
+abbrev pub one_turn : Option ℕ → SessionLine → Option DeskCall → List DeskAnswer
     → (Option ℕ → List DeskAnswer → List Turn) → List Turn
 one_turn before line None answers behind =
     record { open_before = before; line = line; answer = None }
@@ -72,7 +72,7 @@ one_turn before line (Some c) (a ∷ answers) behind =
     ∷ unless_ended line (behind (open_after before (Some a)) answers)
 
 -- the turns of these lines with these answers
-abbrev pub turns : Option ℕ → List Line → List DeskAnswer → List Turn
+abbrev pub turns : Option ℕ → List SessionLine → List DeskAnswer → List Turn
 turns before [] answers = []
 turns before (line ∷ lines) answers =
     one_turn before line (call_for before line) answers (λ next rest. turns next lines rest)
@@ -82,7 +82,7 @@ abbrev pub session_turns : List ℕ → List DeskAnswer → List Turn
 session_turns bytes answers = turns None (lines_of bytes) answers
 
 -- what is said to a line that asks nothing, with no transaction open
-abbrev pub said_alone : Line → Said
+abbrev pub said_alone : SessionLine → Said
 said_alone (Says command.Begin) = said.Nothing
 said_alone (Says (command.Op op)) = said.Error refusal.NoSuchTx
 said_alone (Says command.Commit) = said.Error refusal.NoSuchTx
@@ -93,7 +93,7 @@ said_alone (Says command.Other) = said.Fault
 said_alone TooLong = said.Error refusal.LineTooLong
 
 -- the same with one open
-abbrev pub said_within : Line → Said
+abbrev pub said_within : SessionLine → Said
 said_within (Says command.Begin) = said.Error refusal.Running
 said_within (Says (command.Op op)) = said.Nothing
 said_within (Says command.Commit) = said.Nothing
@@ -104,7 +104,7 @@ said_within (Says command.Other) = said.Fault
 said_within TooLong = said.Error refusal.LineTooLong
 
 -- what is said where the desk answered
-abbrev pub said_with : Line → DeskAnswer → Said
+abbrev pub said_with : SessionLine → DeskAnswer → Said
 said_with (Says command.Quit) answer = said.Bye
 said_with (Says command.Blank) answer = said.Nothing
 said_with (Says command.Other) answer = said.Fault
@@ -112,7 +112,7 @@ said_with TooLong answer = said.Error refusal.LineTooLong
 said_with line answer = said.Told answer
 
 -- what is said of a line: the answer of the desk, or what the line itself calls for
-abbrev pub said_by : Option ℕ → Line → Option DeskAnswer → Said
+abbrev pub said_by : Option ℕ → SessionLine → Option DeskAnswer → Said
 said_by before line (Some answer) = said_with line answer
 said_by None line None = said_alone line
 said_by (Some tx) line None = said_within line

@@ -3,9 +3,9 @@ use Rattle.std.specs.Prelude.{◌≡◌, ◌<◌, ◌≤◌, ◌^◌, ℕ, ◌+�
 use Rattle.mlt_script_serial.specs.declared.outcome.Outcome.{Outcome}
 use Rattle.mlt_script_cursor.specs.declared.call.DeskAnswer.{DeskAnswer}
 use Rattle.mlt_script_cursor.specs.declared.call.DeskCall.{DeskCall}
-use Rattle.mlt_event_text.specs.declared.session_line.Line.{Line}
+use Rattle.mlt_event_text.specs.declared.session_line.SessionLine.{SessionLine}
 use Rattle.mlt_serve_session.specs.declared.said.Said.{Said}
-use Rattle.mlt_serve_session.specs.declared.notes.Notes.{Notes}
+use Rattle.mlt_serve_session.specs.declared.notes.SessionRecord.{SessionRecord}
 use Rattle.mlt_serve_session.specs.declared.receipts.Receipts.{Ghosts}
 use Rattle.mlt_serve_session.specs.declared.notes.Progress.{Progress}
 use Rattle.mlt_serve_session.specs.Noting.{outcomes_in, noted}
@@ -15,13 +15,13 @@ use Rattle.mlt_script_cursor.specs.Calls.{Moves}
 use Rattle.mlt_serve_session.specs.Desks.{Moved}
 
 -- how far a session is, its desk and its outcomes
-pub record Place (D : Type 0) : Type 0 where
+pub record TalkState (D : Type 0) : Type 0 where
   pub progress : Progress
   pub desk : D
   pub outcomes : List Outcome
 
-abbrev pub place : {K D : Type 0} {of : Ghosts K} → ℕ → Notes K of → D → Place D
-place client notes desk =
+abbrev pub talk_state : {K D : Type 0} {of : Ghosts K} → ℕ → SessionRecord K of → D → TalkState D
+talk_state client notes desk =
     record { progress = notes.progress; desk = desk; outcomes = outcomes_in client notes }
 
 -- a session of which nothing was read
@@ -41,7 +41,7 @@ after_answer p answer =
     }
 
 -- how far a session is after a line was answered
-abbrev pub after_line : Progress → Line → Progress
+abbrev pub after_line : Progress → SessionLine → Progress
 after_line p line = record p { lines = p.lines + 1; over = ends line; long = is_long line }
 
 -- how far a session is after a turn
@@ -49,40 +49,40 @@ abbrev pub after_turn : Progress → Turn → Progress
 after_turn p t = after_line (after_answer p t.answer) t.line
 
 -- the call was made and answered so, and noted
-pub record Told {D : Type 0} (moves : Moves D) (client : ℕ) (p : Place D) (c : DeskCall)
-    (a : DeskAnswer) (q : Place D) : Type 0 where
+pub record CallIsNoted {D : Type 0} (moves : Moves D) (client : ℕ) (p : TalkState D) (c : DeskCall)
+    (a : DeskAnswer) (q : TalkState D) : Type 0 where
   pub moved : Moved moves p.desk c a q.desk
   pub noted_so : q.outcomes ≡ noted client p.progress.begun p.outcomes c a
   pub after : q.progress ≡ after_answer p.progress (Some a)
 
 -- the call was made and answered, and noted; or there was none
-abbrev pub Asked : {D : Type 0} → Moves D → ℕ → Place D → Option DeskCall → Option DeskAnswer
-    → Place D → Type 0
+abbrev pub Asked : {D : Type 0} → Moves D → ℕ → TalkState D → Option DeskCall → Option DeskAnswer
+    → TalkState D → Type 0
 Asked moves client p None None q = (q.desk ≡ p.desk) × (q.outcomes ≡ p.outcomes)
 Asked moves client p (Some c) (Some a) q = Moved moves p.desk c a q.desk
     × (q.outcomes ≡ noted client p.progress.begun p.outcomes c a)
 Asked moves client p None (Some a) q = ⊥
 Asked moves client p (Some c) None q = ⊥
 
-pub record Step {D : Type 0} (moves : Moves D) (client : ℕ) (p : Place D) (t : Turn)
-    (q : Place D) : Type 0 where
+pub record Step {D : Type 0} (moves : Moves D) (client : ℕ) (p : TalkState D) (t : Turn)
+    (q : TalkState D) : Type 0 where
   pub going : p.progress.over ≡ false
   pub before : t.open_before ≡ p.progress.tx
   pub asked : Asked moves client p (call_for t.open_before t.line) t.answer q
   pub after : q.progress ≡ after_turn p.progress t
 
 -- these turns, one after the other
-abbrev pub Goes : {D : Type 0} → Moves D → ℕ → Place D → List Turn → Place D → Type 0
+abbrev pub Goes : {D : Type 0} → Moves D → ℕ → TalkState D → List Turn → TalkState D → Type 0
 Goes moves client p [] q = q ≡ p
-Goes {D} moves client p (t ∷ ts) q = (m : Place D) × Step moves client p t m
+Goes {D} moves client p (t ∷ ts) q = (m : TalkState D) × Step moves client p t m
     × Goes moves client m ts q
 
-abbrev pub turn_at : Option ℕ → Line → Option DeskAnswer → Turn
+abbrev pub turn_at : Option ℕ → SessionLine → Option DeskAnswer → Turn
 turn_at before line answer = record { open_before = before; line = line; answer = answer }
 
 -- one turn for a line, and what is said
-pub record TakesTurn {D : Type 0} (moves : Moves D) (client : ℕ) (p : Place D) (line : Line)
-    (said : Said) (q : Place D) : Type 0 where
+pub record TakesTurn {D : Type 0} (moves : Moves D) (client : ℕ) (p : TalkState D) (line : SessionLine)
+    (said : Said) (q : TalkState D) : Type 0 where
   pub answer : Option DeskAnswer
   pub step : Step moves client p (turn_at p.progress.tx line answer) q
   pub says : said ≡ said_by p.progress.tx line answer

@@ -2,9 +2,9 @@
 
 ghost use Rattle.std.specs.Prelude.{◌≡◌, ◌<◌, ◌≤◌, ◌+◌, ◌^◌, false, length, IfOk, OnErr, OnOk};
 ghost use Rattle.mlt_serve_session.specs.Batches.{Answered, BrokeOff, front};
-ghost use Rattle.mlt_serve_session.specs.Turns.{IsSmall, place};
+ghost use Rattle.mlt_serve_session.specs.Turns.{IsSmall, talk_state};
 
-use crate::notes::Notes;
+use crate::notes::SessionRecord;
 use crate::receipts::Receipts;
 use crate::said::push_said;
 use crate::turn::take_turn;
@@ -18,7 +18,7 @@ use std::alloc::AllocError;
 /// # Errors
 /// A growth was refused: some lines were answered, and their answers are not all there.
 pub fn answer_lines<D: Desk, K: Receipts>(
-    notes: &mut Notes<K>,
+    notes: &mut SessionRecord<K>,
     desk: &mut D,
     client: u32,
     out: &mut Vec<u8>,
@@ -28,15 +28,15 @@ pub fn answer_lines<D: Desk, K: Receipts>(
     requires small { IsSmall notes.old.progress }
     requires few { notes.old.progress.lines + length text.now < 2 ^ 62 }
     ensures ok { IfOk result
-        (λ at. Answered D.moves client (place client notes.old desk.old) (front text.now at)
-        out.old.items out.new.items (place client notes.new desk.new)) }
+        (λ at. Answered D.moves client (talk_state client notes.old desk.old) (front text.now at)
+        out.old.items out.new.items (talk_state client notes.new desk.new)) }
     ensures lines { IfOk result
         (λ at. notes.new.progress.lines ≤ notes.old.progress.lines + at) }
     ensures commits { OnOk result (notes.new.progress.commits ≤ notes.new.progress.lines) }
     ensures begun { OnOk result (notes.new.progress.begun ≤ notes.new.progress.lines) }
     ensures err { OnErr result
-        (BrokeOff D.moves client (place client notes.old desk.old) text.now
-        (place client notes.new desk.new)) }
+        (BrokeOff D.moves client (talk_state client notes.old desk.old) text.now
+        (talk_state client notes.new desk.new)) }
 {
     let mut at = 0;
     while !notes.progress.over {

@@ -28,7 +28,7 @@ pub struct Progress {
 /// How far a session is, and its outcomes. While a transaction is open its outcome is not among them yet,
 /// but there is room for it.
 #[derive(Drop)]
-pub struct Notes<K: Receipts> {
+pub struct SessionRecord<K: Receipts> {
     /// How far it is.
     pub progress: Progress,
     /// What was done in the transaction that is open, in order.

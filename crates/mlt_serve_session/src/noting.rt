@@ -6,38 +6,38 @@ ghost use Rattle.mlt_serve_session.specs.Outcomes.{outcome_of};
 ghost use Rattle.mlt_serve_session.specs.Talks.{ends, is_long};
 ghost use Rattle.mlt_serve_session.specs.Turns.{after_line, start};
 
-use crate::notes::{Notes, Progress};
+use crate::notes::{Progress, SessionRecord};
 use crate::receipts::Receipts;
-use mlt_event_text::{Command, Line};
+use mlt_event_text::{Command, SessionLine};
 use mlt_script_serial::End;
 use mlt_types::TxId;
 use std::alloc::Global;
 
-fn ends(line: Line) -> bool
+fn ends(line: SessionLine) -> bool
     ensures { result ≡ ends line }
 {
     match line {
-        Line::Says(Command::Quit) | Line::TooLong => true,
+        SessionLine::Says(Command::Quit) | SessionLine::TooLong => true,
         _ => false,
     }
 }
 
-fn is_long(line: Line) -> bool
+fn is_long(line: SessionLine) -> bool
     ensures { result ≡ is_long line }
 {
     match line {
-        Line::TooLong => true,
-        Line::Says(_) => false,
+        SessionLine::TooLong => true,
+        SessionLine::Says(_) => false,
     }
 }
 
-impl<K: Receipts> Notes<K> {
+impl<K: Receipts> SessionRecord<K> {
     /// A session of which nothing was read, behind these outcomes. Takes no memory.
-    pub fn new(alloc: Global, outcomes: K) -> Notes<K>
+    pub fn new(alloc: Global, outcomes: K) -> SessionRecord<K>
         ensures progress { result.progress ≡ start }
         ensures outcomes { K.receipts result.outcomes ≡ K.receipts outcomes }
     {
-        Notes {
+        SessionRecord {
             progress: Progress {
                 tx: None,
                 lines: 0,
@@ -80,7 +80,7 @@ impl<K: Receipts> Notes<K> {
     }
 
     /// Notes that the line was answered.
-    pub fn note_answered(&mut self, line: Line)
+    pub fn note_answered(&mut self, line: SessionLine)
         requires small { self.old.progress.lines < 2 ^ 62 }
         ensures progress { self.new.progress ≡ after_line self.old.progress line }
         ensures outcomes { (client : ℕ)

@@ -8,10 +8,10 @@ ghost use Rattle.mlt_serve_session.specs.Noting.{outcomes_in};
 ghost use Rattle.mlt_serve_session.specs.Rounds.{Replied, Stopped, Unwritten, Talked, Broken, BrokenHeard, streams};
 ghost use Rattle.mlt_serve_session.specs.Sessions.{SessionAnswers, scene};
 ghost use Rattle.mlt_serve_session.specs.Talks.{closing, closing_answers};
-ghost use Rattle.mlt_serve_session.specs.Turns.{IsSmall, place, start};
+ghost use Rattle.mlt_serve_session.specs.Turns.{IsSmall, talk_state, start};
 
 use crate::batch::answer_lines;
-use crate::notes::Notes;
+use crate::notes::SessionRecord;
 use crate::receipts::Receipts;
 use crate::turn::abort;
 use mlt_script_desk::Desk;
@@ -58,7 +58,7 @@ fn keep(buffer: &mut [u8], at: usize, end: usize) -> usize
 // Answers all complete lines of the text in one write, and tells how many bytes these lines take.
 fn reply<W: Write, D: Desk, K: Receipts>(
     writer: &mut W,
-    notes: &mut Notes<K>,
+    notes: &mut SessionRecord<K>,
     desk: &mut D,
     client: u32,
     out: &mut Vec<u8>,
@@ -68,18 +68,18 @@ fn reply<W: Write, D: Desk, K: Receipts>(
     requires small { IsSmall notes.old.progress }
     requires few { notes.old.progress.lines + length text.now < 2 ^ 62 }
     ensures ok { IfOk result
-        (λ at. Replied D.moves client (place client notes.old desk.old) (front text.now at)
-        (W.contents writer.old) (W.contents writer.new) (place client notes.new desk.new)) }
+        (λ at. Replied D.moves client (talk_state client notes.old desk.old) (front text.now at)
+        (W.contents writer.old) (W.contents writer.new) (talk_state client notes.new desk.new)) }
     ensures lines { IfOk result
         (λ at. notes.new.progress.lines ≤ notes.old.progress.lines + at) }
     ensures commits { OnOk result (notes.new.progress.commits ≤ notes.new.progress.lines) }
     ensures begun { OnOk result (notes.new.progress.begun ≤ notes.new.progress.lines) }
     ensures err { OnErr result
-        (Stopped D.moves client (place client notes.old desk.old) text.now
-        (W.contents writer.old) (W.contents writer.new) (place client notes.new desk.new)) }
+        (Stopped D.moves client (talk_state client notes.old desk.old) text.now
+        (W.contents writer.old) (W.contents writer.new) (talk_state client notes.new desk.new)) }
     ensures io { IsErrOf result Refusal.Io
-        → Unwritten D.moves client (place client notes.old desk.old) text.now
-        (W.contents writer.old) (W.contents writer.new) (place client notes.new desk.new) }
+        → Unwritten D.moves client (talk_state client notes.old desk.old) text.now
+        (W.contents writer.old) (W.contents writer.new) (talk_state client notes.new desk.new) }
     ensures refusal { IfErr result
         (λ refusal. (refusal ≡ Refusal.OutOfMemory) ⊎ (refusal ≡ Refusal.Io)) }
 {
@@ -94,7 +94,7 @@ fn reply<W: Write, D: Desk, K: Receipts>(
 fn listen<R: Read, W: Write, D: Desk, K: Receipts>(
     reader: &mut R,
     writer: &mut W,
-    notes: &mut Notes<K>,
+    notes: &mut SessionRecord<K>,
     desk: &mut D,
     client: u32,
     buffer: &mut [u8],
@@ -103,17 +103,17 @@ fn listen<R: Read, W: Write, D: Desk, K: Receipts>(
     requires fresh { notes.old.progress ≡ start }
     requires room { (200 < length buffer.old) × (length buffer.old < 2 ^ 32) }
     ensures ok { OnOk result
-        (Talked D.moves client (place client notes.old desk.old)
+        (Talked D.moves client (talk_state client notes.old desk.old)
         (streams (R.remaining reader.old) (R.remaining reader.new)
-        (W.contents writer.old) (W.contents writer.new)) (place client notes.new desk.new)) }
+        (W.contents writer.old) (W.contents writer.new)) (talk_state client notes.new desk.new)) }
     ensures err { OnErr result
-        (Broken D.moves client (place client notes.old desk.old)
+        (Broken D.moves client (talk_state client notes.old desk.old)
         (streams (R.remaining reader.old) (R.remaining reader.new)
-        (W.contents writer.old) (W.contents writer.new)) (place client notes.new desk.new)) }
+        (W.contents writer.old) (W.contents writer.new)) (talk_state client notes.new desk.new)) }
     ensures io { IsErrOf result Refusal.Io
-        → BrokenHeard D.moves client (place client notes.old desk.old)
+        → BrokenHeard D.moves client (talk_state client notes.old desk.old)
         (streams (R.remaining reader.old) (R.remaining reader.new)
-        (W.contents writer.old) (W.contents writer.new)) (place client notes.new desk.new) }
+        (W.contents writer.old) (W.contents writer.new)) (talk_state client notes.new desk.new) }
     ensures refusal { IfErr result
         (λ refusal. (refusal ≡ Refusal.OutOfMemory) ⊎ (refusal ≡ Refusal.Io)) }
 {
@@ -148,7 +148,7 @@ pub struct Summary {
 }
 
 // Takes back what is open, and answers all outcomes.
-fn finish<D: Desk, K: Receipts + Drop>(mut notes: Notes<K>, desk: &mut D, client: u32) -> K
+fn finish<D: Desk, K: Receipts + Drop>(mut notes: SessionRecord<K>, desk: &mut D, client: u32) -> K
     ensures asked { Answers D.moves desk.old
         (closing notes.progress.tx) (closing_answers notes.progress.tx) desk.new }
     ensures outcomes { K.receipts result ≡ outcomes_in client notes }
@@ -178,7 +178,7 @@ fn converse<R: Read, W: Write, D: Desk, K: Receipts + Drop>(
         ⊎ (refusal ≡ Refusal.OutOfMemory) ⊎ (refusal ≡ Refusal.Io)) }
 {
     let mut out = Vec::new(alloc);
-    let mut notes = Notes::new(alloc, mem::replace(outcomes, K::none(alloc)));
+    let mut notes = SessionRecord::new(alloc, mem::replace(outcomes, K::none(alloc)));
     let listened = listen(reader, writer, &mut notes, desk, client, buffer, &mut out);
     let progress = notes.progress;
     *outcomes = finish(notes, desk, client);

@@ -3,12 +3,12 @@
 ghost use Rattle.std.specs.Prelude.{◌≡◌, ◌<◌, ◌≤◌, ◌+◌, ◌^◌, None, Some, false, IfOk, IfSome, OnOk, OnErr};
 ghost use Rattle.mlt_serve_session.specs.Desks.{open_for};
 ghost use Rattle.mlt_serve_session.specs.Talks.{call_for, said_by};
-ghost use Rattle.mlt_serve_session.specs.Turns.{Told, TakesTurn, IsSmall, place};
+ghost use Rattle.mlt_serve_session.specs.Turns.{CallIsNoted, TakesTurn, IsSmall, talk_state};
 
-use crate::notes::Notes;
+use crate::notes::SessionRecord;
 use crate::receipts::Receipts;
 use crate::said::Said;
-use mlt_event_text::{Command, Line};
+use mlt_event_text::{Command, SessionLine};
 use mlt_object_kinds::{Done, ObjOp};
 use mlt_script_cursor::{DeskAnswer, DeskCall};
 use mlt_script_desk::Desk;
@@ -17,15 +17,15 @@ use mlt_types::{Refusal, TxId};
 use std::alloc::AllocError;
 
 /// What a line asks of the desk, with this transaction open or none.
-fn call_for(before: Option<TxId>, line: Line) -> Option<DeskCall>
+fn call_for(before: Option<TxId>, line: SessionLine) -> Option<DeskCall>
     ensures value { result ≡ call_for before line }
     ensures fits { IfSome result (λ call. before ≡ open_for call) }
 {
     match (before, line) {
-        (None, Line::Says(Command::Begin)) => Some(DeskCall::Begin),
-        (Some(tx), Line::Says(Command::Op(op))) => Some(DeskCall::Operation(tx, op)),
-        (Some(tx), Line::Says(Command::Commit)) => Some(DeskCall::Commit(tx)),
-        (Some(tx), Line::Says(Command::Abort | Command::Quit) | Line::TooLong) => {
+        (None, SessionLine::Says(Command::Begin)) => Some(DeskCall::Begin),
+        (Some(tx), SessionLine::Says(Command::Op(op))) => Some(DeskCall::Operation(tx, op)),
+        (Some(tx), SessionLine::Says(Command::Commit)) => Some(DeskCall::Commit(tx)),
+        (Some(tx), SessionLine::Says(Command::Abort | Command::Quit) | SessionLine::TooLong) => {
             Some(DeskCall::Abort(tx))
         }
         _ => None,
@@ -33,30 +33,29 @@ fn call_for(before: Option<TxId>, line: Line) -> Option<DeskCall>
 }
 
 /// What is said to a line where the desk answered.
-fn said_with(line: Line, answer: DeskAnswer) -> Said
+fn said_with(line: SessionLine, answer: DeskAnswer) -> Said
     ensures { result ≡ said_by None line (Some answer) }
 {
     match line {
-        Line::Says(Command::Quit) => Said::Bye,
-        Line::Says(Command::Blank) => Said::Nothing,
-        Line::Says(Command::Other) => Said::Fault,
-        Line::TooLong => Said::Error(Refusal::LineTooLong),
+        SessionLine::Says(Command::Quit) => Said::Bye,
+        SessionLine::Says(Command::Blank) => Said::Nothing,
+        SessionLine::Says(Command::Other) => Said::Fault,
+        SessionLine::TooLong => Said::Error(Refusal::LineTooLong),
         _ => Said::Told(answer),
     }
 }
 
 /// What is said to a line of which the desk was not asked.
-fn said_alone(before: Option<TxId>, line: Line) -> Said
+fn said_alone(before: Option<TxId>, line: SessionLine) -> Said
     ensures { result ≡ said_by before line None }
 {
     match line {
-        Line::Says(Command::Begin) if before.is_some() => Said::Error(Refusal::Running),
-        Line::Says(Command::Op(_) | Command::Commit | Command::Abort) if before.is_none() => {
-            Said::Error(Refusal::NoSuchTx)
-        }
-        Line::Says(Command::Quit) => Said::Bye,
-        Line::Says(Command::Other) => Said::Fault,
-        Line::TooLong => Said::Error(Refusal::LineTooLong),
+        SessionLine::Says(Command::Begin) if before.is_some() => Said::Error(Refusal::Running),
+        SessionLine::Says(Command::Op(_) | Command::Commit | Command::Abort) if before.is_none() =>
+            { Said::Error(Refusal::NoSuchTx) }
+        SessionLine::Says(Command::Quit) => Said::Bye,
+        SessionLine::Says(Command::Other) => Said::Fault,
+        SessionLine::TooLong => Said::Error(Refusal::LineTooLong),
         _ => Said::Nothing,
     }
 }
@@ -66,17 +65,17 @@ fn said_alone(before: Option<TxId>, line: Line) -> Said
 /// # Errors
 /// There was no room, and the desk was not asked.
 fn begin<D: Desk, K: Receipts>(
-    notes: &mut Notes<K>,
+    notes: &mut SessionRecord<K>,
     desk: &mut D,
     client: u32,
 ) -> Result<DeskAnswer, AllocError>
     requires alone { notes.old.progress.tx ≡ None }
     requires small { notes.old.progress.begun < 2 ^ 62 }
     ensures told { IfOk result
-        (λ answer. Told D.moves client (place client notes.old desk.old)
-        DeskCall.Begin answer (place client notes.new desk.new)) }
+        (λ answer. CallIsNoted D.moves client (talk_state client notes.old desk.old)
+        DeskCall.Begin answer (talk_state client notes.new desk.new)) }
     ensures err { OnErr result
-        (place client notes.new desk.new ≡ place client notes.old desk.old) }
+        (talk_state client notes.new desk.new ≡ talk_state client notes.old desk.old) }
 {
     notes.outcomes.make_room()?;
     match desk.begin() {
@@ -94,7 +93,7 @@ fn begin<D: Desk, K: Receipts>(
 /// # Errors
 /// There was no room, and the desk was not asked.
 fn operation<D: Desk, K: Receipts>(
-    notes: &mut Notes<K>,
+    notes: &mut SessionRecord<K>,
     desk: &mut D,
     client: u32,
     tx: TxId,
@@ -102,10 +101,10 @@ fn operation<D: Desk, K: Receipts>(
 ) -> Result<DeskAnswer, AllocError>
     requires is_open { notes.old.progress.tx ≡ Some tx }
     ensures told { IfOk result
-        (λ answer. Told D.moves client (place client notes.old desk.old)
-        (DeskCall.Operation tx op) answer (place client notes.new desk.new)) }
+        (λ answer. CallIsNoted D.moves client (talk_state client notes.old desk.old)
+        (DeskCall.Operation tx op) answer (talk_state client notes.new desk.new)) }
     ensures err { OnErr result
-        (place client notes.new desk.new ≡ place client notes.old desk.old) }
+        (talk_state client notes.new desk.new ≡ talk_state client notes.old desk.old) }
 {
     notes.done.reserve(1)?;
     match desk.operation(tx, op) {
@@ -119,15 +118,15 @@ fn operation<D: Desk, K: Receipts>(
 
 /// Asks for the commit of the open transaction, which stays open where it is refused.
 fn commit<D: Desk, K: Receipts>(
-    notes: &mut Notes<K>,
+    notes: &mut SessionRecord<K>,
     desk: &mut D,
     client: u32,
     tx: TxId,
 ) -> DeskAnswer
     requires is_open { notes.old.progress.tx ≡ Some tx }
     requires small { notes.old.progress.commits < 2 ^ 62 }
-    ensures { Told D.moves client (place client notes.old desk.old)
-        (DeskCall.Commit tx) result (place client notes.new desk.new) }
+    ensures { CallIsNoted D.moves client (talk_state client notes.old desk.old)
+        (DeskCall.Commit tx) result (talk_state client notes.new desk.new) }
 {
     match desk.commit(tx) {
         Ok(number) => {
@@ -140,10 +139,15 @@ fn commit<D: Desk, K: Receipts>(
 }
 
 /// Takes the open transaction back.
-pub fn abort<D: Desk, K: Receipts>(notes: &mut Notes<K>, desk: &mut D, client: u32, tx: TxId)
+pub fn abort<D: Desk, K: Receipts>(
+    notes: &mut SessionRecord<K>,
+    desk: &mut D,
+    client: u32,
+    tx: TxId,
+)
     requires is_open { notes.old.progress.tx ≡ Some tx }
-    ensures { Told D.moves client (place client notes.old desk.old)
-        (DeskCall.Abort tx) DeskAnswer.Aborted (place client notes.new desk.new) }
+    ensures { CallIsNoted D.moves client (talk_state client notes.old desk.old)
+        (DeskCall.Abort tx) DeskAnswer.Aborted (talk_state client notes.new desk.new) }
 {
     desk.abort(tx);
     notes.close(client, tx, End::Aborted);
@@ -154,7 +158,7 @@ pub fn abort<D: Desk, K: Receipts>(notes: &mut Notes<K>, desk: &mut D, client: u
 /// # Errors
 /// There was no room to note the answer, and the desk was not asked.
 fn ask<D: Desk, K: Receipts>(
-    notes: &mut Notes<K>,
+    notes: &mut SessionRecord<K>,
     desk: &mut D,
     client: u32,
     call: DeskCall,
@@ -162,10 +166,10 @@ fn ask<D: Desk, K: Receipts>(
     requires fits { notes.old.progress.tx ≡ open_for call }
     requires small { IsSmall notes.old.progress }
     ensures told { IfOk result
-        (λ answer. Told D.moves client (place client notes.old desk.old)
-        call answer (place client notes.new desk.new)) }
+        (λ answer. CallIsNoted D.moves client (talk_state client notes.old desk.old)
+        call answer (talk_state client notes.new desk.new)) }
     ensures err { OnErr result
-        (place client notes.new desk.new ≡ place client notes.old desk.old) }
+        (talk_state client notes.new desk.new ≡ talk_state client notes.old desk.old) }
 {
     match call {
         DeskCall::Begin => begin(notes, desk, client),
@@ -183,21 +187,21 @@ fn ask<D: Desk, K: Receipts>(
 /// # Errors
 /// There was no room to note what the desk would answer. It was not asked, and nothing changed.
 pub fn take_turn<D: Desk, K: Receipts>(
-    notes: &mut Notes<K>,
+    notes: &mut SessionRecord<K>,
     desk: &mut D,
     client: u32,
-    line: Line,
+    line: SessionLine,
 ) -> Result<Said, AllocError>
     requires going { notes.old.progress.over ≡ false }
     requires small { IsSmall notes.old.progress }
     ensures ok { IfOk result
-        (λ said. TakesTurn D.moves client (place client notes.old desk.old)
-        line said (place client notes.new desk.new)) }
+        (λ said. TakesTurn D.moves client (talk_state client notes.old desk.old)
+        line said (talk_state client notes.new desk.new)) }
     ensures lines { OnOk result (notes.new.progress.lines ≡ notes.old.progress.lines + 1) }
     ensures commits { OnOk result (notes.new.progress.commits ≤ notes.new.progress.lines) }
     ensures begun { OnOk result (notes.new.progress.begun ≤ notes.new.progress.lines) }
     ensures err { OnErr result
-        (place client notes.new desk.new ≡ place client notes.old desk.old) }
+        (talk_state client notes.new desk.new ≡ talk_state client notes.old desk.old) }
 {
     match call_for(notes.progress.tx, line) {
         Some(call) => {

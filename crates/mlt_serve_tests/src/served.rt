@@ -1,7 +1,7 @@
 //! What was served, as a text.
 
 use mlt_manager::Manager;
-use mlt_script_serial::{Form, Outcomes, Report, write_report};
+use mlt_script_serial::{Outcomes, Report, ReportForm, write_report};
 use mlt_serve::{NoSignal, Operating, ServeOptions, TraceFile, serve_on};
 use mlt_trace::write_trace;
 use mlt_trace_check::check_trace;
@@ -43,7 +43,7 @@ fn text_of(alloc: Global, outcomes: Outcomes, manager: &Manager<Mult>) -> Result
         base: manager.base()?,
     };
     let mut text = Vec::new(alloc);
-    write_report(alloc, &report, Form::Run, &mut text)?;
+    write_report(alloc, &report, ReportForm::Run, &mut text)?;
     let mut trace = Vec::new(alloc);
     write_trace(manager.history().ok_or(Refusal::Audit)?, &mut trace)?;
     text.extend_from_slice(trace.as_slice())?;

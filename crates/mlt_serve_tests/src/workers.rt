@@ -130,7 +130,7 @@ fn a_blocked_client_waits(rt: HostRuntime) -> Result<(), Fail> {
 // Clients 1 and 2 wait for each other, and client 3 is at work on something else as long as they do. One of them gives up
 // all the same, and the other goes on.
 #[test]
-fn a_circle_ends_beside_a_third(rt: HostRuntime) -> Result<(), Fail> {
+fn a_cycle_ends_beside_a_third(rt: HostRuntime) -> Result<(), Fail> {
     let gate = TwoCrossBesideThird {
         third: Latch::new(),
         first_done: Latch::new(),

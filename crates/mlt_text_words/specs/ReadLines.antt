@@ -1,12 +1,12 @@
 -- What is said of a line that is read.
 use Rattle.std.specs.Prelude.{◌≡◌, ◌<◌, ◌≤◌, length, true, false}
 use Rattle.std.specs.List.{list_all}
-use Rattle.mlt_text_words.specs.declared.line.Line.{Line}
-use Rattle.mlt_text_words.specs.declared.line.Line.TheVariants.{TooLong, Faulty, Allowed}
+use Rattle.mlt_text_words.specs.declared.line.LineText.{LineText}
+use Rattle.mlt_text_words.specs.declared.line.LineText.TheVariants.{TooLong, Faulty, Allowed}
 use Rattle.mlt_text_words.specs.Lines.{Raw, content, is_allowed}
 
 -- the line is too long, or else one of its bytes is not allowed, or else all are
-abbrev pub Tells : Line → Raw → Type 0
+abbrev pub Tells : LineText → Raw → Type 0
 Tells TooLong raw = 200 < length raw.bytes
 Tells (Faulty line) raw = (length raw.bytes ≤ 200) × (line.now ≡ content raw) × (list_all is_allowed (content raw) ≡ false)
 Tells (Allowed line ended) raw =

@@ -10,7 +10,7 @@ const MOST_BYTES: usize = 200;
 
 /// A line that was read, its bytes without the LF and a CR before it.
 #[derive(Clone, Copy)]
-pub enum Line<'a> {
+pub enum LineText<'a> {
     /// More than 200 bytes stand before the LF, a CR counted.
     TooLong,
     /// A byte of it is not allowed.
@@ -94,34 +94,34 @@ fn is_allowed_line(line: &[u8]) -> bool
 
 // The line, whose bytes are allowed and stand before its LF.
 #[tactic(auto, using(crate::proofs::Allowed::no_cr))]
-fn allowed(line: &[u8]) -> Line<'_>
+fn allowed(line: &[u8]) -> LineText<'_>
     requires { list_all is_allowed line.now ≡ true }
     ensures { Tells result record { bytes = line.now; ended = true } }
 {
     if line.len() > MOST_BYTES {
-        Line::TooLong
+        LineText::TooLong
     } else {
-        Line::Allowed(line, true)
+        LineText::Allowed(line, true)
     }
 }
 
 // A line, given its bytes before the LF and whether an LF ends it.
-fn judged(bytes: &[u8], ended: bool) -> Line<'_>
+fn judged(bytes: &[u8], ended: bool) -> LineText<'_>
     ensures { Tells result record { bytes = bytes.now; ended = ended } }
 {
     if bytes.len() > MOST_BYTES {
-        return Line::TooLong;
+        return LineText::TooLong;
     }
     let line = if ended { trimmed(bytes) } else { bytes };
     if is_allowed_line(line) {
-        Line::Allowed(line, ended)
+        LineText::Allowed(line, ended)
     } else {
-        Line::Faulty(line)
+        LineText::Faulty(line)
     }
 }
 
 /// The first line of a text, and the text after it.
-pub fn read_line(text: &[u8]) -> (Line<'_>, &[u8])
+pub fn read_line(text: &[u8]) -> (LineText<'_>, &[u8])
     requires { 0 < length text.now }
     ensures first { (raw : Raw) × (lines text.now ≡ raw ∷ lines result.1.now)
         × Tells result.0 raw }

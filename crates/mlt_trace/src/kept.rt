@@ -14,7 +14,7 @@ use std::marker::Model;
 // What an item has beside its transaction. It takes 24 bytes: so that there is room beside an operation to say that it
 // is one, the parts of it are here in two forms.
 #[derive(Clone, Copy, Debug)]
-enum Form {
+enum PackedForm {
     Begin,
     // An operation whose set is 0: its kind, the kind of its reply, its number, its amount and the value told.
     Op(OpKind, ReplyKind, u32, u64, u64),
@@ -30,7 +30,7 @@ enum Form {
 #[derive(Debug, Drop)]
 pub struct KeptItem {
     tx: TxId,
-    form: Form,
+    form: PackedForm,
 }
 
 impl Model for KeptItem {
@@ -51,7 +51,7 @@ impl KeptItem {
         match item {
             TraceItem::Begin(tx) => KeptItem {
                 tx,
-                form: Form::Begin,
+                form: PackedForm::Begin,
             },
             TraceItem::Op(tx, done) => KeptItem {
                 tx,
@@ -59,15 +59,15 @@ impl KeptItem {
             },
             TraceItem::Back(tx) => KeptItem {
                 tx,
-                form: Form::Back,
+                form: PackedForm::Back,
             },
             TraceItem::Commit(tx, number) => KeptItem {
                 tx,
-                form: Form::Commit(number),
+                form: PackedForm::Commit(number),
             },
             TraceItem::Abort(tx) => KeptItem {
                 tx,
-                form: Form::Abort,
+                form: PackedForm::Abort,
             },
         }
     }
@@ -78,7 +78,7 @@ impl KeptItem {
         ensures { IsTrue result ↔ TellsOf self.now op.now }
     {
         let parts = match self.form {
-            Form::Op(op, reply, number, amount, told) => Packed {
+            PackedForm::Op(op, reply, number, amount, told) => Packed {
                 op,
                 reply,
                 set: 0,
@@ -86,7 +86,7 @@ impl KeptItem {
                 amount,
                 told,
             },
-            Form::OfSet(op, reply, set, number, told) => Packed {
+            PackedForm::OfSet(op, reply, set, number, told) => Packed {
                 op,
                 reply,
                 set,
@@ -94,7 +94,8 @@ impl KeptItem {
                 amount: 0,
                 told,
             },
-            Form::Begin | Form::Back | Form::Commit(_) | Form::Abort => return false,
+            PackedForm::Begin | PackedForm::Back | PackedForm::Commit(_) | PackedForm::Abort =>
+                return false,
         };
         parts.is_op(op)
     }
@@ -105,8 +106,8 @@ impl KeptItem {
     {
         let tx = self.tx;
         match self.form {
-            Form::Begin => TraceItem::Begin(tx),
-            Form::Op(op, reply, number, amount, told) => TraceItem::Op(
+            PackedForm::Begin => TraceItem::Begin(tx),
+            PackedForm::Op(op, reply, number, amount, told) => TraceItem::Op(
                 tx,
                 done_of(Packed {
                     op,
@@ -117,7 +118,7 @@ impl KeptItem {
                     told,
                 }),
             ),
-            Form::OfSet(op, reply, set, number, told) => TraceItem::Op(
+            PackedForm::OfSet(op, reply, set, number, told) => TraceItem::Op(
                 tx,
                 done_of(Packed {
                     op,
@@ -128,15 +129,15 @@ impl KeptItem {
                     told,
                 }),
             ),
-            Form::Back => TraceItem::Back(tx),
-            Form::Commit(number) => TraceItem::Commit(tx, number),
-            Form::Abort => TraceItem::Abort(tx),
+            PackedForm::Back => TraceItem::Back(tx),
+            PackedForm::Commit(number) => TraceItem::Commit(tx, number),
+            PackedForm::Abort => TraceItem::Abort(tx),
         }
     }
 }
 
 // An operation that has a set has no amount.
-fn form_of(done: Done) -> Form
+fn form_of(done: Done) -> PackedForm
     ensures { (tx : ℕ) → item_in tx result ≡ TraceItem.Op tx done }
 {
     let Packed {
@@ -148,8 +149,8 @@ fn form_of(done: Done) -> Form
         told,
     } = done.packed();
     match set {
-        0 => Form::Op(op, reply, number, amount, told),
-        _ => Form::OfSet(op, reply, set, number, told),
+        0 => PackedForm::Op(op, reply, number, amount, told),
+        _ => PackedForm::OfSet(op, reply, set, number, told),
     }
 }
 

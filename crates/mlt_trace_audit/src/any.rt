@@ -5,7 +5,7 @@ ghost use Rattle.mlt_trace.specs.Numbers.{begun_txs};
 ghost use Rattle.mlt_trace_audit.specs.Agreement.{AreOfHistory, IsOfBegunTx, IsOnce, NumbersAgree, count_of};
 ghost use Rattle.mlt_trace_audit.specs.Outcomes.{HasNothing, IsOfHistory};
 
-use crate::stories::{is_told, item_at, place_behind, tx_of};
+use crate::outcome_items::{is_told, item_at, place_behind, tx_of};
 use mlt_script_serial::Outcome;
 use mlt_trace::{KeptItem, TraceItem};
 

@@ -5,8 +5,8 @@ ghost use Rattle.mlt_trace_audit.specs.Agreement.{Agrees, AreOfHistory};
 
 use crate::any::are_of_any;
 use crate::ordered::{are_of_ordered, count_ordered};
+use crate::outcome_items::are_refused_without_tx;
 use crate::rising::commits_rise;
-use crate::stories::are_refused_without_tx;
 use mlt_script_serial::Outcome;
 use mlt_trace::KeptItem;
 use mlt_types::Refusal;

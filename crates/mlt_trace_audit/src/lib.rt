@@ -6,8 +6,8 @@ mod auditing;
 mod laws;
 mod numbers;
 mod ordered;
+mod outcome_items;
 mod rising;
-mod stories;
 
 pub use auditing::audit;
 pub use laws::committed_outcomes_are_the_committed_list;

@@ -8,7 +8,7 @@ ghost use Rattle.mlt_trace_audit.specs.Ordered.{AreOrdered, StandsBehind, told_c
 ghost use Rattle.mlt_trace_audit.specs.Outcomes.{HasNothing, IsClosedBefore, IsClosedSo, IsOfHistory};
 
 use crate::numbers::{are_at_most, are_each_once};
-use crate::stories::{is_told, item_at, place_behind, tx_of};
+use crate::outcome_items::{is_told, item_at, place_behind, tx_of};
 use mlt_script_serial::Outcome;
 use mlt_trace::{KeptItem, TraceItem};
 use mlt_types::TxId;

@@ -5,7 +5,7 @@ use Rattle.mlt_types.specs.declared.refusal.TraceCause.TheVariants as cause
 use Rattle.mlt_text_words.specs.Lines.{is_allowed}
 use Rattle.mlt_text_words.specs.Words.{raw_words}
 use Rattle.mlt_text_words.proofs.Allowed.{no_cr}
-use Rattle.mlt_trace_check.specs.declared.reading.Reading.TheVariants.{Bad}
+use Rattle.mlt_trace_check.specs.declared.reading.TraceReading.TheVariants.{Bad}
 use Rattle.mlt_trace_check.specs.Readings.{item_of, item_or_fault, reading}
 
 pub allowed_reading : (line : List ℕ) → list_all is_allowed line ≡ true

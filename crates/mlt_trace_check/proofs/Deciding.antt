@@ -9,7 +9,7 @@ use Rattle.mlt_order.specs.Runs.{Runs}
 use Rattle.mlt_order.proofs.RunLemmas.{runs_split, runs_to_one}
 use Rattle.mlt_text_words.specs.Lines.{Raw}
 use Rattle.mlt_trace.specs.declared.item.TraceItem.{TraceItem}
-use Rattle.mlt_trace_check.specs.declared.reading.Reading.TheVariants.{Bad, Says}
+use Rattle.mlt_trace_check.specs.declared.reading.TraceReading.TheVariants.{Bad, Says}
 use Rattle.mlt_trace_check.specs.Readings.{reading}
 use Rattle.mlt_trace_check.specs.Traces.{HasFalseReply, HasPlace, IsFirstFaultOf, IsItemFault, IsLineFault, IsTrace, told}
 use Rattle.mlt_trace_check.proofs.Fronts.{RunsOn, base_functional, one_trace, trace_up_to}

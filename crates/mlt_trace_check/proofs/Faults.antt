@@ -11,8 +11,8 @@ use Rattle.mlt_order.proofs.Tables.{changed}
 use Rattle.mlt_text_words.specs.Lines.{Raw}
 use Rattle.mlt_trace.specs.declared.item.TraceItem.{TraceItem}
 use Rattle.mlt_trace.specs.declared.item.TraceItem.TheVariants.{Op, Commit}
-use Rattle.mlt_trace_check.specs.declared.reading.Reading.{Reading}
-use Rattle.mlt_trace_check.specs.declared.reading.Reading.TheVariants.{Bad, Says}
+use Rattle.mlt_trace_check.specs.declared.reading.TraceReading.{TraceReading}
+use Rattle.mlt_trace_check.specs.declared.reading.TraceReading.TheVariants.{Bad, Says}
 use Rattle.mlt_trace_check.specs.Readings.{reading}
 use Rattle.mlt_trace_check.specs.Traces.{ArePlaced, HasFalseReply, IsFirstFaultOf, IsItemFault, IsLineFault, IsTrace, told}
 use Rattle.mlt_trace_check.proofs.Deciding.{item_fault, no_fault_inside, no_run_past}
@@ -104,7 +104,7 @@ bad_fault items base raw found line cause.Words is h = (h.1, same_bad raw cause.
 bad_fault items base raw found line cause.Place is h = absurd (not_both raw h.0 found h.1 is)
 bad_fault items base raw found line cause.Reply is h = absurd (not_both raw h.0 found h.1 is)
 
-one_line_fault : (items : List TraceItem) (base : Base) (raw : Raw) (found : Reading) (line other : ℕ) (fault another : TraceCause) → reading raw ≡ found → ArePlaced items
+one_line_fault : (items : List TraceItem) (base : Base) (raw : Raw) (found : TraceReading) (line other : ℕ) (fault another : TraceCause) → reading raw ≡ found → ArePlaced items
     → IsLineFault items base raw line fault → IsLineFault items base raw other another → SameFault line other fault another
 one_line_fault items base raw (Bad found) line other fault another is placed h k =
     let one = bad_fault items base raw found line fault is h in

@@ -12,7 +12,7 @@ use Rattle.mlt_trace.specs.declared.item.TraceItem.{TraceItem}
 use Rattle.mlt_trace.specs.declared.item.TraceItem.TheVariants.{Begin, Op, Back, Commit, Abort}
 use Rattle.mlt_trace.specs.Entries.{entries_of}
 use Rattle.mlt_trace.proofs.ItemLaws.{entries_of-append}
-use Rattle.mlt_trace_check.specs.declared.reading.Reading.TheVariants.{Says}
+use Rattle.mlt_trace_check.specs.declared.reading.TraceReading.TheVariants.{Says}
 use Rattle.mlt_trace_check.specs.Readings.{reading}
 use Rattle.mlt_trace_check.specs.Traces.{HasPlace, IsTrace, told}
 use Rattle.mlt_trace_check.proofs.Growing.{append_nil}

@@ -13,8 +13,8 @@ use Rattle.mlt_text_words.proofs.Cutting.{no_lines}
 use Rattle.mlt_trace.specs.declared.item.TraceItem.{TraceItem}
 use Rattle.mlt_trace.specs.Numbers.{committed_txs}
 use Rattle.mlt_trace_check.specs.declared.checker.Checker.{Checker}
-use Rattle.mlt_trace_check.specs.declared.reading.Reading.{Reading}
-use Rattle.mlt_trace_check.specs.declared.reading.Reading.TheVariants.{Bad, Says}
+use Rattle.mlt_trace_check.specs.declared.reading.TraceReading.{TraceReading}
+use Rattle.mlt_trace_check.specs.declared.reading.TraceReading.TheVariants.{Bad, Says}
 use Rattle.mlt_trace_check.specs.Answering.{Answers, TakesLine, WentOver}
 use Rattle.mlt_trace_check.specs.Checkers.{Knows, Takes}
 use Rattle.mlt_trace_check.specs.Readings.{item_of, item_or_fault, reading}
@@ -30,11 +30,11 @@ IsOwn cause.Cut = Unit {0}
 IsOwn cause.Words = Unit {0}
 IsOwn other = ⊥
 
-abbrev IsOwnReading : Reading → Type 0
+abbrev IsOwnReading : TraceReading → Type 0
 IsOwnReading (Bad fault) = IsOwn fault
 IsOwnReading (Says item) = Unit {0}
 
-own_either : (b : Bool) (x y : Reading) → IsOwnReading x → IsOwnReading y → IsOwnReading (cond b x y)
+own_either : (b : Bool) (x y : TraceReading) → IsOwnReading x → IsOwnReading y → IsOwnReading (cond b x y)
 own_either true x y h k = h
 own_either false x y h k = k
 

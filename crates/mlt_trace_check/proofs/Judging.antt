@@ -15,8 +15,8 @@ use Rattle.mlt_trace.specs.declared.item.TraceItem.{TraceItem}
 use Rattle.mlt_trace.specs.declared.item.TraceItem.TheVariants.{Begin, Op, Back, Commit, Abort}
 use Rattle.mlt_trace.specs.Numbers.{begun_txs, commit_count, committed_txs}
 use Rattle.mlt_trace.proofs.BegunLaws.{first_or_later}
-use Rattle.mlt_trace_check.specs.declared.reading.Reading.{Reading}
-use Rattle.mlt_trace_check.specs.declared.reading.Reading.TheVariants.{Bad, Says}
+use Rattle.mlt_trace_check.specs.declared.reading.TraceReading.{TraceReading}
+use Rattle.mlt_trace_check.specs.declared.reading.TraceReading.TheVariants.{Bad, Says}
 use Rattle.mlt_trace_check.specs.Readings.{reading}
 use Rattle.mlt_trace_check.specs.Traces.{ArePlaced, HasPlace, IsAcceptedTrace, IsFirstFault, IsFirstFaultOf, IsItemFault, IsLineFault, IsRunning, IsTrace, IsWhole, told}
 use Rattle.mlt_trace_check.proofs.Going.{bad_line, placed_more, said_more}
@@ -165,7 +165,7 @@ LineGoesOnOrNot items base raw =
     ((item : TraceItem) × (next : Base) × (reading raw ≡ Says item) × LeadTo (one_more items item) next)
     ⊎ ((line : ℕ) × (fault : TraceCause) × IsLineFault items base raw line fault)
 
-line_goes_on_or_not : (items : List TraceItem) (base : Base) (raw : Raw) (found : Reading) → LeadTo items base → reading raw ≡ found → LineGoesOnOrNot items base raw
+line_goes_on_or_not : (items : List TraceItem) (base : Base) (raw : Raw) (found : TraceReading) → LeadTo items base → reading raw ≡ found → LineGoesOnOrNot items base raw
 line_goes_on_or_not items base raw (Bad fault) h is = inr (length items + 1, fault, bad_line raw fault items base (length items + 1) is refl)
 line_goes_on_or_not items base raw (Says item) h is = elim (goes_on_or_not items base h item) [
   | inl next ↦ inl (item, next.0, is, next.1)

@@ -7,7 +7,7 @@ use Rattle.mlt_trace.specs.declared.item.TraceItem.{TraceItem}
 use Rattle.mlt_trace.specs.Numbers.{committed_txs}
 use Rattle.mlt_trace_check.specs.declared.trace_check.Order.{Order}
 use Rattle.mlt_trace_check.specs.declared.checker.Checker.{Checker}
-use Rattle.mlt_trace_check.specs.declared.reading.Reading.TheVariants.{Says}
+use Rattle.mlt_trace_check.specs.declared.reading.TraceReading.TheVariants.{Says}
 use Rattle.mlt_trace_check.specs.Checkers.{Knows}
 use Rattle.mlt_trace_check.specs.Readings.{reading}
 use Rattle.mlt_trace_check.specs.Traces.{ArePlaced, HasPlace, IsAcceptedTrace, IsFirstFault, IsLineFault}

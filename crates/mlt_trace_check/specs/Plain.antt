@@ -7,7 +7,7 @@ use Rattle.mlt_text_words.specs.Fronts.{BeginsWithNumber, is_printable}
 use Rattle.mlt_text_words.specs.Lines.{Raw, lines}
 use Rattle.mlt_text_words.specs.Words.{raw_words, words_of}
 use Rattle.mlt_trace.specs.declared.item.TraceItem.{TraceItem}
-use Rattle.mlt_trace_check.specs.declared.reading.Reading.TheVariants.{Says}
+use Rattle.mlt_trace_check.specs.declared.reading.TraceReading.TheVariants.{Says}
 use Rattle.mlt_trace_check.specs.Readings.{reading}
 use Rattle.mlt_trace_check.specs.Words.{done_at}
 

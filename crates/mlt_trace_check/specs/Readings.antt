@@ -8,8 +8,8 @@ use Rattle.mlt_text_words.specs.Lines.{Raw, content, is_allowed}
 use Rattle.mlt_text_words.specs.Words.{first_word, raw_words, word_of}
 use Rattle.mlt_trace.specs.declared.item.TraceItem.{TraceItem}
 use Rattle.mlt_trace.specs.declared.item.TraceItem.TheVariants.{Begin, Op, Back, Commit, Abort}
-use Rattle.mlt_trace_check.specs.declared.reading.Reading.{Reading}
-use Rattle.mlt_trace_check.specs.declared.reading.Reading.TheVariants.{Bad, Says}
+use Rattle.mlt_trace_check.specs.declared.reading.TraceReading.{TraceReading}
+use Rattle.mlt_trace_check.specs.declared.reading.TraceReading.TheVariants.{Bad, Says}
 use Rattle.mlt_trace_check.specs.Words.{done_at, no_more, positive_at}
 
 abbrev pub alone : TraceItem → List (List ℕ) → Option TraceItem
@@ -41,15 +41,15 @@ item_of words = do
   tx ← positive_at word.1
   item_with word.0 tx.0 tx.1
 
-abbrev pub item_or_fault : Option TraceItem → Reading
+abbrev pub item_or_fault : Option TraceItem → TraceReading
 item_or_fault (Some item) = Says item
 item_or_fault None = Bad cause.Words
 
 -- a line that ends in LF
-abbrev pub in_words : Raw → Reading
+abbrev pub in_words : Raw → TraceReading
 in_words raw = if raw.ended then item_or_fault (item_of (raw_words (content raw))) else Bad cause.Cut
 
 -- what a line of a trace says, or its fault: more than 200 bytes, a CR counted, or a byte that is
 -- not allowed, or words that are none of the five forms
-unfoldable pub reading : Raw → Reading
+unfoldable pub reading : Raw → TraceReading
 reading raw = if nat_lt 200 (length raw.bytes) then Bad cause.Line else (if list_all is_allowed (content raw) then in_words raw else Bad cause.Line)

@@ -13,7 +13,7 @@ use Rattle.mlt_trace.specs.declared.item.TraceItem.{TraceItem}
 use Rattle.mlt_trace.specs.declared.item.TraceItem.TheVariants.{Begin, Op, Back, Commit, Abort}
 use Rattle.mlt_trace.specs.Entries.{entries_of}
 use Rattle.mlt_trace.specs.Numbers.{begun_txs, commit_count, committed_txs}
-use Rattle.mlt_trace_check.specs.declared.reading.Reading.TheVariants.{Bad, Says}
+use Rattle.mlt_trace_check.specs.declared.reading.TraceReading.TheVariants.{Bad, Says}
 use Rattle.mlt_trace_check.specs.Readings.{reading}
 
 -- what the items tell of: who is running, and what was done, taken back and committed

@@ -8,7 +8,7 @@ ghost use Rattle.mlt_trace_check.specs.Readings.{reading};
 ghost use Rattle.mlt_trace_check.specs.Replaying.{Replays, ReplaysOne};
 
 use crate::open_tx::{OpenTx, put_tx, take_tx};
-use crate::reading::Reading;
+use crate::reading::TraceReading;
 use mlt_object_base::Base;
 use mlt_object_kinds::Done;
 use mlt_trace::TraceItem;
@@ -186,14 +186,14 @@ impl Checker {
         &mut self,
         alloc: Global,
         line: u64,
-        said: Reading,
+        said: TraceReading,
     ) -> Result<TraceItem, Refusal>
         ensures { (raw : Raw) → reading raw ≡ said
             → TakesLine result self.old self.new line raw }
     {
         match said {
-            Reading::Bad(cause) => Err(Refusal::TraceFault { line, cause }),
-            Reading::Says(item) => {
+            TraceReading::Bad(cause) => Err(Refusal::TraceFault { line, cause }),
+            TraceReading::Says(item) => {
                 self.take(alloc, &item, line)?;
                 Ok(item)
             }

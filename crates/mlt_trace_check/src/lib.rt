@@ -16,5 +16,5 @@ pub use checker::Checker;
 pub use laws::{
     accepted_traces_have_one_answer, texts_are_accepted_or_faulty, texts_have_one_first_fault,
 };
-pub use reading::{Reading, read_first};
+pub use reading::{TraceReading, read_first};
 pub use trace_check::{Order, check};

@@ -8,13 +8,13 @@ ghost use Rattle.mlt_text_words.specs.Words.{raw_words};
 
 use crate::plain::plain_item;
 use crate::words::{done, positive};
-use mlt_text_words::{Line, next_raw_word, read_line};
+use mlt_text_words::{LineText, next_raw_word, read_line};
 use mlt_trace::TraceItem;
 use mlt_types::{TraceCause, TxId};
 
 /// What a line is by itself.
 #[derive(Clone, Copy)]
-pub enum Reading {
+pub enum TraceReading {
     /// A fault, which is Line, Cut or Words.
     Bad(TraceCause),
     /// An item.
@@ -63,36 +63,36 @@ fn read_item(line: &[u8]) -> Option<TraceItem>
 }
 
 // What the bytes of a line say, without its end.
-fn read_words(line: &[u8]) -> Reading
+fn read_words(line: &[u8]) -> TraceReading
     ensures { result ≡ item_or_fault (item_of (raw_words line.now)) }
 {
     match read_item(line) {
-        Some(item) => Reading::Says(item),
-        None => Reading::Bad(TraceCause::Words),
+        Some(item) => TraceReading::Says(item),
+        None => TraceReading::Bad(TraceCause::Words),
     }
 }
 
 // What a line is.
 #[tactic(auto, unfolding(crate::specs::Readings::reading))]
-fn said(line: Line) -> Reading
+fn said(line: LineText) -> TraceReading
     ensures { (raw : Raw) → Tells line.entry raw → result ≡ reading raw }
 {
     match line {
-        Line::Allowed(bytes, true) => read_words(bytes),
-        Line::Allowed(_, false) => Reading::Bad(TraceCause::Cut),
-        Line::TooLong | Line::Faulty(_) => Reading::Bad(TraceCause::Line),
+        LineText::Allowed(bytes, true) => read_words(bytes),
+        LineText::Allowed(_, false) => TraceReading::Bad(TraceCause::Cut),
+        LineText::TooLong | LineText::Faulty(_) => TraceReading::Bad(TraceCause::Line),
     }
 }
 
 /// What the first line of a text is, and the text after it.
-pub fn read_first(text: &[u8]) -> (Reading, &[u8])
+pub fn read_first(text: &[u8]) -> (TraceReading, &[u8])
     requires { 0 < length text.now }
     ensures first { (raw : Raw) × (lines text.now ≡ raw ∷ lines result.1.now)
         × (result.0 ≡ reading raw) }
     ensures less { length result.1.now < length text.now }
 {
     if let Some((item, rest)) = plain_item(text) {
-        return (Reading::Says(item), rest);
+        return (TraceReading::Says(item), rest);
     }
     let (line, rest) = read_line(text);
     (said(line), rest)

@@ -24,7 +24,7 @@ use Rattle.mlt_script_print.proofs.Rereading.{keeps_its_end, op_again, op_is, op
 use Rattle.mlt_trace.specs.declared.item.TraceItem.{TraceItem}
 use Rattle.mlt_trace.specs.declared.item.TraceItem.TheVariants.{Begin, Op, Back, Commit, Abort}
 use Rattle.mlt_trace.specs.Items.{item_text, trace_text}
-use Rattle.mlt_trace_check.specs.declared.reading.Reading.TheVariants.{Says}
+use Rattle.mlt_trace_check.specs.declared.reading.TraceReading.TheVariants.{Says}
 use Rattle.mlt_trace_check.specs.Plain.{PieceIs}
 use Rattle.mlt_trace_check.proofs.PlainItems.{both}
 use Rattle.mlt_trace_check.specs.Readings.{item_of, item_with, reading}

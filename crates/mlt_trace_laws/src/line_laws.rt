@@ -3,7 +3,7 @@
 ghost use Rattle.std.specs.Prelude.{◌≡◌, List, map};
 ghost use Rattle.mlt_text_words.specs.Lines.{lines};
 ghost use Rattle.mlt_trace.specs.Items.{trace_text};
-ghost use Rattle.mlt_trace_check.specs.declared.reading.Reading.TheVariants.{Says};
+ghost use Rattle.mlt_trace_check.specs.declared.reading.TraceReading.TheVariants.{Says};
 ghost use Rattle.mlt_trace_check.specs.Readings.{reading};
 ghost use Rattle.mlt_trace_laws.specs.Writable.{AreWritable};
 

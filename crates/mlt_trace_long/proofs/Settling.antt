@@ -6,17 +6,17 @@ use Rattle.mlt_text_words.specs.Lines.{Raw, lines, content, is_allowed, is_lf}
 use Rattle.mlt_text_words.specs.Words.{raw_words}
 use Rattle.mlt_text_words.proofs.Cutting.{found, not_found}
 use Rattle.mlt_trace.specs.declared.item.TraceItem.{TraceItem}
-use Rattle.mlt_trace_check.specs.declared.reading.Reading.{Reading}
-use Rattle.mlt_trace_check.specs.declared.reading.Reading.TheVariants.{Bad, Says}
+use Rattle.mlt_trace_check.specs.declared.reading.TraceReading.{TraceReading}
+use Rattle.mlt_trace_check.specs.declared.reading.TraceReading.TheVariants.{Bad, Says}
 use Rattle.mlt_trace_check.specs.Readings.{item_of, item_or_fault, reading}
 use Rattle.mlt_trace_long.specs.Settled.{IsSettled}
 use Rattle.mlt_trace_long.proofs.Behind.{AllEnd, lines_behind, stays_long}
 
-abbrev IsItem : Reading → Type 0
+abbrev IsItem : TraceReading → Type 0
 IsItem (Bad fault) = ⊥
 IsItem (Says item) = Unit {0}
 
-if_ended : (long allowed ended : Bool) (r : Reading) → IsItem (cond long (Bad cause.Line) (cond allowed (cond ended r (Bad cause.Cut)) (Bad cause.Line))) → ended ≡ true
+if_ended : (long allowed ended : Bool) (r : TraceReading) → IsItem (cond long (Bad cause.Line) (cond allowed (cond ended r (Bad cause.Cut)) (Bad cause.Line))) → ended ≡ true
 if_ended true allowed ended r h = absurd h
 if_ended false false ended r h = absurd h
 if_ended false true true r h = refl
@@ -41,13 +41,13 @@ unfolding reading
 long_reading raw long = rw (lt-ltb 200 (length raw.bytes) long) refl
 
 -- a first line that says this, and the lines after it
-pub record FirstSays (text : List ℕ) (said : Reading) : Type 0 where
+pub record FirstSays (text : List ℕ) (said : TraceReading) : Type 0 where
   pub raw : Raw
   pub after : List Raw
   pub cut : lines text ≡ raw ∷ after
   pub says : reading raw ≡ said
 
-pub settled_stays : (text rest more : List ℕ) (raw : Raw) (said : Reading) → lines text ≡ raw ∷ lines rest → reading raw ≡ said → IsSettled raw → FirstSays (text ++ more) said
+pub settled_stays : (text rest more : List ℕ) (raw : Raw) (said : TraceReading) → lines text ≡ raw ∷ lines rest → reading raw ≡ said → IsSettled raw → FirstSays (text ++ more) said
 settled_stays text rest more raw said e is (inl ended) =
     record { raw = raw; after = lines (rest ++ more); cut = lines_behind text rest more (raw ∷ []) (ended, tt) e; says = is }
 settled_stays text rest more raw said e is (inr long) =

@@ -7,7 +7,7 @@ use Rattle.mlt_text.specs.Failures.{IsTraceFault, IsWant}
 use Rattle.mlt_text_words.specs.Lines.{Raw, lines}
 use Rattle.mlt_trace.specs.declared.item.TraceItem.{TraceItem}
 use Rattle.mlt_trace.specs.Numbers.{committed_txs}
-use Rattle.mlt_trace_check.specs.declared.reading.Reading.{Reading}
+use Rattle.mlt_trace_check.specs.declared.reading.TraceReading.{TraceReading}
 use Rattle.mlt_trace_check.specs.Answering.{WentOver}
 use Rattle.mlt_trace_check.specs.OrderTexts.{serial_line, serial_lines}
 use Rattle.mlt_trace_check.specs.Readings.{reading}
@@ -29,7 +29,7 @@ goes_nowhere going text = record {
 }
 
 -- one line more
-pub goes_on : (old mid new : Going) (text rest after txs : List ℕ) (raw : Raw) (said : Reading) (item : TraceItem) → GoesOver old mid text rest txs
+pub goes_on : (old mid new : Going) (text rest after txs : List ℕ) (raw : Raw) (said : TraceReading) (item : TraceItem) → GoesOver old mid text rest txs
     → lines rest ≡ raw ∷ lines after → reading raw ≡ said → TakesOne (Ok item) mid new said → GoesOver old new text after (txs ++ committed_txs (item ∷ []))
 goes_on old mid new text rest after txs raw said item h e is took =
     let one = behind_first rest after raw e in
@@ -44,14 +44,14 @@ goes_on old mid new text rest after txs raw said item h e is took =
           (subst (λ n. WentOver new.checker n ((before ++ txs) ++ committed_txs (item ∷ [])) taken (after ++ behind)) (sym took.0) next);
     }
 
-first_with : (ended : Bool) (rest after behind : List ℕ) (raw : Raw) (said : Reading) → lines rest ≡ raw ∷ lines after → reading raw ≡ said → (ended ≡ false → IsSettled raw)
+first_with : (ended : Bool) (rest after behind : List ℕ) (raw : Raw) (said : TraceReading) → lines rest ≡ raw ∷ lines after → reading raw ≡ said → (ended ≡ false → IsSettled raw)
     → (ended ≡ true → behind ≡ []) → FirstSays (rest ++ behind) said
 first_with true rest after behind raw said e is settled none =
     subst (λ t. FirstSays t said) (sym (append-nil rest) ∙ ap (λ t. rest ++ t) (sym (none refl))) (record { raw = raw; after = lines after; cut = e; says = is })
 first_with false rest after behind raw said e is settled none = settled_stays rest after behind raw said e is (settled refl)
 
 -- a line that is refused
-pub is_refused : (refusal : Refusal) (ended : Bool) (old mid new : Going) (text rest after txs : List ℕ) (raw : Raw) (said : Reading) → GoesOver old mid text rest txs
+pub is_refused : (refusal : Refusal) (ended : Bool) (old mid new : Going) (text rest after txs : List ℕ) (raw : Raw) (said : TraceReading) → GoesOver old mid text rest txs
     → lines rest ≡ raw ∷ lines after → reading raw ≡ said → (ended ≡ false → IsSettled raw) → TakesOne (Err refusal) mid new said → Refuses refusal old text ended
 is_refused OutOfMemory ended old mid new text rest after txs raw said h e is settled took = tt
 is_refused Io ended old mid new text rest after txs raw said h e is settled took = tt
@@ -62,7 +62,7 @@ is_refused (TraceFault line fault) ended old mid new text rest after txs raw sai
 is_refused refusal ended old mid new text rest after txs raw said h e is settled took = absurd (took raw is)
 
 -- what a line is refused for
-pub refused_for : (refusal : Refusal) (old new : Going) (said : Reading) (raw : Raw) → reading raw ≡ said → TakesOne (Err refusal) old new said → IsWant refusal ⊎ IsTraceFault refusal
+pub refused_for : (refusal : Refusal) (old new : Going) (said : TraceReading) (raw : Raw) → reading raw ≡ said → TakesOne (Err refusal) old new said → IsWant refusal ⊎ IsTraceFault refusal
 refused_for OutOfMemory old new said raw is took = inl (inl refl)
 refused_for Io old new said raw is took = inl (inr refl)
 refused_for (TraceFault line fault) old new said raw is took = inr (line, fault, refl)

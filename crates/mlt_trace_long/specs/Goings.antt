@@ -4,7 +4,7 @@ use Rattle.mlt_types.specs.declared.refusal.Refusal.{Refusal}
 use Rattle.mlt_types.specs.declared.refusal.Refusal.TheVariants.{Io, OutOfMemory, TraceFault}
 use Rattle.mlt_text_words.specs.Lines.{Raw}
 use Rattle.mlt_trace.specs.declared.item.TraceItem.{TraceItem}
-use Rattle.mlt_trace_check.specs.declared.reading.Reading.{Reading}
+use Rattle.mlt_trace_check.specs.declared.reading.TraceReading.{TraceReading}
 use Rattle.mlt_trace_check.specs.Answering.{TakesLine, WentOver}
 use Rattle.mlt_trace_check.specs.Readings.{reading}
 use Rattle.mlt_trace_check.specs.Traces.{IsFirstFault}
@@ -29,7 +29,7 @@ Refuses (TraceFault line cause) going text ended =
 Refuses refusal going text ended = ⊥
 
 -- a line that says this was gone over, or refused
-abbrev pub TakesOne : Result TraceItem Refusal → Going → Going → Reading → Type 0
+abbrev pub TakesOne : Result TraceItem Refusal → Going → Going → TraceReading → Type 0
 TakesOne (Ok item) old new said =
     (new.line ≡ old.line + 1)
     × ((raw : Raw) → reading raw ≡ said

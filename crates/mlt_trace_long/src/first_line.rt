@@ -6,7 +6,7 @@ ghost use Rattle.mlt_text_words.specs.Lines.{Raw, is_lf, lines};
 ghost use Rattle.mlt_trace_check.specs.Readings.{reading};
 ghost use Rattle.mlt_trace_long.specs.Settled.{IsSettled};
 
-use mlt_trace_check::{Reading, read_first};
+use mlt_trace_check::{TraceReading, read_first};
 
 // How many bytes a line has at most before its LF.
 const MOST_BYTES: usize = 200;
@@ -36,7 +36,7 @@ fn may_go_on(text: &[u8], ended: bool) -> bool
 
 // What the first line of a text says and the text after it, where that stays so whatever comes behind; of the last text of an
 // input, in any case. None where the text is empty, or its first line goes on.
-pub(crate) fn first_line(text: &[u8], ended: bool) -> Option<(Reading, &[u8])>
+pub(crate) fn first_line(text: &[u8], ended: bool) -> Option<(TraceReading, &[u8])>
     ensures some { IfSome result (λ x. (raw : Raw) × (lines text.now ≡ raw ∷ lines x.1.now)
         × (reading raw ≡ x.0) × (ended ≡ false → IsSettled raw)) }
     ensures less { IfSome result (λ x. length x.1.now < length text.now) }
@@ -48,8 +48,8 @@ pub(crate) fn first_line(text: &[u8], ended: bool) -> Option<(Reading, &[u8])>
     }
     let (said, rest) = read_first(text);
     match said {
-        Reading::Says(_) => Some((said, rest)),
-        Reading::Bad(_) => {
+        TraceReading::Says(_) => Some((said, rest)),
+        TraceReading::Bad(_) => {
             if may_go_on(text, ended) {
                 None
             } else {

@@ -8,7 +8,7 @@ ghost use Rattle.mlt_trace_check.specs.OrderTexts.{serial_lines};
 ghost use Rattle.mlt_trace_long.specs.Goings.{TakesOne};
 
 use mlt_trace::TraceItem;
-use mlt_trace_check::{Checker, Reading};
+use mlt_trace_check::{Checker, TraceReading};
 use mlt_types::{Refusal, TxId};
 use std::alloc::{AllocError, Global};
 
@@ -43,7 +43,11 @@ impl Going {
     }
 
     // Goes over the next line, which says this. Of more than 2^64 - 1 lines it answers Io.
-    pub(crate) fn take_line(&mut self, alloc: Global, said: Reading) -> Result<TraceItem, Refusal>
+    pub(crate) fn take_line(
+        &mut self,
+        alloc: Global,
+        said: TraceReading,
+    ) -> Result<TraceItem, Refusal>
         ensures { TakesOne result self.old self.new said }
     {
         let Some(line) = self.line.checked_add(1) else {

@@ -14,12 +14,12 @@ use Rattle.mlt_object_base.specs.declared.request.Request.{Request}
 use Rattle.mlt_object_base.specs.declared.request.Request.TheVariants.{TakeBack}
 use Rattle.mlt_object_base.specs.Effects.{inverse_of}
 use Rattle.mlt_object_base.specs.Requests.{decision, size_key_of}
-use Rattle.mlt_hash_access.specs.Moments.{Moment}
-use Rattle.mlt_hash.specs.Walks.{Basis}
+use Rattle.mlt_hash_access.specs.LocalStates.{LocalState}
+use Rattle.mlt_hash.specs.Walks.{WalkContext}
 use Rattle.mlt_tx_operation.specs.declared.answer.StepAnswer.{StepAnswer}
 use Rattle.mlt_tx_operation.specs.declared.answer.StepAnswer.TheVariants as step
 use Rattle.mlt_tx_operation.specs.Answers.{StepsOn, TellsOfStep, Waits}
-use Rattle.mlt_tx_operation.specs.Operating.{IsInFirst, OperationFields, course_for, started_for}
+use Rattle.mlt_tx_operation.specs.Operating.{IsInFirst, OperationFields, access_path_for, started_for}
 use Rattle.mlt_tx_two_records.specs.Performing.{AsksToAdd}
 use Rattle.mlt_tx.specs.Steps.{IsInverting, TellsOfStart, answer_of}
 
@@ -46,14 +46,14 @@ no_addition item request value is adds =
     false≢true (sym (never_adds item) ∙ ap (λ (d : ObjReply × Option RecChange). is_addition d.1) (ap (λ (r : Request). decision r None) (sym is) ∙ adds.1))
 
 -- **An inverse that goes on stays in its pass.**
-pub inverse_goes_on : (basis : Basis) (old new : Moment) (item : ObjOp × ObjReply) (before after : OperationFields) → IsInverting item before
-    → TellsOfStep basis old new before after step.Going → StepsOn basis old new before after × IsInverting item after
-inverse_goes_on basis old new item before after is (inl goes) = (goes, record { asked = goes.request ∙ is.asked; first = goes.in_first is.first })
-inverse_goes_on basis old new item before after is (inr (inl splits)) = absurd (splits.later is.first)
-inverse_goes_on basis old new item before after is (inr (inr again)) = absurd (no_addition item before.request again.adds.0 is.asked again.adds.1)
+pub inverse_goes_on : (context : WalkContext) (old new : LocalState) (item : ObjOp × ObjReply) (before after : OperationFields) → IsInverting item before
+    → TellsOfStep context old new before after step.Going → StepsOn context old new before after × IsInverting item after
+inverse_goes_on context old new item before after is (inl goes) = (goes, record { asked = goes.request ∙ is.asked; first = goes.in_first is.first })
+inverse_goes_on context old new item before after is (inr (inl splits)) = absurd (splits.later is.first)
+inverse_goes_on context old new item before after is (inr (inr again)) = absurd (no_addition item before.request again.adds.0 is.asked again.adds.1)
 
 -- one that has taken no step is in its first pass
-starts_first : (size : Option ℕ) (request : Request) → IsInFirst (course_for request size)
+starts_first : (size : Option ℕ) (request : Request) → IsInFirst (access_path_for request size)
 starts_first None request = refl
 starts_first (Some key) request = tt
 
@@ -61,15 +61,15 @@ starts_inverting : (item : ObjOp × ObjReply) → IsInverting item (started_for 
 starts_inverting item = record { asked = refl; first = starts_first (size_key_of (TakeBack item)) (TakeBack item) }
 
 -- **The first step of an inverse.**
-pub start_tells : (basis : Basis) (old new : Moment) (item : ObjOp × ObjReply) (before after : OperationFields) (told : StepAnswer) → before ≡ started_for (TakeBack item) → TellsOfStep basis old new before after told
-    → TellsOfStart basis item (Some after) old new (answer_of told)
-start_tells basis old new item before after step.Going is tells =
-    let goes = inverse_goes_on basis old new item (started_for (TakeBack item)) after (starts_inverting item) (subst (λ (o : OperationFields). TellsOfStep basis old new o after step.Going) is tells) in
+pub start_tells : (context : WalkContext) (old new : LocalState) (item : ObjOp × ObjReply) (before after : OperationFields) (told : StepAnswer) → before ≡ started_for (TakeBack item) → TellsOfStep context old new before after told
+    → TellsOfStart context item (Some after) old new (answer_of told)
+start_tells context old new item before after step.Going is tells =
+    let goes = inverse_goes_on context old new item (started_for (TakeBack item)) after (starts_inverting item) (subst (λ (o : OperationFields). TellsOfStep context old new o after step.Going) is tells) in
     record { after = after; is = refl; inverts = goes.1; tells = goes.0 }
-start_tells basis old new item before after (step.Waiting page by) is tells = record {
+start_tells context old new item before after (step.Waiting page by) is tells = record {
   after = after;
   is = refl;
   inverts = subst (IsInverting item) (sym (tells.stays ∙ is)) (starts_inverting item);
-  tells = subst (λ (o : OperationFields). Waits basis old new o after page by) is tells;
+  tells = subst (λ (o : OperationFields). Waits context old new o after page by) is tells;
 }
-start_tells basis old new item before after (step.Refused reason) is tells = absurd (tells.later (subst (λ (o : OperationFields). IsInFirst o.course) (sym is) (starts_inverting item).first))
+start_tells context old new item before after (step.Refused reason) is tells = absurd (tells.later (subst (λ (o : OperationFields). IsInFirst o.access_path) (sym is) (starts_inverting item).first))

@@ -1,4 +1,4 @@
-pub mod AtOnce
+pub mod Fast
 pub mod Backing
 pub mod Inverses
 pub mod Pending

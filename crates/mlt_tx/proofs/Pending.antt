@@ -5,7 +5,7 @@ use Rattle.mlt_object_kinds.specs.declared.operation.ObjReply.{ObjReply}
 use Rattle.mlt_tx_operation.specs.Operating.{OperationFields}
 use Rattle.mlt_event.specs.declared.answer.Answer.{Answer}
 use Rattle.mlt_event.specs.declared.answer.Answer.TheVariants as answer
-use Rattle.mlt_tx.specs.declared.commons.Commons.{Commons}
+use Rattle.mlt_tx.specs.declared.shared.SharedState.{SharedState}
 use Rattle.mlt_tx.specs.declared.transaction.At.TheVariants as at
 use Rattle.mlt_tx.specs.Transactions.{LeavesRoom, pending_after}
 
@@ -16,6 +16,6 @@ still_pending (answer.Refused reason) o done refused = absurd (refused reason re
 still_pending other o done refused = refl
 
 -- who is not refused gives up no room
-pub keeps_room : (told : Answer) (commons : Commons) → ((reason : Refusal) → told ≡ answer.Refused reason → ⊥) → LeavesRoom told commons commons
-keeps_room (answer.Refused reason) commons refused = absurd (refused reason refl)
-keeps_room other commons refused = refl
+pub keeps_room : (told : Answer) (shared : SharedState) → ((reason : Refusal) → told ≡ answer.Refused reason → ⊥) → LeavesRoom told shared shared
+keeps_room (answer.Refused reason) shared refused = absurd (refused reason refl)
+keeps_room other shared refused = refl

@@ -9,53 +9,53 @@ use Rattle.mlt_object_locks.specs.Locks.{HoldsClash, IsLowestClash, SameReservat
 use Rattle.mlt_trace.specs.declared.item.TraceItem.TheVariants as trace
 use Rattle.mlt_event.specs.declared.answer.Answer.{Answer}
 use Rattle.mlt_event.specs.declared.answer.Answer.TheVariants as answer
-use Rattle.mlt_tx.specs.declared.commons.Commons.{Commons}
+use Rattle.mlt_tx.specs.declared.shared.SharedState.{SharedState}
 
 -- a subtransaction ends, and what it has written stays
-pub record EndsSubtx (before after : Running) (old new : Commons) : Type 0 where
+pub record EndsSubtx (before after : Running) (old new : SharedState) : Type 0 where
   pub running : after ≡ started before.tx
   pub locks : new.pages.locks ≡ released old.pages.locks before.tx
   pub store : new.pages.store ≡ old.pages.store
 
 -- it is rolled back
-pub record RollsBackSubtx (before after : Running) (old new : Commons) : Type 0 where
+pub record RollsBackSubtx (before after : Running) (old new : SharedState) : Type 0 where
   pub running : after ≡ started before.tx
   pub locks : new.pages.locks ≡ released old.pages.locks before.tx
   pub store : new.pages.store
       ≡ record old.pages.store { pages = put_back before.images old.pages.store.pages }
 
 -- where a transaction works: its subtransaction, its undo list, and what all transactions share
-pub record Workplace : Type 0 where
+pub record TxState : Type 0 where
   pub running : Running
   pub undo : Undo
-  pub commons : Commons
+  pub shared : SharedState
 
-abbrev pub workplace : Running → Undo → Commons → Workplace
-workplace running undo commons = record { running = running; undo = undo; commons = commons }
+abbrev pub tx_state : Running → Undo → SharedState → TxState
+tx_state running undo shared = record { running = running; undo = undo; shared = shared }
 
 -- The item is done: nobody else holds a clash, and the transaction holds it, may take it back, and has it in the
 -- history.
-pub record IsDone (item : ObjOp × ObjReply) (old new : Workplace) : Type 0 where
-  pub free : (holder : ℕ) → HoldsClash old.commons.objects.held old.running.tx item holder → ⊥
-  pub ends : EndsSubtx old.running new.running old.commons new.commons
-  pub held : new.commons.objects.held ≡ old.commons.objects.held ++ (old.running.tx, item) ∷ []
-  pub reserved : SameReservations old.commons.objects.reserved new.commons.objects.reserved
+pub record IsDone (item : ObjOp × ObjReply) (old new : TxState) : Type 0 where
+  pub free : (holder : ℕ) → HoldsClash old.shared.objects.held old.running.tx item holder → ⊥
+  pub ends : EndsSubtx old.running new.running old.shared new.shared
+  pub held : new.shared.objects.held ≡ old.shared.objects.held ++ (old.running.tx, item) ∷ []
+  pub reserved : SameReservations old.shared.objects.reserved new.shared.objects.reserved
       old.running.tx
   pub entries : new.undo.entries ≡ old.undo.entries ++ item ∷ []
-  pub items : new.commons.history.items
-      ≡ old.commons.history.items ++ trace.Op old.running.tx item ∷ []
-  pub room : new.commons.history.room + 1 ≡ old.commons.history.room
+  pub items : new.shared.history.items
+      ≡ old.shared.history.items ++ trace.Op old.running.tx item ∷ []
+  pub room : new.shared.history.room + 1 ≡ old.shared.history.room
 
 -- The item clashes with what this transaction holds, the lowest, and is rolled back.
-pub record IsBlocked (item : ObjOp × ObjReply) (old new : Workplace) (by : ℕ) : Type 0 where
-  pub lowest : IsLowestClash old.commons.objects.held old.running.tx item by
-  pub back : RollsBackSubtx old.running new.running old.commons new.commons
-  pub objects : new.commons.objects ≡ old.commons.objects
-  pub history : new.commons.history ≡ old.commons.history
+pub record IsBlocked (item : ObjOp × ObjReply) (old new : TxState) (by : ℕ) : Type 0 where
+  pub lowest : IsLowestClash old.shared.objects.held old.running.tx item by
+  pub back : RollsBackSubtx old.running new.running old.shared new.shared
+  pub objects : new.shared.objects ≡ old.shared.objects
+  pub history : new.shared.history ≡ old.shared.history
   pub kept : new.undo ≡ old.undo
 
 -- what the end of an operation is told: it is done, or blocked
-abbrev pub TellsOfEnd : ObjOp × ObjReply → Workplace → Workplace → Answer → Type 0
+abbrev pub TellsOfEnd : ObjOp × ObjReply → TxState → TxState → Answer → Type 0
 TellsOfEnd item old new (answer.Done reply) = (reply ≡ item.1) × IsDone item old new
 TellsOfEnd item old new (answer.Blocked by) = IsBlocked item old new by
 TellsOfEnd item old new other = ⊥

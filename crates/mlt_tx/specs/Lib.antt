@@ -1,5 +1,5 @@
 pub mod Activities
-pub mod AtOnce
+pub mod Fast
 pub mod Endings
 pub mod Steps
 pub mod Transactions

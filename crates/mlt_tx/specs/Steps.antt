@@ -9,8 +9,8 @@ use Rattle.mlt_object_base.specs.Effects.{inverse_of}
 use Rattle.mlt_page_subtx.specs.Images.{AreThere, Running}
 use Rattle.mlt_object_undo.specs.Undo.{Undo}
 use Rattle.mlt_object_locks.specs.Locks.{SameReservations, is_of_other, reservation_of}
-use Rattle.mlt_hash_access.specs.Moments.{Moment, moment}
-use Rattle.mlt_hash.specs.Walks.{Basis}
+use Rattle.mlt_hash_access.specs.LocalStates.{LocalState, local}
+use Rattle.mlt_hash.specs.Walks.{WalkContext}
 use Rattle.mlt_tx_operation.specs.declared.answer.StepAnswer.{StepAnswer}
 use Rattle.mlt_tx_operation.specs.declared.answer.StepAnswer.TheVariants as step
 use Rattle.mlt_tx_operation.specs.Answers.{StepsOn, TellsOfStep, Waits}
@@ -18,8 +18,8 @@ use Rattle.mlt_tx_operation.specs.Operating.{IsInFirst, MayOperate, OperationFie
 use Rattle.mlt_trace.specs.declared.item.TraceItem.TheVariants as trace
 use Rattle.mlt_event.specs.declared.answer.Answer.{Answer}
 use Rattle.mlt_event.specs.declared.answer.Answer.TheVariants as answer
-use Rattle.mlt_tx.specs.declared.commons.Commons.{Commons}
-use Rattle.mlt_tx.specs.Endings.{EndsSubtx, TellsOfEnd, Workplace}
+use Rattle.mlt_tx.specs.declared.shared.SharedState.{SharedState}
+use Rattle.mlt_tx.specs.Endings.{EndsSubtx, TellsOfEnd, TxState}
 
 -- the answer to a step, as its transaction gives it
 abbrev pub answer_of : StepAnswer → Answer
@@ -28,37 +28,37 @@ answer_of (step.Waiting page by) = answer.Waiting page by
 answer_of (step.Refused reason) = answer.Refused reason
 
 -- what the end of an operation asks
-pub record MayFinish (item : ObjOp × ObjReply) (running : Running) (undo : Undo) (commons : Commons)
+pub record MayFinish (item : ObjOp × ObjReply) (running : Running) (undo : Undo) (shared : SharedState)
     : Type 0 where
-  pub reserved : reservation_of commons.objects.reserved running.tx ≡ Some (cell_of item.0)
+  pub reserved : reservation_of shared.objects.reserved running.tx ≡ Some (cell_of item.0)
   pub spare : 1 ≤ undo.spare
-  pub room : 1 ≤ commons.history.room
-  pub there : AreThere running.images commons.pages.store.pages
+  pub room : 1 ≤ shared.history.room
+  pub there : AreThere running.images shared.pages.store.pages
 
 -- what a step of a pending operation asks: that its walk may go on, up to its end, and then that it may end
-pub record MayStepOn (basis : Basis) (o : OperationFields) (running : Running) (undo : Undo)
-    (commons : Commons) : Type 0 where
+pub record MayStepOn (context : WalkContext) (o : OperationFields) (running : Running) (undo : Undo)
+    (shared : SharedState) : Type 0 where
   pub op : ObjOp
   pub asked : o.request ≡ Do op
-  pub goes : o.reply ≡ None → MayOperate basis (moment running commons.pages) o
-  pub ends : (reply : ObjReply) → o.reply ≡ Some reply → MayFinish (op, reply) running undo commons
+  pub goes : o.reply ≡ None → MayOperate context (local running shared.pages) o
+  pub ends : (reply : ObjReply) → o.reply ≡ Some reply → MayFinish (op, reply) running undo shared
 
 -- nothing but the operation and the pages has changed
-pub record KeepsRest (undo undo' : Undo) (old new : Commons) : Type 0 where
+pub record KeepsRest (undo undo' : Undo) (old new : SharedState) : Type 0 where
   pub undo_kept : undo' ≡ undo
   pub objects : new.objects ≡ old.objects
   pub history : new.history ≡ old.history
 
 -- the operation's walk took a step
-pub record Walks (basis : Basis) (o o' : OperationFields) (old new : Workplace) (told : StepAnswer)
+pub record Walks (context : WalkContext) (o o' : OperationFields) (old new : TxState) (told : StepAnswer)
     : Type 0 where
   pub unready : o.reply ≡ None
-  pub rest : KeepsRest old.undo new.undo old.commons new.commons
-  pub tells : TellsOfStep basis
-      (moment old.running old.commons.pages) (moment new.running new.commons.pages) o o' told
+  pub rest : KeepsRest old.undo new.undo old.shared new.shared
+  pub tells : TellsOfStep context
+      (local old.running old.shared.pages) (local new.running new.shared.pages) o o' told
 
 -- the operation came to its end
-pub record Ends (o : OperationFields) (old new : Workplace) (told : Answer) : Type 0 where
+pub record Ends (o : OperationFields) (old new : TxState) (told : Answer) : Type 0 where
   pub op : ObjOp
   pub reply : ObjReply
   pub asked : o.request ≡ Do op
@@ -67,26 +67,26 @@ pub record Ends (o : OperationFields) (old new : Workplace) (told : Answer) : Ty
 
 -- What a step of a pending operation is told: what its walk tells, or its end. Blocked, it has
 -- taken no step again.
-abbrev pub TellsOfPending : Basis → OperationFields → OperationFields → Workplace → Workplace
+abbrev pub TellsOfPending : WalkContext → OperationFields → OperationFields → TxState → TxState
     → Answer → Type 0
-TellsOfPending basis o o' old new answer.Going = Walks basis o o' old new step.Going
-TellsOfPending basis o o' old new (answer.Waiting page by) =
-    Walks basis o o' old new (step.Waiting page by)
-TellsOfPending basis o o' old new (answer.Refused reason) =
-    Walks basis o o' old new (step.Refused reason)
-TellsOfPending basis o o' old new (answer.Blocked by) =
+TellsOfPending context o o' old new answer.Going = Walks context o o' old new step.Going
+TellsOfPending context o o' old new (answer.Waiting page by) =
+    Walks context o o' old new (step.Waiting page by)
+TellsOfPending context o o' old new (answer.Refused reason) =
+    Walks context o o' old new (step.Refused reason)
+TellsOfPending context o o' old new (answer.Blocked by) =
     Ends o old new (answer.Blocked by) × (o' ≡ started_for o.request)
-TellsOfPending basis o o' old new (answer.Done reply) = Ends o old new (answer.Done reply)
-TellsOfPending basis o o' old new other = ⊥
+TellsOfPending context o o' old new (answer.Done reply) = Ends o old new (answer.Done reply)
+TellsOfPending context o o' old new other = ⊥
 
 -- The last operation is taken off, the pages stay, and the history tells it.
-pub record TakesOff (tx : ℕ) (undo undo' : Undo) (old new : Commons) : Type 0 where
+pub record TakesOff (tx : ℕ) (undo undo' : Undo) (old new : SharedState) : Type 0 where
   pub last : ObjOp × ObjReply
   pub entries : undo.entries ≡ undo'.entries ++ last ∷ []
   pub pages : new.pages ≡ old.pages
 
 -- There are some left; and the transaction holds and reserves what it did.
-pub record TakesOne (tx : ℕ) (undo undo' : Undo) (old new : Commons) : Type 0 where
+pub record TakesOne (tx : ℕ) (undo undo' : Undo) (old new : SharedState) : Type 0 where
   pub off : TakesOff tx undo undo' old new
   pub left : undo'.entries ≡ [] → ⊥
   pub objects : new.objects ≡ old.objects
@@ -94,7 +94,7 @@ pub record TakesOne (tx : ℕ) (undo undo' : Undo) (old new : Commons) : Type 0 
   pub room : new.history.room + 1 ≡ old.history.room
 
 -- It was the last; and the transaction is closed, and holds and reserves nothing.
-pub record TakesLast (tx : ℕ) (undo undo' : Undo) (old new : Commons) : Type 0 where
+pub record TakesLast (tx : ℕ) (undo undo' : Undo) (old new : SharedState) : Type 0 where
   pub off : TakesOff tx undo undo' old new
   pub none : undo'.entries ≡ []
   pub held : new.objects.held ≡ filter (is_of_other tx) old.objects.held
@@ -104,7 +104,7 @@ pub record TakesLast (tx : ℕ) (undo undo' : Undo) (old new : Commons) : Type 0
   pub room : new.history.room + 2 ≡ old.history.room
 
 -- The last operation is taken back; and where none is left, the transaction is closed.
-abbrev pub TakesBack : ℕ → Undo → Undo → Commons → Commons → Answer → Type 0
+abbrev pub TakesBack : ℕ → Undo → Undo → SharedState → SharedState → Answer → Type 0
 TakesBack tx undo undo' old new answer.Undone = TakesOne tx undo undo' old new
 TakesBack tx undo undo' old new answer.Aborted = TakesLast tx undo undo' old new
 TakesBack tx undo undo' old new other = ⊥
@@ -112,21 +112,21 @@ TakesBack tx undo undo' old new other = ⊥
 -- an inverse that runs: it takes the item back, in its first pass
 pub record IsInverting (item : ObjOp × ObjReply) (o : OperationFields) : Type 0 where
   pub asked : o.request ≡ TakeBack item
-  pub first : IsInFirst o.course
+  pub first : IsInFirst o.access_path
 
 -- What a step of an abort asks: something is left to take back, the last of which the inverse that runs takes back, or is
 -- to; and its walk may go on.
-pub record MayStepBack (basis : Basis) (inverting : Option OperationFields) (running : Running)
-    (undo : Undo) (commons : Commons) : Type 0 where
+pub record MayStepBack (context : WalkContext) (inverting : Option OperationFields) (running : Running)
+    (undo : Undo) (shared : SharedState) : Type 0 where
   pub front : List (ObjOp × ObjReply)
   pub last : ObjOp × ObjReply
   pub entries : undo.entries ≡ front ++ last ∷ []
-  pub room : 2 ≤ commons.history.room
+  pub room : 2 ≤ shared.history.room
   pub starts : inverting ≡ None → IsSome (inverse_of last)
-      → MayOperate basis (moment running commons.pages) (started_for (TakeBack last))
+      → MayOperate context (local running shared.pages) (started_for (TakeBack last))
   pub runs : (o : OperationFields) → inverting ≡ Some o → IsInverting last o
   pub goes : (o : OperationFields) → inverting ≡ Some o → o.reply ≡ None
-      → MayOperate basis (moment running commons.pages) o
+      → MayOperate context (local running shared.pages) o
 
 -- the inverse that runs, or that is to begin
 abbrev pub inverse_from : Option OperationFields → ObjOp × ObjReply → OperationFields
@@ -134,7 +134,7 @@ inverse_from None last = started_for (TakeBack last)
 inverse_from (Some o) last = o
 
 -- The objects, and the history, are as they were.
-pub record KeepsObjects (old new : Commons) : Type 0 where
+pub record KeepsObjects (old new : SharedState) : Type 0 where
   pub objects : new.objects ≡ old.objects
   pub history : new.history ≡ old.history
 
@@ -146,17 +146,17 @@ pub record StartsInverse (item : ObjOp × ObjReply) (inverting' : Option Operati
   pub inverts : IsInverting item after
   pub tells : Is (started_for (TakeBack item)) after
 
-abbrev pub TellsOfStart : Basis → ObjOp × ObjReply → Option OperationFields → Moment → Moment
+abbrev pub TellsOfStart : WalkContext → ObjOp × ObjReply → Option OperationFields → LocalState → LocalState
     → Answer → Type 0
-TellsOfStart basis item inverting' old new answer.Going =
-    StartsInverse item inverting' (λ o o'. StepsOn basis old new o o')
-TellsOfStart basis item inverting' old new (answer.Waiting page by) =
-    StartsInverse item inverting' (λ o o'. Waits basis old new o o' page by)
-TellsOfStart basis item inverting' old new other = ⊥
+TellsOfStart context item inverting' old new answer.Going =
+    StartsInverse item inverting' (λ o o'. StepsOn context old new o o')
+TellsOfStart context item inverting' old new (answer.Waiting page by) =
+    StartsInverse item inverting' (λ o o'. Waits context old new o o' page by)
+TellsOfStart context item inverting' old new other = ⊥
 
 -- The inverse takes a step, of which this is so.
 pub record InverseSteps (inverting inverting' : Option OperationFields) (undo undo' : Undo)
-    (old new : Commons) (Is : OperationFields → OperationFields → Type 0) : Type 0 where
+    (old new : SharedState) (Is : OperationFields → OperationFields → Type 0) : Type 0 where
   pub front : List (ObjOp × ObjReply)
   pub last : ObjOp × ObjReply
   pub entries : undo.entries ≡ front ++ last ∷ []
@@ -168,31 +168,31 @@ pub record InverseSteps (inverting inverting' : Option OperationFields) (undo un
   pub tells : Is (inverse_from inverting last) after
 
 -- The inverse is at its end, or the last operation has none: it is taken back.
-pub record EndsBack (inverting inverting' : Option OperationFields) (old new : Workplace)
+pub record EndsBack (inverting inverting' : Option OperationFields) (old new : TxState)
     (told : Answer) : Type 0 where
-  pub between : Commons
+  pub between : SharedState
   pub none : inverting' ≡ None
-  pub at_once : inverting ≡ None → (between ≡ old.commons) × (new.running ≡ old.running)
+  pub fast : inverting ≡ None → (between ≡ old.shared) × (new.running ≡ old.running)
   pub without : (front : List (ObjOp × ObjReply)) (last : ObjOp × ObjReply) → inverting ≡ None
       → old.undo.entries ≡ front ++ last ∷ [] → inverse_of last ≡ None
   pub at_end : (o : OperationFields) → inverting ≡ Some o
-      → IsSome o.reply × EndsSubtx old.running new.running old.commons between
-      × (between.objects ≡ old.commons.objects) × (between.history ≡ old.commons.history)
-  pub takes : TakesBack old.running.tx old.undo new.undo between new.commons told
+      → IsSome o.reply × EndsSubtx old.running new.running old.shared between
+      × (between.objects ≡ old.shared.objects) × (between.history ≡ old.shared.history)
+  pub takes : TakesBack old.running.tx old.undo new.undo between new.shared told
 
 -- A step of an abort goes on, or waits, or takes the last operation back. It is never refused.
-abbrev pub TellsOfBack : Basis → Option OperationFields → Option OperationFields → Workplace
-    → Workplace → Answer → Type 0
-TellsOfBack basis inverting inverting' old new answer.Going =
-    InverseSteps inverting inverting' old.undo new.undo old.commons new.commons (λ o o'.
-    StepsOn basis (moment old.running old.commons.pages) (moment new.running new.commons.pages)
+abbrev pub TellsOfBack : WalkContext → Option OperationFields → Option OperationFields → TxState
+    → TxState → Answer → Type 0
+TellsOfBack context inverting inverting' old new answer.Going =
+    InverseSteps inverting inverting' old.undo new.undo old.shared new.shared (λ o o'.
+    StepsOn context (local old.running old.shared.pages) (local new.running new.shared.pages)
     o o')
-TellsOfBack basis inverting inverting' old new (answer.Waiting page by) =
-    InverseSteps inverting inverting' old.undo new.undo old.commons new.commons (λ o o'.
-    Waits basis (moment old.running old.commons.pages) (moment new.running new.commons.pages)
+TellsOfBack context inverting inverting' old new (answer.Waiting page by) =
+    InverseSteps inverting inverting' old.undo new.undo old.shared new.shared (λ o o'.
+    Waits context (local old.running old.shared.pages) (local new.running new.shared.pages)
     o o' page by)
-TellsOfBack basis inverting inverting' old new answer.Undone =
+TellsOfBack context inverting inverting' old new answer.Undone =
     EndsBack inverting inverting' old new answer.Undone
-TellsOfBack basis inverting inverting' old new answer.Aborted =
+TellsOfBack context inverting inverting' old new answer.Aborted =
     EndsBack inverting inverting' old new answer.Aborted
-TellsOfBack basis inverting inverting' old new other = ⊥
+TellsOfBack context inverting inverting' old new other = ⊥

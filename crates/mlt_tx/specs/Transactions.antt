@@ -6,20 +6,20 @@ use Rattle.mlt_object_base.specs.declared.request.Request.TheVariants.{Do}
 use Rattle.mlt_object_locks.specs.Locks.{SameReservations, reservation_of}
 use Rattle.mlt_object_undo.specs.Undo.{Undo}
 use Rattle.mlt_page_subtx.specs.Images.{Running}
-use Rattle.mlt_hash.specs.Walks.{Basis}
+use Rattle.mlt_hash.specs.Walks.{WalkContext}
 use Rattle.mlt_tx_operation.specs.Operating.{OperationFields, started_for}
 use Rattle.mlt_event.specs.declared.answer.Answer.{Answer}
 use Rattle.mlt_event.specs.declared.answer.Answer.TheVariants as answer
-use Rattle.mlt_tx.specs.declared.commons.Commons.{Commons}
+use Rattle.mlt_tx.specs.declared.shared.SharedState.{SharedState}
 use Rattle.mlt_tx.specs.declared.transaction.At.{At}
 use Rattle.mlt_tx.specs.declared.transaction.At.TheVariants as at
 use Rattle.mlt_tx.specs.declared.transaction.Transaction.{Transaction}
-use Rattle.mlt_tx.specs.Endings.{RollsBackSubtx, Workplace}
+use Rattle.mlt_tx.specs.Endings.{RollsBackSubtx, TxState}
 use Rattle.mlt_tx.specs.Steps.{MayStepBack, MayStepOn, TellsOfBack, TellsOfPending}
 
 -- where a transaction works
-abbrev pub workplace_of : Transaction → Commons → Workplace
-workplace_of t commons = record { running = t.subtx; undo = t.undo; commons = commons }
+abbrev pub tx_state_of : Transaction → SharedState → TxState
+tx_state_of t shared = record { running = t.subtx; undo = t.undo; shared = shared }
 
 -- an operation is pending
 abbrev pub IsPending : At → Type 0
@@ -36,7 +36,7 @@ abbrev pub transaction_at : Running → Undo → At → Transaction
 transaction_at subtx undo at = record { subtx = subtx; undo = undo; at = at }
 
 -- the history gives up room for this many items, and all else stays
-pub record GivesUpRoom (count : ℕ) (old new : Commons) : Type 0 where
+pub record GivesUpRoom (count : ℕ) (old new : SharedState) : Type 0 where
   pub pages : new.pages ≡ old.pages
   pub objects : new.objects ≡ old.objects
   pub items : new.history.items ≡ old.history.items
@@ -49,58 +49,58 @@ pending_after (answer.Refused reason) o = at.Idle
 pending_after other o = at.Pending o
 
 -- who is refused gives up the room that its operation had
-abbrev pub LeavesRoom : Answer → Commons → Commons → Type 0
+abbrev pub LeavesRoom : Answer → SharedState → SharedState → Type 0
 LeavesRoom (answer.Refused reason) between new = GivesUpRoom 2 between new
 LeavesRoom other between new = new ≡ between
 
 -- the pending operation took a step
-pub record StepsPending (basis : Basis) (o : OperationFields) (before after : Transaction)
-    (old new : Commons) (told : Answer) : Type 0 where
+pub record StepsPending (context : WalkContext) (o : OperationFields) (before after : Transaction)
+    (old new : SharedState) (told : Answer) : Type 0 where
   pub next : OperationFields
-  pub between : Commons
-  pub tells : TellsOfPending basis o next
-      (workplace_of before old) (workplace_of after between) told
+  pub between : SharedState
+  pub tells : TellsOfPending context o next
+      (tx_state_of before old) (tx_state_of after between) told
   pub now_at : after.at ≡ pending_after told next
   pub leaves : LeavesRoom told between new
 
 -- the abort took a step
-pub record StepsBack (basis : Basis) (inverting : Option OperationFields)
-    (before after : Transaction) (old new : Commons) (told : Answer) : Type 0 where
+pub record StepsBack (context : WalkContext) (inverting : Option OperationFields)
+    (before after : Transaction) (old new : SharedState) (told : Answer) : Type 0 where
   pub next : Option OperationFields
-  pub tells : TellsOfBack basis inverting next
-      (workplace_of before old) (workplace_of after new) told
+  pub tells : TellsOfBack context inverting next
+      (tx_state_of before old) (tx_state_of after new) told
   pub now_at : after.at ≡ at.Undoing next
 
 -- what a step asks, by what the transaction is at
-abbrev pub MayStepAt : At → Basis → Transaction → Commons → Type 0
-MayStepAt at.Idle basis t commons = ⊥
-MayStepAt (at.Pending o) basis t commons =
-    MayStepOn basis o t.subtx t.undo commons × (2 ≤ commons.history.room)
-MayStepAt (at.Undoing inverting) basis t commons =
-    MayStepBack basis inverting t.subtx t.undo commons
+abbrev pub MayStepAt : At → WalkContext → Transaction → SharedState → Type 0
+MayStepAt at.Idle context t shared = ⊥
+MayStepAt (at.Pending o) context t shared =
+    MayStepOn context o t.subtx t.undo shared × (2 ≤ shared.history.room)
+MayStepAt (at.Undoing inverting) context t shared =
+    MayStepBack context inverting t.subtx t.undo shared
 
 -- What a step asks. Of a pending operation: that it may go on, or end. Of an abort: that something
 -- is left, which the inverse takes back that runs, or is to. Where the transaction is at nothing
 -- there is none.
-abbrev pub MayStepIn : Basis → Transaction → Commons → Type 0
-MayStepIn basis t commons = MayStepAt t.at basis t commons
+abbrev pub MayStepIn : WalkContext → Transaction → SharedState → Type 0
+MayStepIn context t shared = MayStepAt t.at context t shared
 
 -- what a step tells
-abbrev pub TellsAt : At → Basis → Transaction → Transaction → Commons → Commons → Answer → Type 0
-TellsAt at.Idle basis before after old new told = ⊥
-TellsAt (at.Pending o) basis before after old new told =
-    StepsPending basis o before after old new told
-TellsAt (at.Undoing inverting) basis before after old new told =
-    StepsBack basis inverting before after old new told
+abbrev pub TellsAt : At → WalkContext → Transaction → Transaction → SharedState → SharedState → Answer → Type 0
+TellsAt at.Idle context before after old new told = ⊥
+TellsAt (at.Pending o) context before after old new told =
+    StepsPending context o before after old new told
+TellsAt (at.Undoing inverting) context before after old new told =
+    StepsBack context inverting before after old new told
 
 -- what a step tells, by what the transaction is at: a pending operation, or its abort
-abbrev pub TellsOfTransaction : Basis → Transaction → Transaction → Commons → Commons → Answer
+abbrev pub TellsOfTransaction : WalkContext → Transaction → Transaction → SharedState → SharedState → Answer
     → Type 0
-TellsOfTransaction basis before after old new told = TellsAt before.at basis before after old new told
+TellsOfTransaction context before after old new told = TellsAt before.at context before after old new told
 
 -- Room is made, for the undo entry and the object lock of one operation. The transaction stays what it was, but for what
 -- it is at; and so do the pages, what is held, the items of the history, and what others reserved.
-pub record MakesRoom (before after : Transaction) (old new : Commons) : Type 0 where
+pub record MakesRoom (before after : Transaction) (old new : SharedState) : Type 0 where
   pub subtx_kept : after.subtx ≡ before.subtx
   pub entries : after.undo.entries ≡ before.undo.entries
   pub pages : new.pages ≡ old.pages
@@ -109,7 +109,7 @@ pub record MakesRoom (before after : Transaction) (old new : Commons) : Type 0 w
   pub items : new.history.items ≡ old.history.items
 
 -- an operation is pending, and has room for all that its end, and its being taken back, add
-pub record TellsOfCall (op : ObjOp) (before after : Transaction) (old new : Commons) : Type 0 where
+pub record TellsOfCall (op : ObjOp) (before after : Transaction) (old new : SharedState) : Type 0 where
   pub makes : MakesRoom before after old new
   pub pending : after.at ≡ at.Pending (started_for (Do op))
   pub spare : 1 ≤ after.undo.spare
@@ -117,14 +117,14 @@ pub record TellsOfCall (op : ObjOp) (before after : Transaction) (old new : Comm
   pub room : new.history.room ≡ old.history.room + 2
 
 -- no operation is pending, and the history has the room that it had
-pub record IsNotCalled (before after : Transaction) (old new : Commons) : Type 0 where
+pub record IsNotCalled (before after : Transaction) (old new : SharedState) : Type 0 where
   pub makes : MakesRoom before after old new
   pub idle : after.at ≡ before.at
   pub room : new.history.room ≡ old.history.room
 
 -- a pending operation is dropped
-pub record TellsOfCancel (before after : Transaction) (old new : Commons) : Type 0 where
-  pub between : Commons
+pub record TellsOfCancel (before after : Transaction) (old new : SharedState) : Type 0 where
+  pub between : SharedState
   pub back : RollsBackSubtx before.subtx after.subtx old between
   pub objects : between.objects ≡ old.objects
   pub history : between.history ≡ old.history

@@ -2,15 +2,15 @@
 
 ghost use Rattle.std.specs.Prelude.{◌≡◌, None};
 ghost use Rattle.mlt_object_base.specs.declared.request.Request.TheVariants.{Do};
-ghost use Rattle.mlt_hash.specs.Walks.{basis_in};
+ghost use Rattle.mlt_hash.specs.Walks.{context_in};
 ghost use Rattle.mlt_tx_operation.specs.Operating.{started_for};
 ghost use Rattle.mlt_tx.specs.declared.transaction.At.TheVariants as at;
 ghost use Rattle.mlt_tx.specs.Transactions.{IsPending, IsUndoing, MayStepAt, TellsAt, transaction_at};
 
-use crate::commons::Commons;
+use crate::shared::SharedState;
 use crate::stepping::{step_back, step_on};
 use mlt_event::Answer;
-use mlt_hash::Setting;
+use mlt_hash::Environment;
 use mlt_object_base::Request;
 use mlt_object_kinds::ObjOp;
 use mlt_object_undo::UndoList;
@@ -22,7 +22,7 @@ use std::marker::Model;
 
 /// The state of an open transaction.
 #[derive(Clone, Copy, Debug, PartialEq, Eq)]
-pub enum State {
+pub enum ActivityState {
     /// It is at nothing.
     Idle,
     /// An operation is pending.
@@ -36,7 +36,7 @@ pub enum State {
 /// An operation that ends leaves its room to the next one, so that none is cleared or moved.
 #[derive(Drop)]
 pub struct Activity {
-    state: State,
+    state: ActivityState,
     operation: Operation,
     inverting: Option<Operation>,
 }
@@ -56,7 +56,7 @@ impl Activity {
         ensures { result ≡ at.Idle }
     {
         Activity {
-            state: State::Idle,
+            state: ActivityState::Idle,
             operation: Operation::start(alloc, Request::Do(ObjOp::Size(0))),
             inverting: None,
         }
@@ -64,10 +64,10 @@ impl Activity {
 
     /// The state.
     #[inline(always)]
-    pub fn state(&self) -> State
-        ensures idle { result ≡ State.Idle → self.now ≡ at.Idle }
-        ensures pending { result ≡ State.Pending → IsPending self.now }
-        ensures undoing { result ≡ State.Undoing → IsUndoing self.now }
+    pub fn state(&self) -> ActivityState
+        ensures idle { result ≡ ActivityState.Idle → self.now ≡ at.Idle }
+        ensures pending { result ≡ ActivityState.Pending → IsPending self.now }
+        ensures undoing { result ≡ ActivityState.Undoing → IsUndoing self.now }
     {
         self.state
     }
@@ -77,7 +77,7 @@ impl Activity {
     pub fn rest(&mut self)
         ensures { self.new ≡ at.Idle }
     {
-        self.state = State::Idle;
+        self.state = ActivityState::Idle;
     }
 
     /// This operation is pending from now on.
@@ -86,7 +86,7 @@ impl Activity {
         ensures { self.new ≡ at.Pending (started_for (Do op)) }
     {
         self.operation.restart(Request::Do(op));
-        self.state = State::Pending;
+        self.state = ActivityState::Pending;
     }
 
     /// Its abort begins.
@@ -94,7 +94,7 @@ impl Activity {
         ensures { self.new ≡ at.Undoing None }
     {
         self.inverting = None;
-        self.state = State::Undoing;
+        self.state = ActivityState::Undoing;
     }
 
     /// One step of the pending operation, or of the abort.
@@ -103,31 +103,37 @@ impl Activity {
         &mut self,
         subtx: &mut Subtx,
         undo: &mut UndoList,
-        commons: &mut Commons,
-        setting: &Setting<P>,
+        shared: &mut SharedState,
+        environment: &Environment<P>,
     ) -> Answer
-        requires ready { MayStepAt self.old (basis_in P.bits_of setting.now subtx.old.tx)
-            (transaction_at subtx.old undo.old self.old) commons.old }
-        ensures tells { TellsAt self.old (basis_in P.bits_of setting.now subtx.old.tx)
+        requires ready { MayStepAt self.old (context_in P.bits_of environment.now subtx.old.tx)
+            (transaction_at subtx.old undo.old self.old) shared.old }
+        ensures tells { TellsAt self.old (context_in P.bits_of environment.now subtx.old.tx)
             (transaction_at subtx.old undo.old self.old) (transaction_at subtx.new undo.new self.new)
-            commons.old commons.new result }
-        ensures handed { commons.new.history.handed ≡ commons.old.history.handed }
+            shared.old shared.new result }
+        ensures handed { shared.new.history.handed ≡ shared.old.history.handed }
     {
         match self.state {
-            State::Idle => unreachable!(),
-            State::Pending => {
-                let answer = step_on(&mut self.operation, subtx, undo, commons, setting);
+            ActivityState::Idle => unreachable!(),
+            ActivityState::Pending => {
+                let answer = step_on(&mut self.operation, subtx, undo, shared, environment);
                 match answer {
-                    Answer::Done(_) => self.state = State::Idle,
+                    Answer::Done(_) => self.state = ActivityState::Idle,
                     Answer::Refused(_) => {
-                        self.state = State::Idle;
-                        commons.history.release(2);
+                        self.state = ActivityState::Idle;
+                        shared.history.release(2);
                     }
                     _ => {}
                 }
                 answer
             }
-            State::Undoing => step_back(&mut self.inverting, subtx, undo, commons, setting),
+            ActivityState::Undoing => step_back(
+                &mut self.inverting,
+                subtx,
+                undo,
+                shared,
+                environment,
+            ),
         }
     }
 }

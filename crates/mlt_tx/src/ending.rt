@@ -4,9 +4,9 @@ ghost use Rattle.std.specs.Prelude.{◌≡◌, ◌≤◌, ◌+◌, [], ◌∷◌
 ghost use Rattle.mlt_object_kinds.specs.Operations.{cell_of};
 ghost use Rattle.mlt_object_locks.specs.Locks.{reservation_of};
 ghost use Rattle.mlt_page_subtx.specs.Images.{AreThere};
-ghost use Rattle.mlt_tx.specs.Endings.{TellsOfEnd, workplace};
+ghost use Rattle.mlt_tx.specs.Endings.{TellsOfEnd, tx_state};
 
-use crate::commons::Commons;
+use crate::shared::SharedState;
 use mlt_event::Answer;
 use mlt_object_kinds::Done;
 use mlt_object_undo::UndoList;
@@ -20,25 +20,25 @@ pub(crate) fn finish(
     done: Done,
     subtx: &mut Subtx,
     undo: &mut UndoList,
-    commons: &mut Commons,
+    shared: &mut SharedState,
 ) -> Answer
-    requires reserved { reservation_of commons.old.objects.reserved subtx.old.tx
+    requires reserved { reservation_of shared.old.objects.reserved subtx.old.tx
         ≡ Some (cell_of done.0) }
     requires spare { 1 ≤ undo.old.spare }
-    requires room { 1 ≤ commons.old.history.room }
-    requires there { AreThere subtx.old.images commons.old.pages.store.pages }
+    requires room { 1 ≤ shared.old.history.room }
+    requires there { AreThere subtx.old.images shared.old.pages.store.pages }
     ensures tells { TellsOfEnd done
-        (workplace subtx.old undo.old commons.old) (workplace subtx.new undo.new commons.new)
+        (tx_state subtx.old undo.old shared.old) (tx_state subtx.new undo.new shared.new)
         result }
-    ensures handed { commons.new.history.handed ≡ commons.old.history.handed }
+    ensures handed { shared.new.history.handed ≡ shared.old.history.handed }
 {
     let tx = subtx.tx();
-    if let Err(by) = commons.objects.ask(tx, &done) {
-        subtx.roll_back(&mut commons.pages.store, &mut commons.pages.locks);
+    if let Err(by) = shared.objects.ask(tx, &done) {
+        subtx.roll_back(&mut shared.pages.store, &mut shared.pages.locks);
         return Answer::Blocked { by };
     }
-    subtx.end(&mut commons.pages.locks);
+    subtx.end(&mut shared.pages.locks);
     undo.push(done);
-    commons.history.push(TraceItem::Op(tx, done));
+    shared.history.push(TraceItem::Op(tx, done));
     Answer::Done(done.reply())
 }

@@ -3,12 +3,12 @@
 #![tactic(auto)]
 
 mod activity;
-mod at_once;
-mod commons;
 mod ending;
+mod fast;
+mod shared;
 mod stepping;
 mod transaction;
 
-pub use activity::{Activity, State};
-pub use commons::Commons;
+pub use activity::{Activity, ActivityState};
+pub use shared::SharedState;
 pub use transaction::{At, Transaction};

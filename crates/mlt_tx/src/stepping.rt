@@ -1,18 +1,18 @@
 //! The steps of a pending operation, and of an abort.
 
 ghost use Rattle.std.specs.Prelude.{◌≡◌, ◌≤◌, ◌+◌, ◌++◌, [], ◌∷◌, List};
-ghost use Rattle.mlt_hash_access.specs.Moments.{moment};
-ghost use Rattle.mlt_hash.specs.Walks.{basis_in};
+ghost use Rattle.mlt_hash_access.specs.LocalStates.{local};
+ghost use Rattle.mlt_hash.specs.Walks.{context_in};
 ghost use Rattle.mlt_tx_operation.specs.Operating.{MayOperate, started_for};
 ghost use Rattle.mlt_object_kinds.specs.declared.operation.ObjOp.{ObjOp};
 ghost use Rattle.mlt_object_kinds.specs.declared.operation.ObjReply.{ObjReply};
-ghost use Rattle.mlt_tx.specs.Endings.{workplace};
+ghost use Rattle.mlt_tx.specs.Endings.{tx_state};
 ghost use Rattle.mlt_tx.specs.Steps.{KeepsObjects, MayStepBack, MayStepOn, TakesBack, TellsOfBack, TellsOfPending, TellsOfStart, answer_of};
 
-use crate::commons::Commons;
 use crate::ending::finish;
+use crate::shared::SharedState;
 use mlt_event::Answer;
-use mlt_hash::Setting;
+use mlt_hash::Environment;
 use mlt_object_base::{Request, inverse};
 use mlt_object_kinds::{Done, ObjOp};
 use mlt_object_undo::UndoList;
@@ -39,26 +39,26 @@ pub(crate) fn step_on<P: Pseudo>(
     operation: &mut Operation,
     subtx: &mut Subtx,
     undo: &mut UndoList,
-    commons: &mut Commons,
-    setting: &Setting<P>,
+    shared: &mut SharedState,
+    environment: &Environment<P>,
 ) -> Answer
-    requires ready { MayStepOn (basis_in P.bits_of setting.now subtx.old.tx)
-        operation.old subtx.old undo.old commons.old }
-    ensures tells { TellsOfPending (basis_in P.bits_of setting.now subtx.old.tx)
+    requires ready { MayStepOn (context_in P.bits_of environment.now subtx.old.tx)
+        operation.old subtx.old undo.old shared.old }
+    ensures tells { TellsOfPending (context_in P.bits_of environment.now subtx.old.tx)
         operation.old operation.new
-        (workplace subtx.old undo.old commons.old) (workplace subtx.new undo.new commons.new)
+        (tx_state subtx.old undo.old shared.old) (tx_state subtx.new undo.new shared.new)
         result }
-    ensures handed { commons.new.history.handed ≡ commons.old.history.handed }
+    ensures handed { shared.new.history.handed ≡ shared.old.history.handed }
 {
     let Some(reply) = operation.reply() else {
-        return answer_of(operation.step(setting, subtx, &mut commons.pages));
+        return answer_of(operation.step(environment, subtx, &mut shared.pages));
     };
     let Request::Do(op) = operation.request() else {
         unreachable!()
     };
-    let answer = finish(Done::new(op, reply), subtx, undo, commons);
+    let answer = finish(Done::new(op, reply), subtx, undo, shared);
     if let Answer::Blocked { .. } = answer {
-        start_anew(operation, commons.alloc, op);
+        start_anew(operation, shared.alloc, op);
     }
     answer
 }
@@ -74,20 +74,20 @@ fn start_anew(operation: &mut Operation, alloc: Global, op: ObjOp)
 }
 
 /// Takes the last operation off, once its inverse is done, or where it has none.
-fn take_back(tx: TxId, undo: &mut UndoList, commons: &mut Commons) -> Answer
+fn take_back(tx: TxId, undo: &mut UndoList, shared: &mut SharedState) -> Answer
     requires entry { (front : List (ObjOp × ObjReply)) × (last : ObjOp × ObjReply)
         × (undo.old.entries ≡ front ++ last ∷ []) }
-    requires room { 2 ≤ commons.old.history.room }
-    ensures tells { TakesBack tx undo.old undo.new commons.old commons.new result }
-    ensures handed { commons.new.history.handed ≡ commons.old.history.handed }
+    requires room { 2 ≤ shared.old.history.room }
+    ensures tells { TakesBack tx undo.old undo.new shared.old shared.new result }
+    ensures handed { shared.new.history.handed ≡ shared.old.history.handed }
 {
     undo.pop();
-    commons.history.push(TraceItem::Back(tx));
+    shared.history.push(TraceItem::Back(tx));
     if undo.last().is_some() {
         return Answer::Undone;
     }
-    commons.objects.release_all(tx);
-    commons.history.push(TraceItem::Abort(tx));
+    shared.objects.release_all(tx);
+    shared.history.push(TraceItem::Abort(tx));
     Answer::Aborted
 }
 
@@ -98,24 +98,24 @@ pub(crate) fn step_back<P: Pseudo>(
     inverting: &mut Option<Operation>,
     subtx: &mut Subtx,
     undo: &mut UndoList,
-    commons: &mut Commons,
-    setting: &Setting<P>,
+    shared: &mut SharedState,
+    environment: &Environment<P>,
 ) -> Answer
-    requires ready { MayStepBack (basis_in P.bits_of setting.now subtx.old.tx)
-        inverting.old subtx.old undo.old commons.old }
-    ensures tells { TellsOfBack (basis_in P.bits_of setting.now subtx.old.tx)
+    requires ready { MayStepBack (context_in P.bits_of environment.now subtx.old.tx)
+        inverting.old subtx.old undo.old shared.old }
+    ensures tells { TellsOfBack (context_in P.bits_of environment.now subtx.old.tx)
         inverting.old inverting.new
-        (workplace subtx.old undo.old commons.old) (workplace subtx.new undo.new commons.new)
+        (tx_state subtx.old undo.old shared.old) (tx_state subtx.new undo.new shared.new)
         result }
-    ensures handed { commons.new.history.handed ≡ commons.old.history.handed }
+    ensures handed { shared.new.history.handed ≡ shared.old.history.handed }
 {
     match inverting {
         Some(operation) => match operation.reply() {
-            None => answer_of(operation.step(setting, subtx, &mut commons.pages)),
+            None => answer_of(operation.step(environment, subtx, &mut shared.pages)),
             Some(_) => {
-                subtx.end(&mut commons.pages.locks);
+                subtx.end(&mut shared.pages.locks);
                 *inverting = None;
-                take_back(subtx.tx(), undo, commons)
+                take_back(subtx.tx(), undo, shared)
             }
         },
         None => {
@@ -123,8 +123,8 @@ pub(crate) fn step_back<P: Pseudo>(
                 unreachable!()
             };
             match inverse(&last) {
-                None => take_back(subtx.tx(), undo, commons),
-                Some(_) => begin_inverse(last, inverting, subtx, commons, setting),
+                None => take_back(subtx.tx(), undo, shared),
+                Some(_) => begin_inverse(last, inverting, subtx, shared, environment),
             }
         }
     }
@@ -135,18 +135,19 @@ fn begin_inverse<P: Pseudo>(
     last: Done,
     inverting: &mut Option<Operation>,
     subtx: &mut Subtx,
-    commons: &mut Commons,
-    setting: &Setting<P>,
+    shared: &mut SharedState,
+    environment: &Environment<P>,
 ) -> Answer
-    requires ready { MayOperate (basis_in P.bits_of setting.now subtx.old.tx)
-        (moment subtx.old commons.old.pages) (started_for (Request.TakeBack last)) }
-    ensures keeps { KeepsObjects commons.old commons.new }
-    ensures tells { TellsOfStart (basis_in P.bits_of setting.now subtx.old.tx) last inverting.new
-        (moment subtx.old commons.old.pages) (moment subtx.new commons.new.pages) result }
-    ensures handed { commons.new.history.handed ≡ commons.old.history.handed }
+    requires ready { MayOperate (context_in P.bits_of environment.now subtx.old.tx)
+        (local subtx.old shared.old.pages) (started_for (Request.TakeBack last)) }
+    ensures keeps { KeepsObjects shared.old shared.new }
+    ensures tells { TellsOfStart (context_in P.bits_of environment.now subtx.old.tx) last
+        inverting.new
+        (local subtx.old shared.old.pages) (local subtx.new shared.new.pages) result }
+    ensures handed { shared.new.history.handed ≡ shared.old.history.handed }
 {
-    let mut operation = Operation::start(commons.alloc, Request::TakeBack(last));
-    let told = operation.step(setting, subtx, &mut commons.pages);
+    let mut operation = Operation::start(shared.alloc, Request::TakeBack(last));
+    let told = operation.step(environment, subtx, &mut shared.pages);
     *inverting = Some(operation);
     answer_of(told)
 }

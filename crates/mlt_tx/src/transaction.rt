@@ -1,15 +1,15 @@
 //! Transactions.
 
 ghost use Rattle.std.specs.Prelude.{◌≡◌, ◌≤◌, ◌+◌, [], None, OnOk, OnErr, IsOkUnless};
-ghost use Rattle.mlt_hash.specs.Walks.{basis_in};
+ghost use Rattle.mlt_hash.specs.Walks.{context_in};
 ghost use Rattle.mlt_page_subtx.specs.Images.{AreThere, started};
-ghost use Rattle.mlt_tx.specs.AtOnce.{HasRoomFor};
+ghost use Rattle.mlt_tx.specs.Fast.{HasRoomFor};
 ghost use Rattle.mlt_tx.specs.Transactions.{IsNotCalled, IsPending, MayStepIn, TellsOfCall, TellsOfCancel, TellsOfTransaction};
 
 use crate::activity::Activity;
-use crate::commons::Commons;
+use crate::shared::SharedState;
 use mlt_event::Answer;
-use mlt_hash::Setting;
+use mlt_hash::Environment;
 use mlt_object_kinds::ObjOp;
 use mlt_object_undo::UndoList;
 use mlt_page_subtx::Subtx;
@@ -70,14 +70,14 @@ impl Transaction {
     /// # Errors
     /// `OutOfMemory`, where a growth was refused; the transaction is then still at nothing.
     #[inline(always)]
-    pub fn call(&mut self, commons: &mut Commons, op: ObjOp) -> Result<(), Refusal>
+    pub fn call(&mut self, shared: &mut SharedState, op: ObjOp) -> Result<(), Refusal>
         requires idle { self.old.at ≡ At.Idle }
-        ensures calls { OnOk result (TellsOfCall op self.old self.new commons.old commons.new) }
-        ensures err { OnErr result (IsNotCalled self.old self.new commons.old commons.new) }
+        ensures calls { OnOk result (TellsOfCall op self.old self.new shared.old shared.new) }
+        ensures err { OnErr result (IsNotCalled self.old self.new shared.old shared.new) }
         ensures refusal { IsOkUnless result Refusal.OutOfMemory }
-        ensures handed { commons.new.history.handed ≡ commons.old.history.handed }
+        ensures handed { shared.new.history.handed ≡ shared.old.history.handed }
     {
-        self.make_room(commons, op)?;
+        self.make_room(shared, op)?;
         self.at.call(op);
         Ok(())
     }
@@ -87,15 +87,15 @@ impl Transaction {
     /// # Errors
     /// `OutOfMemory`, where a growth was refused.
     #[inline(always)]
-    pub(crate) fn make_room(&mut self, commons: &mut Commons, op: ObjOp) -> Result<(), Refusal>
-        ensures room { OnOk result (HasRoomFor op self.old self.new commons.old commons.new) }
-        ensures err { OnErr result (IsNotCalled self.old self.new commons.old commons.new) }
+    pub(crate) fn make_room(&mut self, shared: &mut SharedState, op: ObjOp) -> Result<(), Refusal>
+        ensures room { OnOk result (HasRoomFor op self.old self.new shared.old shared.new) }
+        ensures err { OnErr result (IsNotCalled self.old self.new shared.old shared.new) }
         ensures refusal { IsOkUnless result Refusal.OutOfMemory }
-        ensures handed { commons.new.history.handed ≡ commons.old.history.handed }
+        ensures handed { shared.new.history.handed ≡ shared.old.history.handed }
     {
         self.undo.reserve()?;
-        commons.objects.reserve(self.subtx.tx(), &op.cell())?;
-        commons.history.reserve(2)?;
+        shared.objects.reserve(self.subtx.tx(), &op.cell())?;
+        shared.history.reserve(2)?;
         Ok(())
     }
 
@@ -103,29 +103,33 @@ impl Transaction {
     /// one that is refused gives up the room that it had in the history. A step of a first pass, or of an abort, takes no
     /// memory.
     #[inline(always)]
-    pub fn step<P: Pseudo>(&mut self, commons: &mut Commons, setting: &Setting<P>) -> Answer
-        requires ready { MayStepIn (basis_in P.bits_of setting.now self.old.subtx.tx)
-            self.old commons.old }
-        ensures tells { TellsOfTransaction (basis_in P.bits_of setting.now self.old.subtx.tx)
-            self.old self.new commons.old commons.new result }
-        ensures handed { commons.new.history.handed ≡ commons.old.history.handed }
+    pub fn step<P: Pseudo>(
+        &mut self,
+        shared: &mut SharedState,
+        environment: &Environment<P>,
+    ) -> Answer
+        requires ready { MayStepIn (context_in P.bits_of environment.now self.old.subtx.tx)
+            self.old shared.old }
+        ensures tells { TellsOfTransaction (context_in P.bits_of environment.now self.old.subtx.tx)
+            self.old self.new shared.old shared.new result }
+        ensures handed { shared.new.history.handed ≡ shared.old.history.handed }
     {
         self.at
-            .step(&mut self.subtx, &mut self.undo, commons, setting)
+            .step(&mut self.subtx, &mut self.undo, shared, environment)
     }
 
     /// Drops the pending operation, rolls its pages back, and gives up the room that it had in the history. It takes no
     /// memory.
-    pub fn cancel(&mut self, commons: &mut Commons)
+    pub fn cancel(&mut self, shared: &mut SharedState)
         requires pending { IsPending self.old.at }
-        requires there { AreThere self.old.subtx.images commons.old.pages.store.pages }
-        requires room { 2 ≤ commons.old.history.room }
-        ensures tells { TellsOfCancel self.old self.new commons.old commons.new }
-        ensures handed { commons.new.history.handed ≡ commons.old.history.handed }
+        requires there { AreThere self.old.subtx.images shared.old.pages.store.pages }
+        requires room { 2 ≤ shared.old.history.room }
+        ensures tells { TellsOfCancel self.old self.new shared.old shared.new }
+        ensures handed { shared.new.history.handed ≡ shared.old.history.handed }
     {
         self.subtx
-            .roll_back(&mut commons.pages.store, &mut commons.pages.locks);
+            .roll_back(&mut shared.pages.store, &mut shared.pages.locks);
         self.at.rest();
-        commons.history.release(2);
+        shared.history.release(2);
     }
 }

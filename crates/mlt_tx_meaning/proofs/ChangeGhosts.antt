@@ -19,7 +19,7 @@ use Rattle.mlt_hash_ghosts.specs.Operations.{Added, Presence, Removed, Standing}
 use Rattle.mlt_tx_two_records.specs.Performing.{Performs}
 use Rattle.mlt_tx_meaning.specs.Ends.{ChangesPages, KeepsPages, LeavesChange}
 use Rattle.mlt_tx_meaning.specs.Events.{IsOpenAt}
-use Rattle.mlt_tx_meaning.specs.Worlds.{IsFileWithGhosts, World, ledger_with, record_at}
+use Rattle.mlt_tx_meaning.specs.AbstractStates.{IsFileWithGhosts, AbstractState, ledger_with, record_at}
 use Rattle.mlt_tx_meaning.proofs.Matches.{kept_pages}
 use Rattle.mlt_tx_meaning.proofs.Replies.{ForResizes}
 use Rattle.mlt_tx_meaning.proofs.SlotGhosts.{puts, puts_unsaid, removes, revived_was_removed, revives, sets, takes_addition_back, takes_removal_back}
@@ -27,41 +27,41 @@ use Rattle.mlt_tx_meaning.proofs.Standings.{IsUnopposed, Says}
 
 -- ---- what is done
 
-module _ (world : World) (tx : ℕ) (cell : Cell) (pages : map.FinMap nat_cmp Page) (stood standing : Standing)
-    (h : IsFileWithGhosts (ledger_with world stood) world.max_depth) (is_open : IsOpenAt world tx) (forward : world.undoing tx ≡ false) where
+module _ (state : AbstractState) (tx : ℕ) (cell : Cell) (pages : map.FinMap nat_cmp Page) (stood standing : Standing)
+    (h : IsFileWithGhosts (ledger_with state stood) state.max_depth) (is_open : IsOpenAt state tx) (forward : state.undoing tx ≡ false) where
   -- where this was done to the presence of the key, and this to its record
   abbrev pub KeepsGhosts : Option Presence → RecChange → Type 0
-  KeepsGhosts said change = LeavesChange world tx cell change pages → Says said stood standing tx (key_number cell) → IsUnopposed said (ledger_with world stood) tx (key_number cell)
-      → IsFileWithGhosts (ledger_with (record world { pages = pages }) standing) world.max_depth
+  KeepsGhosts said change = LeavesChange state tx cell change pages → Says said stood standing tx (key_number cell) → IsUnopposed said (ledger_with state stood) tx (key_number cell)
+      → IsFileWithGhosts (ledger_with (record state { pages = pages }) standing) state.max_depth
 
   pub added : (v : ℕ) → KeepsGhosts (Some Added) (rec.Add v)
   added v e says unopposed =
       let alone = unopposed Removed (λ f. cc f) in
       elim e.performs [
-        | inl put ↦ puts world tx cell (rec.Add v) pages stood h e standing v put is_open alone says
-        | inr revived ↦ revives world tx cell (rec.Add v) pages stood h e standing v revived is_open alone says
+        | inl put ↦ puts state tx cell (rec.Add v) pages stood h e standing v put is_open alone says
+        | inr revived ↦ revives state tx cell (rec.Add v) pages stood h e standing v revived is_open alone says
       ]
 
   pub removed : KeepsGhosts (Some Removed) rec.ToGhost
-  removed e says unopposed = removes world tx cell rec.ToGhost pages stood h e standing e.performs is_open forward (unopposed Added (λ f. cc f)) says
+  removed e says unopposed = removes state tx cell rec.ToGhost pages stood h e standing e.performs is_open forward (unopposed Added (λ f. cc f)) says
 
   pub updated : (v : ℕ) → KeepsGhosts None (rec.Set v)
-  updated v e says unopposed = sets world tx cell (rec.Set v) pages stood h e standing v e.performs says
+  updated v e says unopposed = sets state tx cell (rec.Set v) pages stood h e standing v e.performs says
 
   -- where no removal stands of the key, there is no ghost to revive
-  pub counted : ((owner : ℕ) → last_by (ledger_with world stood) owner (key_number cell) ≡ Some Removed → ⊥) → (v : ℕ) → KeepsGhosts None (rec.Add v)
+  pub counted : ((owner : ℕ) → last_by (ledger_with state stood) owner (key_number cell) ≡ Some Removed → ⊥) → (v : ℕ) → KeepsGhosts None (rec.Add v)
   counted none v e says unopposed =
       elim e.performs [
-        | inl put ↦ puts_unsaid world tx cell (rec.Add v) pages stood h e standing v put none says
-        | inr revived ↦ absurd (none tx (revived_was_removed world tx cell (rec.Add v) pages stood h e v revived is_open forward))
+        | inl put ↦ puts_unsaid state tx cell (rec.Add v) pages stood h e standing v put none says
+        | inr revived ↦ absurd (none tx (revived_was_removed state tx cell (rec.Add v) pages stood h e v revived is_open forward))
       ]
 
 -- pages that stay keep it
-pub file_stays : (world : World) (pages : map.FinMap nat_cmp Page) (stood standing : Standing) → IsFileWithGhosts (ledger_with world stood) world.max_depth → KeepsPages world pages → standing ≡ stood
-    → IsFileWithGhosts (ledger_with (record world { pages = pages }) standing) world.max_depth
-file_stays world pages stood standing h same says =
-    let kept = subst (λ (s : Standing). IsFileWithGhosts (ledger_with world s) world.max_depth) (sym says) h in
-    subst (λ (p : map.FinMap nat_cmp Page). IsFileWithGhosts (ledger_with (record world { pages = p }) standing) world.max_depth) (sym (kept_pages world pages same)) kept
+pub file_stays : (state : AbstractState) (pages : map.FinMap nat_cmp Page) (stood standing : Standing) → IsFileWithGhosts (ledger_with state stood) state.max_depth → KeepsPages state pages → standing ≡ stood
+    → IsFileWithGhosts (ledger_with (record state { pages = pages }) standing) state.max_depth
+file_stays state pages stood standing h same says =
+    let kept = subst (λ (s : Standing). IsFileWithGhosts (ledger_with state s) state.max_depth) (sym says) h in
+    subst (λ (p : map.FinMap nat_cmp Page). IsFileWithGhosts (ledger_with (record state { pages = p }) standing) state.max_depth) (sym (kept_pages state pages same)) kept
 
 -- to add or to take away an amount gives the record some value
 sets_more : (n : ℕ) (live : Option ℕ) (done : Change) → Performs (rec.Plus n) live done → (v : ℕ) × (done ≡ Set v)
@@ -74,44 +74,44 @@ sets_less n None done is = absurd is
 
 -- ---- what is taken back
 
-module _ (world : World) (tx : ℕ) (cell : Cell) (pages : map.FinMap nat_cmp Page) (stood standing : Standing)
-    (h : IsFileWithGhosts (ledger_with world stood) world.max_depth) (is_open : IsOpenAt world tx) where
+module _ (state : AbstractState) (tx : ℕ) (cell : Cell) (pages : map.FinMap nat_cmp Page) (stood standing : Standing)
+    (h : IsFileWithGhosts (ledger_with state stood) state.max_depth) (is_open : IsOpenAt state tx) where
   -- where this is taken back of the presence of the key, and this is done to its record
   abbrev KeepsGhostsBack : Option Presence → RecChange → Type 0
-  KeepsGhostsBack said change = LeavesChange world tx cell change pages → Says said standing stood tx (key_number cell)
-      → IsFileWithGhosts (ledger_with (record world { pages = pages }) standing) world.max_depth
+  KeepsGhostsBack said change = LeavesChange state tx cell change pages → Says said standing stood tx (key_number cell)
+      → IsFileWithGhosts (ledger_with (record state { pages = pages }) standing) state.max_depth
 
-  pub added_back : world.undoing tx ≡ true → KeepsGhostsBack (Some Added) rec.ToGhost
-  added_back backward e says = takes_addition_back world tx cell rec.ToGhost pages stood h e standing e.performs is_open backward says
+  pub added_back : state.undoing tx ≡ true → KeepsGhostsBack (Some Added) rec.ToGhost
+  added_back backward e says = takes_addition_back state tx cell rec.ToGhost pages stood h e standing e.performs is_open backward says
 
   pub removed_back : KeepsGhostsBack (Some Removed) rec.Revive
-  removed_back e says = takes_removal_back world tx cell rec.Revive pages stood h e standing 0 e.performs is_open says
+  removed_back e says = takes_removal_back state tx cell rec.Revive pages stood h e standing 0 e.performs is_open says
 
   pub lowered : (n : ℕ) → KeepsGhostsBack None (rec.Minus n)
-  lowered n e says = let v = sets_less n (record_at world cell) e.done e.performs in sets world tx cell (rec.Minus n) pages stood h e standing v.0 v.1 (sym says)
+  lowered n e says = let v = sets_less n (record_at state cell) e.done e.performs in sets state tx cell (rec.Minus n) pages stood h e standing v.0 v.1 (sym says)
 
   pub raised : (n : ℕ) → KeepsGhostsBack None (rec.Plus n)
-  raised n e says = let v = sets_more n (record_at world cell) e.done e.performs in sets world tx cell (rec.Plus n) pages stood h e standing v.0 v.1 (sym says)
+  raised n e says = let v = sets_more n (record_at state cell) e.done e.performs in sets state tx cell (rec.Plus n) pages stood h e standing v.0 v.1 (sym says)
 
 -- ---- a size, which is no key's presence
 
-module _ (world : World) (tx : ℕ) (op : ObjOp) (pages : map.FinMap nat_cmp Page) (standing : Standing)
-    (h : IsFileWithGhosts (ledger_with world standing) world.max_depth) (is_open : IsOpenAt world tx) (range : IsInRange (cell_of op)) where
+module _ (state : AbstractState) (tx : ℕ) (op : ObjOp) (pages : map.FinMap nat_cmp Page) (standing : Standing)
+    (h : IsFileWithGhosts (ledger_with state standing) state.max_depth) (is_open : IsOpenAt state tx) (range : IsInRange (cell_of op)) where
   -- where this is done to the size record of the operation's set
   abbrev pub KeepsResized : Option RecChange → Type 0
-  KeepsResized change = ChangesPages world tx (size_change_on op change) pages → IsFileWithGhosts (ledger_with (record world { pages = pages }) standing) world.max_depth
+  KeepsResized change = ChangesPages state tx (size_change_on op change) pages → IsFileWithGhosts (ledger_with (record state { pages = pages }) standing) state.max_depth
 
-  on_its_set : (change : RecChange) → ((s : ℕ) → IsInRange (cells.Size s) → LeavesChange world tx (cells.Size s) change pages → IsFileWithGhosts (ledger_with (record world { pages = pages }) standing) world.max_depth)
+  on_its_set : (change : RecChange) → ((s : ℕ) → IsInRange (cells.Size s) → LeavesChange state tx (cells.Size s) change pages → IsFileWithGhosts (ledger_with (record state { pages = pages }) standing) state.max_depth)
       → KeepsResized (Some change)
   on_its_set change each = of_op op range
     where
-      of_op : (o : ObjOp) → IsInRange (cell_of o) → ChangesPages world tx (size_change_on o (Some change)) pages → IsFileWithGhosts (ledger_with (record world { pages = pages }) standing) world.max_depth
+      of_op : (o : ObjOp) → IsInRange (cell_of o) → ChangesPages state tx (size_change_on o (Some change)) pages → IsFileWithGhosts (ledger_with (record state { pages = pages }) standing) state.max_depth
       of_op (Element s e o) range e' = each s range.0 e'
-      of_op (Account a o) range keeps = file_stays world pages standing standing h keeps refl
-      of_op (Counter c o) range keeps = file_stays world pages standing standing h keeps refl
-      of_op (Size s) range keeps = file_stays world pages standing standing h keeps refl
+      of_op (Account a o) range keeps = file_stays state pages standing standing h keeps refl
+      of_op (Counter c o) range keeps = file_stays state pages standing standing h keeps refl
+      of_op (Size s) range keeps = file_stays state pages standing standing h keeps refl
 
-  of_none : (o : ObjOp) → ChangesPages world tx (size_change_on o None) pages → KeepsPages world pages
+  of_none : (o : ObjOp) → ChangesPages state tx (size_change_on o None) pages → KeepsPages state pages
   of_none (Element s e o) keeps = keeps
   of_none (Account a o) keeps = keeps
   of_none (Counter c o) keeps = keeps
@@ -119,12 +119,12 @@ module _ (world : World) (tx : ℕ) (op : ObjOp) (pages : map.FinMap nat_cmp Pag
 
   pub resized : ForResizes KeepsResized
   resized = record {
-    raised = on_its_set (rec.Plus 1) (λ s is e. raised world tx (cells.Size s) pages standing standing h is_open 1 e refl);
-    lowered = on_its_set (rec.Minus 1) (λ s is e. lowered world tx (cells.Size s) pages standing standing h is_open 1 e refl);
-    stays = λ e. file_stays world pages standing standing h (of_none op e) refl;
+    raised = on_its_set (rec.Plus 1) (λ s is e. raised state tx (cells.Size s) pages standing standing h is_open 1 e refl);
+    lowered = on_its_set (rec.Minus 1) (λ s is e. lowered state tx (cells.Size s) pages standing standing h is_open 1 e refl);
+    stays = λ e. file_stays state pages standing standing h (of_none op e) refl;
   }
 
   -- where no removal stands of its key, there is no ghost to revive
-  pub size_made : world.undoing tx ≡ false → ((s : ℕ) → IsInRange (cells.Size s) → (owner : ℕ) → last_by (ledger_with world standing) owner (key_number (cells.Size s)) ≡ Some Removed → ⊥) → KeepsResized (Some (rec.Add 1))
+  pub size_made : state.undoing tx ≡ false → ((s : ℕ) → IsInRange (cells.Size s) → (owner : ℕ) → last_by (ledger_with state standing) owner (key_number (cells.Size s)) ≡ Some Removed → ⊥) → KeepsResized (Some (rec.Add 1))
   size_made forward none =
-      on_its_set (rec.Add 1) (λ s is e. counted world tx (cells.Size s) pages standing standing h is_open forward (none s is) 1 e refl tt)
+      on_its_set (rec.Add 1) (λ s is e. counted state tx (cells.Size s) pages standing standing h is_open forward (none s is) 1 e refl tt)

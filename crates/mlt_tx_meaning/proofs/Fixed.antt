@@ -26,7 +26,7 @@ use Rattle.mlt_order.specs.Histories.{IsHistory, no_lists}
 use Rattle.mlt_order.proofs.Growing.{follow_to_one}
 use Rattle.mlt_hash_form.specs.Records.{live_records}
 use Rattle.mlt_tx_meaning.specs.Presences.{IsOpInRange, account_amount, amount_of, counter_amount}
-use Rattle.mlt_tx_meaning.specs.Worlds.{PagesMeanHistory, World, record_of}
+use Rattle.mlt_tx_meaning.specs.AbstractStates.{PagesMeanHistory, AbstractState, record_of}
 use Rattle.mlt_tx_meaning.proofs.Replies.{reply_steps}
 
 -- an operation that is a step has an amount in range
@@ -57,26 +57,26 @@ step_small (Counter c op) reply (CounterState s) (CounterState t) step = counter
 step_small (Size s) reply NoState NoState step = omega arith
 step_small _ reply _ _ step = absurd (first_of (cc, grind arith))
 
-module _ (world : World) (op : ObjOp) (h : PagesMeanHistory world) (range : IsInRange (cell_of op)) where
+module _ (state : AbstractState) (op : ObjOp) (h : PagesMeanHistory state) (range : IsInRange (cell_of op)) where
   -- the reply by the record is a step,
-  steps_by_record : amount_of op < 2 ^ 64 → (after : Base) × Step world.base (op, (reply_of op (record_of world op)).0) after
+  steps_by_record : amount_of op < 2 ^ 64 → (after : Base) × Step state.base (op, (reply_of op (record_of state op)).0) after
   steps_by_record small =
-      let r = reply_of op (record_of world op) in
-      let after = state_of_record (cell_of op) (record_after r.1 (record_of world op)) in
-      let cell = (reply_steps op (record_of world op) (h.records.means.can_be (cell_of op) range) small).0 in
-      (with_state world.base (cell_of op) after, step_to world.base (op, r.0) after (subst (λ (s : CellState). CellStep s (op, r.0) after) (sym (h.records.means.holds (cell_of op) range)) cell) (tells_size (live_records world.pages) world.base op h.records.means range))
+      let r = reply_of op (record_of state op) in
+      let after = state_of_record (cell_of op) (record_after r.1 (record_of state op)) in
+      let cell = (reply_steps op (record_of state op) (h.records.means.can_be (cell_of op) range) small).0 in
+      (with_state state.base (cell_of op) after, step_to state.base (op, r.0) after (subst (λ (s : CellState). CellStep s (op, r.0) after) (sym (h.records.means.holds (cell_of op) range)) cell) (tells_size (live_records state.pages) state.base op h.records.means range))
 
   -- and no other reply is
-  pub step_fixes : (reply : ObjReply) (after : Base) → Step world.base (op, reply) after → reply ≡ (reply_of op (record_of world op)).0
+  pub step_fixes : (reply : ObjReply) (after : Base) → Step state.base (op, reply) after → reply ≡ (reply_of op (record_of state op)).0
   step_fixes reply after step =
       let by_record = steps_by_record (step_small op reply _ _ step.0) in
-      (base_one_answer world.base after by_record.0 op reply (reply_of op (record_of world op)).0 step by_record.1).0
+      (base_one_answer state.base after by_record.0 op reply (reply_of op (record_of state op)).0 step by_record.1).0
 
-pub step_there : (world : World) (op : ObjOp) → PagesMeanHistory world → IsOpInRange op → (after : Base) × Step world.base (op, (reply_of op (record_of world op)).0) after
-step_there world op h is = steps_by_record world op h is.cell is.amount
+pub step_there : (state : AbstractState) (op : ObjOp) → PagesMeanHistory state → IsOpInRange op → (after : Base) × Step state.base (op, (reply_of op (record_of state op)).0) after
+step_there state op h is = steps_by_record state op h is.cell is.amount
 
-pub pages_fix : (world : World) (other : Base) → PagesMeanHistory world → Means (live_records world.pages) other → other ≡ world.base
-pages_fix world other h means = one_meaning (live_records world.pages) other world.base means h.records.means
+pub pages_fix : (state : AbstractState) (other : Base) → PagesMeanHistory state → Means (live_records state.pages) other → other ≡ state.base
+pages_fix state other h means = one_meaning (live_records state.pages) other state.base means h.records.means
 
-pub history_fixes : (world : World) (other : Base) → PagesMeanHistory world → IsHistory Step empty_base world.history other → other ≡ world.base
-history_fixes world other h leads = follow_to_one Step base_functional base_injective world.history no_lists empty_base other world.base leads h.records.history
+pub history_fixes : (state : AbstractState) (other : Base) → PagesMeanHistory state → IsHistory Step empty_base state.history other → other ≡ state.base
+history_fixes state other h leads = follow_to_one Step base_functional base_injective state.history no_lists empty_base other state.base leads h.records.history

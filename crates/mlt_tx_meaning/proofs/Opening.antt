@@ -21,8 +21,8 @@ use Rattle.mlt_hash_form.specs.Records.{live_records}
 use Rattle.mlt_hash_form.proofs.MapChanges.{opening_map}
 use Rattle.mlt_hash_form.proofs.OpeningFile.{opening_has_form, opening_is_free}
 use Rattle.mlt_hash_ghosts.proofs.Transactions.{free_file}
-use Rattle.mlt_tx_meaning.specs.Events.{new_world}
-use Rattle.mlt_tx_meaning.specs.Worlds.{PagesMeanHistory, ledger_of}
+use Rattle.mlt_tx_meaning.specs.Events.{new_state}
+use Rattle.mlt_tx_meaning.specs.AbstractStates.{PagesMeanHistory, ledger_of}
 
 -- the record of an absent key can be there, and means what the empty base has
 absent_can_be : (c : Cell) → IsRecord c None
@@ -49,7 +49,7 @@ empty_means records none =
     }
 
 module _ (bits : ℕ → ℕ) (root max_depth : ℕ) (pages : map.FinMap nat_cmp Page) (undoing : ℕ → Bool) (d n : ℕ) where
-  pub opening_matches : GivesPseudokeys bits → max_depth ≤ 16 → IsOpening (map.get pages) root d n → PagesMeanHistory (new_world bits root max_depth pages undoing)
+  pub opening_matches : GivesPseudokeys bits → max_depth ≤ 16 → IsOpening (map.get pages) root d n → PagesMeanHistory (new_state bits root max_depth pages undoing)
   opening_matches bounded small is =
       let none_open : (i : ℕ) → set.contains (set.empty {R = nat_cmp}) i ≡ false = λ i. set.contains-empty nat_cmp i in
       record {
@@ -58,7 +58,7 @@ module _ (bits : ℕ → ℕ) (root max_depth : ℕ) (pages : map.FinMap nat_cmp
           small = small;
           form = opening_has_form bits (map.get pages) root d n is;
           shallow = subst (λ (depth : ℕ). depth ≤ max_depth) (sym (ap (λ p. (header_of p).depth) is.head)) (omega arith);
-          ghosts = free_file (ledger_of (new_world bits root max_depth pages undoing)) refl (opening_is_free bits (map.get pages) root d n is);
+          ghosts = free_file (ledger_of (new_state bits root max_depth pages undoing)) refl (opening_is_free bits (map.get pages) root d n is);
         };
         records = record {
           means = empty_means (live_records pages) (opening_map pages root d n is);

@@ -26,7 +26,7 @@ use Rattle.mlt_hash_form.specs.Records.{live_records}
 use Rattle.mlt_tx_meaning.specs.Ends.{ChangesPages}
 use Rattle.mlt_tx_meaning.specs.Presences.{presence_of}
 use Rattle.mlt_tx_meaning.specs.Events.{MayDo, with_done}
-use Rattle.mlt_tx_meaning.specs.Worlds.{PagesMeanHistory, World, lists_in, record_of}
+use Rattle.mlt_tx_meaning.specs.AbstractStates.{PagesMeanHistory, AbstractState, lists_in, record_of}
 use Rattle.mlt_tx_meaning.proofs.DoneGhosts.{done_keeps_file}
 use Rattle.mlt_tx_meaning.proofs.Matches.{FitsLists, grown, in_range_there, runs}
 use Rattle.mlt_tx_meaning.proofs.RecordChanges.{records_become}
@@ -53,9 +53,9 @@ listed table tx item F before new i x there =
       | inr n ↦ before i x (subst InList (now.1 i n) there)
     ]
 
-module _ (world : World) (tx : ℕ) (op : ObjOp) (pages : map.FinMap nat_cmp Page) (h : PagesMeanHistory world) where
+module _ (state : AbstractState) (tx : ℕ) (op : ObjOp) (pages : map.FinMap nat_cmp Page) (h : PagesMeanHistory state) where
   abbrev records : map.FinMap nat_cmp ℕ
-  records = live_records world.pages
+  records = live_records state.pages
 
   abbrev item : ObjOp × ObjReply
   item = (op, told_by records op)
@@ -64,42 +64,42 @@ module _ (world : World) (tx : ℕ) (op : ObjOp) (pages : map.FinMap nat_cmp Pag
   changes = changes_on op (changes_of records op)
 
   abbrev lists : Lists (ObjOp × ObjReply)
-  lists = lists_in world
+  lists = lists_in state
 
-  module _ (may : MayDo world tx item) (changed_by : ChangesPages world tx changes pages) where
+  module _ (may : MayDo state tx item) (changed_by : ChangesPages state tx changes pages) where
     records_are : live_records pages ≡ records_after records changes
-    records_are = records_become world tx changes pages h.file.bounded h.file.form changed_by
+    records_are = records_become state tx changes pages h.file.bounded h.file.form changed_by
 
     -- its cell makes its step
-    cell_steps : StepsByRecord op (record_of world op)
-    cell_steps = reply_steps op (record_of world op) (h.records.means.can_be (cell_of op) may.in_range.cell) may.in_range.amount
+    cell_steps : StepsByRecord op (record_of state op)
+    cell_steps = reply_steps op (record_of state op) (h.records.means.can_be (cell_of op) may.in_range.cell) may.in_range.amount
 
-    steps : (after : Base) × Step world.base item after × Means (live_records pages) after
+    steps : (after : Base) × Step state.base item after × Means (live_records pages) after
     steps =
         let range = may.in_range.cell in
-        let step = means_step records world.base op h.records.means range cell_steps.1 cell_steps.0 in
+        let step = means_step records state.base op h.records.means range cell_steps.1 cell_steps.0 in
         (step.0, step.1, subst (λ (r : map.FinMap nat_cmp ℕ). Means r step.0) (sym records_are) step.2)
 
     gains : Gains lists.transcripts (after_entry lists (Did tx item)).transcripts tx item
     gains = changed lists.transcripts tx (lists.transcripts tx ++ item ∷ [])
 
     in_range_then : (i : ℕ) (x : ObjOp × ObjReply) → Contains ((after_entry lists (Did tx item)).transcripts i) x → IsInRange (cell_of x.0)
-    in_range_then = listed lists.transcripts tx item (λ x. IsInRange (cell_of x.0)) (in_range_there world h) may.in_range.cell
+    in_range_then = listed lists.transcripts tx item (λ x. IsInRange (cell_of x.0)) (in_range_there state h) may.in_range.cell
 
-    done_fits : (base : Base) → FitsLists (with_done world tx item pages base) (after_entry lists (Did tx item))
+    done_fits : (base : Base) → FitsLists (with_done state tx item pages base) (after_entry lists (Did tx item))
     done_fits base = record {
       running = h.records.running;
       fresh = h.records.fresh;
-      file = done_keeps_file world tx op pages (after_entry lists (Did tx item)).transcripts h may.is_open may.forward may.in_range.cell in_range_then changed_by
+      file = done_keeps_file state tx op pages (after_entry lists (Did tx item)).transcripts h may.is_open may.forward may.in_range.cell in_range_then changed_by
           (gain_says lists.transcripts (after_entry lists (Did tx item)).transcripts tx item gains (presence_of item) refl)
-          (may_do_unopposed world h tx item may (presence_of item) refl);
+          (may_do_unopposed state h tx item may (presence_of item) refl);
       in_range = listed lists.held tx item (λ x. IsInRange (cell_of x.0)) h.records.in_range may.in_range.cell;
       counted = listed lists.transcripts tx item (λ x. HasWhatIsUndone x (record_in (live_records pages) (cell_of x.0)))
-          (λ i x there. then (λ r. HasWhatIsUndone x (record_in r (cell_of x.0))) (counted_still records changes keeps x (in_range_there world h i x there) (h.records.counted i x there)))
+          (λ i x there. then (λ r. HasWhatIsUndone x (record_in r (cell_of x.0))) (counted_still records changes keeps x (in_range_there state h i x there) (h.records.counted i x there)))
           (then (λ r. HasWhatIsUndone item (record_in r (cell_of op))) (counted_now records op));
       sized = listed lists.transcripts tx item (λ x. HasSizeToUndo x (size_record_in (live_records pages) x.0))
-          (λ i x there. then (λ r. HasSizeToUndo x (size_record_in r x.0)) (has_size_still records op x may.in_range.cell (in_range_there world h i x there) (h.records.sized i x there)))
-          (then (λ r. HasSizeToUndo item (size_record_in r op)) (has_size_now records world.base op h.records.means may.in_range.cell cell_steps.1 cell_steps.0));
+          (λ i x there. then (λ r. HasSizeToUndo x (size_record_in r x.0)) (has_size_still records op x may.in_range.cell (in_range_there state h i x there) (h.records.sized i x there)))
+          (then (λ r. HasSizeToUndo item (size_record_in r op)) (has_size_now records state.base op h.records.means may.in_range.cell cell_steps.1 cell_steps.0));
     }
       where
         then : (F : map.FinMap nat_cmp ℕ → Type 0) → F (records_after records changes) → F (live_records pages)
@@ -108,11 +108,11 @@ module _ (world : World) (tx : ℕ) (op : ObjOp) (pages : map.FinMap nat_cmp Pag
         keeps : (c : Cell) → IsCount c → KeepsRecord c changes
         keeps c on = done_keeps records c op on may.in_range.cell
 
-    pub operation_keeps : (base : Base) × Step world.base item base × PagesMeanHistory (with_done world tx item pages base)
+    pub operation_keeps : (base : Base) × Step state.base item base × PagesMeanHistory (with_done state tx item pages base)
     operation_keeps =
         let step = steps in (
           step.0,
           step.1,
-          grown (with_done world tx item pages step.0) world.history (Did tx item) world.base refl
-              step.2 h.records.history (did_may_come lists world.base step.0 tx item (runs world h tx may.is_open) step.1 may.free) (done_fits step.0),
+          grown (with_done state tx item pages step.0) state.history (Did tx item) state.base refl
+              step.2 h.records.history (did_may_come lists state.base step.0 tx item (runs state h tx may.is_open) step.1 may.free) (done_fits step.0),
         )

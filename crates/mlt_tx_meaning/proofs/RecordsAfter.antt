@@ -11,7 +11,7 @@ use Rattle.mlt_object_kinds.specs.declared.operation.ObjOp.TheVariants.{Account,
 use Rattle.mlt_object_kinds.specs.declared.operation.ObjReply.{ObjReply}
 use Rattle.mlt_object_kinds.proofs.BaseLaws.{one_cell_or_two}
 use Rattle.mlt_object_kinds.specs.Operations.{cell_of}
-use Rattle.mlt_object_base.specs.declared.record.Changes.{Changes}
+use Rattle.mlt_object_base.specs.declared.record.RecordChanges.{RecordChanges}
 use Rattle.mlt_object_base.specs.declared.record.RecChange.{RecChange}
 use Rattle.mlt_object_base.specs.declared.record.RecChange.TheVariants as rec
 use Rattle.mlt_object_base.specs.Effects.{changes_on, own_change_on, size_change_on}
@@ -80,7 +80,7 @@ size_keeps c (Account a op) size range leaves = tt
 size_keeps c (Counter d op) size range leaves = tt
 size_keeps c (Size s) size range leaves = tt
 
-all_keep : (c : Cell) (item : ObjOp × ObjReply) (changes : Changes) → IsCount c → IsInRange (cell_of item.0) → (presence_of item ≡ None → LeavesRecordIf changes.own) → LeavesRecordIf changes.size → KeepsRecord c (changes_on item.0 changes)
+all_keep : (c : Cell) (item : ObjOp × ObjReply) (changes : RecordChanges) → IsCount c → IsInRange (cell_of item.0) → (presence_of item ≡ None → LeavesRecordIf changes.own) → LeavesRecordIf changes.size → KeepsRecord c (changes_on item.0 changes)
 all_keep c item changes on range own size =
     keeps_both c (own_change_on item.0 changes.own) (size_change_on item.0 changes.size)
     (own_keeps c item.0 changes.own range (λ same. own (count_says_nothing item c (sym same) on))) (size_keeps c item.0 changes.size range size)

@@ -25,16 +25,16 @@ use Rattle.mlt_hash_ghosts.proofs.Moves.{moved}
 use Rattle.mlt_hash_ghosts.proofs.SlotTests.{ghost_from}
 use Rattle.mlt_tx_meaning.specs.Ends.{LeavesChange}
 use Rattle.mlt_tx_meaning.specs.Events.{IsOpenAt}
-use Rattle.mlt_tx_meaning.specs.Worlds.{IsFileWithGhosts, World, basis_of, ledger_with}
+use Rattle.mlt_tx_meaning.specs.AbstractStates.{IsFileWithGhosts, AbstractState, context_of, ledger_with}
 
-module _ (world : World) (tx : ℕ) (cell : Cell) (change : RecChange) (pages : map.FinMap nat_cmp Page) (stood : Standing)
-    (h : IsFileWithGhosts (ledger_with world stood) world.max_depth) (e : LeavesChange world tx cell change pages) where
+module _ (state : AbstractState) (tx : ℕ) (cell : Cell) (change : RecChange) (pages : map.FinMap nat_cmp Page) (stood : Standing)
+    (h : IsFileWithGhosts (ledger_with state stood) state.max_depth) (e : LeavesChange state tx cell change pages) where
   abbrev key : ℕ
   key = key_number cell
 
   -- the clean pages as they were, and with the slots moved
   abbrev before : Ledger
-  before = ledger_with world stood
+  before = ledger_with state stood
 
   abbrev rested : Ledger
   rested = record before { pages = e.rest }
@@ -44,7 +44,7 @@ module _ (world : World) (tx : ℕ) (cell : Cell) (change : RecChange) (pages : 
 
   -- what stood in the slot, and what comes to stand there
   abbrev ChangesSlotBy : Change → Type 0
-  ChangesSlotBy done = StoodBefore done (basis_of world tx) key e.spot.bucket.slots (slot_of e.spot)
+  ChangesSlotBy done = StoodBefore done (context_of state tx) key e.spot.bucket.slots (slot_of e.spot)
       × ChangesSlot rested (map.get pages) e.spot key (value_after done) (slot_after done key tx)
 
   by_change : (done : Change) → e.done ≡ done → ChangesSlotBy done
@@ -53,36 +53,36 @@ module _ (world : World) (tx : ℕ) (cell : Cell) (change : RecChange) (pages : 
   module _ (standing : Standing) where
     -- with what stands then, the clean pages are a file with its ghosts
     abbrev pub HasFileThen : Type 0
-    HasFileThen = IsFileWithGhosts (ledger_with (record world { pages = pages }) standing) world.max_depth
+    HasFileThen = IsFileWithGhosts (ledger_with (record state { pages = pages }) standing) state.max_depth
 
     settled : PagesMatchOperations (record rested { standing = standing; pages = map.get pages }) → HasFileThen
     settled matches = record { bounded = h.bounded; small = h.small; form = e.changes.form; shallow = e.shallow; ghosts = matches }
 
     -- ---- what is done
 
-    pub puts : (v : ℕ) → e.done ≡ Put v → IsOpenAt world tx → NoOtherLast before tx key Removed → Appends stood standing tx key Added → HasFileThen
+    pub puts : (v : ℕ) → e.done ≡ Put v → IsOpenAt state tx → NoOtherLast before tx key Removed → Appends stood standing tx key Added → HasFileThen
     puts v is is_open alone says =
         let r = by_change (Put v) is in
         settled (put_addition_law rested standing (map.get pages) e.spot tx key v rested_matches (record { is_open = is_open; unopposed = alone }) (record { absent = r.0.0; ghostless = r.0.1; free = r.0.2 }) r.1 says)
 
-    pub revives : (v : ℕ) → e.done ≡ Revive v → IsOpenAt world tx → NoOtherLast before tx key Removed → Appends stood standing tx key Added → HasFileThen
+    pub revives : (v : ℕ) → e.done ≡ Revive v → IsOpenAt state tx → NoOtherLast before tx key Removed → Appends stood standing tx key Added → HasFileThen
     revives v is is_open alone says =
         let r = by_change (Revive v) is in
         settled (ghost_addition_law rested standing (map.get pages) e.spot tx key v rested_matches (record { is_open = is_open; unopposed = alone }) r.0.0 r.0.1 r.1 says)
 
-    pub removes : e.done ≡ Remove → IsOpenAt world tx → world.undoing tx ≡ false → NoOtherLast before tx key Added → Appends stood standing tx key Removed → HasFileThen
+    pub removes : e.done ≡ Remove → IsOpenAt state tx → state.undoing tx ≡ false → NoOtherLast before tx key Added → Appends stood standing tx key Removed → HasFileThen
     removes is is_open forward alone says =
         let r = by_change Remove is in
         settled (removal_law rested standing (map.get pages) e.spot tx key rested_matches (record { is_open = is_open; forward = forward; unopposed = alone }) r.0 r.1 says)
 
     -- ---- what is taken back
 
-    pub takes_addition_back : e.done ≡ Remove → IsOpenAt world tx → world.undoing tx ≡ true → Appends standing stood tx key Added → HasFileThen
+    pub takes_addition_back : e.done ≡ Remove → IsOpenAt state tx → state.undoing tx ≡ true → Appends standing stood tx key Added → HasFileThen
     takes_addition_back is is_open backward says =
         let r = by_change Remove is in
         settled (undone_addition_law rested standing (map.get pages) e.spot tx key rested_matches is_open backward r.0 r.1 says)
 
-    pub takes_removal_back : (v : ℕ) → e.done ≡ Revive v → IsOpenAt world tx → Appends standing stood tx key Removed → HasFileThen
+    pub takes_removal_back : (v : ℕ) → e.done ≡ Revive v → IsOpenAt state tx → Appends standing stood tx key Removed → HasFileThen
     takes_removal_back v is is_open says =
         let r = by_change (Revive v) is in
         settled (undone_removal_law rested standing (map.get pages) e.spot tx key v rested_matches is_open r.0.1 r.1 says)
@@ -103,7 +103,7 @@ module _ (world : World) (tx : ℕ) (cell : Cell) (change : RecChange) (pages : 
         unsaid same (plain_put_law rested (map.get pages) e.spot key v rested_matches (λ owner _ last. none owner last) r.0.2 r.1)
 
   -- a ghost that is revived was left by a removal, before the abort begins
-  pub revived_was_removed : (v : ℕ) → e.done ≡ Revive v → IsOpenAt world tx → world.undoing tx ≡ false → last_by before tx key ≡ Some Removed
+  pub revived_was_removed : (v : ℕ) → e.done ≡ Revive v → IsOpenAt state tx → state.undoing tx ≡ false → last_by before tx key ≡ Some Removed
   revived_was_removed v is is_open forward =
       let r = by_change (Revive v) is in
       let ghost = ghost_from key tx (slice_index_or e.spot.bucket.slots e.spot.at Free) r.0.1 in

@@ -13,7 +13,7 @@ use Rattle.mlt_hash_ghosts.specs.Ledgers.{Ledger, NoOtherLast, last_by}
 use Rattle.mlt_hash_ghosts.specs.Operations.{Appends, Presence, Standing, last_of}
 use Rattle.mlt_tx_meaning.specs.Presences.{op_key, presence_of, standing_of}
 use Rattle.mlt_tx_meaning.specs.Events.{MayDo}
-use Rattle.mlt_tx_meaning.specs.Worlds.{PagesMeanHistory, World, ledger_of, lists_in}
+use Rattle.mlt_tx_meaning.specs.AbstractStates.{PagesMeanHistory, AbstractState, ledger_of, lists_in}
 use Rattle.mlt_tx_meaning.proofs.Matches.{lists_kept}
 use Rattle.mlt_tx_meaning.proofs.Opposites.{opposites_clash}
 use Rattle.mlt_tx_meaning.proofs.Replies.{IsCount, count_says_nothing}
@@ -34,17 +34,17 @@ abbrev pub IsUnopposed : Option Presence → Ledger → ℕ → ℕ → Type 0
 IsUnopposed (Some p) ledger tx key = (q : Presence) → (q ≡ p → ⊥) → NoOtherLast ledger tx key q
 IsUnopposed None ledger tx key = Unit {0}
 
-module _ (world : World) (h : PagesMeanHistory world) where
+module _ (state : AbstractState) (h : PagesMeanHistory state) where
   -- what stands last of a key was done by an open item, on the key's cell
-  stands_by_item : (cell : Cell) → IsInRange cell → (owner : ℕ) (p : Presence) → last_by (ledger_of world) owner (key_number cell) ≡ Some p
-      → (item : ObjOp × ObjReply) × Contains ((lists_in world).held owner) item × (cell_of item.0 ≡ cell) × (presence_of item ≡ Some p)
+  stands_by_item : (cell : Cell) → IsInRange cell → (owner : ℕ) (p : Presence) → last_by (ledger_of state) owner (key_number cell) ≡ Some p
+      → (item : ObjOp × ObjReply) × Contains ((lists_in state).held owner) item × (cell_of item.0 ≡ cell) × (presence_of item ≡ Some p)
   stands_by_item cell is owner p last =
-      let from = last_from (key_number cell) ((lists_in world).transcripts owner) p last in
-      let held = (lists_kept world h).covers owner from.0 from.1 in
+      let from = last_from (key_number cell) ((lists_in state).transcripts owner) p last in
+      let held = (lists_kept state h).covers owner from.0 from.1 in
       (from.0, held, same_cell (cell_of from.0.0) cell (h.records.in_range owner from.0 held) is from.2, from.3)
 
   -- a transaction that may do an item meets no opposite one
-  pub may_do_unopposed : (tx : ℕ) (item : ObjOp × ObjReply) → MayDo world tx item → (o : Option Presence) → presence_of item ≡ o → IsUnopposed o (ledger_of world) tx (op_key item.0)
+  pub may_do_unopposed : (tx : ℕ) (item : ObjOp × ObjReply) → MayDo state tx item → (o : Option Presence) → presence_of item ≡ o → IsUnopposed o (ledger_of state) tx (op_key item.0)
   may_do_unopposed tx item may None is = tt
   may_do_unopposed tx item may (Some p) is = λ q differ other is_open others last.
       let by = stands_by_item (cell_of item.0) may.in_range.cell other q last in

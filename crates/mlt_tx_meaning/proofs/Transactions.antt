@@ -15,7 +15,7 @@ use Rattle.mlt_hash_ghosts.specs.Ledgers.{IsOpenIn, Ledger}
 use Rattle.mlt_hash_ghosts.proofs.Transactions.{begin_law, close_law}
 use Rattle.mlt_tx_meaning.specs.Presences.{presences_on, standing_of}
 use Rattle.mlt_tx_meaning.specs.Events.{IsOpenAt, with_begun, with_closed, with_committed}
-use Rattle.mlt_tx_meaning.specs.Worlds.{PagesMeanHistory, World, ledger_of, lists_in}
+use Rattle.mlt_tx_meaning.specs.AbstractStates.{PagesMeanHistory, AbstractState, ledger_of, lists_in}
 use Rattle.mlt_tx_meaning.proofs.Matches.{FitsLists, both, grown, lists_kept, runs}
 use Rattle.mlt_tx_meaning.proofs.OpenNumbers.{inserted_beside, inserted_here, removed_beside, removed_here}
 
@@ -42,36 +42,36 @@ fresh_is_not_running s is runs = let f : Fresh ≡ Running = sym is ∙ runs in 
 
 -- ---- a beginning
 
-module _ (world : World) (undoing : ℕ → Bool) (h : PagesMeanHistory world) (same : SameElsewhere world.undoing undoing (world.begun + 1)) where
+module _ (state : AbstractState) (undoing : ℕ → Bool) (h : PagesMeanHistory state) (same : SameElsewhere state.undoing undoing (state.begun + 1)) where
   abbrev lists : Lists (ObjOp × ObjReply)
-  lists = lists_in world
+  lists = lists_in state
 
-  new_is_fresh : lists.stage (world.begun + 1) ≡ Fresh
-  new_is_fresh = h.records.fresh (world.begun + 1) (omega arith)
+  new_is_fresh : lists.stage (state.begun + 1) ≡ Fresh
+  new_is_fresh = h.records.fresh (state.begun + 1) (omega arith)
 
-  open_is_old : (t : ℕ) → set.contains world.opens t ≡ true → t ≡ world.begun + 1 → ⊥
+  open_is_old : (t : ℕ) → set.contains state.active t ≡ true → t ≡ state.begun + 1 → ⊥
   open_is_old t is_open e = let low = h.file.ghosts.opened t is_open in absurd (omega (arith, low, e))
 
-  nothing_stands : (key : ℕ) → standing_of lists.transcripts (world.begun + 1) key ≡ []
-  nothing_stands key = ap (presences_on key) ((lists_kept world h).only (world.begun + 1) (fresh_is_not_running _ new_is_fresh)).0
+  nothing_stands : (key : ℕ) → standing_of lists.transcripts (state.begun + 1) key ≡ []
+  nothing_stands key = ap (presences_on key) ((lists_kept state h).only (state.begun + 1) (fresh_is_not_running _ new_is_fresh)).0
 
-  begun_runs : (i : ℕ) → (set.contains (set.insert world.opens (world.begun + 1)) i ≡ true) ↔ (table_with lists.stage (world.begun + 1) Running i ≡ Running)
+  begun_runs : (i : ℕ) → (set.contains (set.insert state.active (state.begun + 1)) i ≡ true) ↔ (table_with lists.stage (state.begun + 1) Running i ≡ Running)
   begun_runs i =
-      let stage = changed lists.stage (world.begun + 1) Running in
-      elim (cases_eq i (world.begun + 1)) [
-        | inl e ↦ (λ o. ap (table_with lists.stage (world.begun + 1) Running) e ∙ stage.0, λ r. ap (set.contains (set.insert world.opens (world.begun + 1))) e ∙ inserted_here world.opens (world.begun + 1))
+      let stage = changed lists.stage (state.begun + 1) Running in
+      elim (cases_eq i (state.begun + 1)) [
+        | inl e ↦ (λ o. ap (table_with lists.stage (state.begun + 1) Running) e ∙ stage.0, λ r. ap (set.contains (set.insert state.active (state.begun + 1))) e ∙ inserted_here state.active (state.begun + 1))
         | inr n ↦
-            let there = inserted_beside world.opens (world.begun + 1) i n in
+            let there = inserted_beside state.active (state.begun + 1) i n in
             (λ o. stage.1 i n ∙ (h.records.running i).0 (sym there ∙ o), λ r. there ∙ (h.records.running i).1 (sym (stage.1 i n) ∙ r))
       ]
 
-  begun_fits : FitsLists (with_begun world undoing) (after_entry lists (Begun (world.begun + 1)))
+  begun_fits : FitsLists (with_begun state undoing) (after_entry lists (Begun (state.begun + 1)))
   begun_fits = record {
     running = begun_runs;
-    fresh = λ i above. (changed lists.stage (world.begun + 1) Running).1 i (λ e. absurd (omega (arith, above, e))) ∙ h.records.fresh i (omega (arith, above));
+    fresh = λ i above. (changed lists.stage (state.begun + 1) Running).1 i (λ e. absurd (omega (arith, above, e))) ∙ h.records.fresh i (omega (arith, above));
     file = let ghosts =
-        begin_law (record (ledger_of world) { undoing = undoing }) (standing_of lists.transcripts)
-        (undoing_changed (ledger_of world) undoing h.file.ghosts (λ t is_open f. sym (same t (open_is_old t is_open)) ∙ f))
+        begin_law (record (ledger_of state) { undoing = undoing }) (standing_of lists.transcripts)
+        (undoing_changed (ledger_of state) undoing h.file.ghosts (λ t is_open f. sym (same t (open_is_old t is_open)) ∙ f))
         nothing_stands (λ owner key differs. refl) in
         record { bounded = h.file.bounded; small = h.file.small; form = h.file.form; shallow = h.file.shallow; ghosts = ghosts };
     in_range = h.records.in_range;
@@ -79,21 +79,21 @@ module _ (world : World) (undoing : ℕ → Bool) (h : PagesMeanHistory world) (
     sized = h.records.sized;
   }
 
-  pub begin_keeps : PagesMeanHistory (with_begun world undoing)
+  pub begin_keeps : PagesMeanHistory (with_begun state undoing)
   begin_keeps =
-      grown (with_begun world undoing) world.history (Begun (world.begun + 1)) world.base refl h.records.means h.records.history (new_is_fresh, refl) begun_fits
+      grown (with_begun state undoing) state.history (Begun (state.begun + 1)) state.base refl h.records.means h.records.history (new_is_fresh, refl) begun_fits
 
 -- ---- the beginning of an abort
 
-pub abort_keeps : (world : World) (undoing : ℕ → Bool) → PagesMeanHistory world → ((tx : ℕ) → undoing tx ≡ false → world.undoing tx ≡ false)
-    → PagesMeanHistory (record world { undoing = undoing })
-abort_keeps world undoing h fewer =
-    both (record world { undoing = undoing }) h.records.means h.records.history
+pub abort_keeps : (state : AbstractState) (undoing : ℕ → Bool) → PagesMeanHistory state → ((tx : ℕ) → undoing tx ≡ false → state.undoing tx ≡ false)
+    → PagesMeanHistory (record state { undoing = undoing })
+abort_keeps state undoing h fewer =
+    both (record state { undoing = undoing }) h.records.means h.records.history
     (record {
       running = h.records.running;
       fresh = h.records.fresh;
       file = let ghosts =
-          undoing_changed (ledger_of world) undoing h.file.ghosts (λ t is_open f. fewer t f) in
+          undoing_changed (ledger_of state) undoing h.file.ghosts (λ t is_open f. fewer t f) in
           record { bounded = h.file.bounded; small = h.file.small; form = h.file.form; shallow = h.file.shallow; ghosts = ghosts };
       in_range = h.records.in_range;
       counted = h.records.counted;
@@ -102,23 +102,23 @@ abort_keeps world undoing h fewer =
 
 -- ---- an end
 
-module _ (world : World) (tx : ℕ) (undoing : ℕ → Bool) (h : PagesMeanHistory world) (is_open : IsOpenAt world tx) (same : SameElsewhere world.undoing undoing tx) where
+module _ (state : AbstractState) (tx : ℕ) (undoing : ℕ → Bool) (h : PagesMeanHistory state) (is_open : IsOpenAt state tx) (same : SameElsewhere state.undoing undoing tx) where
   abbrev old : Lists (ObjOp × ObjReply)
-  old = lists_in world
+  old = lists_in state
 
-  abbrev closed : World
-  closed = record world { opens = set.remove world.opens tx; undoing = undoing }
+  abbrev closed : AbstractState
+  closed = record state { active = set.remove state.active tx; undoing = undoing }
 
-  others_run : (i : ℕ) → (set.contains (set.remove world.opens tx) i ≡ true) ↔ (table_with old.stage tx Ended i ≡ Running)
+  others_run : (i : ℕ) → (set.contains (set.remove state.active tx) i ≡ true) ↔ (table_with old.stage tx Ended i ≡ Running)
   others_run i =
       let stage = changed old.stage tx Ended in
       elim (cases_eq i tx) [
         | inl e ↦ (
-          λ o. absurd (both_ways _ (removed_here world.opens tx) (ap (set.contains (set.remove world.opens tx)) (sym e) ∙ o)),
+          λ o. absurd (both_ways _ (removed_here state.active tx) (ap (set.contains (set.remove state.active tx)) (sym e) ∙ o)),
           λ r. absurd (let f : Ended ≡ Running = sym stage.0 ∙ ap (table_with old.stage tx Ended) (sym e) ∙ r in cc f),
         )
         | inr n ↦
-            let there = removed_beside world.opens tx i n in
+            let there = removed_beside state.active tx i n in
             (λ o. stage.1 i n ∙ (h.records.running i).0 (sym there ∙ o), λ r. there ∙ (h.records.running i).1 (sym (stage.1 i n) ∙ r))
       ]
 
@@ -139,25 +139,25 @@ module _ (world : World) (tx : ℕ) (undoing : ℕ → Bool) (h : PagesMeanHisto
         let low = h.file.ghosts.opened tx is_open in
         (changed old.stage tx Ended).1 i (λ e. absurd (omega (arith, above, low, e))) ∙ h.records.fresh i above;
     file = let ghosts =
-        undoing_changed (record (ledger_of world) { opens = set.remove world.opens tx; standing = standing_of (ended old tx).transcripts }) undoing
-        (close_law (ledger_of world) (standing_of (ended old tx).transcripts) tx h.file.ghosts (λ t key differs. ap (presences_on key) ((changed old.transcripts tx []).1 t differs))).0
-        (λ t still_open f. sym (same t (λ e. both_ways _ (removed_here world.opens tx) (ap (set.contains (set.remove world.opens tx)) (sym e) ∙ still_open))) ∙ f) in
+        undoing_changed (record (ledger_of state) { active = set.remove state.active tx; standing = standing_of (ended old tx).transcripts }) undoing
+        (close_law (ledger_of state) (standing_of (ended old tx).transcripts) tx h.file.ghosts (λ t key differs. ap (presences_on key) ((changed old.transcripts tx []).1 t differs))).0
+        (λ t still_open f. sym (same t (λ e. both_ways _ (removed_here state.active tx) (ap (set.contains (set.remove state.active tx)) (sym e) ∙ still_open))) ∙ f) in
         record { bounded = h.file.bounded; small = h.file.small; form = h.file.form; shallow = h.file.shallow; ghosts = ghosts };
     in_range = λ i item there. h.records.in_range i item (still old.held i item there);
     counted = λ i item there. h.records.counted i item (still old.transcripts i item there);
     sized = λ i item there. h.records.sized i item (still old.transcripts i item there);
   }
 
-  pub commit_keeps : PagesMeanHistory (with_committed world tx undoing)
+  pub commit_keeps : PagesMeanHistory (with_committed state tx undoing)
   commit_keeps =
       let fits = ended_fits in
-      grown (with_committed world tx undoing) world.history (Committed tx) world.base refl
-      h.records.means h.records.history (runs world h tx is_open, refl)
+      grown (with_committed state tx undoing) state.history (Committed tx) state.base refl
+      h.records.means h.records.history (runs state h tx is_open, refl)
       (record { running = fits.running; fresh = fits.fresh; file = fits.file; in_range = fits.in_range; counted = fits.counted; sized = fits.sized })
 
-  pub close_keeps : old.transcripts tx ≡ [] → PagesMeanHistory (with_closed world tx undoing)
+  pub close_keeps : old.transcripts tx ≡ [] → PagesMeanHistory (with_closed state tx undoing)
   close_keeps none =
       let fits = ended_fits in
-      grown (with_closed world tx undoing) world.history (Closed tx) world.base refl
-      h.records.means h.records.history (runs world h tx is_open, none, refl)
+      grown (with_closed state tx undoing) state.history (Closed tx) state.base refl
+      h.records.means h.records.history (runs state h tx is_open, none, refl)
       (record { running = fits.running; fresh = fits.fresh; file = fits.file; in_range = fits.in_range; counted = fits.counted; sized = fits.sized })

@@ -15,7 +15,7 @@ use Rattle.mlt_object_kinds.specs.declared.operation.ObjOp.TheVariants.{Account,
 use Rattle.mlt_object_kinds.specs.declared.operation.ObjReply.{ObjReply}
 use Rattle.mlt_object_kinds.specs.declared.operation.ObjReply.TheVariants as told
 use Rattle.mlt_object_kinds.specs.Operations.{cell_of}
-use Rattle.mlt_object_base.specs.declared.record.Changes.{Changes}
+use Rattle.mlt_object_base.specs.declared.record.RecordChanges.{RecordChanges}
 use Rattle.mlt_object_base.specs.declared.record.RecChange.{RecChange}
 use Rattle.mlt_object_base.specs.declared.record.RecChange.TheVariants as rec
 use Rattle.mlt_object_base.specs.declared.request.Request.{Request}
@@ -27,20 +27,20 @@ use Rattle.mlt_object_base.specs.Requests.{CanResize, decision, size_decision, s
 use Rattle.mlt_object_base.proofs.Meanings.{record_beside}
 use Rattle.mlt_object_base.proofs.SizeRecords.{can_resize, size_change_fits}
 use Rattle.mlt_hash_form.specs.File.{FilePages, look_up}
-use Rattle.mlt_hash_form.specs.Held.{SeenPages, over, own_or}
+use Rattle.mlt_hash_form.specs.Held.{SeenPages, over, own_or_clean}
 use Rattle.mlt_hash_form.specs.Records.{live_records}
-use Rattle.mlt_hash_access.specs.Moments.{Moment}
+use Rattle.mlt_hash_access.specs.LocalStates.{LocalState}
 use Rattle.mlt_hash_access.specs.Views.{View, view_of}
 use Rattle.mlt_hash_access.proofs.Views.{seen_free}
 use Rattle.mlt_hash.specs.declared.pass.Change.{Change}
 use Rattle.mlt_hash_ghosts.specs.Operations.{Presence}
 use Rattle.mlt_hash_ghosts.proofs.Moves.{rearranged_moved}
-use Rattle.mlt_tx_two_records.specs.Doubles.{CanDoBoth}
+use Rattle.mlt_tx_two_records.specs.TwoRecordWalks.{CanDoBoth}
 use Rattle.mlt_tx_two_records.specs.Leaving.{LeavesAll, LeavesAsTold, LeavesBoth, LeavesRecord}
 use Rattle.mlt_tx_two_records.specs.Performing.{Performs}
 use Rattle.mlt_tx_meaning.specs.Ends.{ChangesPages, EndsWith, KeepsPages, LeavesChange, SeesHeldAlone}
 use Rattle.mlt_tx_meaning.specs.Events.{MayUndo}
-use Rattle.mlt_tx_meaning.specs.Worlds.{PagesMeanHistory, World, basis_of, record_at, record_of, size_record_of}
+use Rattle.mlt_tx_meaning.specs.AbstractStates.{PagesMeanHistory, AbstractState, context_of, record_at, record_of, size_record_of}
 use Rattle.mlt_tx_meaning.proofs.RecordChanges.{records_become}
 use Rattle.mlt_tx_meaning.proofs.Replies.{by_reply, reply_steps}
 use Rattle.mlt_tx_meaning.proofs.Undoing.{inverse_can, undone_can_resize}
@@ -50,11 +50,11 @@ use Rattle.mlt_tx_meaning.proofs.WrittenPages.{written_over}
 -- ---- what is left
 
 -- what is left of the record of a key is left of that of its cell
-record_leaves : (world : World) (tx : ℕ) (c : Cell) (change : RecChange) (done : Change) (seen : SeenPages) (pages : map.FinMap nat_cmp Page) → LeavesRecord (basis_of world tx) (key_number c) done seen (map.get world.pages) (map.get pages)
-    → Performs change (record_at world c) done → LeavesChange world tx c change pages
-record_leaves world tx c change done seen pages leaves performs = record {
+record_leaves : (state : AbstractState) (tx : ℕ) (c : Cell) (change : RecChange) (done : Change) (seen : SeenPages) (pages : map.FinMap nat_cmp Page) → LeavesRecord (context_of state tx) (key_number c) done seen (map.get state.pages) (map.get pages)
+    → Performs change (record_at state c) done → LeavesChange state tx c change pages
+record_leaves state tx c change done seen pages leaves performs = record {
   rest = leaves.rest;
-  moves = rearranged_moved world.bits world.opens seen (map.get world.pages) leaves.rest world.root leaves.keeps;
+  moves = rearranged_moved state.bits state.active seen (map.get state.pages) leaves.rest state.root leaves.keeps;
   spot = leaves.spot;
   home = leaves.home;
   done = done;
@@ -64,96 +64,96 @@ record_leaves world tx c change done seen pages leaves performs = record {
   shallow = leaves.shallow;
 }
 
--- of a moment's view a page that is not held is not seen
-pub sees_held_alone : (m : Moment) → SeesHeldAlone (view_of m)
+-- of a state's view a page that is not held is not seen
+pub sees_held_alone : (m : LocalState) → SeesHeldAlone (view_of m)
 sees_held_alone m q none = seen_free m q (ap is_some none)
 
-module _ (world : World) (tx : ℕ) (request : Request) (reply : ObjReply) (view : View) (pages : map.FinMap nat_cmp Page) (h : PagesMeanHistory world)
-    (ends : EndsWith world view pages) where
+module _ (state : AbstractState) (tx : ℕ) (request : Request) (reply : ObjReply) (view : View) (pages : map.FinMap nat_cmp Page) (h : PagesMeanHistory state)
+    (ends : EndsWith state view pages) where
   abbrev clean : FilePages
-  clean = map.get world.pages
+  clean = map.get state.pages
 
-  none_changed : (size_key : ℕ) → LeavesAll (basis_of world tx) request reply size_key view clean → KeepsPages world pages
-  none_changed size_key all q = ends.ends q ∙ ap (λ own. own_or own (clean q)) (all.unwritten q)
+  none_changed : (size_key : ℕ) → LeavesAll (context_of state tx) request reply size_key view clean → KeepsPages state pages
+  none_changed size_key all q = ends.ends q ∙ ap (λ own. own_or_clean own (clean q)) (all.unwritten q)
 
-  both_changed : (s e : ℕ) → IsInRange (cell.Element s e) → (target_of request).0 ≡ key_number (cell.Element s e) → (both : LeavesBoth (basis_of world tx) request reply (key_number (cell.Size s)) view clean)
-      → ChangesPages world tx ((cell.Element s e, both.change) ∷ (cell.Size s, both.resize) ∷ []) pages
+  both_changed : (s e : ℕ) → IsInRange (cell.Element s e) → (target_of request).0 ≡ key_number (cell.Element s e) → (both : LeavesBoth (context_of state tx) request reply (key_number (cell.Size s)) view clean)
+      → ChangesPages state tx ((cell.Element s e, both.change) ∷ (cell.Size s, both.resize) ∷ []) pages
   both_changed s e range key_is both =
-      let basis = basis_of world tx in
+      let context = context_of state tx in
       let own = cell.Element s e in
       let size = cell.Size s in
-      let between = written_over world.pages both.written view.modes (λ q none. both.held q (ends.held q none)) in
+      let between = written_over state.pages both.written view.modes (λ q none. both.held q (ends.held q none)) in
       let there : over clean both.written ≡ map.get between.0 = λ i q. sym (between.1 q) i in
-      let then : World = record world { pages = between.0 } in
-      let found : look_up world.bits clean world.root (target_of request).0 ≡ record_at world own = ap (look_up world.bits clean world.root) key_is ∙ sym (record_looked_up world own h) in
-      let first : LeavesChange world tx own both.change between.0 =
-      record_leaves world tx own both.change both.own_done view.seen between.0
-      (subst (λ (after : FilePages). LeavesRecord basis (key_number own) both.own_done view.seen clean after) there (subst (λ k. LeavesRecord basis k both.own_done view.seen clean (over clean both.written)) key_is both.own))
+      let then : AbstractState = record state { pages = between.0 } in
+      let found : look_up state.bits clean state.root (target_of request).0 ≡ record_at state own = ap (look_up state.bits clean state.root) key_is ∙ sym (record_looked_up state own h) in
+      let first : LeavesChange state tx own both.change between.0 =
+      record_leaves state tx own both.change both.own_done view.seen between.0
+      (subst (λ (after : FilePages). LeavesRecord context (key_number own) both.own_done view.seen clean after) there (subst (λ k. LeavesRecord context k both.own_done view.seen clean (over clean both.written)) key_is both.own))
       (subst (λ f. Performs both.change f both.own_done) found both.own_performs)
       in
-      let records = records_become world tx ((own, both.change) ∷ []) between.0 h.file.bounded h.file.form first in
-      let still : record_at then size ≡ record_at world size =
-      ap (λ (r : map.FinMap nat_cmp ℕ). record_in r size) records ∙ record_beside (live_records world.pages) own size _ range range.0 (λ (same : size ≡ own). cc)
+      let records = records_become state tx ((own, both.change) ∷ []) between.0 h.file.bounded h.file.form first in
+      let still : record_at then size ≡ record_at state size =
+      ap (λ (r : map.FinMap nat_cmp ℕ). record_in r size) records ∙ record_beside (live_records state.pages) own size _ range range.0 (λ (same : size ≡ own). cc)
       in
       let next : LeavesChange then tx size both.resize pages =
       record_leaves then tx size both.resize both.size_done both.between pages
-      (subst (λ (after : FilePages). LeavesRecord basis (key_number size) both.size_done both.between (map.get between.0) after) (λ i q. sym (ends.ends q) i)
-      (subst (λ (before : FilePages). LeavesRecord basis (key_number size) both.size_done both.between before (over clean view.own)) there both.size))
-      (subst (λ f. Performs both.resize f both.size_done) (sym (record_looked_up world size h) ∙ sym still) both.size_performs)
+      (subst (λ (after : FilePages). LeavesRecord context (key_number size) both.size_done both.between (map.get between.0) after) (λ i q. sym (ends.ends q) i)
+      (subst (λ (before : FilePages). LeavesRecord context (key_number size) both.size_done both.between before (over clean view.own)) there both.size))
+      (subst (λ f. Performs both.resize f both.size_done) (sym (record_looked_up state size h) ∙ sym still) both.size_performs)
       in
       (between.0, first, next)
 
   -- what was asked for, by what is left
-  abbrev asked_for : (size_key : ℕ) → LeavesAll (basis_of world tx) request reply size_key view clean ⊎ LeavesBoth (basis_of world tx) request reply size_key view clean → Changes
+  abbrev asked_for : (size_key : ℕ) → LeavesAll (context_of state tx) request reply size_key view clean ⊎ LeavesBoth (context_of state tx) request reply size_key view clean → RecordChanges
   asked_for size_key (inl all) = record { own = None; size = None }
   asked_for size_key (inr both) = record { own = Some both.change; size = Some both.resize }
 
-  changed_as : (s e : ℕ) (o : ElementOp) (changes : Changes) (size_key : ℕ) → IsInRange (cell.Element s e) → (target_of request).0 ≡ key_number (cell.Element s e) → size_key ≡ key_number (cell.Size s)
-      → (leaves : LeavesAll (basis_of world tx) request reply size_key view clean ⊎ LeavesBoth (basis_of world tx) request reply size_key view clean) → changes ≡ asked_for size_key leaves
-      → ChangesPages world tx (changes_on (Element s e o) changes) pages
+  changed_as : (s e : ℕ) (o : ElementOp) (changes : RecordChanges) (size_key : ℕ) → IsInRange (cell.Element s e) → (target_of request).0 ≡ key_number (cell.Element s e) → size_key ≡ key_number (cell.Size s)
+      → (leaves : LeavesAll (context_of state tx) request reply size_key view clean ⊎ LeavesBoth (context_of state tx) request reply size_key view clean) → changes ≡ asked_for size_key leaves
+      → ChangesPages state tx (changes_on (Element s e o) changes) pages
   changed_as s e o changes size_key range key_is size_is (inl all) is =
-      subst (λ (c : Changes). ChangesPages world tx (changes_on (Element s e o) c) pages) (sym is) (none_changed size_key all)
+      subst (λ (c : RecordChanges). ChangesPages state tx (changes_on (Element s e o) c) pages) (sym is) (none_changed size_key all)
   changed_as s e o changes size_key range key_is size_is (inr both) is =
-      subst (λ (c : Changes). ChangesPages world tx (changes_on (Element s e o) c) pages) (sym is)
-      (both_changed s e range key_is (subst (λ k. LeavesBoth (basis_of world tx) request reply k view clean) size_is both))
+      subst (λ (c : RecordChanges). ChangesPages state tx (changes_on (Element s e o) c) pages) (sym is)
+      (both_changed s e range key_is (subst (λ k. LeavesBoth (context_of state tx) request reply k view clean) size_is both))
 
 -- ---- by what is asked
 
-module _ (world : World) (tx : ℕ) (reply : ObjReply) (view : View) (pages : map.FinMap nat_cmp Page) (h : PagesMeanHistory world)
-    (ends : EndsWith world view pages) where
+module _ (state : AbstractState) (tx : ℕ) (reply : ObjReply) (view : View) (pages : map.FinMap nat_cmp Page) (h : PagesMeanHistory state)
+    (ends : EndsWith state view pages) where
   abbrev records : map.FinMap nat_cmp ℕ
-  records = live_records world.pages
+  records = live_records state.pages
 
   -- what is told and changed by what the clean pages have is told and changed by the records
   told_changes : (s e : ℕ) (o : ElementOp) (size_key : ℕ) (own size : Option RecChange) → size_key ≡ key_number (cell.Size s)
-      → reply_of (Element s e o) (look_up world.bits (map.get world.pages) world.root (key_number (cell.Element s e))) ≡ (reply, own)
-      → size_change_of (Element s e o, reply) (look_up world.bits (map.get world.pages) world.root size_key) ≡ size
+      → reply_of (Element s e o) (look_up state.bits (map.get state.pages) state.root (key_number (cell.Element s e))) ≡ (reply, own)
+      → size_change_of (Element s e o, reply) (look_up state.bits (map.get state.pages) state.root size_key) ≡ size
       → (told_by records (Element s e o) ≡ reply) × (changes_of records (Element s e o) ≡ record { own = own; size = size })
   told_changes s e o size_key own size size_is decided resized =
       let op = Element s e o in
-      let is : reply_of op (record_of world op) ≡ (reply, own) = ap (reply_of op) (record_looked_up world (cell.Element s e) h) ∙ decided in
+      let is : reply_of op (record_of state op) ≡ (reply, own) = ap (reply_of op) (record_looked_up state (cell.Element s e) h) ∙ decided in
       let told : told_by records op ≡ reply = ap (λ (d : ObjReply × Option RecChange). d.0) is in
-      let found : size_record_of world op ≡ look_up world.bits (map.get world.pages) world.root size_key = record_looked_up world (cell.Size s) h ∙ ap (look_up world.bits (map.get world.pages) world.root) (sym size_is) in
-      let size_now : size_change_of (op, told_by records op) (size_record_of world op) ≡ size =
-      ap (λ r. size_change_of (op, r) (size_record_of world op)) told ∙ ap (size_change_of (op, reply)) found ∙ resized
+      let found : size_record_of state op ≡ look_up state.bits (map.get state.pages) state.root size_key = record_looked_up state (cell.Size s) h ∙ ap (look_up state.bits (map.get state.pages) state.root) (sym size_is) in
+      let size_now : size_change_of (op, told_by records op) (size_record_of state op) ≡ size =
+      ap (λ r. size_change_of (op, r) (size_record_of state op)) told ∙ ap (size_change_of (op, reply)) found ∙ resized
       in
       (told, λ i. record { own = (is i).1; size = size_now i })
 
   abbrev IsDone : ObjOp → Type 0
-  IsDone op = (told_by records op ≡ reply) × ChangesPages world tx (changes_on op (changes_of records op)) pages
+  IsDone op = (told_by records op ≡ reply) × ChangesPages state tx (changes_on op (changes_of records op)) pages
 
   element_done : (s e : ℕ) (o : ElementOp) (size_key : ℕ) → IsInRange (cell.Element s e) → size_key ≡ key_number (cell.Size s)
-      → LeavesAll (basis_of world tx) (Do (Element s e o)) reply size_key view (map.get world.pages) ⊎ LeavesBoth (basis_of world tx) (Do (Element s e o)) reply size_key view (map.get world.pages)
+      → LeavesAll (context_of state tx) (Do (Element s e o)) reply size_key view (map.get state.pages) ⊎ LeavesBoth (context_of state tx) (Do (Element s e o)) reply size_key view (map.get state.pages)
       → IsDone (Element s e o)
   element_done s e o size_key range size_is (inl all) =
       let is = told_changes s e o size_key None None size_is all.decided all.resized in
-      (is.0, changed_as world tx (Do (Element s e o)) reply view pages h ends s e o _ size_key range refl size_is (inl all) is.1)
+      (is.0, changed_as state tx (Do (Element s e o)) reply view pages h ends s e o _ size_key range refl size_is (inl all) is.1)
   element_done s e o size_key range size_is (inr both) =
       let is = told_changes s e o size_key (Some both.change) (Some both.resize) size_is both.decided both.resized in
-      (is.0, changed_as world tx (Do (Element s e o)) reply view pages h ends s e o _ size_key range refl size_is (inr both) is.1)
+      (is.0, changed_as state tx (Do (Element s e o)) reply view pages h ends s e o _ size_key range refl size_is (inr both) is.1)
 
   -- **An operation on two records is told what the records ask for, and leaves the changes that go with that.**
-  pub done_leaves : (op : ObjOp) → IsInRange (cell_of op) → LeavesAsTold (basis_of world tx) (Do op) reply view (map.get world.pages) → IsDone op
+  pub done_leaves : (op : ObjOp) → IsInRange (cell_of op) → LeavesAsTold (context_of state tx) (Do op) reply view (map.get state.pages) → IsDone op
   done_leaves (Element s e element.Add) range leaves = element_done s e element.Add leaves.0 range (let is = leaves.1 in cc) leaves.2
   done_leaves (Element s e element.Remove) range leaves = element_done s e element.Remove leaves.0 range (let is = leaves.1 in cc) leaves.2
   done_leaves (Element s e element.Has) range leaves = absurd (let is = leaves.1 in cc)
@@ -162,20 +162,20 @@ module _ (world : World) (tx : ℕ) (reply : ObjReply) (view : View) (pages : ma
   done_leaves (Size s) range leaves = absurd (let is = leaves.1 in cc)
 
   abbrev IsUndone : ObjOp × ObjReply → Type 0
-  IsUndone item = ChangesPages world tx (changes_on item.0 (changes_back item)) pages
+  IsUndone item = ChangesPages state tx (changes_on item.0 (changes_back item)) pages
 
   element_undone : (s e : ℕ) (o : ElementOp) (was : ObjReply) (size_key : ℕ) → IsInRange (cell.Element s e) → size_key ≡ key_number (cell.Size s)
-      → LeavesAll (basis_of world tx) (TakeBack (Element s e o, was)) reply size_key view (map.get world.pages) ⊎ LeavesBoth (basis_of world tx) (TakeBack (Element s e o, was)) reply size_key view (map.get world.pages)
+      → LeavesAll (context_of state tx) (TakeBack (Element s e o, was)) reply size_key view (map.get state.pages) ⊎ LeavesBoth (context_of state tx) (TakeBack (Element s e o, was)) reply size_key view (map.get state.pages)
       → IsUndone (Element s e o, was)
   element_undone s e o was size_key range size_is (inl all) =
       let own = ap (λ (d : ObjReply × Option RecChange). d.1) all.decided in
-      changed_as world tx (TakeBack (Element s e o, was)) reply view pages h ends s e o _ size_key range refl size_is (inl all) (λ i. record { own = own i; size = all.resized i })
+      changed_as state tx (TakeBack (Element s e o, was)) reply view pages h ends s e o _ size_key range refl size_is (inl all) (λ i. record { own = own i; size = all.resized i })
   element_undone s e o was size_key range size_is (inr both) =
       let own = ap (λ (d : ObjReply × Option RecChange). d.1) both.decided in
-      changed_as world tx (TakeBack (Element s e o, was)) reply view pages h ends s e o _ size_key range refl size_is (inr both) (λ i. record { own = own i; size = both.resized i })
+      changed_as state tx (TakeBack (Element s e o, was)) reply view pages h ends s e o _ size_key range refl size_is (inr both) (λ i. record { own = own i; size = both.resized i })
 
   -- **So does the inverse of one.**
-  pub undone_leaves : (item : ObjOp × ObjReply) → IsInRange (cell_of item.0) → LeavesAsTold (basis_of world tx) (TakeBack item) reply view (map.get world.pages) → IsUndone item
+  pub undone_leaves : (item : ObjOp × ObjReply) → IsInRange (cell_of item.0) → LeavesAsTold (context_of state tx) (TakeBack item) reply view (map.get state.pages) → IsUndone item
   undone_leaves (Element s e element.Add, told.Added) range leaves = element_undone s e element.Add told.Added leaves.0 range (let is = leaves.1 in cc) leaves.2
   undone_leaves (Element s e element.Remove, told.Removed) range leaves = element_undone s e element.Remove told.Removed leaves.0 range (let is = leaves.1 in cc) leaves.2
   undone_leaves _ range leaves = absurd (let is = leaves.1 in cc)
@@ -193,28 +193,28 @@ revives_nothing op live =
       stays = λ e. cc e;
     })
 
-module _ (world : World) (tx : ℕ) (h : PagesMeanHistory world) where
+module _ (state : AbstractState) (tx : ℕ) (h : PagesMeanHistory state) where
   -- a size record that can be changed as is asked is on the clean pages
-  size_fits : (request : Request) (reply : ObjReply) (s key : ℕ) → key ≡ key_number (cell.Size s) → CanResize request reply (record_at world (cell.Size s))
-      → CanChange (size_decision request reply (look_up world.bits (map.get world.pages) world.root key)) (look_up world.bits (map.get world.pages) world.root key)
+  size_fits : (request : Request) (reply : ObjReply) (s key : ℕ) → key ≡ key_number (cell.Size s) → CanResize request reply (record_at state (cell.Size s))
+      → CanChange (size_decision request reply (look_up state.bits (map.get state.pages) state.root key)) (look_up state.bits (map.get state.pages) state.root key)
   size_fits request reply s key key_is can =
-      let found : record_at world (cell.Size s) ≡ look_up world.bits (map.get world.pages) world.root key = record_looked_up world (cell.Size s) h ∙ ap (look_up world.bits (map.get world.pages) world.root) (sym key_is) in
-      subst (λ f. CanChange (size_decision request reply f) f) found (size_change_fits request reply (record_at world (cell.Size s)) can)
+      let found : record_at state (cell.Size s) ≡ look_up state.bits (map.get state.pages) state.root key = record_looked_up state (cell.Size s) h ∙ ap (look_up state.bits (map.get state.pages) state.root) (sym key_is) in
+      subst (λ f. CanChange (size_decision request reply f) f) found (size_change_fits request reply (record_at state (cell.Size s)) can)
 
   abbrev SizeFits : Request → Type 0
   SizeFits request = (key : ℕ) → size_key_of request ≡ Some key
-      → CanChange (size_decision request (decision request (look_up world.bits (map.get world.pages) world.root (target_of request).0)).0 (look_up world.bits (map.get world.pages) world.root key))
-      (look_up world.bits (map.get world.pages) world.root key)
+      → CanChange (size_decision request (decision request (look_up state.bits (map.get state.pages) state.root (target_of request).0)).0 (look_up state.bits (map.get state.pages) state.root key))
+      (look_up state.bits (map.get state.pages) state.root key)
 
   element_fits : (s e : ℕ) (o : ElementOp) (key : ℕ) → IsInRange (cell.Element s e) → key ≡ key_number (cell.Size s)
-      → CanChange (size_change_of (Element s e o, (reply_of (Element s e o) (look_up world.bits (map.get world.pages) world.root (key_number (cell.Element s e)))).0) (look_up world.bits (map.get world.pages) world.root key))
-      (look_up world.bits (map.get world.pages) world.root key)
+      → CanChange (size_change_of (Element s e o, (reply_of (Element s e o) (look_up state.bits (map.get state.pages) state.root (key_number (cell.Element s e)))).0) (look_up state.bits (map.get state.pages) state.root key))
+      (look_up state.bits (map.get state.pages) state.root key)
   element_fits s e o key range key_is =
       let op = Element s e o in
-      let cell_steps = reply_steps op (record_of world op) (h.records.means.can_be (cell_of op) range) (omega arith) in
-      let can = can_resize (live_records world.pages) world.base op h.records.means range cell_steps.1 cell_steps.0 in
-      let told = ap (λ f. (reply_of op f).0) (record_looked_up world (cell.Element s e) h) in
-      size_fits (Do op) _ s key key_is (subst (λ r. CanResize (Do op) r (size_record_of world op)) told can)
+      let cell_steps = reply_steps op (record_of state op) (h.records.means.can_be (cell_of op) range) (omega arith) in
+      let can = can_resize (live_records state.pages) state.base op h.records.means range cell_steps.1 cell_steps.0 in
+      let told = ap (λ f. (reply_of op f).0) (record_looked_up state (cell.Element s e) h) in
+      size_fits (Do op) _ s key key_is (subst (λ r. CanResize (Do op) r (size_record_of state op)) told can)
 
   done_size_fits : (op : ObjOp) → IsInRange (cell_of op) → SizeFits (Do op)
   done_size_fits (Element s e element.Add) range key is = element_fits s e element.Add key range (cc is)
@@ -225,22 +225,22 @@ module _ (world : World) (tx : ℕ) (h : PagesMeanHistory world) where
   done_size_fits (Size s) range key is = absurd (cc is)
 
   -- **What an operation on two records is to change is there,**
-  pub can_do_both : (op : ObjOp) → IsInRange (cell_of op) → CanDoBoth (basis_of world tx) (map.get world.pages) (Do op)
+  pub can_do_both : (op : ObjOp) → IsInRange (cell_of op) → CanDoBoth (context_of state tx) (map.get state.pages) (Do op)
   can_do_both op range = record {
     own = tt;
     size = done_size_fits op range;
     ghost = λ revives. absurd (revives_nothing op None revives);
   }
 
-  undone_size_fits : (item : ObjOp × ObjReply) → MayUndo world tx item → SizeFits (TakeBack item)
-  undone_size_fits (Element s e element.Add, told.Added) may key is = size_fits (TakeBack (Element s e element.Add, told.Added)) told.Added s key (cc is) (undone_can_resize world tx (Element s e element.Add, told.Added) h may told.Added)
-  undone_size_fits (Element s e element.Remove, told.Removed) may key is = size_fits (TakeBack (Element s e element.Remove, told.Removed)) told.Removed s key (cc is) (undone_can_resize world tx (Element s e element.Remove, told.Removed) h may told.Removed)
+  undone_size_fits : (item : ObjOp × ObjReply) → MayUndo state tx item → SizeFits (TakeBack item)
+  undone_size_fits (Element s e element.Add, told.Added) may key is = size_fits (TakeBack (Element s e element.Add, told.Added)) told.Added s key (cc is) (undone_can_resize state tx (Element s e element.Add, told.Added) h may told.Added)
+  undone_size_fits (Element s e element.Remove, told.Removed) may key is = size_fits (TakeBack (Element s e element.Remove, told.Removed)) told.Removed s key (cc is) (undone_can_resize state tx (Element s e element.Remove, told.Removed) h may told.Removed)
   undone_size_fits _ may key is = absurd (cc is)
 
   -- **and what the inverse of one is to change.**
-  pub can_take_back_both : (item : ObjOp × ObjReply) → MayUndo world tx item → CanDoBoth (basis_of world tx) (map.get world.pages) (TakeBack item)
+  pub can_take_back_both : (item : ObjOp × ObjReply) → MayUndo state tx item → CanDoBoth (context_of state tx) (map.get state.pages) (TakeBack item)
   can_take_back_both item may = record {
-    own = subst (CanChange (inverse_of item)) (record_looked_up world (cell_of item.0) h) (inverse_can world tx item h may);
+    own = subst (CanChange (inverse_of item)) (record_looked_up state (cell_of item.0) h) (inverse_can state tx item h may);
     size = undone_size_fits item may;
-    ghost = ghost_there world tx item h may;
+    ghost = ghost_there state tx item h may;
   }

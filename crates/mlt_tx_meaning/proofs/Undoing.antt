@@ -35,7 +35,7 @@ use Rattle.mlt_hash_form.specs.Records.{live_records}
 use Rattle.mlt_tx_meaning.specs.Ends.{ChangesPages}
 use Rattle.mlt_tx_meaning.specs.Presences.{presence_of, standing_of}
 use Rattle.mlt_tx_meaning.specs.Events.{MayUndo, with_undone}
-use Rattle.mlt_tx_meaning.specs.Worlds.{PagesMeanHistory, World, lists_in, record_of, size_record_of}
+use Rattle.mlt_tx_meaning.specs.AbstractStates.{PagesMeanHistory, AbstractState, lists_in, record_of, size_record_of}
 use Rattle.mlt_tx_meaning.proofs.Inverses.{GoesBack, inverse_back}
 use Rattle.mlt_tx_meaning.proofs.Matches.{FitsLists, grown, in_range_there}
 use Rattle.mlt_tx_meaning.proofs.RecordChanges.{records_become}
@@ -54,30 +54,30 @@ told_after b c (Account a op, reply) step = tt
 told_after b c (Element t e op, reply) step = tt
 told_after b c (Counter d op, reply) step = tt
 
-module _ (world : World) (tx : ℕ) (item : ObjOp × ObjReply) (h : PagesMeanHistory world) (may : MayUndo world tx item) where
+module _ (state : AbstractState) (tx : ℕ) (item : ObjOp × ObjReply) (h : PagesMeanHistory state) (may : MayUndo state tx item) where
   abbrev records : map.FinMap nat_cmp ℕ
-  records = live_records world.pages
+  records = live_records state.pages
 
   abbrev live : Option ℕ
-  live = record_of world item.0
+  live = record_of state item.0
 
   abbrev changes : List (Cell × RecChange)
   changes = changes_on item.0 (changes_back item)
 
   abbrev lists : Lists (ObjOp × ObjReply)
-  lists = lists_in world
+  lists = lists_in state
 
   -- the item is open, so its cell can be, and what it needs is there
   is_listed : Contains (lists.transcripts tx) item
   is_listed = subst (λ (l : List (ObjOp × ObjReply)). Contains l item) (sym may.last) (Contains-append_right may.rest (item ∷ []) item (contains-first item []))
 
   pub undone_in_range : IsInRange (cell_of item.0)
-  undone_in_range = in_range_there world h tx item is_listed
+  undone_in_range = in_range_there state h tx item is_listed
 
   -- its step led here,
-  led_here : (before : Base) × Step before item world.base
+  led_here : (before : Base) × Step before item state.base
   led_here =
-      let goes = last_goes Step empty_base base_functional base_injective world.history world.base tx may.rest item h.records.history may.last in
+      let goes = last_goes Step empty_base base_functional base_injective state.history state.base tx may.rest item h.records.history may.last in
       (goes.0, goes.1)
 
   -- which its inverse takes back
@@ -93,24 +93,24 @@ module _ (world : World) (tx : ℕ) (item : ObjOp × ObjReply) (h : PagesMeanHis
   inverse_can = back.2
 
   -- the size record is there too,
-  size_to_undo : HasSizeToUndo item (size_record_of world item.0)
+  size_to_undo : HasSizeToUndo item (size_record_of state item.0)
   size_to_undo = h.records.sized tx item is_listed
 
   cell_back : CellStep (state_of_record (cell_of item.0) (record_after (inverse_of item) live)) item (state_of_record (cell_of item.0) live)
   cell_back = subst (λ (s : CellState). CellStep s item (state_of_record (cell_of item.0) live)) (sym back.0) earlier.1
 
   -- and can be changed back
-  pub undone_can_resize : (reply : ObjReply) → CanResize (TakeBack item) reply (size_record_of world item.0)
-  undone_can_resize reply = can_resize_back records world.base item reply h.records.means undone_in_range back.1 cell_back size_to_undo
+  pub undone_can_resize : (reply : ObjReply) → CanResize (TakeBack item) reply (size_record_of state item.0)
+  undone_can_resize reply = can_resize_back records state.base item reply h.records.means undone_in_range back.1 cell_back size_to_undo
 
-  module _ (pages : map.FinMap nat_cmp Page) (changed_by : ChangesPages world tx changes pages) where
+  module _ (pages : map.FinMap nat_cmp Page) (changed_by : ChangesPages state tx changes pages) where
     records_are : live_records pages ≡ records_after records changes
-    records_are = records_become world tx changes pages h.file.bounded h.file.form changed_by
+    records_are = records_become state tx changes pages h.file.bounded h.file.form changed_by
 
-    step_back : (before : Base) × Step before item world.base × Means (live_records pages) before
+    step_back : (before : Base) × Step before item state.base × Means (live_records pages) before
     step_back =
         let led = led_here in
-        let step = means_step_back records world.base item h.records.means undone_in_range back.1 cell_back size_to_undo (told_after led.0 world.base item led.1) in
+        let step = means_step_back records state.base item h.records.means undone_in_range back.1 cell_back size_to_undo (told_after led.0 state.base item led.1) in
         (step.0, step.1, subst (λ (r : map.FinMap nat_cmp ℕ). Means r step.0) (sym records_are) step.2)
 
     abbrev left : Lists (ObjOp × ObjReply)
@@ -133,29 +133,29 @@ module _ (world : World) (tx : ℕ) (item : ObjOp × ObjReply) (h : PagesMeanHis
           | inr n ↦ subst InList (elsewhere i n) there
         ]
 
-    undone_fits : (base : Base) → FitsLists (with_undone world tx pages base) left
+    undone_fits : (base : Base) → FitsLists (with_undone state tx pages base) left
     undone_fits base = record {
       running = h.records.running;
       fresh = h.records.fresh;
-      file = undone_keeps_file world tx item pages (standing_of left.transcripts) h may.is_open may.backward undone_in_range changed_by
+      file = undone_keeps_file state tx item pages (standing_of left.transcripts) h may.is_open may.backward undone_in_range changed_by
           (gain_says left.transcripts lists.transcripts tx item gains (presence_of item) refl);
       in_range = h.records.in_range;
       counted = λ i x there.
           let was = was_listed i x there in
-          subst (λ (r : map.FinMap nat_cmp ℕ). HasWhatIsUndone x (record_in r (cell_of x.0))) (sym records_are) (counted_still records changes keeps x (in_range_there world h i x was) (h.records.counted i x was));
+          subst (λ (r : map.FinMap nat_cmp ℕ). HasWhatIsUndone x (record_in r (cell_of x.0))) (sym records_are) (counted_still records changes keeps x (in_range_there state h i x was) (h.records.counted i x was));
       sized = λ i x there.
           let was = was_listed i x there in
-          subst (λ (r : map.FinMap nat_cmp ℕ). HasSizeToUndo x (size_record_in r x.0)) (sym records_are) (has_size_still_back records item x undone_in_range (in_range_there world h i x was) (h.records.sized i x was));
+          subst (λ (r : map.FinMap nat_cmp ℕ). HasSizeToUndo x (size_record_in r x.0)) (sym records_are) (has_size_still_back records item x undone_in_range (in_range_there state h i x was) (h.records.sized i x was));
     }
       where
         keeps : (c : Cell) → IsCount c → KeepsRecord c changes
         keeps c on = undone_keeps c item on undone_in_range
 
-    pub undoing_keeps : (base : Base) × Step base item world.base × PagesMeanHistory (with_undone world tx pages base)
+    pub undoing_keeps : (base : Base) × Step base item state.base × PagesMeanHistory (with_undone state tx pages base)
     undoing_keeps =
         let step = step_back in (
           step.0,
           step.1,
-          grown (with_undone world tx pages step.0) world.history (TookBack tx) world.base refl
+          grown (with_undone state tx pages step.0) state.history (TookBack tx) state.base refl
               step.2 h.records.history (may.rest, item, may.last, step.1) (undone_fits step.0),
         )

@@ -14,31 +14,31 @@ use Rattle.mlt_hash_ghosts.specs.Operations.{Presence, Standing}
 use Rattle.mlt_tx_meaning.specs.Ends.{ChangesPages}
 use Rattle.mlt_tx_meaning.specs.Presences.{op_key, presence_of}
 use Rattle.mlt_tx_meaning.specs.Events.{IsOpenAt}
-use Rattle.mlt_tx_meaning.specs.Worlds.{IsFileWithGhosts, PagesMeanHistory, World, ledger_with, stood_in}
+use Rattle.mlt_tx_meaning.specs.AbstractStates.{IsFileWithGhosts, PagesMeanHistory, AbstractState, ledger_with, stood_in}
 use Rattle.mlt_tx_meaning.proofs.ChangeGhosts.{KeepsResized, added_back, file_stays, lowered, raised, removed_back, resized}
 use Rattle.mlt_tx_meaning.proofs.Inverses.{by_inverse, by_size_inverse}
 use Rattle.mlt_tx_meaning.proofs.RecordChanges.{changes_split}
 use Rattle.mlt_tx_meaning.proofs.Standings.{Says}
 
-module _ (world : World) (tx : ℕ) (item : ObjOp × ObjReply) (pages : map.FinMap nat_cmp Page) (standing : Standing) (h : PagesMeanHistory world) (is_open : IsOpenAt world tx) (backward : world.undoing tx ≡ true) (is : IsInRange (cell_of item.0)) where
+module _ (state : AbstractState) (tx : ℕ) (item : ObjOp × ObjReply) (pages : map.FinMap nat_cmp Page) (standing : Standing) (h : PagesMeanHistory state) (is_open : IsOpenAt state tx) (backward : state.undoing tx ≡ true) (is : IsInRange (cell_of item.0)) where
   -- the record of its own cell
   abbrev LeavesFile : map.FinMap nat_cmp Page → Option Presence → Option RecChange → Type 0
-  LeavesFile between said change = ChangesPages world tx (own_change_on item.0 change) between → Says said standing (stood_in world) tx (op_key item.0)
-      → IsFileWithGhosts (ledger_with (record world { pages = between }) standing) world.max_depth
+  LeavesFile between said change = ChangesPages state tx (own_change_on item.0 change) between → Says said standing (stood_in state) tx (op_key item.0)
+      → IsFileWithGhosts (ledger_with (record state { pages = between }) standing) state.max_depth
 
   own_keeps_file : (between : map.FinMap nat_cmp Page) → LeavesFile between (presence_of item) (inverse_of item)
   own_keeps_file between = by_inverse item (LeavesFile between) (record {
-    added = added_back world tx (cell_of item.0) between (stood_in world) standing h.file is_open backward;
-    removed = removed_back world tx (cell_of item.0) between (stood_in world) standing h.file is_open;
-    lowered = lowered world tx (cell_of item.0) between (stood_in world) standing h.file is_open;
-    raised = raised world tx (cell_of item.0) between (stood_in world) standing h.file is_open;
-    stays = λ same says. file_stays world between (stood_in world) standing h.file same (sym says);
+    added = added_back state tx (cell_of item.0) between (stood_in state) standing h.file is_open backward;
+    removed = removed_back state tx (cell_of item.0) between (stood_in state) standing h.file is_open;
+    lowered = lowered state tx (cell_of item.0) between (stood_in state) standing h.file is_open;
+    raised = raised state tx (cell_of item.0) between (stood_in state) standing h.file is_open;
+    stays = λ same says. file_stays state between (stood_in state) standing h.file same (sym says);
   })
 
-  pub undone_keeps_file : ChangesPages world tx (changes_on item.0 (changes_back item)) pages → Says (presence_of item) standing (stood_in world) tx (op_key item.0)
-      → IsFileWithGhosts (ledger_with (record world { pages = pages }) standing) world.max_depth
+  pub undone_keeps_file : ChangesPages state tx (changes_on item.0 (changes_back item)) pages → Says (presence_of item) standing (stood_in state) tx (op_key item.0)
+      → IsFileWithGhosts (ledger_with (record state { pages = pages }) standing) state.max_depth
   undone_keeps_file changes says =
-      let split = changes_split world tx (own_change_on item.0 (inverse_of item)) (size_change_on item.0 (size_inverse_of item)) pages changes in
+      let split = changes_split state tx (own_change_on item.0 (inverse_of item)) (size_change_on item.0 (size_inverse_of item)) pages changes in
       let own = own_keeps_file split.0 split.1 says in
-      let between : World = record world { pages = split.0 } in
+      let between : AbstractState = record state { pages = split.0 } in
       by_size_inverse item (KeepsResized between tx item.0 pages standing own is_open is) (resized between tx item.0 pages standing own is_open is) split.2

@@ -10,7 +10,7 @@ use Rattle.mlt_page.specs.declared.page.Page.TheVariants as page
 use Rattle.mlt_object_base.specs.declared.record.RecChange.{RecChange}
 use Rattle.mlt_hash_form.specs.Changes.{ChangesRecord, IsAtHome, Spot, slot_of, slot_change}
 use Rattle.mlt_hash_form.specs.File.{FilePages, HasForm, header_of}
-use Rattle.mlt_hash_form.specs.Held.{Agrees, over, own_or}
+use Rattle.mlt_hash_form.specs.Held.{Agrees, over, own_or_clean}
 use Rattle.mlt_hash_access.specs.Views.{View}
 use Rattle.mlt_hash.specs.Passes.{slot_after, value_after}
 use Rattle.mlt_hash.specs.Walks.{IsChanged, StoodBefore, WalkFields}
@@ -18,48 +18,48 @@ use Rattle.mlt_hash.specs.declared.pass.Change.{Change}
 use Rattle.mlt_hash_ghosts.proofs.Moves.{rearranged_moved}
 use Rattle.mlt_tx_two_records.specs.Performing.{Performs}
 use Rattle.mlt_tx_meaning.specs.Ends.{LeavesChange}
-use Rattle.mlt_tx_meaning.specs.Worlds.{World, basis_of, record_at}
+use Rattle.mlt_tx_meaning.specs.AbstractStates.{AbstractState, context_of, record_at}
 
-module _ (world : World) (tx : ℕ) (pages : map.FinMap nat_cmp Page) (walk : WalkFields) (view : View) (bucket : ℕ) (done : Change)
-    (changed : IsChanged (basis_of world tx) walk view bucket done) (agrees : Agrees view.seen (map.get world.pages)) (ends : (q : ℕ) → map.get pages q ≡ over (map.get world.pages) view.own q)
-    (form : HasForm world.bits (map.get world.pages) world.root) where
+module _ (state : AbstractState) (tx : ℕ) (pages : map.FinMap nat_cmp Page) (walk : WalkFields) (view : View) (bucket : ℕ) (done : Change)
+    (changed : IsChanged (context_of state tx) walk view bucket done) (agrees : Agrees view.seen (map.get state.pages)) (ends : (q : ℕ) → map.get pages q ≡ over (map.get state.pages) view.own q)
+    (form : HasForm state.bits (map.get state.pages) state.root) where
   abbrev rest : FilePages
-  rest = over (map.get world.pages) changed.rest
+  rest = over (map.get state.pages) changed.rest
 
   abbrev spot : Spot
   spot = record { number = bucket; at = changed.slot; bucket = changed.fields }
 
-  header_now : map.get pages world.root ≡ Some (page.Head changed.header)
+  header_now : map.get pages state.root ≡ Some (page.Head changed.header)
   header_now =
       let placed = changed.read.way.placed in
-      ends world.root ∙ ap (own_or (view.own world.root)) (agrees world.root (Some (page.Head placed.header)) placed.head)
-      ∙ sym (ap (λ (o : Option (Option Page)). own_or (view.own world.root) (unwrap_or o None)) placed.head) ∙ changed.head
+      ends state.root ∙ ap (own_or_clean (view.own state.root)) (agrees state.root (Some (page.Head placed.header)) placed.head)
+      ∙ sym (ap (λ (o : Option (Option Page)). own_or_clean (view.own state.root) (unwrap_or o None)) placed.head) ∙ changed.head
 
   -- what is said of the key, where these are the pages
   abbrev SaysOfKey : FilePages → ℕ → Type 0
-  SaysOfKey after key = IsAtHome world.bits rest world.root key spot
-      × StoodBefore done (basis_of world tx) key spot.bucket.slots (slot_of spot)
-      × ChangesRecord world.bits rest after world.root (slot_change key (value_after done) spot.number spot.at (slot_after done key tx))
+  SaysOfKey after key = IsAtHome state.bits rest state.root key spot
+      × StoodBefore done (context_of state tx) key spot.bucket.slots (slot_of spot)
+      × ChangesRecord state.bits rest after state.root (slot_change key (value_after done) spot.number spot.at (slot_after done key tx))
 
-  by_walk : SaysOfKey (over (map.get world.pages) view.own) walk.key
+  by_walk : SaysOfKey (over (map.get state.pages) view.own) walk.key
   by_walk = (
-    record { home = changed.home (map.get world.pages) agrees form; within = changed.within },
+    record { home = changed.home (map.get state.pages) agrees form; within = changed.within },
     changed.was,
-    changed.changes.changes (map.get world.pages) agrees form,
+    changed.changes.changes (map.get state.pages) agrees form,
   )
 
-  pub walk_leaves_change : (cell : Cell) (change : RecChange) → walk.key ≡ key_number cell → Performs change (record_at world cell) done → LeavesChange world tx cell change pages
+  pub walk_leaves_change : (cell : Cell) (change : RecChange) → walk.key ≡ key_number cell → Performs change (record_at state cell) done → LeavesChange state tx cell change pages
   walk_leaves_change cell change key_is performs =
-      let written : over (map.get world.pages) view.own ≡ map.get pages = λ j q. sym (ends q) j in
-      let says = subst (λ (after : FilePages). SaysOfKey after (key_number cell)) written (subst (SaysOfKey (over (map.get world.pages) view.own)) key_is by_walk) in
+      let written : over (map.get state.pages) view.own ≡ map.get pages = λ j q. sym (ends q) j in
+      let says = subst (λ (after : FilePages). SaysOfKey after (key_number cell)) written (subst (SaysOfKey (over (map.get state.pages) view.own)) key_is by_walk) in
       record {
         rest = rest;
-        moves = rearranged_moved world.bits world.opens view.seen (map.get world.pages) rest world.root (changed.changes.keeps (map.get world.pages) agrees form);
+        moves = rearranged_moved state.bits state.active view.seen (map.get state.pages) rest state.root (changed.changes.keeps (map.get state.pages) agrees form);
         spot = spot;
         home = says.0;
         done = done;
         performs = performs;
         was = says.1;
         changes = says.2;
-        shallow = subst (λ (depth : ℕ). depth ≤ world.max_depth) (sym (ap (λ p. (header_of p).depth) header_now)) changed.shallow;
+        shallow = subst (λ (depth : ℕ). depth ≤ state.max_depth) (sym (ap (λ p. (header_of p).depth) header_now)) changed.shallow;
       }

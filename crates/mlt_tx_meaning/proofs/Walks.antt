@@ -38,7 +38,7 @@ use Rattle.mlt_hash_ghosts.specs.Operations.{Presence, Removed, last_of}
 use Rattle.mlt_hash_ghosts.proofs.GhostLookup.{undone_found}
 use Rattle.mlt_tx_meaning.specs.Presences.{op_key, presence_of, presences_on}
 use Rattle.mlt_tx_meaning.specs.Events.{MayUndo}
-use Rattle.mlt_tx_meaning.specs.Worlds.{PagesMeanHistory, World, basis_of, ledger_of, record_at}
+use Rattle.mlt_tx_meaning.specs.AbstractStates.{PagesMeanHistory, AbstractState, context_of, ledger_of, record_at}
 use Rattle.mlt_tx_meaning.proofs.Inverses.{by_inverse}
 use Rattle.mlt_tx_meaning.proofs.OpenNumbers.{inserted_beside, removed_was}
 use Rattle.mlt_tx_meaning.proofs.Transcripts.{last_is}
@@ -46,14 +46,14 @@ use Rattle.mlt_tx_meaning.proofs.Undoing.{inverse_can}
 
 -- ---- what is found
 
-pub record_looked_up : (world : World) (cell : Cell) → PagesMeanHistory world → record_at world cell ≡ look_up world.bits (map.get world.pages) world.root (key_number cell)
-record_looked_up world cell h = map_is_look_up world.bits world.pages world.root h.file.bounded h.file.form (key_number cell)
+pub record_looked_up : (state : AbstractState) (cell : Cell) → PagesMeanHistory state → record_at state cell ≡ look_up state.bits (map.get state.pages) state.root (key_number cell)
+record_looked_up state cell h = map_is_look_up state.bits state.pages state.root h.file.bounded h.file.form (key_number cell)
 
-pub found_is_record : (world : World) (tx : ℕ) (cell : Cell) (key : ℕ) (view : View) (found : Option ℕ) → PagesMeanHistory world → HasRead (basis_of world tx) key view found → key ≡ key_number cell → Agrees view.seen (map.get world.pages)
-    → found ≡ record_at world cell
-found_is_record world tx cell key view found h read key_is agree =
-    found_still (basis_of world tx) key view found (map.get world.pages) read agree
-    ∙ ap (look_up world.bits (map.get world.pages) world.root) key_is ∙ sym (record_looked_up world cell h)
+pub found_is_record : (state : AbstractState) (tx : ℕ) (cell : Cell) (key : ℕ) (view : View) (found : Option ℕ) → PagesMeanHistory state → HasRead (context_of state tx) key view found → key ≡ key_number cell → Agrees view.seen (map.get state.pages)
+    → found ≡ record_at state cell
+found_is_record state tx cell key view found h read key_is agree =
+    found_still (context_of state tx) key view found (map.get state.pages) read agree
+    ∙ ap (look_up state.bits (map.get state.pages) state.root) key_is ∙ sym (record_looked_up state cell h)
 
 -- ---- what is taken back
 
@@ -70,31 +70,31 @@ revives_removal item =
     })
 
 -- the ghost of a removal that is to be taken back is in the bucket of its key
-pub ghost_there : (world : World) (tx : ℕ) (item : ObjOp × ObjReply) → PagesMeanHistory world → MayUndo world tx item → inverse_of item ≡ Some rec.Revive
-    → (i : ℕ) × (position (is_ghost_of (op_key item.0) tx) (buckets_of (map.get world.pages) (lead_of (map.get world.pages) world.root (world.bits (op_key item.0)))).slots ≡ Some i)
-ghost_there world tx item h may revives =
-    let stood : last_by (ledger_of world) tx (op_key item.0) ≡ Some Removed =
+pub ghost_there : (state : AbstractState) (tx : ℕ) (item : ObjOp × ObjReply) → PagesMeanHistory state → MayUndo state tx item → inverse_of item ≡ Some rec.Revive
+    → (i : ℕ) × (position (is_ghost_of (op_key item.0) tx) (buckets_of (map.get state.pages) (lead_of (map.get state.pages) state.root (state.bits (op_key item.0)))).slots ≡ Some i)
+ghost_there state tx item h may revives =
+    let stood : last_by (ledger_of state) tx (op_key item.0) ≡ Some Removed =
     ap (λ (t : List (ObjOp × ObjReply)). last_of (presences_on (op_key item.0) t)) may.last ∙ last_is may.rest item Removed (revives_removal item revives)
     in
-    ((undone_found (ledger_of world) tx (op_key item.0) h.file.ghosts h.file.form may.is_open).1 stood).0
+    ((undone_found (ledger_of state) tx (op_key item.0) h.file.ghosts h.file.form may.is_open).1 stood).0
 
-module _ (world : World) (tx : ℕ) (item : ObjOp × ObjReply) (walk : WalkFields) (view : View) (bucket depth : ℕ) (found : Option ℕ)
-    (h : PagesMeanHistory world) (may : MayUndo world tx item) (phase : walk.phase ≡ at.AtBucket bucket depth found) (key_is : walk.key ≡ op_key item.0) (stands : IsStanding (basis_of world tx) walk view) (agree : Agrees view.seen (map.get world.pages)) where
-  here : IsAtBucket (basis_of world tx) walk view bucket depth found
-  here = subst (λ (p : Phase). Stands p (basis_of world tx) walk view) phase stands
+module _ (state : AbstractState) (tx : ℕ) (item : ObjOp × ObjReply) (walk : WalkFields) (view : View) (bucket depth : ℕ) (found : Option ℕ)
+    (h : PagesMeanHistory state) (may : MayUndo state tx item) (phase : walk.phase ≡ at.AtBucket bucket depth found) (key_is : walk.key ≡ op_key item.0) (stands : IsStanding (context_of state tx) walk view) (agree : Agrees view.seen (map.get state.pages)) where
+  here : IsAtBucket (context_of state tx) walk view bucket depth found
+  here = subst (λ (p : Phase). Stands p (context_of state tx) walk view) phase stands
 
   undo_can : CanChange (inverse_of item) found
   undo_can =
-      let is = found_is_record world tx (cell_of item.0) walk.key view found h (read_at_bucket (basis_of world tx) walk view bucket depth found here) key_is agree in
-      subst (CanChange (inverse_of item)) (sym is) (inverse_can world tx item h may)
+      let is = found_is_record state tx (cell_of item.0) walk.key view found h (read_at_bucket (context_of state tx) walk view bucket depth found here) key_is agree in
+      subst (CanChange (inverse_of item)) (sym is) (inverse_can state tx item h may)
 
   own_ghost : inverse_of item ≡ Some rec.Revive → HasOwnGhost tx walk view
   own_ghost revives =
-      let pages = map.get world.pages in
-      let Ghost : ℕ → Type 0 = λ key. (i : ℕ) × (position (is_ghost_of key tx) (buckets_of pages (lead_of pages world.root (world.bits key))).slots ≡ Some i) in
-      let ghost = subst Ghost (sym key_is) (ghost_there world tx item h may revives) in
-      let led = led_at pages world.root (world.bits walk.key) here.header here.dir bucket here.fields (path_taken (basis_of world tx) walk view bucket depth found pages here agree) in
-      let slots : (buckets_of pages (lead_of pages world.root (world.bits walk.key))).slots ≡ here.fields.slots =
+      let pages = map.get state.pages in
+      let Ghost : ℕ → Type 0 = λ key. (i : ℕ) × (position (is_ghost_of key tx) (buckets_of pages (lead_of pages state.root (state.bits key))).slots ≡ Some i) in
+      let ghost = subst Ghost (sym key_is) (ghost_there state tx item h may revives) in
+      let led = led_at pages state.root (state.bits walk.key) here.header here.dir bucket here.fields (path_taken (context_of state tx) walk view bucket depth found pages here agree) in
+      let slots : (buckets_of pages (lead_of pages state.root (state.bits walk.key))).slots ≡ here.fields.slots =
       ap (λ (n : ℕ). (buckets_of pages n).slots) led.0 ∙ ap (λ (b : BucketFields). b.slots) led.1
       in
       (here.fields, ghost.0, record { at = ap (λ (p : Phase). view.seen (page_of p)) phase ∙ here.at }, ap (position (is_ghost_of walk.key tx)) (sym slots) ∙ ghost.1)
@@ -104,32 +104,32 @@ module _ (world : World) (tx : ℕ) (item : ObjOp × ObjReply) (walk : WalkField
 
 -- ---- others begin and end
 
-module _ (world : World) (view : View) (h : PagesMeanHistory world) (agree : Agrees view.seen (map.get world.pages)) where
+module _ (state : AbstractState) (view : View) (h : PagesMeanHistory state) (agree : Agrees view.seen (map.get state.pages)) where
   -- the next number left no ghost
-  kept_without_new : (n i : ℕ) (slot : Slot) → slot_at (buckets_of (map.get world.pages)) n i ≡ slot → is_kept (set.insert world.opens (world.begun + 1)) slot ≡ true → is_kept world.opens slot ≡ true
+  kept_without_new : (n i : ℕ) (slot : Slot) → slot_at (buckets_of (map.get state.pages)) n i ≡ slot → is_kept (set.insert state.active (state.begun + 1)) slot ≡ true → is_kept state.active slot ≡ true
   kept_without_new n i Free is kept = absurd (false≢true kept)
   kept_without_new n i (Live key value) is kept = refl
   kept_without_new n i (Ghost key value owner) is kept =
       let low = h.file.ghosts.left owner key n i (value, is) in
-      sym (inserted_beside world.opens (world.begun + 1) owner (λ e. absurd (omega (arith, low, e)))) ∙ kept
+      sym (inserted_beside state.active (state.begun + 1) owner (λ e. absurd (omega (arith, low, e)))) ∙ kept
 
-  kept_by_fewer : (slot : Slot) (x : ℕ) → is_kept (set.remove world.opens x) slot ≡ true → is_kept world.opens slot ≡ true
+  kept_by_fewer : (slot : Slot) (x : ℕ) → is_kept (set.remove state.active x) slot ≡ true → is_kept state.active slot ≡ true
   kept_by_fewer Free x kept = absurd (false≢true kept)
   kept_by_fewer (Live key value) x kept = refl
-  kept_by_fewer (Ghost key value owner) x kept = removed_was world.opens x owner kept
+  kept_by_fewer (Ghost key value owner) x kept = removed_was state.active x owner kept
 
   -- on the pages that are seen no more slots are kept than before
-  pub no_more_by_begin : KeepsNoMore world.opens (set.insert world.opens (world.begun + 1)) view
+  pub no_more_by_begin : KeepsNoMore state.active (set.insert state.active (state.begun + 1)) view
   no_more_by_begin n p sees i kept =
       kept_without_new n i (slice_index_or (bucket_of p).slots i Free) (ap (λ (q : Option Page). slice_index_or (bucket_of q).slots i Free) (agree n p sees)) kept
 
-  pub no_more_by_end : (other : ℕ) → KeepsNoMore world.opens (set.remove world.opens other) view
+  pub no_more_by_end : (other : ℕ) → KeepsNoMore state.active (set.remove state.active other) view
   no_more_by_end other n p sees i kept = kept_by_fewer (slice_index_or (bucket_of p).slots i Free) other kept
 
-module _ (world : World) (tx : ℕ) (walk : WalkFields) (view : View) (h : PagesMeanHistory world) (stands : IsStanding (basis_of world tx) walk view) (agree : Agrees view.seen (map.get world.pages)) where
-  pub stands_by_begin : IsStanding (record (basis_of world tx) { opens = set.insert world.opens (world.begun + 1) }) walk view
-  stands_by_begin = stands_still (basis_of world tx) (set.insert world.opens (world.begun + 1)) walk view (map.get world.pages) (no_more_by_begin world view h agree) agree h.file.form stands
+module _ (state : AbstractState) (tx : ℕ) (walk : WalkFields) (view : View) (h : PagesMeanHistory state) (stands : IsStanding (context_of state tx) walk view) (agree : Agrees view.seen (map.get state.pages)) where
+  pub stands_by_begin : IsStanding (record (context_of state tx) { active = set.insert state.active (state.begun + 1) }) walk view
+  stands_by_begin = stands_still (context_of state tx) (set.insert state.active (state.begun + 1)) walk view (map.get state.pages) (no_more_by_begin state view h agree) agree h.file.form stands
 
-  pub stands_by_end : (other : ℕ) → IsStanding (record (basis_of world tx) { opens = set.remove world.opens other }) walk view
+  pub stands_by_end : (other : ℕ) → IsStanding (record (context_of state tx) { active = set.remove state.active other }) walk view
   stands_by_end other =
-      stands_still (basis_of world tx) (set.remove world.opens other) walk view (map.get world.pages) (no_more_by_end world view h agree other) agree h.file.form stands
+      stands_still (context_of state tx) (set.remove state.active other) walk view (map.get state.pages) (no_more_by_end state view h agree other) agree h.file.form stands

@@ -8,7 +8,7 @@ use Rattle.std.specs.Ordering.{eq_by_cmp, nat_cmp}
 use Rattle.mlt_page.specs.declared.page.Page.{Page}
 use Rattle.mlt_object_kinds.proofs.BaseLaws.{entry_beside, entry_here}
 use Rattle.mlt_hash_form.specs.File.{FilePages}
-use Rattle.mlt_hash_form.specs.Held.{over, own_or}
+use Rattle.mlt_hash_form.specs.Held.{over, own_or_clean}
 
 -- the map with what is written on this page, if it is
 abbrev with_page : Option Page → ℕ → map.FinMap nat_cmp Page → map.FinMap nat_cmp Page
@@ -60,8 +60,8 @@ written_over {X} pages written held only = (with_pages written pages (map.keys h
     listed q None is page wrote = absurd (let both : None ≡ Some page = sym (only q is) ∙ wrote in cc both)
     listed q (Some x) is page wrote = ap is_some is
 
-    at : (q : ℕ) (wrote : Option Page) → written q ≡ wrote → map.get (with_pages written pages (map.keys held)) q ≡ own_or (written q) (map.get pages q)
-    at q None is = unwritten_stays pages written q (map.keys held) is ∙ sym (ap (λ own. own_or own (map.get pages q)) is)
+    at : (q : ℕ) (wrote : Option Page) → written q ≡ wrote → map.get (with_pages written pages (map.keys held)) q ≡ own_or_clean (written q) (map.get pages q)
+    at q None is = unwritten_stays pages written q (map.keys held) is ∙ sym (ap (λ own. own_or_clean own (map.get pages q)) is)
     at q (Some page) is =
         written_is_there pages written q (map.keys held) page is (sym (map.contains_key-keys held q) ∙ listed q (map.get held q) refl page is)
-        ∙ sym (ap (λ own. own_or own (map.get pages q)) is)
+        ∙ sym (ap (λ own. own_or_clean own (map.get pages q)) is)

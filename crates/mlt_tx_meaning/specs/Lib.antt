@@ -1,4 +1,4 @@
 pub mod Ends
 pub mod Events
 pub mod Presences
-pub mod Worlds
+pub mod AbstractStates

@@ -11,23 +11,23 @@ ghost use Rattle.mlt_object_base.specs.Effects.{reply_of};
 ghost use Rattle.mlt_order.specs.Histories.{IsHistory};
 ghost use Rattle.mlt_hash_form.specs.Records.{live_records};
 ghost use Rattle.mlt_tx_meaning.specs.Presences.{IsOpInRange};
-ghost use Rattle.mlt_tx_meaning.specs.Worlds.{PagesMeanHistory, World, record_of};
+ghost use Rattle.mlt_tx_meaning.specs.AbstractStates.{PagesMeanHistory, AbstractState, record_of};
 
 /// One base is what the pages mean, and what the history leads to.
 pub fn pages_and_history_fix_the_base()
-    ensures pages { (world : World) (other : Base)
-        → PagesMeanHistory world → Means (live_records world.pages) other → other ≡ world.base }
-    ensures history { (world : World) (other : Base)
-        → PagesMeanHistory world → IsHistory Step empty_base world.history other
-        → other ≡ world.base }
+    ensures pages { (state : AbstractState) (other : Base)
+        → PagesMeanHistory state → Means (live_records state.pages) other → other ≡ state.base }
+    ensures history { (state : AbstractState) (other : Base)
+        → PagesMeanHistory state → IsHistory Step empty_base state.history other
+        → other ≡ state.base }
 {}
 
 /// The reply that the record of an operation's cell asks for is the one with which the operation is a step of the
 /// base.
 pub fn record_fixes_the_reply()
-    ensures steps { (world : World) (op : ObjOp) → PagesMeanHistory world → IsOpInRange op
-        → (after : Base) × Step world.base (op, (reply_of op (record_of world op)).0) after }
-    ensures alone { (world : World) (op : ObjOp) (reply : ObjReply) (after : Base)
-        → PagesMeanHistory world → IsInRange (cell_of op) → Step world.base (op, reply) after
-        → reply ≡ (reply_of op (record_of world op)).0 }
+    ensures steps { (state : AbstractState) (op : ObjOp) → PagesMeanHistory state → IsOpInRange op
+        → (after : Base) × Step state.base (op, (reply_of op (record_of state op)).0) after }
+    ensures alone { (state : AbstractState) (op : ObjOp) (reply : ObjReply) (after : Base)
+        → PagesMeanHistory state → IsInRange (cell_of op) → Step state.base (op, reply) after
+        → reply ≡ (reply_of op (record_of state op)).0 }
 {}

@@ -1,4 +1,4 @@
-pub mod AtOnce
+pub mod Fast
 pub mod Images
 pub mod TakingBack
 pub mod TxSlots

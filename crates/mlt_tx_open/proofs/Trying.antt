@@ -5,9 +5,9 @@ use Rattle.std.specs.FinMap as map
 use Rattle.mlt_types.specs.declared.refusal.Refusal.{Refusal}
 use Rattle.mlt_types.specs.declared.refusal.Refusal.TheVariants as refusal
 use Rattle.mlt_object_kinds.specs.declared.operation.ObjOp.{ObjOp}
-use Rattle.mlt_tx.specs.declared.activity.State.{State}
-use Rattle.mlt_tx.specs.declared.activity.State.TheVariants as state
-use Rattle.mlt_tx.specs.declared.commons.Commons.{Commons}
+use Rattle.mlt_tx.specs.declared.activity.ActivityState.{ActivityState}
+use Rattle.mlt_tx.specs.declared.activity.ActivityState.TheVariants as state
+use Rattle.mlt_tx.specs.declared.shared.SharedState.{SharedState}
 use Rattle.mlt_tx.specs.declared.transaction.At.{At}
 use Rattle.mlt_tx.specs.declared.transaction.At.TheVariants as at
 use Rattle.mlt_tx.specs.declared.transaction.Transaction.{Transaction}
@@ -27,7 +27,7 @@ undoing_is_busy at.Idle is = is
 undoing_is_busy other is = tt
 
 -- what is not idle is busy
-pub busy_unless_idle : (s : State) (a : At) → (s ≡ state.Idle → ⊥) → (s ≡ state.Pending → IsPending a) → (s ≡ state.Undoing → IsUndoing a) → IsBusy a
+pub busy_unless_idle : (s : ActivityState) (a : At) → (s ≡ state.Idle → ⊥) → (s ≡ state.Pending → IsPending a) → (s ≡ state.Undoing → IsUndoing a) → IsBusy a
 busy_unless_idle state.Idle a not pending undoing = absurd (not refl)
 busy_unless_idle state.Pending a not pending undoing = pending_is_busy a (pending refl)
 busy_unless_idle state.Undoing a not pending undoing = undoing_is_busy a (undoing refl)
@@ -51,8 +51,8 @@ module _ (slots looked : List TxSlot) (table : Table) (tx i : ℕ) (slot : TxSlo
       record { one = one; there = found_there; idle = idle; counts = ap (λ (t : Transaction). length t.undo.entries) (boxed ∙ sym boxed_again) ∙ sym counts }
 
 -- one that may be called is called, or there is no memory
-pub call_tried : (tx : ℕ) (op : ObjOp) (max_ops : ℕ) (old new : Table) (commons commons' : Commons) (r : Result (Unit {0}) Refusal) → MayCallOne old tx max_ops
-    → OnOk r (CallsOne tx op old new commons commons') → OnErr r (CallsNone tx old new commons commons') → IfErr r (λ reason. reason ≡ refusal.OutOfMemory) → TriesCall tx op max_ops old new commons commons' r
-call_tried tx op max_ops old new commons commons' (Ok done) may calls none memory = (may, calls)
-call_tried tx op max_ops old new commons commons' (Err reason) may calls none memory =
-    subst (λ r. TriesCall tx op max_ops old new commons commons' (Err r)) (sym memory) (may, none)
+pub call_tried : (tx : ℕ) (op : ObjOp) (max_ops : ℕ) (old new : Table) (shared shared' : SharedState) (r : Result (Unit {0}) Refusal) → MayCallOne old tx max_ops
+    → OnOk r (CallsOne tx op old new shared shared') → OnErr r (CallsNone tx old new shared shared') → IfErr r (λ reason. reason ≡ refusal.OutOfMemory) → TriesCall tx op max_ops old new shared shared' r
+call_tried tx op max_ops old new shared shared' (Ok done) may calls none memory = (may, calls)
+call_tried tx op max_ops old new shared shared' (Err reason) may calls none memory =
+    subst (λ r. TriesCall tx op max_ops old new shared shared' (Err r)) (sym memory) (may, none)

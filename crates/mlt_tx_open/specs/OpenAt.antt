@@ -4,9 +4,9 @@ use Rattle.std.specs.FinMap as map
 use Rattle.mlt_types.specs.declared.refusal.Refusal.{Refusal}
 use Rattle.mlt_types.specs.declared.refusal.Refusal.TheVariants as refusal
 use Rattle.mlt_object_kinds.specs.declared.operation.ObjOp.{ObjOp}
-use Rattle.mlt_hash.specs.Walks.{Basis}
+use Rattle.mlt_hash.specs.Walks.{WalkContext}
 use Rattle.mlt_event.specs.declared.answer.Answer.{Answer}
-use Rattle.mlt_tx.specs.declared.commons.Commons.{Commons}
+use Rattle.mlt_tx.specs.declared.shared.SharedState.{SharedState}
 use Rattle.mlt_tx.specs.declared.transaction.At.{At}
 use Rattle.mlt_tx.specs.declared.transaction.At.TheVariants as at
 use Rattle.mlt_tx.specs.declared.transaction.Transaction.{Transaction}
@@ -57,14 +57,14 @@ IsCauseAtCallOf refusal.LogFull txs tx max_ops =
 IsCauseAtCallOf reason txs tx max_ops = IsNotIdle reason txs tx
 
 -- A try to call it makes the operation pending, or answers why not. One that was refused memory may leave room reserved.
-abbrev pub TriesCall : ℕ → ObjOp → ℕ → Table → Table → Commons → Commons
+abbrev pub TriesCall : ℕ → ObjOp → ℕ → Table → Table → SharedState → SharedState
     → Result (Unit {0}) Refusal → Type 0
-TriesCall tx op max_ops old new commons commons' (Ok done) =
-    MayCallOne old tx max_ops × CallsOne tx op old new commons commons'
-TriesCall tx op max_ops old new commons commons' (Err refusal.OutOfMemory) =
-    MayCallOne old tx max_ops × CallsNone tx old new commons commons'
-TriesCall tx op max_ops old new commons commons' (Err reason) =
-    IsCauseAtCallOf reason old tx max_ops × (new ≡ old) × (commons' ≡ commons)
+TriesCall tx op max_ops old new shared shared' (Ok done) =
+    MayCallOne old tx max_ops × CallsOne tx op old new shared shared'
+TriesCall tx op max_ops old new shared shared' (Err refusal.OutOfMemory) =
+    MayCallOne old tx max_ops × CallsNone tx old new shared shared'
+TriesCall tx op max_ops old new shared shared' (Err reason) =
+    IsCauseAtCallOf reason old tx max_ops × (new ≡ old) × (shared' ≡ shared)
 
 -- why it takes no step: there is none of this number, or it is at nothing
 abbrev pub IsCauseAtStep : Refusal → Table → ℕ → Type 0
@@ -72,16 +72,16 @@ IsCauseAtStep refusal.NoSuchTx txs tx = IsNotOpen txs tx
 IsCauseAtStep refusal.NotRunning txs tx = IsOpenAt txs tx IsIdle
 IsCauseAtStep other txs tx = ⊥
 
--- where it is at something, it may take a step; `basis` is what the transaction of each number goes by
-abbrev pub MayStepIfBusy : (ℕ → Basis) → ℕ → Table → Commons → Type 0
-MayStepIfBusy basis tx txs commons =
+-- where it is at something, it may take a step; `context` is what the transaction of each number goes by
+abbrev pub MayStepIfBusy : (ℕ → WalkContext) → ℕ → Table → SharedState → Type 0
+MayStepIfBusy context tx txs shared =
     (one : Transaction) → map.get txs tx ≡ Some one → IsBusy one.at
-    → MayStepIn (basis one.subtx.tx) one commons
+    → MayStepIn (context one.subtx.tx) one shared
 
 -- A try to step it takes a step, or answers why it takes none.
-abbrev pub TriesStep : (ℕ → Basis) → ℕ → Table → Table → Commons → Commons
+abbrev pub TriesStep : (ℕ → WalkContext) → ℕ → Table → Table → SharedState → SharedState
     → Result Answer Refusal → Type 0
-TriesStep basis tx old new commons commons' (Ok told) =
-    StepsOne basis tx old new commons commons' told
-TriesStep basis tx old new commons commons' (Err reason) =
-    IsCauseAtStep reason old tx × (new ≡ old) × (commons' ≡ commons)
+TriesStep context tx old new shared shared' (Ok told) =
+    StepsOne context tx old new shared shared' told
+TriesStep context tx old new shared shared' (Err reason) =
+    IsCauseAtStep reason old tx × (new ≡ old) × (shared' ≡ shared)

@@ -7,10 +7,10 @@ use Rattle.mlt_page.specs.declared.page.Page.{Page}
 use Rattle.mlt_page_subtx.specs.Images.{image_of, started}
 use Rattle.mlt_object_kinds.specs.declared.operation.ObjOp.{ObjOp}
 use Rattle.mlt_object_kinds.specs.declared.operation.ObjReply.{ObjReply}
-use Rattle.mlt_hash.specs.Walks.{Basis}
+use Rattle.mlt_hash.specs.Walks.{WalkContext}
 use Rattle.mlt_event.specs.declared.answer.Answer.{Answer}
 use Rattle.mlt_event.specs.declared.answer.Answer.TheVariants as answer
-use Rattle.mlt_tx.specs.declared.commons.Commons.{Commons}
+use Rattle.mlt_tx.specs.declared.shared.SharedState.{SharedState}
 use Rattle.mlt_tx.specs.declared.transaction.At.{At}
 use Rattle.mlt_tx.specs.declared.transaction.At.TheVariants.{Idle}
 use Rattle.mlt_tx.specs.declared.transaction.Transaction.{Transaction}
@@ -40,56 +40,56 @@ pub record ChangesOne (tx : ℕ) (old new : Table) : Type 0 where
   pub is : new ≡ map.insert old tx after
 
 -- the transaction of this number is called with an operation
-pub record CallsOne (tx : ℕ) (op : ObjOp) (old new : Table) (commons commons' : Commons)
+pub record CallsOne (tx : ℕ) (op : ObjOp) (old new : Table) (shared shared' : SharedState)
     : Type 0 where
   pub changes : ChangesOne tx old new
-  pub tells : TellsOfCall op changes.before changes.after commons commons'
+  pub tells : TellsOfCall op changes.before changes.after shared shared'
 
 -- the transaction of this number is not called, for want of memory
-pub record CallsNone (tx : ℕ) (old new : Table) (commons commons' : Commons) : Type 0 where
+pub record CallsNone (tx : ℕ) (old new : Table) (shared shared' : SharedState) : Type 0 where
   pub changes : ChangesOne tx old new
-  pub tells : IsNotCalled changes.before changes.after commons commons'
+  pub tells : IsNotCalled changes.before changes.after shared shared'
 
--- the transaction of this number takes a step; `basis` is what the transaction of each number goes by
-pub record StepsOne (basis : ℕ → Basis) (tx : ℕ) (old new : Table) (commons commons' : Commons)
+-- the transaction of this number takes a step; `context` is what the transaction of each number goes by
+pub record StepsOne (context : ℕ → WalkContext) (tx : ℕ) (old new : Table) (shared shared' : SharedState)
     (told : Answer) : Type 0 where
   pub changes : ChangesOne tx old new
-  pub tells : TellsOfTransaction (basis changes.before.subtx.tx)
-      changes.before changes.after commons commons' told
+  pub tells : TellsOfTransaction (context changes.before.subtx.tx)
+      changes.before changes.after shared shared' told
 
 -- it takes four steps one after another, the last of which tells this reply
-pub record StepsOneAtOnce (basis : ℕ → Basis) (tx : ℕ) (old new : Table) (commons commons' : Commons)
+pub record StepsOneFast (context : ℕ → WalkContext) (tx : ℕ) (old new : Table) (shared shared' : SharedState)
     (reply : ObjReply) : Type 0 where
   pub headed : Table
   pub placed : Table
   pub told : Table
-  pub with_header : Commons
-  pub with_directory : Commons
-  pub with_bucket : Commons
-  pub first : StepsOne basis tx old headed commons with_header answer.Going
-  pub second : StepsOne basis tx headed placed with_header with_directory answer.Going
-  pub third : StepsOne basis tx placed told with_directory with_bucket answer.Going
-  pub ends : StepsOne basis tx told new with_bucket commons' (answer.Done reply)
+  pub with_header : SharedState
+  pub with_directory : SharedState
+  pub with_bucket : SharedState
+  pub first : StepsOne context tx old headed shared with_header answer.Going
+  pub second : StepsOne context tx headed placed with_header with_directory answer.Going
+  pub third : StepsOne context tx placed told with_directory with_bucket answer.Going
+  pub ends : StepsOne context tx told new with_bucket shared' (answer.Done reply)
 
 -- it is called, and takes its four steps
-pub record DoesOneAtOnce (basis : ℕ → Basis) (tx : ℕ) (op : ObjOp) (old new : Table)
-    (commons commons' : Commons) (reply : ObjReply) : Type 0 where
+pub record DoesOneFast (context : ℕ → WalkContext) (tx : ℕ) (op : ObjOp) (old new : Table)
+    (shared shared' : SharedState) (reply : ObjReply) : Type 0 where
   pub called : Table
-  pub with_room : Commons
-  pub calls : CallsOne tx op old called commons with_room
-  pub steps : StepsOneAtOnce basis tx called new with_room commons' reply
+  pub with_room : SharedState
+  pub calls : CallsOne tx op old called shared with_room
+  pub steps : StepsOneFast context tx called new with_room shared' reply
 
 -- the transaction of this number is called with an operation, which is done at once, or pending
-abbrev pub CallsOneAtOnce : Option ObjReply → (ℕ → Basis) → ℕ → ObjOp → Table → Table → Commons
-    → Commons → Type 0
-CallsOneAtOnce None basis tx op old new commons commons' = CallsOne tx op old new commons commons'
-CallsOneAtOnce (Some reply) basis tx op old new commons commons' =
-    DoesOneAtOnce basis tx op old new commons commons' reply
+abbrev pub CallsOneFast : Option ObjReply → (ℕ → WalkContext) → ℕ → ObjOp → Table → Table → SharedState
+    → SharedState → Type 0
+CallsOneFast None context tx op old new shared shared' = CallsOne tx op old new shared shared'
+CallsOneFast (Some reply) context tx op old new shared shared' =
+    DoesOneFast context tx op old new shared shared' reply
 
 -- the pending operation of the transaction of this number is dropped
-pub record CancelsOne (tx : ℕ) (old new : Table) (commons commons' : Commons) : Type 0 where
+pub record CancelsOne (tx : ℕ) (old new : Table) (shared shared' : SharedState) : Type 0 where
   pub changes : ChangesOne tx old new
-  pub tells : TellsOfCancel changes.before changes.after commons commons'
+  pub tells : TellsOfCancel changes.before changes.after shared shared'
 
 -- the transaction of this number is at this from now on, and keeps all else
 pub record PutsOneAt (tx : ℕ) (at : At) (old new : Table) : Type 0 where

@@ -6,22 +6,22 @@ ghost use Rattle.mlt_types.specs.Maps.{with_entry};
 ghost use Rattle.mlt_order.specs.Interleavings.{UndoneTo};
 ghost use Rattle.mlt_object_kinds.specs.Bases.{Base as ObjectBase, Step};
 ghost use Rattle.mlt_page_subtx.specs.Images.{AreThere};
-ghost use Rattle.mlt_hash.specs.Walks.{basis_in};
+ghost use Rattle.mlt_hash.specs.Walks.{context_in};
 ghost use Rattle.mlt_tx.specs.declared.transaction.Transaction.{Transaction as TransactionFields};
 ghost use Rattle.mlt_tx.specs.declared.transaction.At.TheVariants as at;
-ghost use Rattle.mlt_tx.specs.AtOnce.{MayCallAtOnce};
+ghost use Rattle.mlt_tx.specs.Fast.{MayCallFast};
 ghost use Rattle.mlt_tx.specs.Transactions.{IsPending, MayStepIn};
 ghost use Rattle.mlt_tx_open.specs.OpenAt.{MayStepIfBusy, TriesCall, TriesStep};
 ghost use Rattle.mlt_tx_open.specs.Standing.{standing_in};
-ghost use Rattle.mlt_tx_open.specs.Tables.{BeginsOne, CallsNone, CallsOne, CallsOneAtOnce, CancelsOne, KeepsImage, KeepsNoImage, PutsOneAt, StepsOne};
+ghost use Rattle.mlt_tx_open.specs.Tables.{BeginsOne, CallsNone, CallsOne, CallsOneFast, CancelsOne, KeepsImage, KeepsNoImage, PutsOneAt, StepsOne};
 
 use crate::tx_slot::{TxSlot, free_slot, image_in, slot_of, take_back_each};
 use mlt_event::Answer;
-use mlt_hash::Setting;
+use mlt_hash::Environment;
 use mlt_object_base::Base;
 use mlt_object_kinds::{ObjOp, ObjReply};
 use mlt_page::Page;
-use mlt_tx::{Commons, State, Transaction};
+use mlt_tx::{ActivityState, SharedState, Transaction};
 use mlt_types::{PageNo, Pseudo, Refusal, TxId};
 use std::alloc::Global;
 use std::marker::Model;
@@ -145,26 +145,26 @@ impl OpenTransactions {
     pub fn try_call(
         &mut self,
         tx: TxId,
-        commons: &mut Commons,
+        shared: &mut SharedState,
         op: ObjOp,
         max_ops: usize,
     ) -> Result<(), Refusal>
-        ensures tries { TriesCall tx op max_ops self.old self.new commons.old commons.new result }
-        ensures handed { commons.new.history.handed ≡ commons.old.history.handed }
+        ensures tries { TriesCall tx op max_ops self.old self.new shared.old shared.new result }
+        ensures handed { shared.new.history.handed ≡ shared.old.history.handed }
     {
         let Some(place) = slot_of(&self.slots, tx) else {
             return Err(Refusal::NoSuchTx);
         };
         let transaction = &self.slots[place].transaction;
         match transaction.at.state() {
-            State::Idle => (),
-            State::Pending => return Err(Refusal::Running),
-            State::Undoing => return Err(Refusal::Undoing),
+            ActivityState::Idle => (),
+            ActivityState::Pending => return Err(Refusal::Running),
+            ActivityState::Undoing => return Err(Refusal::Undoing),
         }
         if transaction.undo.len() >= max_ops {
             return Err(Refusal::LogFull);
         }
-        self.slots[place].transaction.call(commons, op)
+        self.slots[place].transaction.call(shared, op)
     }
 
     /// Calls the transaction of a number, which is open and at nothing, with an operation, and takes all its steps at once, while
@@ -172,44 +172,45 @@ impl OpenTransactions {
     ///
     /// # Errors
     /// `OutOfMemory`, where a growth was refused; the transaction is then still at nothing.
-    pub fn call_at_once<P: Pseudo>(
+    pub fn call_fast<P: Pseudo>(
         &mut self,
         tx: TxId,
-        commons: &mut Commons,
+        shared: &mut SharedState,
         op: ObjOp,
-        setting: &Setting<P>,
+        environment: &Environment<P>,
     ) -> Result<Option<ObjReply>, Refusal>
         requires is_open { (t : TransactionFields) × (map.get self.old tx ≡ Some t)
-            × MayCallAtOnce (basis_in P.bits_of setting.now t.subtx.tx) op t commons.old }
-        ensures calls { IfOk result (λ told. CallsOneAtOnce told (basis_in P.bits_of setting.now)
-            tx op self.old self.new commons.old commons.new) }
-        ensures err { OnErr result (CallsNone tx self.old self.new commons.old commons.new) }
+            × MayCallFast (context_in P.bits_of environment.now t.subtx.tx) op t shared.old }
+        ensures calls { IfOk result (λ told. CallsOneFast told
+            (context_in P.bits_of environment.now)
+            tx op self.old self.new shared.old shared.new) }
+        ensures err { OnErr result (CallsNone tx self.old self.new shared.old shared.new) }
         ensures refusal { IsOkUnless result Refusal.OutOfMemory }
-        ensures handed { commons.new.history.handed ≡ commons.old.history.handed }
+        ensures handed { shared.new.history.handed ≡ shared.old.history.handed }
     {
         let Some(place) = slot_of(&self.slots, tx) else {
             unreachable!()
         };
         self.slots[place]
             .transaction
-            .call_at_once(commons, op, setting)
+            .call_fast(shared, op, environment)
     }
 
     /// One step of the transaction of a number, which is open and not idle.
     pub fn step<P: Pseudo>(
         &mut self,
         tx: TxId,
-        commons: &mut Commons,
-        setting: &Setting<P>,
+        shared: &mut SharedState,
+        environment: &Environment<P>,
     ) -> Answer
         requires is_open { (t : TransactionFields) × (map.get self.old tx ≡ Some t)
-            × MayStepIn (basis_in P.bits_of setting.now t.subtx.tx) t commons.old }
-        ensures steps { StepsOne (basis_in P.bits_of setting.now) tx self.old self.new
-            commons.old commons.new result }
-        ensures handed { commons.new.history.handed ≡ commons.old.history.handed }
+            × MayStepIn (context_in P.bits_of environment.now t.subtx.tx) t shared.old }
+        ensures steps { StepsOne (context_in P.bits_of environment.now) tx self.old self.new
+            shared.old shared.new result }
+        ensures handed { shared.new.history.handed ≡ shared.old.history.handed }
     {
         match slot_of(&self.slots, tx) {
-            Some(place) => self.slots[place].transaction.step(commons, setting),
+            Some(place) => self.slots[place].transaction.step(shared, environment),
             None => unreachable!(),
         }
     }
@@ -222,35 +223,35 @@ impl OpenTransactions {
     pub fn try_step<P: Pseudo>(
         &mut self,
         tx: TxId,
-        commons: &mut Commons,
-        setting: &Setting<P>,
+        shared: &mut SharedState,
+        environment: &Environment<P>,
     ) -> Result<Answer, Refusal>
-        requires may { MayStepIfBusy (basis_in P.bits_of setting.now) tx self.old commons.old }
-        ensures tries { TriesStep (basis_in P.bits_of setting.now) tx self.old self.new
-            commons.old commons.new result }
-        ensures handed { commons.new.history.handed ≡ commons.old.history.handed }
+        requires may { MayStepIfBusy (context_in P.bits_of environment.now) tx self.old shared.old }
+        ensures tries { TriesStep (context_in P.bits_of environment.now) tx self.old self.new
+            shared.old shared.new result }
+        ensures handed { shared.new.history.handed ≡ shared.old.history.handed }
     {
         let Some(place) = slot_of(&self.slots, tx) else {
             return Err(Refusal::NoSuchTx);
         };
-        if let State::Idle = self.slots[place].transaction.at.state() {
+        if let ActivityState::Idle = self.slots[place].transaction.at.state() {
             return Err(Refusal::NotRunning);
         }
-        Ok(self.slots[place].transaction.step(commons, setting))
+        Ok(self.slots[place].transaction.step(shared, environment))
     }
 
     /// Drops the pending operation of the transaction of a number, which is open and has one. It takes no memory.
-    pub fn cancel(&mut self, tx: TxId, commons: &mut Commons)
+    pub fn cancel(&mut self, tx: TxId, shared: &mut SharedState)
         requires is_open { (t : TransactionFields) × (map.get self.old tx ≡ Some t)
-            × IsPending t.at × AreThere t.subtx.images commons.old.pages.store.pages
-            × (2 ≤ commons.old.history.room) }
-        ensures cancels { CancelsOne tx self.old self.new commons.old commons.new }
-        ensures handed { commons.new.history.handed ≡ commons.old.history.handed }
+            × IsPending t.at × AreThere t.subtx.images shared.old.pages.store.pages
+            × (2 ≤ shared.old.history.room) }
+        ensures cancels { CancelsOne tx self.old self.new shared.old shared.new }
+        ensures handed { shared.new.history.handed ≡ shared.old.history.handed }
     {
         let Some(place) = slot_of(&self.slots, tx) else {
             unreachable!()
         };
-        self.slots[place].transaction.cancel(commons);
+        self.slots[place].transaction.cancel(shared);
     }
 
     /// Begins the abort of the transaction of a number, which is open. It takes no memory.

@@ -11,7 +11,7 @@ use Rattle.mlt_page_locks.specs.LockTables.{LockTable, Modes, can_read, can_writ
 use Rattle.mlt_page_locks.specs.Requests.{IsNobody, conflicts, granted, released, with_page}
 use Rattle.mlt_page_locks.proofs.LockLaws.{can_read-granted, conflicts-exclusive, conflicts-shared, writer_reads}
 use Rattle.mlt_page_locks.proofs.Maps.{get_inserted, get_removed, same_entries}
-use Rattle.mlt_tx_operation.specs.AtOnce.{NobodyHolds}
+use Rattle.mlt_tx_operation.specs.Fast.{NobodyHolds}
 
 -- nobody but tx reads a page
 abbrev pub NoOtherReads : ℕ → LockTable → Type 0

@@ -1,6 +1,6 @@
 pub mod AtBucket
 pub mod Deciding
-pub mod Doubles
+pub mod TwoRecordWalks
 pub mod Going
 pub mod MostSteps
 pub mod Operations

@@ -19,24 +19,24 @@ use Rattle.mlt_page_locks.specs.LockTables.{pages_of}
 use Rattle.mlt_hash_form.specs.File.{FilePages, HasForm}
 use Rattle.mlt_hash_form.specs.Held.{Agrees}
 use Rattle.mlt_hash_access.proofs.Since.{nothing_written}
-use Rattle.mlt_hash_access.specs.Moments.{Moment}
+use Rattle.mlt_hash_access.specs.LocalStates.{LocalState}
 use Rattle.mlt_hash_access.specs.Views.{View, view_of}
 use Rattle.mlt_hash_split.specs.Rests.{KeepsNoMore}
-use Rattle.mlt_hash.specs.Walks.{Basis, one_key}
+use Rattle.mlt_hash.specs.Walks.{WalkContext, one_key}
 use Rattle.mlt_hash.specs.declared.pass.Phase.{Phase}
 use Rattle.mlt_hash.specs.declared.pass.Phase.TheVariants as at
 use Rattle.mlt_hash_pair.proofs.Laws.{starts as pair_starts}
 use Rattle.mlt_hash.proofs.Laws.{at_start}
 use Rattle.mlt_hash.proofs.Owners.{stands_still}
 use Rattle.mlt_hash.proofs.Passed.{read_as}
-use Rattle.mlt_tx_two_records.specs.Doubles.{MayGoOn, Stands}
-use Rattle.mlt_tx_two_records.proofs.DoubleLaws.{double_still, told_still}
-use Rattle.mlt_tx_two_records.specs.declared.double.Double.{Double}
-use Rattle.mlt_tx_two_records.specs.declared.double.Double.TheVariants.{First, Owing, Wide}
-use Rattle.mlt_tx_two_records.specs.declared.double.Leg.TheVariants as leg
-use Rattle.mlt_tx_operation.specs.declared.course.Course.{Course}
-use Rattle.mlt_tx_operation.specs.declared.course.Course.TheVariants.{One, Two}
-use Rattle.mlt_tx_operation.specs.Operating.{CanDoBy, IsOperating, MayOperate, OperatesBy, OperationFields, StandsOrTold, course_for, on_one, on_two, started_for}
+use Rattle.mlt_tx_two_records.specs.TwoRecordWalks.{MayGoOn, Stands}
+use Rattle.mlt_tx_two_records.proofs.TwoRecordLaws.{two_records_still, told_still}
+use Rattle.mlt_tx_two_records.specs.declared.two_records.TwoRecordWalk.{TwoRecordWalk}
+use Rattle.mlt_tx_two_records.specs.declared.two_records.TwoRecordWalk.TheVariants.{First, Owing, Wide}
+use Rattle.mlt_tx_two_records.specs.declared.two_records.WideStage.TheVariants as wide_stage
+use Rattle.mlt_tx_operation.specs.declared.access_path.AccessPath.{AccessPath}
+use Rattle.mlt_tx_operation.specs.declared.access_path.AccessPath.TheVariants.{One, Two}
+use Rattle.mlt_tx_operation.specs.Operating.{CanDoBy, IsOperating, MayOperate, OperatesBy, OperationFields, StandsOrTold, access_path_for, on_one, on_two, started_for}
 use Rattle.mlt_tx_operation.specs.Walking.{FitsPhase, MayWalkOn, WalkingFields}
 
 -- ---- the start
@@ -57,24 +57,24 @@ keys_apart (TakeBack (Element s e element.Add, told.Added)) size range is = elem
 keys_apart (TakeBack (Element s e element.Remove, told.Removed)) size range is = element_apart s e size range cc
 keys_apart other size range none = absurd cc
 
-starts_by : (key : Option ℕ) (basis : Basis) (request : Request) (m : Moment) → size_key_of request ≡ key → IsInRange (cell_asked request) → pages_of m.locks m.running.tx ≡ map.empty
-    → OperatesBy (course_for request key) (one_key basis) (record { request = request; reply = None; course = course_for request key }) (view_of m)
-starts_by None basis request m is range none = record { alone = is; target = refl; stands = (at_start m none, refl); fits = refl }
-starts_by (Some size) basis request m is range none = record {
+starts_by : (key : Option ℕ) (context : WalkContext) (request : Request) (m : LocalState) → size_key_of request ≡ key → IsInRange (cell_asked request) → pages_of m.locks m.running.tx ≡ map.empty
+    → OperatesBy (access_path_for request key) (one_key context) (record { request = request; reply = None; access_path = access_path_for request key }) (view_of m)
+starts_by None context request m is range none = record { alone = is; target = refl; stands = (at_start m none, refl); fits = refl }
+starts_by (Some size) context request m is range none = record {
   keys = record { own_is = refl; size_is = is; apart = keys_apart request size range is };
   under_way = omega arith;
-  finding = pair_starts basis.bits basis.root (target_of request).0 size m (keys_apart request size range is) none;
+  finding = pair_starts context.bits context.root (target_of request).0 size m (keys_apart request size range is) none;
 }
 
 -- **An operation that has taken no step stands where no page is held.**
-pub starts : (basis : Basis) (request : Request) (m : Moment) → IsInRange (cell_asked request) → pages_of m.locks m.running.tx ≡ map.empty → IsOperating (one_key basis) (started_for request) (view_of m)
-starts basis request m range none = starts_by (size_key_of request) basis request m refl range none
+pub starts : (context : WalkContext) (request : Request) (m : LocalState) → IsInRange (cell_asked request) → pages_of m.locks m.running.tx ≡ map.empty → IsOperating (one_key context) (started_for request) (view_of m)
+starts context request m range none = starts_by (size_key_of request) context request m refl range none
 
 -- ---- what a step of one asks
 
 -- **One on one record may take a step of its walk.**
-pub may_walk_on : (basis : Basis) (m : Moment) (o : WalkingFields) → MayOperate (one_key basis) m (on_one o) → MayWalkOn (one_key basis) m o
-may_walk_on basis m o may = record {
+pub may_walk_on : (context : WalkContext) (m : LocalState) (o : WalkingFields) → MayOperate (one_key context) m (on_one o) → MayWalkOn (one_key context) m o
+may_walk_on context m o may = record {
   walks = record {
     bounded = may.bounded;
     small = may.small;
@@ -85,66 +85,66 @@ may_walk_on basis m o may = record {
     stands = may.operates.stands;
   };
   operates = may.operates;
-  back = subst (λ (key : Option ℕ). CanDoBy key (one_key basis) may.file.clean o.request) may.operates.alone may.can;
+  back = subst (λ (key : Option ℕ). CanDoBy key (one_key context) may.file.clean o.request) may.operates.alone may.can;
 }
 
 -- one on two records has a key of a size
-size_key : (double : Double) (basis : Basis) (request : Request) (view : View) → Stands double basis request view → (size : ℕ) × (size_key_of request ≡ Some size)
-size_key (First pair) basis request view stands = (pair.right, stands.keys.size_is)
-size_key (Owing pair reply) basis request view stands = (pair.right, stands.keys.size_is)
-size_key (Wide leg.Own walk) basis request view stands = (stands.size, stands.keys.size_is)
-size_key (Wide leg.Size walk) basis request view stands = (walk.key, stands.keys.size_is)
+size_key : (two_records : TwoRecordWalk) (context : WalkContext) (request : Request) (view : View) → Stands two_records context request view → (size : ℕ) × (size_key_of request ≡ Some size)
+size_key (First pair) context request view stands = (pair.right, stands.keys.size_is)
+size_key (Owing pair reply) context request view stands = (pair.right, stands.keys.size_is)
+size_key (Wide wide_stage.Own walk) context request view stands = (stands.size, stands.keys.size_is)
+size_key (Wide wide_stage.Size walk) context request view stands = (walk.key, stands.keys.size_is)
 
 -- **One on two records may go on.**
-pub may_go_on : (basis : Basis) (m : Moment) (request : Request) (double : Double) → MayOperate (one_key basis) m (on_two request None double) → MayGoOn (one_key basis) m request double
-may_go_on basis m request double may = record {
+pub may_go_on : (context : WalkContext) (m : LocalState) (request : Request) (two_records : TwoRecordWalk) → MayOperate (one_key context) m (on_two request None two_records) → MayGoOn (one_key context) m request two_records
+may_go_on context m request two_records may = record {
   bounded = may.bounded;
   small = may.small;
   may = may.may;
   file = may.file;
   shallow = may.shallow;
   stands = may.operates;
-  can = subst (λ (key : Option ℕ). CanDoBy key (one_key basis) may.file.clean request) (size_key double (one_key basis) request (view_of m) may.operates).1 may.can;
+  can = subst (λ (key : Option ℕ). CanDoBy key (one_key context) may.file.clean request) (size_key two_records (one_key context) request (view_of m) may.operates).1 may.can;
 }
 
 -- ---- owners of ghosts close
 
 -- what a walk's phase says of a reply does not name who is open
-fits_for : (p : Phase) (basis : Basis) (opens : set.FinSet nat_cmp) (o : WalkingFields) (view : View) → FitsPhase p basis o view → FitsPhase p (record basis { opens = opens }) o view
-fits_for (at.Changed bucket done) basis opens o view fits = record {
+fits_for : (p : Phase) (context : WalkContext) (active : set.FinSet nat_cmp) (o : WalkingFields) (view : View) → FitsPhase p context o view → FitsPhase p (record context { active = active }) o view
+fits_for (at.Changed bucket done) context active o view fits = record {
   found = fits.found;
   reply = fits.reply;
   decided = fits.decided;
-  read = read_as basis opens o.walk.key view fits.found fits.read;
+  read = read_as context active o.walk.key view fits.found fits.read;
   told = fits.told;
   asked = fits.asked;
   performs = fits.performs;
 }
-fits_for other basis opens o view fits = fits
+fits_for other context active o view fits = fits
 
 -- Whose ghosts are kept: on the pages that are held no more than before, and its own.
-pub record KeepsFewer (basis : Basis) (fewer : set.FinSet nat_cmp) (view : View) (clean : FilePages) : Type 0 where
-  pub no_more : KeepsNoMore basis.opens fewer view
-  pub own : set.contains basis.opens basis.tx ≡ true
+pub record KeepsFewer (context : WalkContext) (fewer : set.FinSet nat_cmp) (view : View) (clean : FilePages) : Type 0 where
+  pub no_more : KeepsNoMore context.active fewer view
+  pub own : set.contains context.active context.tx ≡ true
   pub agree : Agrees view.seen clean
-  pub form : HasForm basis.bits clean basis.root
+  pub form : HasForm context.bits clean context.root
 
-two_stands : (reply : Option ObjReply) (double : Double) (basis : Basis) (fewer : set.FinSet nat_cmp) (request : Request) (view : View) (clean : FilePages) → StandsOrTold reply double (one_key basis) request view → KeepsFewer basis fewer view clean
-    → StandsOrTold reply double (one_key (record basis { opens = fewer })) request view
-two_stands None double basis fewer request view clean stands keeps = double_still (one_key basis) fewer request view clean keeps.no_more keeps.own keeps.agree keeps.form double stands
-two_stands (Some reply) double basis fewer request view clean told keeps = told_still (one_key basis) fewer request view clean keeps.no_more keeps.own keeps.agree keeps.form double reply told
+two_stands : (reply : Option ObjReply) (two_records : TwoRecordWalk) (context : WalkContext) (fewer : set.FinSet nat_cmp) (request : Request) (view : View) (clean : FilePages) → StandsOrTold reply two_records (one_key context) request view → KeepsFewer context fewer view clean
+    → StandsOrTold reply two_records (one_key (record context { active = fewer })) request view
+two_stands None two_records context fewer request view clean stands keeps = two_records_still (one_key context) fewer request view clean keeps.no_more keeps.own keeps.agree keeps.form two_records stands
+two_stands (Some reply) two_records context fewer request view clean told keeps = told_still (one_key context) fewer request view clean keeps.no_more keeps.own keeps.agree keeps.form two_records reply told
 
-stands_by : (c : Course) (basis : Basis) (fewer : set.FinSet nat_cmp) (o : OperationFields) (view : View) (clean : FilePages) → OperatesBy c (one_key basis) o view → KeepsFewer basis fewer view clean
-    → OperatesBy c (one_key (record basis { opens = fewer })) o view
-stands_by (One walk) basis fewer o view clean walks keeps = record {
+stands_by : (c : AccessPath) (context : WalkContext) (fewer : set.FinSet nat_cmp) (o : OperationFields) (view : View) (clean : FilePages) → OperatesBy c (one_key context) o view → KeepsFewer context fewer view clean
+    → OperatesBy c (one_key (record context { active = fewer })) o view
+stands_by (One walk) context fewer o view clean walks keeps = record {
   alone = walks.alone;
   target = walks.target;
-  stands = stands_still (one_key basis) fewer walk view clean keeps.no_more keeps.agree keeps.form walks.stands;
-  fits = fits_for walk.phase (one_key basis) fewer _ view walks.fits;
+  stands = stands_still (one_key context) fewer walk view clean keeps.no_more keeps.agree keeps.form walks.stands;
+  fits = fits_for walk.phase (one_key context) fewer _ view walks.fits;
 }
-stands_by (Two double) basis fewer o view clean stands keeps = two_stands o.reply double basis fewer o.request view clean stands keeps
+stands_by (Two two_records) context fewer o view clean stands keeps = two_stands o.reply two_records context fewer o.request view clean stands keeps
 
 -- **Where owners of ghosts close, an operation stands on.**
-pub stands_with : (basis : Basis) (fewer : set.FinSet nat_cmp) (o : OperationFields) (view : View) (clean : FilePages) → IsOperating (one_key basis) o view → KeepsFewer basis fewer view clean
-    → IsOperating (one_key (record basis { opens = fewer })) o view
-stands_with basis fewer o view clean operates keeps = stands_by o.course basis fewer o view clean operates keeps
+pub stands_with : (context : WalkContext) (fewer : set.FinSet nat_cmp) (o : OperationFields) (view : View) (clean : FilePages) → IsOperating (one_key context) o view → KeepsFewer context fewer view clean
+    → IsOperating (one_key (record context { active = fewer })) o view
+stands_with context fewer o view clean operates keeps = stands_by o.access_path context fewer o view clean operates keeps

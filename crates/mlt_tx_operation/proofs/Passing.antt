@@ -22,19 +22,19 @@ use Rattle.mlt_page_locks.specs.LockTables.{can_write}
 use Rattle.mlt_page_locks.specs.Requests.{released}
 use Rattle.mlt_hash_form.specs.File.{IsPath, bucket_of, dir_of, row_of}
 use Rattle.mlt_hash_form.specs.Form.{value_in}
-use Rattle.mlt_hash_form.specs.Held.{own_or}
+use Rattle.mlt_hash_form.specs.Held.{own_or_clean}
 use Rattle.mlt_hash_record.specs.Plans.{SetsFirst, WriteFields}
-use Rattle.mlt_hash_access.specs.Moments.{Moment}
+use Rattle.mlt_hash_access.specs.LocalStates.{LocalState}
 use Rattle.mlt_hash_access.specs.PageSteps.{Leaves, LocksPage, WritesHeldPage, WritesHeldSlot}
 use Rattle.mlt_hash_access.specs.Views.{ReadsHeldBucket, ReadsPage, view_of}
 use Rattle.mlt_hash_access.proofs.Leaving.{leaves_by_locking, leaves_by_writing}
-use Rattle.mlt_hash_access.proofs.Moments.{locked, written}
+use Rattle.mlt_hash_access.proofs.LocalStates.{locked, written}
 use Rattle.mlt_hash_access.proofs.Results.{bucket_there}
 use Rattle.mlt_hash_access.proofs.Since.{nothing_written}
 use Rattle.mlt_hash_access.proofs.Views.{lock_reads}
 use Rattle.mlt_hash.specs.Changes.{MayChange}
 use Rattle.mlt_hash.specs.Steps.{GoesOn as WalkGoesOn, HasFound}
-use Rattle.mlt_hash.specs.Walks.{Basis, WalkFields, one_key}
+use Rattle.mlt_hash.specs.Walks.{WalkContext, WalkFields, one_key}
 use Rattle.mlt_hash.specs.declared.answer.WalkAnswer.TheVariants as answer
 use Rattle.mlt_hash.specs.declared.pass.Change.TheVariants as change
 use Rattle.mlt_hash.specs.declared.pass.Phase.TheVariants as at
@@ -44,13 +44,13 @@ use Rattle.mlt_tx_two_records.specs.Performing.{Performs}
 use Rattle.mlt_tx_operation.specs.declared.answer.StepAnswer.TheVariants as step
 use Rattle.mlt_tx_operation.specs.Answers.{StepsOn}
 use Rattle.mlt_tx_operation.specs.AtBucket.{Finishes, MayDecide}
-use Rattle.mlt_tx_operation.specs.Operating.{MayOperate, OperationFields, course_for, on_one, started_for}
+use Rattle.mlt_tx_operation.specs.Operating.{MayOperate, OperationFields, access_path_for, on_one, started_for}
 use Rattle.mlt_tx_operation.specs.Walking.{CanTakeBackOne, MayWalkOn, WalkingFields, walk_for, walking}
 use Rattle.mlt_tx_operation.proofs.AtBucket.{change_finishes, may_change, told_finishes}
 use Rattle.mlt_tx_operation.proofs.Going.{goes_on}
 use Rattle.mlt_tx_operation.proofs.Operations.{may_walk_on}
 use Rattle.mlt_tx_operation.proofs.Telling.{found_tells, may_decide}
-use Rattle.mlt_tx_operation.specs.AtOnce.{NobodyHolds, PassesAtOnce, store_after}
+use Rattle.mlt_tx_operation.specs.Fast.{NobodyHolds, PassesFast, store_after}
 use Rattle.mlt_tx_operation.proofs.Free.{NoOtherReads, nobody_reads, nobody_stands, nobody_still, released-granted, released_nothing}
 
 -- no key of a size
@@ -59,7 +59,7 @@ no_key None is = refl
 no_key (Some key) is = absurd (false≢true (sym is))
 
 -- a page that nobody else reads is locked
-locks_free : (m : Moment) (q : ℕ) (mode : Mode) (page : Page) → NoOtherReads m.running.tx m.locks → page_at m.store.pages q ≡ Some page → LocksPage m (locked m q mode) q mode
+locks_free : (m : LocalState) (q : ℕ) (mode : Mode) (page : Page) → NoOtherReads m.running.tx m.locks → page_at m.store.pages q ≡ Some page → LocksPage m (locked m q mode) q mode
 locks_free m q mode page free is = record {
   free = nobody_stands m.locks m.running.tx q mode free;
   there = ap is_some is;
@@ -69,9 +69,9 @@ locks_free m q mode page free is = record {
 }
 
 -- an operation that stands where its walk stands may take its next step
-may_again : (basis : Basis) (old new : Moment) (before after : WalkingFields) → MayWalkOn (one_key basis) old before → Leaves old new → StepsOn (one_key basis) old new (on_one before) (on_one after)
-    → (op : ObjOp) → after.request ≡ Do op → MayWalkOn (one_key basis) new after
-may_again basis old new before after may leaves steps op asked = record {
+may_again : (context : WalkContext) (old new : LocalState) (before after : WalkingFields) → MayWalkOn (one_key context) old before → Leaves old new → StepsOn (one_key context) old new (on_one before) (on_one after)
+    → (op : ObjOp) → after.request ≡ Do op → MayWalkOn (one_key context) new after
+may_again context old new before after may leaves steps op asked = record {
   walks = record {
     bounded = may.walks.bounded;
     small = may.walks.small;
@@ -82,17 +82,17 @@ may_again basis old new before after may leaves steps op asked = record {
     stands = steps.operates.stands;
   };
   operates = steps.operates;
-  back = subst (λ (r : Request). CanTakeBackOne (one_key basis) may.walks.file.clean r) (sym asked) tt;
+  back = subst (λ (r : Request). CanTakeBackOne (one_key context) may.walks.file.clean r) (sym asked) tt;
 }
 
 -- Nobody holds a page. The operation is on one record, and has taken no step; and this is the way of its key.
-module _ (basis : Basis) (m : Moment) (op : ObjOp) (free : NobodyHolds m.locks) (alone : size_key_of (Do op) ≡ None) (may : MayOperate (one_key basis) m (started_for (Do op)))
-    (header : HeadFields) (dir : List ℕ) (number : ℕ) (fields : BucketFields) (path : IsPath (page_at m.store.pages) basis.root (basis.bits (target_of (Do op)).0) header dir number fields) where
+module _ (context : WalkContext) (m : LocalState) (op : ObjOp) (free : NobodyHolds m.locks) (alone : size_key_of (Do op) ≡ None) (may : MayOperate (one_key context) m (started_for (Do op)))
+    (header : HeadFields) (dir : List ℕ) (number : ℕ) (fields : BucketFields) (path : IsPath (page_at m.store.pages) context.root (context.bits (target_of (Do op)).0) header dir number fields) where
   abbrev pub key : ℕ
   key = (target_of (Do op)).0
 
   abbrev pub x : ℕ
-  x = basis.bits key
+  x = context.bits key
 
   -- ---- the header
 
@@ -103,22 +103,22 @@ module _ (basis : Basis) (m : Moment) (op : ObjOp) (free : NobodyHolds m.locks) 
   on_start = walking (Do op) None walk_start
 
   is_start : started_for (Do op) ≡ on_one on_start
-  is_start = λ i. record { request = Do op; reply = None; course = course_for (Do op) (alone i) }
+  is_start = λ i. record { request = Do op; reply = None; access_path = access_path_for (Do op) (alone i) }
 
-  may_start : MayWalkOn (one_key basis) m on_start
-  may_start = may_walk_on basis m on_start (subst (MayOperate (one_key basis) m) is_start may)
+  may_start : MayWalkOn (one_key context) m on_start
+  may_start = may_walk_on context m on_start (subst (MayOperate (one_key context) m) is_start may)
 
   free_at_start : NoOtherReads m.running.tx m.locks
   free_at_start = nobody_reads m.locks m.running.tx free
 
-  abbrev pub with_header : Moment
-  with_header = locked m basis.root Shared
+  abbrev pub with_header : LocalState
+  with_header = locked m context.root Shared
 
-  locks_header : LocksPage m with_header basis.root Shared
-  locks_header = locks_free m basis.root Shared (page.Head header) free_at_start path.head
+  locks_header : LocksPage m with_header context.root Shared
+  locks_header = locks_free m context.root Shared (page.Head header) free_at_start path.head
 
   leaves_header : Leaves m with_header
-  leaves_header = leaves_by_locking m with_header with_header basis.root Shared may_start.walks.may locks_header refl
+  leaves_header = leaves_by_locking m with_header with_header context.root Shared may_start.walks.may locks_header refl
 
   abbrev pub walk_headed : WalkFields
   walk_headed = record walk_start { phase = at.Headed (dir_of header x) (row_of header x) header.depth }
@@ -126,26 +126,26 @@ module _ (basis : Basis) (m : Moment) (op : ObjOp) (free : NobodyHolds m.locks) 
   abbrev pub on_headed : WalkingFields
   on_headed = walking (Do op) None walk_headed
 
-  reads_header : ReadsPage (view_of m) (view_of with_header) basis.root Shared (Some (page.Head header))
-  reads_header = lock_reads m with_header basis.root Shared (page.Head header) may_start.walks.may locks_header path.head
+  reads_header : ReadsPage (view_of m) (view_of with_header) context.root Shared (Some (page.Head header))
+  reads_header = lock_reads m with_header context.root Shared (page.Head header) may_start.walks.may locks_header path.head
 
-  goes_header : WalkGoesOn (one_key basis) with_header walk_start walk_headed
+  goes_header : WalkGoesOn (one_key context) with_header walk_start walk_headed
   goes_header =
-      headed (one_key basis) walk_start walk_headed m with_header Shared header (dir_of header x) (row_of header x) header.depth refl may_start.walks.file may_start.walks.shallow leaves_header.may leaves_header.clean
+      headed (one_key context) walk_start walk_headed m with_header Shared header (dir_of header x) (row_of header x) header.depth refl may_start.walks.file may_start.walks.shallow leaves_header.may leaves_header.clean
       may_start.walks.stands.0 refl reads_header refl refl refl refl refl
 
-  steps_header : StepsOn (one_key basis) m with_header (on_one on_start) (on_one on_headed)
-  steps_header = goes_on basis m with_header on_start on_headed may_start leaves_header (goes_header, omega arith) refl refl refl
+  steps_header : StepsOn (one_key context) m with_header (on_one on_start) (on_one on_headed)
+  steps_header = goes_on context m with_header on_start on_headed may_start leaves_header (goes_header, omega arith) refl refl refl
 
-  may_headed : MayWalkOn (one_key basis) with_header on_headed
-  may_headed = may_again basis m with_header on_start on_headed may_start leaves_header steps_header op refl
+  may_headed : MayWalkOn (one_key context) with_header on_headed
+  may_headed = may_again context m with_header on_start on_headed may_start leaves_header steps_header op refl
 
   -- ---- the directory page
 
   free_headed : NoOtherReads with_header.running.tx with_header.locks
-  free_headed = nobody_still m.locks m.running.tx basis.root Shared free_at_start
+  free_headed = nobody_still m.locks m.running.tx context.root Shared free_at_start
 
-  abbrev pub with_directory : Moment
+  abbrev pub with_directory : LocalState
   with_directory = locked with_header (dir_of header x) Shared
 
   locks_directory : LocksPage with_header with_directory (dir_of header x) Shared
@@ -163,16 +163,16 @@ module _ (basis : Basis) (m : Moment) (op : ObjOp) (free : NobodyHolds m.locks) 
   reads_directory : ReadsPage (view_of with_header) (view_of with_directory) (dir_of header x) Shared (Some (page.Dir dir))
   reads_directory = lock_reads with_header with_directory (dir_of header x) Shared (page.Dir dir) may_headed.walks.may locks_directory path.listed
 
-  goes_directory : WalkGoesOn (one_key basis) with_directory walk_headed walk_placed
+  goes_directory : WalkGoesOn (one_key context) with_directory walk_headed walk_placed
   goes_directory =
-      placed (one_key basis) walk_headed walk_placed with_header with_directory Shared (dir_of header x) header.depth (row_of header x) number dir (may_headed.walks.bounded key) may_headed.walks.small may_headed.walks.stands refl
+      placed (one_key context) walk_headed walk_placed with_header with_directory Shared (dir_of header x) header.depth (row_of header x) number dir (may_headed.walks.bounded key) may_headed.walks.small may_headed.walks.stands refl
       reads_directory (sym path.at) refl refl
 
-  steps_directory : StepsOn (one_key basis) with_header with_directory (on_one on_headed) (on_one on_placed)
-  steps_directory = goes_on basis with_header with_directory on_headed on_placed may_headed leaves_directory (goes_directory, omega arith) refl refl refl
+  steps_directory : StepsOn (one_key context) with_header with_directory (on_one on_headed) (on_one on_placed)
+  steps_directory = goes_on context with_header with_directory on_headed on_placed may_headed leaves_directory (goes_directory, omega arith) refl refl refl
 
-  may_placed : MayWalkOn (one_key basis) with_directory on_placed
-  may_placed = may_again basis with_header with_directory on_headed on_placed may_headed leaves_directory steps_directory op refl
+  may_placed : MayWalkOn (one_key context) with_directory on_placed
+  may_placed = may_again context with_header with_directory on_headed on_placed may_headed leaves_directory steps_directory op refl
 
   -- ---- the bucket
 
@@ -182,7 +182,7 @@ module _ (basis : Basis) (m : Moment) (op : ObjOp) (free : NobodyHolds m.locks) 
   free_placed : NoOtherReads with_directory.running.tx with_directory.locks
   free_placed = nobody_still with_header.locks m.running.tx (dir_of header x) Shared free_headed
 
-  abbrev pub with_bucket : Moment
+  abbrev pub with_bucket : LocalState
   with_bucket = locked with_directory number mode
 
   locks_bucket : LocksPage with_directory with_bucket number mode
@@ -203,23 +203,23 @@ module _ (basis : Basis) (m : Moment) (op : ObjOp) (free : NobodyHolds m.locks) 
   abbrev pub on_bucket : WalkingFields
   on_bucket = walking (Do op) None walk_at
 
-  finds : WalkGoesOn (one_key basis) with_bucket walk_placed walk_at × HasFound walk_at.phase found
-  finds = arrived (one_key basis) walk_placed walk_at with_directory with_bucket mode number header.depth fields found may_placed.walks.stands refl reads_of_bucket refl refl refl
+  finds : WalkGoesOn (one_key context) with_bucket walk_placed walk_at × HasFound walk_at.phase found
+  finds = arrived (one_key context) walk_placed walk_at with_directory with_bucket mode number header.depth fields found may_placed.walks.stands refl reads_of_bucket refl refl refl
 
-  decides : MayDecide (one_key basis) with_bucket on_bucket found
-  decides = may_decide basis with_directory with_bucket on_placed on_bucket found may_placed leaves_bucket finds refl refl
+  decides : MayDecide (one_key context) with_bucket on_bucket found
+  decides = may_decide context with_directory with_bucket on_placed on_bucket found may_placed leaves_bucket finds refl refl
 
   -- what the locks leave once they are released
   all_released : released with_bucket.locks m.running.tx ≡ m.locks
   all_released =
       released-granted with_directory.locks m.running.tx number mode
       ∙ released-granted with_header.locks m.running.tx (dir_of header x) Shared
-      ∙ released-granted m.locks m.running.tx basis.root Shared
+      ∙ released-granted m.locks m.running.tx context.root Shared
       ∙ released_nothing m.locks m.running.tx (free m.running.tx)
 
   -- the third step, and what follows from all three
-  passes : (reply : ObjReply) (new : Moment) (after : WalkingFields) → Finishes (one_key basis) with_bucket new on_bucket after → after.request ≡ Do op → after.reply ≡ Some reply
-      → new.running.tx ≡ m.running.tx → new.locks ≡ with_bucket.locks → PassesAtOnce (one_key basis) m (started_for (Do op)) reply new.store
+  passes : (reply : ObjReply) (new : LocalState) (after : WalkingFields) → Finishes (one_key context) with_bucket new on_bucket after → after.request ≡ Do op → after.reply ≡ Some reply
+      → new.running.tx ≡ m.running.tx → new.locks ≡ with_bucket.locks → PassesFast (one_key context) m (started_for (Do op)) reply new.store
   passes reply new after finishes asked told own locks = record {
     at_end = new;
     after = on_one after;
@@ -228,11 +228,11 @@ module _ (basis : Basis) (m : Moment) (op : ObjOp) (free : NobodyHolds m.locks) 
       placed = with_directory;
       with_header = on_one on_headed;
       with_directory = on_one on_placed;
-      first = record { untold = refl; tells = inl (subst (λ (o : OperationFields). StepsOn (one_key basis) m with_header o (on_one on_headed)) (sym is_start) steps_header); asked = refl; own = refl };
+      first = record { untold = refl; tells = inl (subst (λ (o : OperationFields). StepsOn (one_key context) m with_header o (on_one on_headed)) (sym is_start) steps_header); asked = refl; own = refl };
       second = record { untold = refl; tells = inl steps_directory; asked = refl; own = refl };
       third = record {
         untold = refl;
-        tells = found_tells basis with_directory with_bucket new on_placed on_bucket after found step.Going may_placed leaves_bucket (inr (mode, locks_bucket)) finds refl refl (inl finishes);
+        tells = found_tells context with_directory with_bucket new on_placed on_bucket after found step.Going may_placed leaves_bucket (inr (mode, locks_bucket)) finds refl refl (inl finishes);
         asked = asked;
         own = own;
       };
@@ -243,8 +243,8 @@ module _ (basis : Basis) (m : Moment) (op : ObjOp) (free : NobodyHolds m.locks) 
   }
 
   -- **What only reads is told its reply, and the store stays.**
-  pub passes_reading : (reply : ObjReply) → decision (Do op) found ≡ (reply, None) → PassesAtOnce (one_key basis) m (started_for (Do op)) reply m.store
-  passes_reading reply is = passes reply with_bucket (record on_bucket { reply = Some reply }) (told_finishes basis with_bucket on_bucket (record on_bucket { reply = Some reply }) found reply decides is refl) refl refl refl refl
+  pub passes_reading : (reply : ObjReply) → decision (Do op) found ≡ (reply, None) → PassesFast (one_key context) m (started_for (Do op)) reply m.store
+  passes_reading reply is = passes reply with_bucket (record on_bucket { reply = Some reply }) (told_finishes context with_bucket on_bucket (record on_bucket { reply = Some reply }) found reply decides is refl) refl refl refl refl
 
   -- what gives the record another value
   module _ (reply : ObjReply) (decided : RecChange) (value i : ℕ) (is : decision (Do op) found ≡ (reply, Some decided)) (performs : Performs decided found (change.Set value)) (some : IsSome found)
@@ -255,19 +255,19 @@ module _ (basis : Basis) (m : Moment) (op : ObjOp) (free : NobodyHolds m.locks) 
     abbrev pub changed_page : Page
     changed_page = page_with_slot fields i (Live key value)
 
-    may_make : MayChange (one_key basis) with_bucket walk_at
-    may_make = may_change basis with_bucket on_bucket found reply decided decides is
+    may_make : MayChange (one_key context) with_bucket walk_at
+    may_make = may_change context with_bucket on_bucket found reply decided decides is
 
     reads_held : ReadsHeldBucket (view_of with_bucket) number fields
-    reads_held = (reads_of_bucket.first, reads_of_bucket.here, ap (λ o. own_or o reads_of_bucket.first) (reads_of_bucket.own number) ∙ reads_of_bucket.reads)
+    reads_held = (reads_of_bucket.first, reads_of_bucket.here, ap (λ o. own_or_clean o reads_of_bucket.first) (reads_of_bucket.own number) ∙ reads_of_bucket.reads)
 
-    reads : ReadsBucket (one_key basis) walk_at with_bucket number key fields
-    reads = reads_bucket (one_key basis) walk_at with_bucket number key fields may_make.walks tt reads_held refl refl
+    reads : ReadsBucket (one_key context) walk_at with_bucket number key fields
+    reads = reads_bucket (one_key context) walk_at with_bucket number key fields may_make.walks tt reads_held refl refl
 
     may_set : can_write with_bucket.locks m.running.tx number ≡ true
-    may_set = record_may_write (one_key basis) walk_at with_bucket number fields (is_live_of key) (Live key value) write some may_make.walks.stands may_make.exclusive refl plan
+    may_set = record_may_write (one_key context) walk_at with_bucket number fields (is_live_of key) (Live key value) write some may_make.walks.stands may_make.exclusive refl plan
 
-    abbrev pub with_change : Moment
+    abbrev pub with_change : LocalState
     with_change = written with_bucket number changed_page
 
     writes : WritesHeldPage with_bucket with_change number changed_page
@@ -286,12 +286,12 @@ module _ (basis : Basis) (m : Moment) (op : ObjOp) (free : NobodyHolds m.locks) 
     leaves_change : Leaves with_bucket with_change
     leaves_change = leaves_by_writing with_bucket with_change number changed_page may_make.walks.may writes
 
-    finishes : Finishes (one_key basis) with_bucket with_change on_bucket (walking (Do op) (Some reply) walk_changed)
+    finishes : Finishes (one_key context) with_bucket with_change on_bucket (walking (Do op) (Some reply) walk_changed)
     finishes =
-        change_finishes basis with_bucket with_change on_bucket (walking (Do op) (Some reply) walk_changed) found reply decided decides is leaves_change (changed_page, writes)
+        change_finishes context with_bucket with_change on_bucket (walking (Do op) (Some reply) walk_changed) found reply decided decides is leaves_change (changed_page, writes)
         (record {
           done = change.Set value;
-          makes = update_tells (one_key basis) walk_at walk_changed with_bucket with_change number key fields write answer.Changed reads value some plan (writes_slot, refl);
+          makes = update_tells (one_key context) walk_at walk_changed with_bucket with_change number key fields write answer.Changed reads value some plan (writes_slot, refl);
           performs = performs;
         }) refl refl
 
@@ -299,5 +299,5 @@ module _ (basis : Basis) (m : Moment) (op : ObjOp) (free : NobodyHolds m.locks) 
     as_planned i = record m.store { pages = map.insert m.store.pages number (page_with_slot (bucket_of (sym path.found i)) write.at (Live key value)) }
 
     -- **is told its reply, with the slot set.**
-    pub passes_writing : PassesAtOnce (one_key basis) m (started_for (Do op)) reply (store_after (Some write) m.store)
-    passes_writing = subst (PassesAtOnce (one_key basis) m (started_for (Do op)) reply) as_planned (passes reply with_change (walking (Do op) (Some reply) walk_changed) finishes refl refl refl refl)
+    pub passes_writing : PassesFast (one_key context) m (started_for (Do op)) reply (store_after (Some write) m.store)
+    passes_writing = subst (PassesFast (one_key context) m (started_for (Do op)) reply) as_planned (passes reply with_change (walking (Do op) (Some reply) walk_changed) finishes refl refl refl refl)

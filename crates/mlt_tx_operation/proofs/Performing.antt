@@ -6,8 +6,8 @@ use Rattle.mlt_types.specs.declared.refusal.Refusal.TheVariants as refusal
 use Rattle.mlt_object_base.specs.declared.record.RecChange.{RecChange}
 use Rattle.mlt_object_base.specs.declared.record.RecChange.TheVariants.{Add, Revive}
 use Rattle.mlt_object_base.specs.Records.{CanChange}
-use Rattle.mlt_hash_access.specs.Moments.{Moment}
-use Rattle.mlt_hash.specs.Walks.{Basis, WalkFields, one_key}
+use Rattle.mlt_hash_access.specs.LocalStates.{LocalState}
+use Rattle.mlt_hash.specs.Walks.{WalkContext, WalkFields, one_key}
 use Rattle.mlt_hash.specs.Changes.{IsAtRecord, TellsOfAddition, TellsOfChange}
 use Rattle.mlt_hash.specs.Steps.{HasFound}
 use Rattle.mlt_hash.specs.declared.pass.Phase.{Phase}
@@ -20,22 +20,22 @@ use Rattle.mlt_tx_two_records.specs.Performing.{Performs}
 use Rattle.mlt_tx_operation.specs.Performing.{TellsOfDecision}
 
 -- an addition
-pub addition_tells : (basis : Basis) (new : Moment) (before after : WalkFields) (value : ℕ) (found : Option ℕ) (told : WalkAnswer)
-    → TellsOfAddition (one_key basis) new before after value told → TellsOfDecision (one_key basis) new before after (Add value) found told
-addition_tells basis new before after value found answer.Changed (inl makes) = record { done = change.Revive value; makes = makes; performs = inr refl }
-addition_tells basis new before after value found answer.Changed (inr makes) = record { done = change.Put value; makes = makes; performs = inl refl }
-addition_tells basis new before after value found answer.NeedSplit tells = tells
-addition_tells basis new before after value found answer.Widen tells = tells
-addition_tells basis new before after value found (answer.Refused refusal.NoRoom) tells = tells
-addition_tells basis new before after value found (answer.Refused other) tells = absurd (tells.1 refl)
-addition_tells basis new before after value found other tells = tells
+pub addition_tells : (context : WalkContext) (new : LocalState) (before after : WalkFields) (value : ℕ) (found : Option ℕ) (told : WalkAnswer)
+    → TellsOfAddition (one_key context) new before after value told → TellsOfDecision (one_key context) new before after (Add value) found told
+addition_tells context new before after value found answer.Changed (inl makes) = record { done = change.Revive value; makes = makes; performs = inr refl }
+addition_tells context new before after value found answer.Changed (inr makes) = record { done = change.Put value; makes = makes; performs = inl refl }
+addition_tells context new before after value found answer.NeedSplit tells = tells
+addition_tells context new before after value found answer.Widen tells = tells
+addition_tells context new before after value found (answer.Refused refusal.NoRoom) tells = tells
+addition_tells context new before after value found (answer.Refused other) tells = absurd (tells.1 refl)
+addition_tells context new before after value found other tells = tells
 
 -- any other change
-pub change_tells : (basis : Basis) (new : Moment) (before after : WalkFields) (decided : RecChange) (found : Option ℕ) (done : Change) (told : WalkAnswer)
-    → Performs decided found done → TellsOfChange (one_key basis) new before after done told → TellsOfDecision (one_key basis) new before after decided found told
-change_tells basis new before after decided found done answer.Changed performs makes = record { done = done; makes = makes; performs = performs }
-change_tells basis new before after decided found done (answer.Refused reason) performs tells = absurd (tells.1 refl)
-change_tells basis new before after decided found done other performs tells = absurd tells
+pub change_tells : (context : WalkContext) (new : LocalState) (before after : WalkFields) (decided : RecChange) (found : Option ℕ) (done : Change) (told : WalkAnswer)
+    → Performs decided found done → TellsOfChange (one_key context) new before after done told → TellsOfDecision (one_key context) new before after decided found told
+change_tells context new before after decided found done answer.Changed performs makes = record { done = done; makes = makes; performs = performs }
+change_tells context new before after decided found done (answer.Refused reason) performs tells = absurd (tells.1 refl)
+change_tells context new before after decided found done other performs tells = absurd tells
 
 -- it finds a record, unless one is new or comes back
 pub is_found : (decided : RecChange) (found : Option ℕ) → CanChange (Some decided) found → ((v : ℕ) → decided ≡ Add v → ⊥) → (decided ≡ Revive → ⊥) → (v : ℕ) × (found ≡ Some v)

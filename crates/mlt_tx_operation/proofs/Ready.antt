@@ -3,13 +3,13 @@ use Rattle.std.proofs.Common.{◌≡◌, None, sym, ◌∙◌}
 use Rattle.std.proofs.lemmas.Option.{none-some}
 use Rattle.mlt_hash_access.specs.Views.{View}
 use Rattle.mlt_hash.specs.Splitting.{IsUnderWay}
-use Rattle.mlt_hash.specs.Walks.{Basis}
+use Rattle.mlt_hash.specs.Walks.{WalkContext}
 use Rattle.mlt_hash.specs.declared.pass.Phase.{Phase}
 use Rattle.mlt_hash.specs.declared.pass.Phase.TheVariants as at
 use Rattle.mlt_tx_operation.specs.Walking.{FitsPhase, WalkingFields}
 
-pub under_way : (p : Phase) (basis : Basis) (o : WalkingFields) (view : View) → FitsPhase p basis o view → o.reply ≡ None → IsUnderWay p
-under_way (at.AtBucket bucket depth found) basis o view fits none = none-some fits.0 (sym none ∙ fits.1)
-under_way (at.Full next) basis o view fits none = fits
-under_way (at.Changed bucket done) basis o view fits none = none-some fits.reply (sym none ∙ fits.told)
-under_way other basis o view fits none = tt
+pub under_way : (p : Phase) (context : WalkContext) (o : WalkingFields) (view : View) → FitsPhase p context o view → o.reply ≡ None → IsUnderWay p
+under_way (at.AtBucket bucket depth found) context o view fits none = none-some fits.0 (sym none ∙ fits.1)
+under_way (at.Full next) context o view fits none = fits
+under_way (at.Changed bucket done) context o view fits none = none-some fits.reply (sym none ∙ fits.told)
+under_way other context o view fits none = tt

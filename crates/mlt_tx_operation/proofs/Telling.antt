@@ -6,12 +6,12 @@ use Rattle.mlt_types.specs.declared.refusal.Refusal.TheVariants as refusal
 use Rattle.mlt_page.specs.declared.page.Page.{Page}
 use Rattle.mlt_object_base.specs.Requests.{size_key_of, target_of}
 use Rattle.mlt_hash_form.specs.Held.{Agrees}
-use Rattle.mlt_hash_access.specs.Moments.{Moment}
+use Rattle.mlt_hash_access.specs.LocalStates.{LocalState}
 use Rattle.mlt_hash_access.specs.PageSteps.{HasNoPageLeft, Leaves, LocksAtMost}
 use Rattle.mlt_hash_access.specs.PageTurns.{IsRolledBack, TakesTurn}
 use Rattle.mlt_hash_access.specs.Views.{View, view_of}
 use Rattle.mlt_hash_access.proofs.Views.{agrees}
-use Rattle.mlt_hash.specs.Walks.{Basis, IsAtBucket, Stands, WalkFields, one_key}
+use Rattle.mlt_hash.specs.Walks.{WalkContext, IsAtBucket, Stands, WalkFields, one_key}
 use Rattle.mlt_hash.specs.Changes.{page_of}
 use Rattle.mlt_hash.specs.Splitting.{HasToMake, TellsAt}
 use Rattle.mlt_hash.specs.Steps.{GoesOn, HasFound, steps_to_bucket}
@@ -22,7 +22,7 @@ use Rattle.mlt_hash.specs.declared.pass.Phase.TheVariants as at
 use Rattle.mlt_hash.proofs.StepsLeft.{put_on_way}
 use Rattle.mlt_tx_operation.specs.declared.answer.StepAnswer.{StepAnswer}
 use Rattle.mlt_tx_operation.specs.declared.answer.StepAnswer.TheVariants as step
-use Rattle.mlt_tx_operation.specs.declared.course.Course.TheVariants.{One}
+use Rattle.mlt_tx_operation.specs.declared.access_path.AccessPath.TheVariants.{One}
 use Rattle.mlt_object_base.specs.declared.request.Request.{Request}
 use Rattle.mlt_object_base.specs.declared.request.Request.TheVariants.{Do, TakeBack}
 use Rattle.mlt_tx_operation.specs.Answers.{CauseAtOne, IsRefused, TellsOfStep, Waits}
@@ -36,70 +36,70 @@ use Rattle.mlt_tx_operation.specs.Walking.{CanTakeBackOne, MayWalkOn, WalkingFie
 use Rattle.mlt_tx_operation.proofs.Going.{same_target}
 
 -- **Where its walk waits, so does the operation.**
-pub waits : (basis : Basis) (old new : Moment) (before after : WalkingFields) (page by : ℕ)
-    → TellsAt before.walk.phase (one_key basis) old new before.walk after.walk (answer.Waiting page by) → after.request ≡ before.request → after.reply ≡ before.reply
-    → Waits (one_key basis) old new (on_one before) (on_one after) page by
-waits basis old new before after page by told request same =
-    let walk = walk_waits (one_key basis) old new before.walk after.walk page by told in
+pub waits : (context : WalkContext) (old new : LocalState) (before after : WalkingFields) (page by : ℕ)
+    → TellsAt before.walk.phase (one_key context) old new before.walk after.walk (answer.Waiting page by) → after.request ≡ before.request → after.reply ≡ before.reply
+    → Waits (one_key context) old new (on_one before) (on_one after) page by
+waits context old new before after page by told request same =
+    let walk = walk_waits (one_key context) old new before.walk after.walk page by told in
     record {
       mode = walk.mode;
       asks = walk.asks;
       lowest = walk.lowest;
       pages = walk.pages;
-      stays = λ i. record { request = request i; reply = same i; course = One (walk.stays i) };
+      stays = λ i. record { request = request i; reply = same i; access_path = One (walk.stays i) };
     }
 
 -- what is to be taken back is there, at the bucket
-there_at : (request : Request) (basis : Basis) (clean : ℕ → Option Page) (walk : WalkFields) (view : View) (bucket depth : ℕ) (found : Option ℕ)
-    → CanTakeBackOne (one_key basis) clean request → walk.key ≡ (target_of request).0 → walk.phase ≡ at.AtBucket bucket depth found
-    → IsAtBucket (one_key basis) walk view bucket depth found → Agrees view.seen clean → IsThereFor request (one_key basis) walk view found
-there_at (Do op) basis clean walk view bucket depth found back key phase here agree = tt
-there_at (TakeBack done) basis clean walk view bucket depth found back key phase here agree = back walk view bucket depth found key phase here agree
+there_at : (request : Request) (context : WalkContext) (clean : ℕ → Option Page) (walk : WalkFields) (view : View) (bucket depth : ℕ) (found : Option ℕ)
+    → CanTakeBackOne (one_key context) clean request → walk.key ≡ (target_of request).0 → walk.phase ≡ at.AtBucket bucket depth found
+    → IsAtBucket (one_key context) walk view bucket depth found → Agrees view.seen clean → IsThereFor request (one_key context) walk view found
+there_at (Do op) context clean walk view bucket depth found back key phase here agree = tt
+there_at (TakeBack done) context clean walk view bucket depth found back key phase here agree = back walk view bucket depth found key phase here agree
 
 -- what the walk has found
-found_at : (p : Phase) (basis : Basis) (clean : ℕ → Option Page) (request : Request) (walk : WalkFields) (view : View) (found : Option ℕ)
-    → walk.phase ≡ p → HasFound p found → Stands p (one_key basis) walk view → CanTakeBackOne (one_key basis) clean request → walk.key ≡ (target_of request).0 → Agrees view.seen clean
-    → IsThereFor request (one_key basis) walk view found
-found_at (at.AtBucket bucket depth f) basis clean request walk view found is same here back key agree =
-    subst (λ (g : Option ℕ). IsThereFor request (one_key basis) walk view g) same (there_at request (one_key basis) clean walk view bucket depth f back key is here agree)
-found_at other basis clean request walk view found is same here back key agree = absurd same
+found_at : (p : Phase) (context : WalkContext) (clean : ℕ → Option Page) (request : Request) (walk : WalkFields) (view : View) (found : Option ℕ)
+    → walk.phase ≡ p → HasFound p found → Stands p (one_key context) walk view → CanTakeBackOne (one_key context) clean request → walk.key ≡ (target_of request).0 → Agrees view.seen clean
+    → IsThereFor request (one_key context) walk view found
+found_at (at.AtBucket bucket depth f) context clean request walk view found is same here back key agree =
+    subst (λ (g : Option ℕ). IsThereFor request (one_key context) walk view g) same (there_at request (one_key context) clean walk view bucket depth f back key is here agree)
+found_at other context clean request walk view found is same here back key agree = absurd same
 
 -- **An operation that has reached its bucket may decide.**
-pub may_decide : (basis : Basis) (old mid : Moment) (before at : WalkingFields) (found : Option ℕ) → MayWalkOn (one_key basis) old before → Leaves old mid
-    → TellsAt before.walk.phase (one_key basis) old mid before.walk at.walk (answer.Found found) → at.request ≡ before.request → at.reply ≡ None
-    → MayDecide (one_key basis) mid at found
-may_decide basis old mid before at found may leaves tells request untold =
-    let path = found_by_path before.walk.phase (one_key basis) old mid before.walk at.walk found tells in
+pub may_decide : (context : WalkContext) (old mid : LocalState) (before at : WalkingFields) (found : Option ℕ) → MayWalkOn (one_key context) old before → Leaves old mid
+    → TellsAt before.walk.phase (one_key context) old mid before.walk at.walk (answer.Found found) → at.request ≡ before.request → at.reply ≡ None
+    → MayDecide (one_key context) mid at found
+may_decide context old mid before at found may leaves tells request untold =
+    let path = found_by_path before.walk.phase (one_key context) old mid before.walk at.walk found tells in
     let target = same_target before at may.operates.target path.0.same request in
     let clean = may.walks.file.clean in
     record {
-      walks = walks_on (one_key basis) old mid before.walk at.walk may.walks leaves path.0.stands;
+      walks = walks_on (one_key context) old mid before.walk at.walk may.walks leaves path.0.stands;
       alone = ap size_key_of request ∙ may.operates.alone;
       target = target;
       at_bucket = path.1;
       untold = untold;
-      there = found_at at.walk.phase (one_key basis) clean at.request at.walk (view_of mid) found refl path.1 path.0.stands (subst (CanTakeBackOne (one_key basis) clean) (sym request) may.back) (ap (λ (t : ℕ × Mode). t.0) target) (agrees mid clean leaves.may (leaves.clean clean may.walks.file.is_clean));
+      there = found_at at.walk.phase (one_key context) clean at.request at.walk (view_of mid) found refl path.1 path.0.stands (subst (CanTakeBackOne (one_key context) clean) (sym request) may.back) (ap (λ (t : ℕ × Mode). t.0) target) (agrees mid clean leaves.may (leaves.clean clean may.walks.file.is_clean));
     }
 
 -- **What an operation tells at its bucket is what its step tells.**
-pub found_tells : (basis : Basis) (old mid new : Moment) (before at after : WalkingFields) (found : Option ℕ) (told : StepAnswer) → MayWalkOn (one_key basis) old before → Leaves old mid
-    → LocksAtMost old mid (page_of at.walk.phase) → TellsAt before.walk.phase (one_key basis) old mid before.walk at.walk (answer.Found found) → at.request ≡ before.request → at.reply ≡ before.reply
-    → TellsAtBucket (one_key basis) mid new at after told → TellsOfStep (one_key basis) old new (on_one before) (on_one after) told
-found_tells basis old mid new before at after found told may leaves locks tells request same at_bucket = by told at_bucket
+pub found_tells : (context : WalkContext) (old mid new : LocalState) (before at after : WalkingFields) (found : Option ℕ) (told : StepAnswer) → MayWalkOn (one_key context) old before → Leaves old mid
+    → LocksAtMost old mid (page_of at.walk.phase) → TellsAt before.walk.phase (one_key context) old mid before.walk at.walk (answer.Found found) → at.request ≡ before.request → at.reply ≡ before.reply
+    → TellsAtBucket (one_key context) mid new at after told → TellsOfStep (one_key context) old new (on_one before) (on_one after) told
+found_tells context old mid new before at after found told may leaves locks tells request same at_bucket = by told at_bucket
   where
-    path : GoesOn (one_key basis) mid before.walk at.walk × HasFound at.walk.phase found
-    path = found_by_path before.walk.phase (one_key basis) old mid before.walk at.walk found tells
+    path : GoesOn (one_key context) mid before.walk at.walk × HasFound at.walk.phase found
+    path = found_by_path before.walk.phase (one_key context) old mid before.walk at.walk found tells
 
     turn : TakesTurn old mid
-    turn = one_step_turns (one_key basis) old mid before.walk may.walks leaves
+    turn = one_step_turns (one_key context) old mid before.walk may.walks leaves
 
-    by : (told : StepAnswer) → TellsAtBucket (one_key basis) mid new at after told → TellsOfStep (one_key basis) old new (on_one before) (on_one after) told
+    by : (told : StepAnswer) → TellsAtBucket (one_key context) mid new at after told → TellsOfStep (one_key context) old new (on_one before) (on_one after) told
     by step.Going (inl finishes) =
-        let was = was_last (one_key basis) mid before.walk at.walk found path.0 path.1 in
-        let put = put_on_way before.walk.phase basis.root before.walk (view_of old) (omega (arith, was)) in
-        let by_one : steps_to_change basis.root after.walk (view_of new) + 1 ≡ steps_to_change basis.root before.walk (view_of old) = omega (arith, was, put, finishes.last) in
+        let was = was_last (one_key context) mid before.walk at.walk found path.0 path.1 in
+        let put = put_on_way before.walk.phase context.root before.walk (view_of old) (omega (arith, was)) in
+        let by_one : steps_to_change context.root after.walk (view_of new) + 1 ≡ steps_to_change context.root before.walk (view_of old) = omega (arith, was, put, finishes.last) in
         inl (record {
-          turn = lock_and_write_turn (one_key basis) old mid new before.walk (page_of at.walk.phase) may.walks locks finishes.writes;
+          turn = lock_and_write_turn (one_key context) old mid new before.walk (page_of at.walk.phase) may.walks locks finishes.writes;
           request = finishes.request ∙ request;
           operates = finishes.operates;
           in_first = λ first. finishes.in_pass ∙ path.0.same.pass ∙ first;
@@ -111,7 +111,7 @@ found_tells basis old mid new before at after found told may leaves locks tells 
         })
     by step.Going (inr (inl splits)) =
         inr (inl (record {
-          turn = subst (λ (m : Moment). TakesTurn old m) (sym splits.stays) turn;
+          turn = subst (λ (m : LocalState). TakesTurn old m) (sym splits.stays) turn;
           request = splits.request ∙ request;
           operates = splits.operates;
           later = λ first. splits.later (path.0.same.pass ∙ first);
@@ -119,7 +119,7 @@ found_tells basis old mid new before at after found told may leaves locks tells 
             in_pass = splits.in_pass ∙ path.0.same.pass;
             splits = record {
               walk = at.walk;
-              reaches = subst (λ (m : Moment). ReachesBucket (one_key basis) m before.walk at.walk) (sym splits.stays) (reaches (one_key basis) mid before.walk at.walk path.0 splits.absent);
+              reaches = subst (λ (m : LocalState). ReachesBucket (one_key context) m before.walk at.walk) (sym splits.stays) (reaches (one_key context) mid before.walk at.walk path.0 splits.absent);
               value = splits.value;
               needs = splits.needs;
               at_bucket = ap steps_to_bucket (splits.needs.later splits.later).1;
@@ -135,7 +135,7 @@ found_tells basis old mid new before at after found told may leaves locks tells 
           adds = (again.adds.0, subst (λ (r : Request). AsksToAdd r again.adds.0) request again.adds.1);
           how = record {
             walk = at.walk;
-            reaches = reaches (one_key basis) mid before.walk at.walk path.0 again.absent;
+            reaches = reaches (one_key context) mid before.walk at.walk path.0 again.absent;
             full = again.full;
             restarts = again.restarts;
             again = again.again;
@@ -144,29 +144,29 @@ found_tells basis old mid new before at after found told may leaves locks tells 
     by (step.Refused refusal.NoRoom) none = record {
       back = record { mid = mid; turn = turn; back = none.back };
       later = λ first. none.later (path.0.same.pass ∙ first);
-      cause = inl ((none.adds.0, subst (λ (r : Request). AsksToAdd r none.adds.0) request none.adds.1), record { walk = at.walk; after = none.walk; reaches = reaches (one_key basis) mid before.walk at.walk path.0 none.absent; none = none.none });
+      cause = inl ((none.adds.0, subst (λ (r : Request). AsksToAdd r none.adds.0) request none.adds.1), record { walk = at.walk; after = none.walk; reaches = reaches (one_key context) mid before.walk at.walk path.0 none.absent; none = none.none });
     }
     by other never = absurd never
 
 -- a walk that is refused on its way splits, in a later pass than the first
-in_later : (p : Phase) (basis : Basis) (old mid : Moment) (walk after : WalkFields) (reason : Refusal) → Stands p (one_key basis) walk (view_of old)
-    → TellsAt p (one_key basis) old mid walk after (answer.Refused reason) → walk.pass ≡ pass.First → ⊥
-in_later (at.Adding value bucket depth unsplit) basis old mid walk after reason stands told = stands.later
-in_later (at.Splitting value depth) basis old mid walk after reason stands told = stands.later
-in_later other basis old mid walk after reason stands told = absurd told
+in_later : (p : Phase) (context : WalkContext) (old mid : LocalState) (walk after : WalkFields) (reason : Refusal) → Stands p (one_key context) walk (view_of old)
+    → TellsAt p (one_key context) old mid walk after (answer.Refused reason) → walk.pass ≡ pass.First → ⊥
+in_later (at.Adding value bucket depth unsplit) context old mid walk after reason stands told = stands.later
+in_later (at.Splitting value depth) context old mid walk after reason stands told = stands.later
+in_later other context old mid walk after reason stands told = absurd told
 
-cause_of : (reason : Refusal) (basis : Basis) (old mid : Moment) (request : Request) (walk : WalkFields) → IsWhy reason (one_key basis) old walk → CauseAtOne reason (one_key basis) old mid request walk
-cause_of refusal.NoRoom basis old mid request walk why = inr why
-cause_of refusal.OutOfMemory basis old mid request walk why = why
-cause_of other basis old mid request walk why = absurd why
+cause_of : (reason : Refusal) (context : WalkContext) (old mid : LocalState) (request : Request) (walk : WalkFields) → IsWhy reason (one_key context) old walk → CauseAtOne reason (one_key context) old mid request walk
+cause_of refusal.NoRoom context old mid request walk why = inr why
+cause_of refusal.OutOfMemory context old mid request walk why = why
+cause_of other context old mid request walk why = absurd why
 
 -- **Where its walk is refused, all is rolled back.**
-pub refused : (basis : Basis) (old mid new : Moment) (before : WalkingFields) (after : WalkFields) (reason : Refusal) → MayWalkOn (one_key basis) old before → Leaves old mid
-    → TellsAt before.walk.phase (one_key basis) old mid before.walk after (answer.Refused reason)
-    → ((answer.Refused reason ≡ answer.Refused refusal.NoRoom) ↔ (HasToMake before.walk.phase (one_key basis) old before.walk × HasNoPageLeft old.store))
-    → IsRolledBack mid new → IsRefused (one_key basis) old new (on_one before) reason
-refused basis old mid new before after reason may leaves told exact back = record {
-  back = record { mid = mid; turn = one_step_turns (one_key basis) old mid before.walk may.walks leaves; back = back };
-  later = in_later before.walk.phase (one_key basis) old mid before.walk after reason may.walks.stands told;
-  cause = cause_of reason (one_key basis) old mid before.request before.walk (why_refused (one_key basis) old mid before.walk after reason told exact);
+pub refused : (context : WalkContext) (old mid new : LocalState) (before : WalkingFields) (after : WalkFields) (reason : Refusal) → MayWalkOn (one_key context) old before → Leaves old mid
+    → TellsAt before.walk.phase (one_key context) old mid before.walk after (answer.Refused reason)
+    → ((answer.Refused reason ≡ answer.Refused refusal.NoRoom) ↔ (HasToMake before.walk.phase (one_key context) old before.walk × HasNoPageLeft old.store))
+    → IsRolledBack mid new → IsRefused (one_key context) old new (on_one before) reason
+refused context old mid new before after reason may leaves told exact back = record {
+  back = record { mid = mid; turn = one_step_turns (one_key context) old mid before.walk may.walks leaves; back = back };
+  later = in_later before.walk.phase (one_key context) old mid before.walk after reason may.walks.stands told;
+  cause = cause_of reason (one_key context) old mid before.request before.walk (why_refused (one_key context) old mid before.walk after reason told exact);
 }

@@ -7,11 +7,11 @@ use Rattle.mlt_object_kinds.specs.declared.operation.ObjReply.{ObjReply}
 use Rattle.mlt_object_base.specs.declared.request.Request.{Request}
 use Rattle.mlt_object_base.specs.Requests.{target_of}
 use Rattle.mlt_page_locks.specs.Requests.{IsLowest, conflicts}
-use Rattle.mlt_hash_access.specs.Moments.{Moment}
+use Rattle.mlt_hash_access.specs.LocalStates.{LocalState}
 use Rattle.mlt_hash_access.specs.PageTurns.{TakesTurn, TurnsBack}
 use Rattle.mlt_hash_access.specs.Views.{View, rebased, view_of}
 use Rattle.mlt_hash_pair.specs.Pairs.{mode_next, page_next}
-use Rattle.mlt_hash.specs.Walks.{Basis, Before, WalkFields, basis_after, one_key}
+use Rattle.mlt_hash.specs.Walks.{WalkContext, Before, WalkFields, context_after, one_key}
 use Rattle.mlt_hash.specs.Passes.{next_of}
 use Rattle.mlt_hash.specs.Steps.{steps_to_bucket}
 use Rattle.mlt_hash.specs.Changes.{MustWiden, NeedsSplit}
@@ -23,13 +23,13 @@ use Rattle.mlt_tx_two_records.specs.FirstPass.{FindsNoRoom}
 use Rattle.mlt_tx_two_records.specs.Performing.{AsksToAdd}
 use Rattle.mlt_tx_two_records.specs.WalkSteps.{AsksForAt, BeginsToSplit, GoesNearer, LacksPage, LacksRoom, ReachesBucket}
 use Rattle.mlt_tx_two_records.specs.WidePass.{CauseAtOwn, CauseAtSize, HasPutOwn, wide_to}
-use Rattle.mlt_tx_two_records.specs.declared.double.Double.{Double}
-use Rattle.mlt_tx_two_records.specs.declared.double.Double.TheVariants.{First, Owing, Wide}
-use Rattle.mlt_tx_two_records.specs.declared.double.Leg.TheVariants as leg
+use Rattle.mlt_tx_two_records.specs.declared.two_records.TwoRecordWalk.{TwoRecordWalk}
+use Rattle.mlt_tx_two_records.specs.declared.two_records.TwoRecordWalk.TheVariants.{First, Owing, Wide}
+use Rattle.mlt_tx_two_records.specs.declared.two_records.WideStage.TheVariants as wide_stage
 use Rattle.mlt_tx_operation.specs.declared.answer.StepAnswer.{StepAnswer}
 use Rattle.mlt_tx_operation.specs.declared.answer.StepAnswer.TheVariants as answer
-use Rattle.mlt_tx_operation.specs.declared.course.Course.{Course}
-use Rattle.mlt_tx_operation.specs.declared.course.Course.TheVariants.{One, Two}
+use Rattle.mlt_tx_operation.specs.declared.access_path.AccessPath.{AccessPath}
+use Rattle.mlt_tx_operation.specs.declared.access_path.AccessPath.TheVariants.{One, Two}
 use Rattle.mlt_tx_operation.specs.Operating.{IsInFirst, IsOperating, OperationFields, steps_left}
 
 -- ---- on one record
@@ -49,150 +49,150 @@ pub record WalkGoesOn (root : ℕ) (old new : View) (before after : WalkFields) 
   pub goes : GoesNearer root old new before after ⊎ PutsBehindSplits before after
 
 -- Its bucket has no room, and it is to be split in this pass.
-pub record WalkBeginsToSplit (basis : Basis) (new : Moment) (before after : WalkFields) : Type 0 where
+pub record WalkBeginsToSplit (context : WalkContext) (new : LocalState) (before after : WalkFields) : Type 0 where
   pub in_pass : after.pass ≡ before.pass
-  pub splits : BeginsToSplit basis new before after
+  pub splits : BeginsToSplit context new before after
 
 -- a first pass has found no room, or a narrow one that it has to be wide
-abbrev pub HasToRestart : Basis → Moment → WalkFields → WalkFields → Type 0
-HasToRestart basis m walk full =
-    ((walk.pass ≡ pass.First) × ((value : ℕ) × NeedsSplit basis m walk full value))
-    ⊎ MustWiden basis m walk full
+abbrev pub HasToRestart : WalkContext → LocalState → WalkFields → WalkFields → Type 0
+HasToRestart context m walk full =
+    ((walk.pass ≡ pass.First) × ((value : ℕ) × NeedsSplit context m walk full value))
+    ⊎ MustWiden context m walk full
 
 -- Its bucket has no room, and another pass is to split it, which begins.
-pub record WalkRestarts (basis : Basis) (mid : Moment) (before after : WalkFields) : Type 0 where
+pub record WalkRestarts (context : WalkContext) (mid : LocalState) (before after : WalkFields) : Type 0 where
   pub walk : WalkFields
-  pub reaches : ReachesBucket basis mid before walk
+  pub reaches : ReachesBucket context mid before walk
   pub full : WalkFields
-  pub restarts : HasToRestart basis mid walk full
+  pub restarts : HasToRestart context mid walk full
   pub again : after ≡ record full { pass = next_of full.phase; phase = at.Start; split = None }
 
 -- why it is refused: it lacks room or a page, or memory, to make one or to keep an image
-abbrev pub CauseAtOne : Refusal → Basis → Moment → Moment → Request → WalkFields → Type 0
-CauseAtOne refusal.NoRoom basis old mid request before =
-    (((value : ℕ) × AsksToAdd request value) × LacksRoom basis mid before)
-    ⊎ LacksPage basis old before
-CauseAtOne refusal.OutOfMemory basis old mid request before =
-    (steps_to_bucket before.phase ≡ 0) × (LacksPage basis old before → ⊥)
-CauseAtOne other basis old mid request before = ⊥
+abbrev pub CauseAtOne : Refusal → WalkContext → LocalState → LocalState → Request → WalkFields → Type 0
+CauseAtOne refusal.NoRoom context old mid request before =
+    (((value : ℕ) × AsksToAdd request value) × LacksRoom context mid before)
+    ⊎ LacksPage context old before
+CauseAtOne refusal.OutOfMemory context old mid request before =
+    (steps_to_bucket before.phase ≡ 0) × (LacksPage context old before → ⊥)
+CauseAtOne other context old mid request before = ⊥
 
 -- ---- on one record, or on two
 
 -- how it goes on, up to the step at which the reply is told
-abbrev pub DoubleSteps : Option ObjReply → Double → Double → Basis → Moment → Moment → Request → Type 0
-DoubleSteps None before after basis old new request = GoesOnBy before after basis old new request
-DoubleSteps (Some reply) before after basis old new request = TellsLast before after
+abbrev pub TwoRecordSteps : Option ObjReply → TwoRecordWalk → TwoRecordWalk → WalkContext → LocalState → LocalState → Request → Type 0
+TwoRecordSteps None before after context old new request = GoesOnBy before after context old new request
+TwoRecordSteps (Some reply) before after context old new request = TellsLast before after
 
-abbrev pub StepsBy : Course → Course → Basis → Moment → Moment → Request → Option ObjReply → Type 0
-StepsBy (One before) (One after) basis old new request reply =
-    WalkGoesOn basis.root (view_of old) (view_of new) before after
-StepsBy (Two before) (Two after) basis old new request reply =
-    DoubleSteps reply before after basis old new request
-StepsBy other other' basis old new request reply = ⊥
+abbrev pub StepsBy : AccessPath → AccessPath → WalkContext → LocalState → LocalState → Request → Option ObjReply → Type 0
+StepsBy (One before) (One after) context old new request reply =
+    WalkGoesOn context.root (view_of old) (view_of new) before after
+StepsBy (Two before) (Two after) context old new request reply =
+    TwoRecordSteps reply before after context old new request
+StepsBy other other' context old new request reply = ⊥
 
 -- It goes on in its pass, or tells its reply. Fewer steps are left.
-pub record StepsOn (basis : Basis) (old new : Moment) (before after : OperationFields) : Type 0 where
+pub record StepsOn (context : WalkContext) (old new : LocalState) (before after : OperationFields) : Type 0 where
   pub turn : TakesTurn old new
   pub request : after.request ≡ before.request
-  pub operates : IsOperating basis after (view_of new)
-  pub in_first : IsInFirst before.course → IsInFirst after.course
-  pub fewer : steps_left basis.root after (view_of new) < steps_left basis.root before (view_of old)
-  pub how : StepsBy before.course after.course basis old new before.request after.reply
+  pub operates : IsOperating context after (view_of new)
+  pub in_first : IsInFirst before.access_path → IsInFirst after.access_path
+  pub fewer : steps_left context.root after (view_of new) < steps_left context.root before (view_of old)
+  pub how : StepsBy before.access_path after.access_path context old new before.request after.reply
 
 -- One on one record begins to split its bucket, in a later pass than the first. How many steps are left is known from
 -- here.
-abbrev pub SplitsBy : Course → Course → Basis → Moment → Type 0
-SplitsBy (One before) (One after) basis new = WalkBeginsToSplit basis new before after
-SplitsBy other other' basis new = ⊥
+abbrev pub SplitsBy : AccessPath → AccessPath → WalkContext → LocalState → Type 0
+SplitsBy (One before) (One after) context new = WalkBeginsToSplit context new before after
+SplitsBy other other' context new = ⊥
 
-pub record SplitsFromHere (basis : Basis) (old new : Moment) (before after : OperationFields)
+pub record SplitsFromHere (context : WalkContext) (old new : LocalState) (before after : OperationFields)
     : Type 0 where
   pub turn : TakesTurn old new
   pub request : after.request ≡ before.request
-  pub operates : IsOperating basis after (view_of new)
-  pub later : IsInFirst before.course → ⊥
-  pub how : SplitsBy before.course after.course basis new
+  pub operates : IsOperating context after (view_of new)
+  pub later : IsInFirst before.access_path → ⊥
+  pub how : SplitsBy before.access_path after.access_path context new
 
 -- A first pass to two records has found a bucket without room, and a wide one begins.
-abbrev pub DoubleRestarts : Double → Double → Basis → Moment → Moment → Request → Type 0
-DoubleRestarts (First pair) (Wide leg.Own walk) basis old new request =
-    FindsNoRoom basis old new request pair × (walk ≡ wide_to (target_of request).0)
-DoubleRestarts other other' basis old new request = ⊥
+abbrev pub TwoRecordRestarts : TwoRecordWalk → TwoRecordWalk → WalkContext → LocalState → LocalState → Request → Type 0
+TwoRecordRestarts (First pair) (Wide wide_stage.Own walk) context old new request =
+    FindsNoRoom context old new request pair × (walk ≡ wide_to (target_of request).0)
+TwoRecordRestarts other other' context old new request = ⊥
 
-abbrev pub RestartsBy : Course → Course → Basis → Moment → Moment → Moment → Request → Type 0
-RestartsBy (One before) (One after) basis old mid new request = WalkRestarts basis mid before after
-RestartsBy (Two before) (Two after) basis old mid new request =
-    DoubleRestarts before after basis old new request
-RestartsBy other other' basis old mid new request = ⊥
+abbrev pub RestartsBy : AccessPath → AccessPath → WalkContext → LocalState → LocalState → LocalState → Request → Type 0
+RestartsBy (One before) (One after) context old mid new request = WalkRestarts context mid before after
+RestartsBy (Two before) (Two after) context old mid new request =
+    TwoRecordRestarts before after context old new request
+RestartsBy other other' context old mid new request = ⊥
 
 -- A bucket has no room for a record that is to be added, and another pass is to split it: this one is rolled back, and
 -- that one begins. No reply is known.
-pub record Restarts (basis : Basis) (old new : Moment) (before after : OperationFields) : Type 0 where
+pub record Restarts (context : WalkContext) (old new : LocalState) (before after : OperationFields) : Type 0 where
   pub back : TurnsBack old new
   pub request : after.request ≡ before.request
   pub untold : (before.reply ≡ None) × (after.reply ≡ None)
-  pub operates : IsOperating basis after (view_of new)
+  pub operates : IsOperating context after (view_of new)
   pub adds : (value : ℕ) × AsksToAdd before.request value
-  pub how : RestartsBy before.course after.course basis old back.mid new before.request
+  pub how : RestartsBy before.access_path after.access_path context old back.mid new before.request
 
 -- the lock that its next step asks for: of which page, and in which mode; to the key of a size over what is written
-abbrev pub DoubleAsksFor : Double → Basis → View → Request → ℕ → Mode → Type 0
-DoubleAsksFor (First pair) basis view request page mode =
-    (page ≡ page_next basis.root pair) × (mode ≡ mode_next pair)
-DoubleAsksFor (Owing pair reply) basis view request page mode = ⊥
-DoubleAsksFor (Wide leg.Own walk) basis view request page mode =
-    AsksForAt walk.phase (one_key basis) view walk page mode
-DoubleAsksFor (Wide leg.Size walk) basis view request page mode =
-    (since : Before) × HasPutOwn basis request view since
-    × AsksForAt walk.phase (basis_after since basis) (rebased since.written view) walk page mode
+abbrev pub TwoRecordAsksFor : TwoRecordWalk → WalkContext → View → Request → ℕ → Mode → Type 0
+TwoRecordAsksFor (First pair) context view request page mode =
+    (page ≡ page_next context.root pair) × (mode ≡ mode_next pair)
+TwoRecordAsksFor (Owing pair reply) context view request page mode = ⊥
+TwoRecordAsksFor (Wide wide_stage.Own walk) context view request page mode =
+    AsksForAt walk.phase (one_key context) view walk page mode
+TwoRecordAsksFor (Wide wide_stage.Size walk) context view request page mode =
+    (since : Before) × HasPutOwn context request view since
+    × AsksForAt walk.phase (context_after since context) (rebased since.written view) walk page mode
 
-abbrev pub AsksFor : Course → Basis → View → Request → ℕ → Mode → Type 0
-AsksFor (One walk) basis view request page mode = AsksForAt walk.phase basis view walk page mode
-AsksFor (Two double) basis view request page mode = DoubleAsksFor double basis view request page mode
+abbrev pub AsksFor : AccessPath → WalkContext → View → Request → ℕ → Mode → Type 0
+AsksFor (One walk) context view request page mode = AsksForAt walk.phase context view walk page mode
+AsksFor (Two two_records) context view request page mode = TwoRecordAsksFor two_records context view request page mode
 
 -- It waits for a page, told the lowest transaction whose lock stands against its own. Nothing has changed.
-pub record Waits (basis : Basis) (old new : Moment) (before after : OperationFields) (page by : ℕ)
+pub record Waits (context : WalkContext) (old new : LocalState) (before after : OperationFields) (page by : ℕ)
     : Type 0 where
   pub mode : Mode
-  pub asks : AsksFor before.course basis (view_of old) before.request page mode
+  pub asks : AsksFor before.access_path context (view_of old) before.request page mode
   pub lowest : IsLowest (conflicts old.locks old.running.tx page mode) by
   pub pages : new ≡ old
   pub stays : after ≡ before
 
 -- why it is refused: on two records as on the one that it is at
-abbrev pub CauseAtTwo : Double → Refusal → Basis → Moment → Moment → Request → Type 0
-CauseAtTwo (First pair) reason basis old mid request = ⊥
-CauseAtTwo (Owing pair reply) reason basis old mid request = ⊥
-CauseAtTwo (Wide leg.Own walk) reason basis old mid request =
-    CauseAtOwn reason (one_key basis) old mid walk
-CauseAtTwo (Wide leg.Size walk) reason basis old mid request =
-    (since : Before) × HasPutOwn basis request (view_of old) since
-    × CauseAtSize reason (basis_after since basis) old mid walk
+abbrev pub CauseAtTwo : TwoRecordWalk → Refusal → WalkContext → LocalState → LocalState → Request → Type 0
+CauseAtTwo (First pair) reason context old mid request = ⊥
+CauseAtTwo (Owing pair reply) reason context old mid request = ⊥
+CauseAtTwo (Wide wide_stage.Own walk) reason context old mid request =
+    CauseAtOwn reason (one_key context) old mid walk
+CauseAtTwo (Wide wide_stage.Size walk) reason context old mid request =
+    (since : Before) × HasPutOwn context request (view_of old) since
+    × CauseAtSize reason (context_after since context) old mid walk
 
-abbrev pub CauseBy : Course → Refusal → Basis → Moment → Moment → Request → Type 0
-CauseBy (One walk) reason basis old mid request = CauseAtOne reason basis old mid request walk
-CauseBy (Two double) reason basis old mid request =
-    CauseAtTwo double reason basis old mid request
+abbrev pub CauseBy : AccessPath → Refusal → WalkContext → LocalState → LocalState → Request → Type 0
+CauseBy (One walk) reason context old mid request = CauseAtOne reason context old mid request walk
+CauseBy (Two two_records) reason context old mid request =
+    CauseAtTwo two_records reason context old mid request
 
-abbrev pub IsCauseOf : Refusal → Basis → Moment → Moment → OperationFields → Type 0
-IsCauseOf reason basis old mid before = CauseBy before.course reason basis old mid before.request
+abbrev pub IsCauseOf : Refusal → WalkContext → LocalState → LocalState → OperationFields → Type 0
+IsCauseOf reason context old mid before = CauseBy before.access_path reason context old mid before.request
 
 -- It is refused, in a later pass than the first. All is rolled back.
-pub record IsRefused (basis : Basis) (old new : Moment) (before : OperationFields) (reason : Refusal)
+pub record IsRefused (context : WalkContext) (old new : LocalState) (before : OperationFields) (reason : Refusal)
     : Type 0 where
   pub back : TurnsBack old new
-  pub later : IsInFirst before.course → ⊥
-  pub cause : IsCauseOf reason basis old back.mid before
+  pub later : IsInFirst before.access_path → ⊥
+  pub cause : IsCauseOf reason context old back.mid before
 
 -- A step goes on in its pass, or tells its reply, or begins another pass where a bucket has no
 -- room; or it waits, and nothing has changed; or it is refused, in a later pass than the first, and
 -- all is rolled back.
-abbrev pub TellsOfStep : Basis → Moment → Moment → OperationFields → OperationFields → StepAnswer
+abbrev pub TellsOfStep : WalkContext → LocalState → LocalState → OperationFields → OperationFields → StepAnswer
     → Type 0
-TellsOfStep basis old new before after answer.Going =
-    StepsOn basis old new before after ⊎ SplitsFromHere basis old new before after
-    ⊎ Restarts basis old new before after
-TellsOfStep basis old new before after (answer.Waiting page by) =
-    Waits basis old new before after page by
-TellsOfStep basis old new before after (answer.Refused reason) =
-    IsRefused basis old new before reason
+TellsOfStep context old new before after answer.Going =
+    StepsOn context old new before after ⊎ SplitsFromHere context old new before after
+    ⊎ Restarts context old new before after
+TellsOfStep context old new before after (answer.Waiting page by) =
+    Waits context old new before after page by
+TellsOfStep context old new before after (answer.Refused reason) =
+    IsRefused context old new before reason

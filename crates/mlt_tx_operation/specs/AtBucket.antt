@@ -3,11 +3,11 @@ use Rattle.std.specs.Prelude.{ℕ, ◌≡◌, ◌⊎◌, Option, None}
 use Rattle.mlt_types.specs.declared.refusal.Refusal.TheVariants as refusal
 use Rattle.mlt_object_base.specs.Effects.{inverse_of}
 use Rattle.mlt_object_base.specs.Requests.{size_key_of, target_of}
-use Rattle.mlt_hash_access.specs.Moments.{Moment}
+use Rattle.mlt_hash_access.specs.LocalStates.{LocalState}
 use Rattle.mlt_hash_access.specs.PageSteps.{Leaves, WritesAtMost}
 use Rattle.mlt_hash_access.specs.PageTurns.{IsRolledBack}
 use Rattle.mlt_hash_access.specs.Views.{View, view_of}
-use Rattle.mlt_hash.specs.Walks.{Basis, MayWalk, WalkFields}
+use Rattle.mlt_hash.specs.Walks.{WalkContext, MayWalk, WalkFields}
 use Rattle.mlt_hash.specs.Passes.{next_of}
 use Rattle.mlt_hash.specs.Steps.{HasFound}
 use Rattle.mlt_hash.specs.Changes.{HasNoRoom, NeedsSplit, page_of}
@@ -22,65 +22,65 @@ use Rattle.mlt_tx_operation.specs.Walking.{IsThere, IsWalking, WalkingFields, st
 use Rattle.mlt_tx_two_records.specs.Performing.{AsksToAdd}
 
 -- what is found is what the inverse needs, where something is to be taken back: the record, or the ghost
-abbrev pub IsThereFor : Request → Basis → WalkFields → View → Option ℕ → Type 0
-IsThereFor (Do op) basis walk view found = Unit {0}
-IsThereFor (TakeBack done) basis walk view found = IsThere basis walk view (inverse_of done) found
+abbrev pub IsThereFor : Request → WalkContext → WalkFields → View → Option ℕ → Type 0
+IsThereFor (Do op) context walk view found = Unit {0}
+IsThereFor (TakeBack done) context walk view found = IsThere context walk view (inverse_of done) found
 
 -- The walk has found this, and the reply is not known yet.
-pub record MayDecide (basis : Basis) (m : Moment) (o : WalkingFields) (found : Option ℕ) : Type 0 where
-  pub walks : MayWalk basis m o.walk
+pub record MayDecide (context : WalkContext) (m : LocalState) (o : WalkingFields) (found : Option ℕ) : Type 0 where
+  pub walks : MayWalk context m o.walk
   pub alone : size_key_of o.request ≡ None
   pub target : (o.walk.key, o.walk.mode) ≡ target_of o.request
   pub at_bucket : HasFound o.walk.phase found
   pub untold : o.reply ≡ None
-  pub there : IsThereFor o.request basis o.walk (view_of m) found
+  pub there : IsThereFor o.request context o.walk (view_of m) found
 
 -- It is told its reply, and what it changes is written: its next step is its end.
-pub record Finishes (basis : Basis) (old new : Moment) (before after : WalkingFields) : Type 0 where
+pub record Finishes (context : WalkContext) (old new : LocalState) (before after : WalkingFields) : Type 0 where
   pub leaves : Leaves old new
   pub writes : WritesAtMost old new (page_of before.walk.phase)
   pub request : after.request ≡ before.request
   pub in_pass : after.walk.pass ≡ before.walk.pass
-  pub operates : IsWalking basis after (view_of new)
-  pub last : steps_of_walk basis.root after.walk (view_of new) ≡ 1
+  pub operates : IsWalking context after (view_of new)
+  pub last : steps_of_walk context.root after.walk (view_of new) ≡ 1
 
 -- The bucket is to be split in this pass.
-pub record SplitsInPass (basis : Basis) (old new : Moment) (before after : WalkingFields) : Type 0 where
+pub record SplitsInPass (context : WalkContext) (old new : LocalState) (before after : WalkingFields) : Type 0 where
   pub stays : new ≡ old
   pub request : after.request ≡ before.request
   pub in_pass : after.walk.pass ≡ before.walk.pass
-  pub operates : IsWalking basis after (view_of new)
+  pub operates : IsWalking context after (view_of new)
   pub later : before.walk.pass ≡ pass.First → ⊥
   pub absent : HasFound before.walk.phase None
   pub value : ℕ
-  pub needs : NeedsSplit basis new before.walk after.walk value
+  pub needs : NeedsSplit context new before.walk after.walk value
 
 -- Another pass is to split it: this one is rolled back, and that one begins.
-pub record BeginsAgain (basis : Basis) (old new : Moment) (before after : WalkingFields) : Type 0 where
+pub record BeginsAgain (context : WalkContext) (old new : LocalState) (before after : WalkingFields) : Type 0 where
   pub back : IsRolledBack old new
   pub request : after.request ≡ before.request
   pub untold : (before.reply ≡ None) × (after.reply ≡ None)
-  pub operates : IsWalking basis after (view_of new)
+  pub operates : IsWalking context after (view_of new)
   pub absent : HasFound before.walk.phase None
   pub adds : (value : ℕ) × AsksToAdd before.request value
   pub full : WalkFields
-  pub restarts : HasToRestart basis old before.walk full
+  pub restarts : HasToRestart context old before.walk full
   pub again : after.walk ≡ record full { pass = next_of full.phase; phase = at.Start; split = None }
 
 -- There is no room at any depth.
-pub record FindsNoRoom (basis : Basis) (old new : Moment) (before : WalkingFields) : Type 0 where
+pub record FindsNoRoom (context : WalkContext) (old new : LocalState) (before : WalkingFields) : Type 0 where
   pub back : IsRolledBack old new
   pub later : before.walk.pass ≡ pass.First → ⊥
   pub absent : HasFound before.walk.phase None
   pub adds : (value : ℕ) × AsksToAdd before.request value
   pub walk : WalkFields
-  pub none : HasNoRoom basis old before.walk walk
+  pub none : HasNoRoom context old before.walk walk
 
-abbrev pub TellsAtBucket : Basis → Moment → Moment → WalkingFields → WalkingFields → StepAnswer
+abbrev pub TellsAtBucket : WalkContext → LocalState → LocalState → WalkingFields → WalkingFields → StepAnswer
     → Type 0
-TellsAtBucket basis old new before after answer.Going =
-    Finishes basis old new before after ⊎ SplitsInPass basis old new before after
-    ⊎ BeginsAgain basis old new before after
-TellsAtBucket basis old new before after (answer.Refused refusal.NoRoom) =
-    FindsNoRoom basis old new before
-TellsAtBucket basis old new before after other = ⊥
+TellsAtBucket context old new before after answer.Going =
+    Finishes context old new before after ⊎ SplitsInPass context old new before after
+    ⊎ BeginsAgain context old new before after
+TellsAtBucket context old new before after (answer.Refused refusal.NoRoom) =
+    FindsNoRoom context old new before
+TellsAtBucket context old new before after other = ⊥

@@ -4,4 +4,4 @@ pub mod Operating
 pub mod Answers
 pub mod AtBucket
 pub mod MostSteps
-pub mod AtOnce
+pub mod Fast

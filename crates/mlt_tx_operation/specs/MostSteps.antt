@@ -6,8 +6,8 @@ use Rattle.mlt_hash.specs.Steps.{steps_to_bucket}
 use Rattle.mlt_hash.specs.Walks.{WalkFields}
 use Rattle.mlt_hash.specs.declared.pass.Pass.{Pass}
 use Rattle.mlt_hash.specs.declared.pass.Pass.TheVariants.{First, Narrow, Wide}
-use Rattle.mlt_tx_operation.specs.declared.course.Course.{Course}
-use Rattle.mlt_tx_operation.specs.declared.course.Course.TheVariants.{One, Two}
+use Rattle.mlt_tx_operation.specs.declared.access_path.AccessPath.{AccessPath}
+use Rattle.mlt_tx_operation.specs.declared.access_path.AccessPath.TheVariants.{One, Two}
 use Rattle.mlt_tx_operation.specs.Operating.{OperationFields, steps_of_two}
 use Rattle.mlt_tx_operation.specs.Walking.{steps_of_walk}
 
@@ -29,12 +29,12 @@ most_steps_of_walk root walk view =
     if nat_eq (steps_to_bucket walk.phase) 0 then steps_of_walk root walk view
     else steps_to_bucket walk.phase + 3 * passes_after walk.pass + most_from_bucket
 
--- the same by the course: on two records as many as are left
-abbrev pub most_steps_by : Course → ℕ → Option ObjReply → View → ℕ
+-- the same by the access path: on two records as many as are left
+abbrev pub most_steps_by : AccessPath → ℕ → Option ObjReply → View → ℕ
 most_steps_by (One walk) root reply view = most_steps_of_walk root walk view
-most_steps_by (Two double) root reply view = steps_of_two reply root double view
+most_steps_by (Two two_records) root reply view = steps_of_two reply root two_records view
 
 -- How many steps an operation still takes at most, its end among them, and those that wait aside:
 -- at most 587 on one record, and 1165 on two.
 abbrev pub most_steps : ℕ → OperationFields → View → ℕ
-most_steps root o view = most_steps_by o.course root o.reply view
+most_steps root o view = most_steps_by o.access_path root o.reply view

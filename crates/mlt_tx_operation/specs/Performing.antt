@@ -2,22 +2,22 @@
 use Rattle.std.specs.Prelude.{ℕ, Option}
 use Rattle.mlt_types.specs.declared.refusal.Refusal.TheVariants as refusal
 use Rattle.mlt_object_base.specs.declared.record.RecChange.{RecChange}
-use Rattle.mlt_hash_access.specs.Moments.{Moment}
-use Rattle.mlt_hash.specs.Walks.{Basis, WalkFields}
+use Rattle.mlt_hash_access.specs.LocalStates.{LocalState}
+use Rattle.mlt_hash.specs.Walks.{WalkContext, WalkFields}
 use Rattle.mlt_hash.specs.Changes.{HasNoRoom, MustWiden, NeedsSplit}
 use Rattle.mlt_hash.specs.declared.answer.WalkAnswer.{WalkAnswer}
 use Rattle.mlt_hash.specs.declared.answer.WalkAnswer.TheVariants as answer
 use Rattle.mlt_tx_two_records.specs.AtWideBuckets.{IsMade, OfAddition}
 
 -- The change is made; or it is an addition whose bucket has no room.
-abbrev pub TellsOfDecision : Basis → Moment → WalkFields → WalkFields → RecChange → Option ℕ
+abbrev pub TellsOfDecision : WalkContext → LocalState → WalkFields → WalkFields → RecChange → Option ℕ
     → WalkAnswer → Type 0
-TellsOfDecision basis new before after decided found answer.Changed =
-    IsMade basis new before after decided found
-TellsOfDecision basis new before after decided found answer.NeedSplit =
-    OfAddition decided (λ value. NeedsSplit basis new before after value)
-TellsOfDecision basis new before after decided found answer.Widen =
-    OfAddition decided (λ value. MustWiden basis new before after)
-TellsOfDecision basis new before after decided found (answer.Refused refusal.NoRoom) =
-    OfAddition decided (λ value. HasNoRoom basis new before after)
-TellsOfDecision basis new before after decided found other = ⊥
+TellsOfDecision context new before after decided found answer.Changed =
+    IsMade context new before after decided found
+TellsOfDecision context new before after decided found answer.NeedSplit =
+    OfAddition decided (λ value. NeedsSplit context new before after value)
+TellsOfDecision context new before after decided found answer.Widen =
+    OfAddition decided (λ value. MustWiden context new before after)
+TellsOfDecision context new before after decided found (answer.Refused refusal.NoRoom) =
+    OfAddition decided (λ value. HasNoRoom context new before after)
+TellsOfDecision context new before after decided found other = ⊥

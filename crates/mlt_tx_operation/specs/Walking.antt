@@ -10,9 +10,9 @@ use Rattle.mlt_object_base.specs.Effects.{inverse_of}
 use Rattle.mlt_object_base.specs.Records.{CanChange}
 use Rattle.mlt_object_base.specs.Requests.{decision, size_key_of, target_of}
 use Rattle.mlt_hash_form.specs.Held.{Agrees}
-use Rattle.mlt_hash_access.specs.Moments.{Moment}
+use Rattle.mlt_hash_access.specs.LocalStates.{LocalState}
 use Rattle.mlt_hash_access.specs.Views.{View, view_of}
-use Rattle.mlt_hash.specs.Walks.{Basis, HasRead, IsAtBucket, IsStanding, MayWalk, WalkFields}
+use Rattle.mlt_hash.specs.Walks.{WalkContext, HasRead, IsAtBucket, IsStanding, MayWalk, WalkFields}
 use Rattle.mlt_hash.specs.Changes.{HasOwnGhost}
 use Rattle.mlt_hash.specs.declared.pass.Change.{Change}
 use Rattle.mlt_hash.specs.declared.pass.Pass.TheVariants as pass
@@ -50,54 +50,54 @@ abbrev pub IsToAdd : WalkingFields → ℕ → Type 0
 IsToAdd o value = (o.reply ≡ None) × AsksToAdd o.request value
 
 -- what it found asked for the change that is written
-pub record HasPerformed (basis : Basis) (o : WalkingFields) (view : View) (done : Change)
+pub record HasPerformed (context : WalkContext) (o : WalkingFields) (view : View) (done : Change)
     : Type 0 where
   pub found : Option ℕ
   pub reply : ObjReply
   pub decided : RecChange
-  pub read : HasRead basis o.walk.key view found
+  pub read : HasRead context o.walk.key view found
   pub told : o.reply ≡ Some reply
   pub asked : decision o.request found ≡ (reply, Some decided)
   pub performs : Performs decided found done
 
 -- what the walk's phase says of the reply
-abbrev pub FitsPhase : Phase → Basis → WalkingFields → View → Type 0
-FitsPhase at.Start basis o view = o.reply ≡ None
-FitsPhase (at.Headed dir row depth) basis o view = o.reply ≡ None
-FitsPhase (at.Placed bucket depth) basis o view = o.reply ≡ None
-FitsPhase (at.AtBucket bucket depth found) basis o view = IsTold o found
-FitsPhase (at.Full next) basis o view = ⊥
-FitsPhase (at.Adding value bucket room_depth unsplit) basis o view = IsToAdd o value
-FitsPhase (at.Splitting value room_depth) basis o view = IsToAdd o value
-FitsPhase (at.Changed bucket done) basis o view = HasPerformed basis o view done
+abbrev pub FitsPhase : Phase → WalkContext → WalkingFields → View → Type 0
+FitsPhase at.Start context o view = o.reply ≡ None
+FitsPhase (at.Headed dir row depth) context o view = o.reply ≡ None
+FitsPhase (at.Placed bucket depth) context o view = o.reply ≡ None
+FitsPhase (at.AtBucket bucket depth found) context o view = IsTold o found
+FitsPhase (at.Full next) context o view = ⊥
+FitsPhase (at.Adding value bucket room_depth unsplit) context o view = IsToAdd o value
+FitsPhase (at.Splitting value room_depth) context o view = IsToAdd o value
+FitsPhase (at.Changed bucket done) context o view = HasPerformed context o view done
 
 -- It changes no size. Its walk is one to its key, and stands; and what it is told fits what the walk has found.
-pub record IsWalking (basis : Basis) (o : WalkingFields) (view : View) : Type 0 where
+pub record IsWalking (context : WalkContext) (o : WalkingFields) (view : View) : Type 0 where
   pub alone : size_key_of o.request ≡ None
   pub target : (o.walk.key, o.walk.mode) ≡ target_of o.request
-  pub stands : IsStanding basis o.walk view
-  pub fits : FitsPhase o.walk.phase basis o view
+  pub stands : IsStanding context o.walk view
+  pub fits : FitsPhase o.walk.phase context o view
 
 -- What is to be taken back is there: a walk to its key finds a record, or none, as the inverse needs it, and the
 -- transaction's own ghost where that is to be revived.
-pub record IsThere (basis : Basis) (walk : WalkFields) (view : View) (inverse : Option RecChange)
+pub record IsThere (context : WalkContext) (walk : WalkFields) (view : View) (inverse : Option RecChange)
     (found : Option ℕ) : Type 0 where
   pub fits : CanChange inverse found
-  pub ghost : inverse ≡ Some Revive → HasOwnGhost basis.tx walk view
+  pub ghost : inverse ≡ Some Revive → HasOwnGhost context.tx walk view
 
-abbrev pub CanTakeBackOne : Basis → (ℕ → Option Page) → Request → Type 0
-CanTakeBackOne basis clean (Do op) = Unit {0}
-CanTakeBackOne basis clean (TakeBack done) =
+abbrev pub CanTakeBackOne : WalkContext → (ℕ → Option Page) → Request → Type 0
+CanTakeBackOne context clean (Do op) = Unit {0}
+CanTakeBackOne context clean (TakeBack done) =
     (walk : WalkFields) (view : View) (bucket depth : ℕ) (found : Option ℕ)
     → walk.key ≡ (target_of (TakeBack done)).0 → walk.phase ≡ at.AtBucket bucket depth found
-    → IsAtBucket basis walk view bucket depth found → Agrees view.seen clean
-    → IsThere basis walk view (inverse_of done) found
+    → IsAtBucket context walk view bucket depth found → Agrees view.seen clean
+    → IsThere context walk view (inverse_of done) found
 
 -- What a step of it asks: its walk may take a step, it stands, and what it is to take back is there.
-pub record MayWalkOn (basis : Basis) (m : Moment) (o : WalkingFields) : Type 0 where
-  pub walks : MayWalk basis m o.walk
-  pub operates : IsWalking basis o (view_of m)
-  pub back : CanTakeBackOne basis walks.file.clean o.request
+pub record MayWalkOn (context : WalkContext) (m : LocalState) (o : WalkingFields) : Type 0 where
+  pub walks : MayWalk context m o.walk
+  pub operates : IsWalking context o (view_of m)
+  pub back : CanTakeBackOne context walks.file.clean o.request
 
 -- how many steps are left of the pass, its end among them, and those aside that wait
 abbrev pub steps_of_walk : ℕ → WalkFields → View → ℕ

@@ -11,16 +11,16 @@
 //! changed without a lock, at once, and all is as after the steps.
 #![tactic(auto)]
 
+mod access_path;
 mod answer;
-mod course;
 mod end_law;
 mod operation;
 mod perform;
 mod plan;
 mod walking;
 
+pub use access_path::AccessPath;
 pub use answer::StepAnswer;
-pub use course::Course;
 pub use end_law::operations_come_to_an_end;
 pub use operation::Operation;
-pub use plan::{PlanAtOnce, plan_at_once};
+pub use plan::{PlanFast, plan_fast};

@@ -1,21 +1,21 @@
 //! Operations.
 
 ghost use Rattle.std.specs.Prelude.{◌≡◌, None};
-ghost use Rattle.mlt_hash_access.specs.Moments.{moment};
-ghost use Rattle.mlt_hash.specs.Walks.{basis_in};
+ghost use Rattle.mlt_hash_access.specs.LocalStates.{local};
+ghost use Rattle.mlt_hash.specs.Walks.{context_in};
 ghost use Rattle.mlt_tx_operation.specs.Answers.{TellsOfStep};
 ghost use Rattle.mlt_object_base.specs.Requests.{size_key_of};
-ghost use Rattle.mlt_tx_operation.specs.Operating.{MayOperate, course_for, started_for};
+ghost use Rattle.mlt_tx_operation.specs.Operating.{MayOperate, access_path_for, started_for};
 
+use crate::access_path::AccessPath;
 use crate::answer::StepAnswer;
-use crate::course::Course;
 use crate::walking::step_walk;
-use mlt_hash::{Setting, Walk};
+use mlt_hash::{Environment, Walk};
 use mlt_hash_access::LockedStore;
 use mlt_object_base::Request;
 use mlt_object_kinds::ObjReply;
 use mlt_page_subtx::Subtx;
-use mlt_tx_two_records::{Double, DoubleAnswer};
+use mlt_tx_two_records::{TwoRecordAnswer, TwoRecordWalk};
 use mlt_types::Pseudo;
 use std::alloc::Global;
 use std::marker::Model;
@@ -27,7 +27,7 @@ pub struct Operation {
     request: Request,
     /// What it is told, once its next step is its end.
     reply: Option<ObjReply>,
-    course: Course,
+    access_path: AccessPath,
 }
 
 impl Model for Operation {
@@ -35,7 +35,12 @@ impl Model for Operation {
 
     ghost Value = { OperationFields };
 
-    ghost view = { λ o. record { request = o.request; reply = o.reply; course = o.course } };
+    ghost view = { λ o. record {
+      request = o.request;
+      reply = o.reply;
+      access_path =
+          o.access_path;
+    } };
 }
 
 impl Operation {
@@ -45,15 +50,15 @@ impl Operation {
         ensures { result ≡ started_for request }
     {
         let (key, mode) = request.target();
-        let course = match request.size_key() {
-            None => Course::One(Walk::find(alloc, key, mode)),
-            Some(size) => Course::Two(Double::find(key, size)),
+        let access_path = match request.size_key() {
+            None => AccessPath::One(Walk::find(alloc, key, mode)),
+            Some(size) => AccessPath::Two(TwoRecordWalk::find(key, size)),
         };
         Operation {
             alloc,
             request,
             reply: None,
-            course,
+            access_path,
         }
     }
 
@@ -62,12 +67,12 @@ impl Operation {
     pub fn restart(&mut self, request: Request)
         ensures { self.new ≡ started_for request }
     {
-        match (request.size_key(), &mut self.course) {
-            (None, Course::One(walk)) => {
+        match (request.size_key(), &mut self.access_path) {
+            (None, AccessPath::One(walk)) => {
                 let (key, mode) = request.target();
                 *walk = Walk::find(self.alloc, key, mode);
             }
-            (_, course) => begin_course(course, self.alloc, request),
+            (_, access_path) => begin_access_path(access_path, self.alloc, request),
         }
         self.request = request;
         self.reply = None;
@@ -95,44 +100,51 @@ impl Operation {
     #[inline(always)]
     pub fn step<P: Pseudo>(
         &mut self,
-        setting: &Setting<P>,
+        environment: &Environment<P>,
         subtx: &mut Subtx,
         pages: &mut LockedStore,
     ) -> StepAnswer
         requires untold { self.old.reply ≡ None }
-        requires ready { MayOperate (basis_in P.bits_of setting.now subtx.old.tx)
-            (moment subtx.old pages.old) self.old }
-        ensures tells { TellsOfStep (basis_in P.bits_of setting.now subtx.old.tx)
-            (moment subtx.old pages.old) (moment subtx.new pages.new) self.old self.new result }
+        requires ready { MayOperate (context_in P.bits_of environment.now subtx.old.tx)
+            (local subtx.old pages.old) self.old }
+        ensures tells { TellsOfStep (context_in P.bits_of environment.now subtx.old.tx)
+            (local subtx.old pages.old) (local subtx.new pages.new) self.old self.new result }
     {
-        match &mut self.course {
-            Course::One(walk) => {
-                step_walk(walk, &self.request, &mut self.reply, setting, subtx, pages)
+        match &mut self.access_path {
+            AccessPath::One(walk) => {
+                step_walk(
+                    walk,
+                    &self.request,
+                    &mut self.reply,
+                    environment,
+                    subtx,
+                    pages,
+                )
             }
-            Course::Two(double) => {
-                match double.step(self.alloc, &self.request, setting, subtx, pages) {
-                    DoubleAnswer::Going => StepAnswer::Going,
-                    DoubleAnswer::Waiting(page, by) => StepAnswer::Waiting(page, by),
-                    DoubleAnswer::Told(reply) => {
+            AccessPath::Two(two_records) => {
+                match two_records.step(self.alloc, &self.request, environment, subtx, pages) {
+                    TwoRecordAnswer::Going => StepAnswer::Going,
+                    TwoRecordAnswer::Waiting(page, by) => StepAnswer::Waiting(page, by),
+                    TwoRecordAnswer::Told(reply) => {
                         self.reply = Some(reply);
                         StepAnswer::Going
                     }
-                    DoubleAnswer::Refused(reason) => StepAnswer::Refused(reason),
+                    TwoRecordAnswer::Refused(reason) => StepAnswer::Refused(reason),
                 }
             }
         }
     }
 }
 
-// Puts the course of an operation that has taken no step in the place of another. It stands apart, so that no room for one is
+// Puts the access path of an operation that has taken no step in the place of another. It stands apart, so that no room for one is
 // cleared where a walk follows a walk.
 #[inline(never)]
-fn begin_course(course: &mut Course, alloc: Global, request: Request)
-    ensures { course.new ≡ course_for request (size_key_of request) }
+fn begin_access_path(access_path: &mut AccessPath, alloc: Global, request: Request)
+    ensures { access_path.new ≡ access_path_for request (size_key_of request) }
 {
     let (key, mode) = request.target();
-    *course = match request.size_key() {
-        None => Course::One(Walk::find(alloc, key, mode)),
-        Some(size) => Course::Two(Double::find(key, size)),
+    *access_path = match request.size_key() {
+        None => AccessPath::One(Walk::find(alloc, key, mode)),
+        Some(size) => AccessPath::Two(TwoRecordWalk::find(key, size)),
     };
 }

@@ -1,8 +1,8 @@
 //! The steps of an operation on one record.
 
 ghost use Rattle.std.specs.Prelude.{◌≡◌, None};
-ghost use Rattle.mlt_hash_access.specs.Moments.{moment};
-ghost use Rattle.mlt_hash.specs.Walks.{basis_in};
+ghost use Rattle.mlt_hash_access.specs.LocalStates.{local};
+ghost use Rattle.mlt_hash.specs.Walks.{context_in};
 ghost use Rattle.mlt_tx_operation.specs.Answers.{TellsOfStep};
 ghost use Rattle.mlt_tx_operation.specs.AtBucket.{MayDecide, TellsAtBucket};
 ghost use Rattle.mlt_tx_operation.specs.Operating.{on_one};
@@ -10,7 +10,7 @@ ghost use Rattle.mlt_tx_operation.specs.Walking.{MayWalkOn, walking};
 
 use crate::answer::StepAnswer;
 use crate::perform::perform;
-use mlt_hash::{Setting, Walk, WalkAnswer};
+use mlt_hash::{Environment, Walk, WalkAnswer};
 use mlt_hash_access::LockedStore;
 use mlt_object_base::Request;
 use mlt_object_kinds::ObjReply;
@@ -25,22 +25,22 @@ pub(crate) fn step_walk<P: Pseudo>(
     walk: &mut Walk,
     request: &Request,
     reply: &mut Option<ObjReply>,
-    setting: &Setting<P>,
+    environment: &Environment<P>,
     subtx: &mut Subtx,
     pages: &mut LockedStore,
 ) -> StepAnswer
     requires untold { reply.old ≡ None }
-    requires ready { MayWalkOn (basis_in P.bits_of setting.now subtx.old.tx)
-        (moment subtx.old pages.old) (walking request.now reply.old walk.old) }
-    ensures tells { TellsOfStep (basis_in P.bits_of setting.now subtx.old.tx)
-        (moment subtx.old pages.old) (moment subtx.new pages.new)
+    requires ready { MayWalkOn (context_in P.bits_of environment.now subtx.old.tx)
+        (local subtx.old pages.old) (walking request.now reply.old walk.old) }
+    ensures tells { TellsOfStep (context_in P.bits_of environment.now subtx.old.tx)
+        (local subtx.old pages.old) (local subtx.new pages.new)
         (on_one (walking request.now reply.old walk.old))
         (on_one (walking request.now reply.new walk.new)) result }
 {
-    match walk.advance(setting, subtx, pages) {
+    match walk.advance(environment, subtx, pages) {
         WalkAnswer::Going => StepAnswer::Going,
         WalkAnswer::Waiting(page, by) => StepAnswer::Waiting(page, by),
-        WalkAnswer::Found(found) => act_on(walk, request, reply, found, setting, subtx, pages),
+        WalkAnswer::Found(found) => act_on(walk, request, reply, found, environment, subtx, pages),
         WalkAnswer::Changed => {
             *reply = Some(request.decide(None).0);
             StepAnswer::Going
@@ -60,14 +60,14 @@ fn act_on<P: Pseudo>(
     request: &Request,
     reply: &mut Option<ObjReply>,
     found: Option<Value>,
-    setting: &Setting<P>,
+    environment: &Environment<P>,
     subtx: &mut Subtx,
     pages: &mut LockedStore,
 ) -> StepAnswer
-    requires ready { MayDecide (basis_in P.bits_of setting.now subtx.old.tx)
-        (moment subtx.old pages.old) (walking request.now reply.old walk.old) found }
-    ensures tells { TellsAtBucket (basis_in P.bits_of setting.now subtx.old.tx)
-        (moment subtx.old pages.old) (moment subtx.new pages.new)
+    requires ready { MayDecide (context_in P.bits_of environment.now subtx.old.tx)
+        (local subtx.old pages.old) (walking request.now reply.old walk.old) found }
+    ensures tells { TellsAtBucket (context_in P.bits_of environment.now subtx.old.tx)
+        (local subtx.old pages.old) (local subtx.new pages.new)
         (walking request.now reply.old walk.old) (walking request.now reply.new walk.new) result }
 {
     let (told, decided) = request.decide(found);
@@ -75,7 +75,7 @@ fn act_on<P: Pseudo>(
         *reply = Some(told);
         return StepAnswer::Going;
     };
-    match perform(walk, change, found, setting, subtx, pages) {
+    match perform(walk, change, found, environment, subtx, pages) {
         WalkAnswer::Changed => {
             *reply = Some(told);
             StepAnswer::Going

@@ -1,6 +1,6 @@
 -- What one step more makes of what steps are told
 use Rattle.std.proofs.Common.{ℕ, suc, ◌≡◌, List, [], ◌∷◌, ◌++◌, refl, sym, ap, subst, ◌∙◌, inl, inr}
-use Rattle.mlt_hash.specs.Walks.{Basis, one_key}
+use Rattle.mlt_hash.specs.Walks.{WalkContext, one_key}
 use Rattle.mlt_event.specs.declared.answer.Answer.{Answer}
 use Rattle.mlt_event.specs.declared.answer.Answer.TheVariants as answer
 use Rattle.mlt_tx.specs.declared.transaction.Transaction.{Transaction}
@@ -31,8 +31,8 @@ module _ (step : OwnStep) (more : List OwnStep) where
   pub up_to_after_going : (n : ℕ) (Is : Answer → Type 0) → step.told ≡ answer.Going → GoesUpTo n Is (answers_of more) → GoesUpTo (suc n) Is (answers_of (step ∷ more))
   up_to_after_going n Is goes up_to = subst (λ (a : Answer). GoesUpTo (suc n) Is (with_answer a (answers_of more))) (sym goes) (inr (refl, up_to))
 
-  pub turn_after_wait : (basis : Basis) (n page by : ℕ) (Turns : Transaction → OwnStep → List OwnStep → Type 0) → step.told ≡ answer.Waiting page by → GoesToTurn (one_key basis) n Turns more → GoesToTurn (one_key basis) n Turns (step ∷ more)
-  turn_after_wait basis n page by Turns waits g = record {
+  pub turn_after_wait : (context : WalkContext) (n page by : ℕ) (Turns : Transaction → OwnStep → List OwnStep → Type 0) → step.told ≡ answer.Waiting page by → GoesToTurn (one_key context) n Turns more → GoesToTurn (one_key context) n Turns (step ∷ more)
+  turn_after_wait context n page by Turns waits g = record {
     front = step ∷ g.front;
     before = g.before;
     last = g.last;
@@ -43,8 +43,8 @@ module _ (step : OwnStep) (more : List OwnStep) where
     rest = g.rest;
   }
 
-  pub turn_after_going : (basis : Basis) (n : ℕ) (Turns : Transaction → OwnStep → List OwnStep → Type 0) → step.told ≡ answer.Going → GoesToTurn (one_key basis) n Turns more → GoesToTurn (one_key basis) (suc n) Turns (step ∷ more)
-  turn_after_going basis n Turns goes g = record {
+  pub turn_after_going : (context : WalkContext) (n : ℕ) (Turns : Transaction → OwnStep → List OwnStep → Type 0) → step.told ≡ answer.Going → GoesToTurn (one_key context) n Turns more → GoesToTurn (one_key context) (suc n) Turns (step ∷ more)
+  turn_after_going context n Turns goes g = record {
     front = step ∷ g.front;
     before = g.before;
     last = g.last;
@@ -56,8 +56,8 @@ module _ (step : OwnStep) (more : List OwnStep) where
   }
 
   -- the turn itself
-  pub turn_here : (basis : Basis) (Turns : Transaction → OwnStep → List OwnStep → Type 0) (t : Transaction) → step.told ≡ answer.Going → Turns t step more → AreOwnSteps (one_key basis) step.after (view_in step.after step.new) more → GoesToTurn (one_key basis) 1 Turns (step ∷ more)
-  turn_here basis Turns t goes turns rest = record {
+  pub turn_here : (context : WalkContext) (Turns : Transaction → OwnStep → List OwnStep → Type 0) (t : Transaction) → step.told ≡ answer.Going → Turns t step more → AreOwnSteps (one_key context) step.after (view_in step.after step.new) more → GoesToTurn (one_key context) 1 Turns (step ∷ more)
+  turn_here context Turns t goes turns rest = record {
     front = [];
     before = t;
     last = step;

@@ -4,9 +4,9 @@ use Rattle.mlt_object_kinds.specs.declared.operation.ObjOp.{ObjOp}
 use Rattle.mlt_object_kinds.specs.declared.operation.ObjReply.{ObjReply}
 use Rattle.mlt_object_base.specs.Effects.{inverse_of}
 use Rattle.mlt_object_undo.specs.Undo.{Undo}
-use Rattle.mlt_hash_access.specs.Moments.{moment}
+use Rattle.mlt_hash_access.specs.LocalStates.{local}
 use Rattle.mlt_hash_access.specs.Views.{View, view_of}
-use Rattle.mlt_hash.specs.Walks.{Basis, one_key}
+use Rattle.mlt_hash.specs.Walks.{WalkContext, one_key}
 use Rattle.mlt_tx_operation.specs.Answers.{StepsOn, Waits}
 use Rattle.mlt_tx_operation.specs.Operating.{OperationFields}
 use Rattle.mlt_event.specs.declared.answer.Answer.{Answer}
@@ -18,7 +18,7 @@ use Rattle.mlt_tx.specs.Steps.{inverse_from}
 use Rattle.mlt_tx.specs.Transactions.{StepsBack, TellsAt, TellsOfTransaction}
 use Rattle.mlt_tx.proofs.Backing.{one_last}
 use Rattle.mlt_tx_step_counts.specs.Counts.{IsTakenBack, IsToTakeBack}
-use Rattle.mlt_tx_step_counts.specs.OwnSteps.{AreOwnSteps, GoesThen, OwnStep, answers_of, basis_at, view_in, with_answer}
+use Rattle.mlt_tx_step_counts.specs.OwnSteps.{AreOwnSteps, GoesThen, OwnStep, answers_of, context_at, view_in, with_answer}
 
 not_both : {A B : Type 0} (o : Option B) → IsSome o → o ≡ None → A
 not_both None is none = cc
@@ -41,11 +41,11 @@ pub record Undoes (inverting : Option OperationFields) (last : ObjOp × ObjReply
   pub begins : inverting ≡ None → IsSome (inverse_of last)
 
 -- it goes on
-pub record GoesBack (basis : Basis) (inverting : Option OperationFields) (last : ObjOp × ObjReply) (t : Transaction) (own : OwnStep) : Type 0 where
+pub record GoesBack (context : WalkContext) (inverting : Option OperationFields) (last : ObjOp × ObjReply) (t : Transaction) (own : OwnStep) : Type 0 where
   pub going : own.told ≡ answer.Going
   pub next : OperationFields
   pub undoes : Undoes (Some next) last own.after
-  pub on : StepsOn (basis_at (one_key basis) own) (moment t.subtx own.old.pages) (moment own.after.subtx own.new.pages) (inverse_from inverting last) next
+  pub on : StepsOn (context_at (one_key context) own) (local t.subtx own.old.pages) (local own.after.subtx own.new.pages) (inverse_from inverting last) next
 
 -- it waits, and stands where it stood
 pub record StaysBack (inverting : Option OperationFields) (last : ObjOp × ObjReply) (t : Transaction) (own : OwnStep) : Type 0 where
@@ -62,14 +62,14 @@ pub record Ended (inverting : Option OperationFields) (last : ObjOp × ObjReply)
   pub taken : IsTakenBack own.told
   pub told : (inverse_from inverting last).reply ≡ None → ⊥
 
-abbrev pub BackOutcome : Basis → Option OperationFields → ObjOp × ObjReply → Transaction → OwnStep → Type 0
-BackOutcome basis inverting last t own = StaysBack inverting last t own ⊎ GoesBack (one_key basis) inverting last t own ⊎ Ended inverting last own
+abbrev pub BackOutcome : WalkContext → Option OperationFields → ObjOp × ObjReply → Transaction → OwnStep → Type 0
+BackOutcome context inverting last t own = StaysBack inverting last t own ⊎ GoesBack (one_key context) inverting last t own ⊎ Ended inverting last own
 
-module _ (basis : Basis) (inverting : Option OperationFields) (last : ObjOp × ObjReply) (t : Transaction) (own : OwnStep) (undoes : Undoes inverting last t) where
-  back_step : TellsOfTransaction (basis_at (one_key basis) own) t own.after own.old own.new own.told → StepsBack (basis_at (one_key basis) own) inverting t own.after own.old own.new own.told
-  back_step tells = subst (λ (a : At). TellsAt a (basis_at (one_key basis) own) t own.after own.old own.new own.told) undoes.undoing tells
+module _ (context : WalkContext) (inverting : Option OperationFields) (last : ObjOp × ObjReply) (t : Transaction) (own : OwnStep) (undoes : Undoes inverting last t) where
+  back_step : TellsOfTransaction (context_at (one_key context) own) t own.after own.old own.new own.told → StepsBack (context_at (one_key context) own) inverting t own.after own.old own.new own.told
+  back_step tells = subst (λ (a : At). TellsAt a (context_at (one_key context) own) t own.after own.old own.new own.told) undoes.undoing tells
 
-  by_answer : (told : Answer) → own.told ≡ told → StepsBack (basis_at (one_key basis) own) inverting t own.after own.old own.new told → BackOutcome (one_key basis) inverting last t own
+  by_answer : (told : Answer) → own.told ≡ told → StepsBack (context_at (one_key context) own) inverting t own.after own.old own.new told → BackOutcome (one_key context) inverting last t own
   by_answer answer.Going is s =
       let w = s.tells in
       let same : w.last ≡ last = one_last t.undo.entries w.front undoes.front w.last last w.entries undoes.entries in
@@ -82,13 +82,13 @@ module _ (basis : Basis) (inverting : Option OperationFields) (last : ObjOp × O
           entries = ap (λ (u : Undo). u.entries) w.rest.undo_kept ∙ undoes.entries;
           begins = no_some w.after;
         };
-        on = subst (λ (item : ObjOp × ObjReply). StepsOn (basis_at (one_key basis) own) (moment t.subtx own.old.pages) (moment own.after.subtx own.new.pages) (inverse_from inverting item) w.after) same w.tells;
+        on = subst (λ (item : ObjOp × ObjReply). StepsOn (context_at (one_key context) own) (local t.subtx own.old.pages) (local own.after.subtx own.new.pages) (inverse_from inverting item) w.after) same w.tells;
       }))
   by_answer (answer.Waiting page by) is s =
       let w = s.tells in
       let same : w.last ≡ last = one_last t.undo.entries w.front undoes.front w.last last w.entries undoes.entries in
-      let waits : Waits (basis_at (one_key basis) own) (moment t.subtx own.old.pages) (moment own.after.subtx own.new.pages) (inverse_from inverting last) w.after page by =
-      subst (λ (item : ObjOp × ObjReply). Waits (basis_at (one_key basis) own) (moment t.subtx own.old.pages) (moment own.after.subtx own.new.pages) (inverse_from inverting item) w.after page by) same w.tells in
+      let waits : Waits (context_at (one_key context) own) (local t.subtx own.old.pages) (local own.after.subtx own.new.pages) (inverse_from inverting last) w.after page by =
+      subst (λ (item : ObjOp × ObjReply). Waits (context_at (one_key context) own) (local t.subtx own.old.pages) (local own.after.subtx own.new.pages) (inverse_from inverting item) w.after page by) same w.tells in
       inl (record {
         page = page;
         by = by;
@@ -116,7 +116,7 @@ module _ (basis : Basis) (inverting : Option OperationFields) (last : ObjOp × O
   by_answer (answer.Refused reason) is s = absurd s.tells
 
   -- **A step of an inverse.**
-  pub inverse_step : TellsOfTransaction (basis_at (one_key basis) own) t own.after own.old own.new own.told → BackOutcome (one_key basis) inverting last t own
+  pub inverse_step : TellsOfTransaction (context_at (one_key context) own) t own.after own.old own.new own.told → BackOutcome (one_key context) inverting last t own
   inverse_step tells = by_answer own.told refl (back_step tells)
 
 pub taken_then : (told : Answer) (rest : List Answer) → IsTakenBack told → GoesThen 0 IsTakenBack (with_answer told rest)
@@ -125,26 +125,26 @@ taken_then answer.Aborted rest is = tt
 taken_then other rest is = absurd is
 
 -- one without an inverse
-at_once : (basis : Basis) (t : Transaction) (last : ObjOp × ObjReply) (seen : View) (step : OwnStep) (more : List OwnStep) → IsToTakeBack t last → inverse_of last ≡ None
-    → (told : Answer) → step.told ≡ told → StepsBack (basis_at (one_key basis) step) None t step.after step.old step.new told → IsTakenBack step.told
-at_once basis t last seen step more to none answer.Going is s =
+fast : (context : WalkContext) (t : Transaction) (last : ObjOp × ObjReply) (seen : View) (step : OwnStep) (more : List OwnStep) → IsToTakeBack t last → inverse_of last ≡ None
+    → (told : Answer) → step.told ≡ told → StepsBack (context_at (one_key context) step) None t step.after step.old step.new told → IsTakenBack step.told
+fast context t last seen step more to none answer.Going is s =
     let same : s.tells.last ≡ last = one_last t.undo.entries s.tells.front to.front s.tells.last last s.tells.entries to.entries in
     not_both (inverse_of s.tells.last) (s.tells.begins refl) (ap inverse_of same ∙ none)
-at_once basis t last seen step more to none (answer.Waiting page by) is s =
+fast context t last seen step more to none (answer.Waiting page by) is s =
     let same : s.tells.last ≡ last = one_last t.undo.entries s.tells.front to.front s.tells.last last s.tells.entries to.entries in
     not_both (inverse_of s.tells.last) (s.tells.begins refl) (ap inverse_of same ∙ none)
-at_once basis t last seen step more to none answer.Undone is s = subst IsTakenBack (sym is) tt
-at_once basis t last seen step more to none answer.Aborted is s = subst IsTakenBack (sym is) tt
-at_once basis t last seen step more to none (answer.Blocked by) is s = absurd s.tells
-at_once basis t last seen step more to none (answer.Done reply) is s = absurd s.tells
-at_once basis t last seen step more to none (answer.Refused reason) is s = absurd s.tells
+fast context t last seen step more to none answer.Undone is s = subst IsTakenBack (sym is) tt
+fast context t last seen step more to none answer.Aborted is s = subst IsTakenBack (sym is) tt
+fast context t last seen step more to none (answer.Blocked by) is s = absurd s.tells
+fast context t last seen step more to none (answer.Done reply) is s = absurd s.tells
+fast context t last seen step more to none (answer.Refused reason) is s = absurd s.tells
 
-pub without_inverse : (basis : Basis) (t : Transaction) (last : ObjOp × ObjReply) (seen : View) (steps : List OwnStep) → IsToTakeBack t last → AreOwnSteps (one_key basis) t seen steps → inverse_of last ≡ None → GoesThen 0 IsTakenBack (answers_of steps)
-without_inverse basis t last seen [] to own none = tt
-without_inverse basis t last seen (step ∷ more) to own none =
+pub without_inverse : (context : WalkContext) (t : Transaction) (last : ObjOp × ObjReply) (seen : View) (steps : List OwnStep) → IsToTakeBack t last → AreOwnSteps (one_key context) t seen steps → inverse_of last ≡ None → GoesThen 0 IsTakenBack (answers_of steps)
+without_inverse context t last seen [] to own none = tt
+without_inverse context t last seen (step ∷ more) to own none =
     taken_then step.told (answers_of more)
-    (at_once (one_key basis) t last seen step more to none step.told refl
-    (subst (λ (a : At). TellsAt a (basis_at (one_key basis) step) t step.after step.old step.new step.told) to.undoing own.1))
+    (fast (one_key context) t last seen step more to none step.told refl
+    (subst (λ (a : At). TellsAt a (context_at (one_key context) step) t step.after step.old step.new step.told) to.undoing own.1))
 
 -- the inverse is to begin
 pub to_begin : (t : Transaction) (last : ObjOp × ObjReply) → IsToTakeBack t last → IsSome (inverse_of last) → Undoes None last t

@@ -6,13 +6,13 @@ use Rattle.mlt_object_base.specs.declared.request.Request.{Request}
 use Rattle.mlt_object_base.specs.declared.request.Request.TheVariants.{Do}
 use Rattle.mlt_object_base.specs.Requests.{target_of}
 use Rattle.mlt_hash_form.specs.File.{bucket_of}
-use Rattle.mlt_hash_access.specs.Moments.{Moment, moment}
+use Rattle.mlt_hash_access.specs.LocalStates.{LocalState, local}
 use Rattle.mlt_hash_access.specs.Views.{View, view_of}
 use Rattle.mlt_hash.specs.Changes.{page_of}
 use Rattle.mlt_hash.specs.Passes.{IsNextPass, next_of}
 use Rattle.mlt_hash.specs.Steps.{steps_to_bucket}
 use Rattle.mlt_hash.specs.StepsLeft.{bucket_depth, directory_depth}
-use Rattle.mlt_hash.specs.Walks.{Basis, IsAdding, Stands, WalkFields, one_key}
+use Rattle.mlt_hash.specs.Walks.{WalkContext, IsAdding, Stands, WalkFields, one_key}
 use Rattle.mlt_hash.specs.declared.pass.Pass.{Pass}
 use Rattle.mlt_hash.specs.declared.pass.Pass.TheVariants as pass
 use Rattle.mlt_hash.specs.declared.pass.Phase.{Phase}
@@ -26,7 +26,7 @@ use Rattle.mlt_tx.specs.declared.transaction.At.TheVariants as at
 use Rattle.mlt_tx.specs.declared.transaction.Transaction.{Transaction}
 use Rattle.mlt_tx.specs.Transactions.{TellsOfTransaction}
 use Rattle.mlt_tx_step_counts.specs.Counts.{BeginsSplits, FindsNoRoom, IsDoneOrBlocked, IsRefusal, MayFollow, PutsRecord, TakesFirstPass, TakesLaterPass, TakesNarrowPass, TakesNextPass, started_in}
-use Rattle.mlt_tx_step_counts.specs.OwnSteps.{AreOwnSteps, GoesThen, GoesToTurn, GoesUpTo, OwnStep, answers_of, basis_at, view_in}
+use Rattle.mlt_tx_step_counts.specs.OwnSteps.{AreOwnSteps, GoesThen, GoesToTurn, GoesUpTo, OwnStep, answers_of, context_at, view_in}
 use Rattle.mlt_tx_step_counts.proofs.Answers.{ended_then, refused_in, then_after_going, then_after_wait, turn_after_going, turn_after_wait, turn_here, up_to_after_wait, up_to_after_going}
 use Rattle.mlt_tx_step_counts.proofs.PendingSteps.{last_step, one_step}
 use Rattle.mlt_tx_step_counts.proofs.Stages.{GoesOnOne, Stage, goes_on_one, left_at, on_stage, one_fewer_after, still_stage, told_at_last, untold_before}
@@ -42,46 +42,46 @@ after_first pass.First crowded l most g never = absurd never
 after_first pass.Narrow crowded l most g may = inl refl
 after_first pass.Wide crowded l most g not = inr refl
 
-follows : (basis : Basis) (m : Moment) (walk full : WalkFields) (p : Pass) → walk.pass ≡ p → HasToRestart (one_key basis) m walk full → MayFollow p (next_of full.phase)
-follows basis m walk full p is (inl (first, (value, needs))) =
+follows : (context : WalkContext) (m : LocalState) (walk full : WalkFields) (p : Pass) → walk.pass ≡ p → HasToRestart (one_key context) m walk full → MayFollow p (next_of full.phase)
+follows context m walk full p is (inl (first, (value, needs))) =
     let next = needs.first first in
     subst (λ (q : Pass). MayFollow q (next_of full.phase)) (sym first ∙ is)
     (subst (λ (q : Phase). MayFollow pass.First (next_of q)) (sym next.1) (after_first next.0 _ _ _ _ next.2))
-follows basis m walk full p is (inr widen) =
+follows context m walk full p is (inr widen) =
     subst (λ (q : Pass). MayFollow q (next_of full.phase)) (sym widen.narrow ∙ is)
     (subst (λ (q : Phase). MayFollow pass.Narrow (next_of q)) (sym widen.phase) refl)
 
 -- what is begun again is the same operation, started in the next pass
-begun_anew : (basis : Basis) (old new : Moment) (op : ObjOp) (before next : WalkingFields) → before.request ≡ Do op → (r : Restarts (one_key basis) old new (on_one before) (on_one next))
+begun_anew : (context : WalkContext) (old new : LocalState) (op : ObjOp) (before next : WalkingFields) → before.request ≡ Do op → (r : Restarts (one_key context) old new (on_one before) (on_one next))
     → on_one next ≡ started_in (Do op) (next_of r.how.full.phase)
-begun_anew basis old new op before next asked r =
+begun_anew context old new op before next asked r =
     let request : next.request ≡ Do op = r.request ∙ asked in
     let key : r.how.full.key ≡ (target_of (Do op)).0 = sym (ap (λ (w : WalkFields). w.key) r.how.again) ∙ ap (λ (k : ℕ × Mode). k.0) r.operates.target ∙ ap (λ (q : Request). (target_of q).0) request in
     let mode : r.how.full.mode ≡ (target_of (Do op)).1 = sym (ap (λ (w : WalkFields). w.mode) r.how.again) ∙ ap (λ (k : ℕ × Mode). k.1) r.operates.target ∙ ap (λ (q : Request). (target_of q).1) request in
     let walk : next.walk ≡ record (walk_for (Do op)) { pass = next_of r.how.full.phase } = r.how.again ∙ (λ i. record { key = key i; mode = mode i; pass = next_of r.how.full.phase; phase = phase.Start; split = None }) in
-    let untold : next.reply ≡ None = subst (λ (q : Phase). FitsPhase q (one_key basis) next (view_of new)) (ap (λ (w : WalkFields). w.phase) r.how.again) r.operates.fits in
+    let untold : next.reply ≡ None = subst (λ (q : Phase). FitsPhase q (one_key context) next (view_of new)) (ap (λ (w : WalkFields). w.phase) r.how.again) r.operates.fits in
     λ i. on_one (walking (request i) (untold i) (walk i))
 
 -- a walk of an operation on one record that splits its bucket
-record SplitsAt (basis : Basis) (op : ObjOp) (p : Pass) (walk : WalkFields) (t : Transaction) (seen : View) : Type 0 where
+record SplitsAt (context : WalkContext) (op : ObjOp) (p : Pass) (walk : WalkFields) (t : Transaction) (seen : View) : Type 0 where
   o : WalkingFields
   walk_is : o.walk ≡ walk
   untold : o.reply ≡ None
-  stage : Stage (one_key basis) op (steps_of_walk basis.root o.walk seen) p o t seen
+  stage : Stage (one_key context) op (steps_of_walk context.root o.walk seen) p o t seen
 
 -- at the last step the end comes
-end_comes : (basis : Basis) (op : ObjOp) (p : Pass) (o : WalkingFields) (t : Transaction) (seen : View) (steps : List OwnStep) → Stage (one_key basis) op 1 p o t seen → AreOwnSteps (one_key basis) t seen steps
+end_comes : (context : WalkContext) (op : ObjOp) (p : Pass) (o : WalkingFields) (t : Transaction) (seen : View) (steps : List OwnStep) → Stage (one_key context) op 1 p o t seen → AreOwnSteps (one_key context) t seen steps
     → GoesThen 0 IsDoneOrBlocked (answers_of steps)
-end_comes basis op p o t seen [] stage own = tt
-end_comes basis op p o t seen (step ∷ more) stage own = ended_then step.told (answers_of more) (last_step (one_key basis) (on_one o) t step stage.pending (stage.told refl) own.1)
+end_comes context op p o t seen [] stage own = tt
+end_comes context op p o t seen (step ∷ more) stage own = ended_then step.told (answers_of more) (last_step (one_key context) (on_one o) t step stage.pending (stage.told refl) own.1)
 
-module _ (basis : Basis) (op : ObjOp) (p : Pass) (o : WalkingFields) (t : Transaction) (seen : View) (step : OwnStep) (n : ℕ) (stage : Stage (one_key basis) op n p o t seen)
-    (there : steps_to_bucket o.walk.phase ≡ 0) (untold : o.reply ≡ None) (goes : GoesOnOne (one_key basis) o t step) (going : step.told ≡ answer.Going) where
+module _ (context : WalkContext) (op : ObjOp) (p : Pass) (o : WalkingFields) (t : Transaction) (seen : View) (step : OwnStep) (n : ℕ) (stage : Stage (one_key context) op n p o t seen)
+    (there : steps_to_bucket o.walk.phase ≡ 0) (untold : o.reply ≡ None) (goes : GoesOnOne (one_key context) o t step) (going : step.told ≡ answer.Going) where
   -- it puts its record,
-  puts_now : (on : StepsOn (basis_at (one_key basis) step) (moment t.subtx step.old.pages) (moment step.after.subtx step.new.pages) (on_one o) (on_one goes.next)) → PutsBehindSplits o.walk goes.next.walk
-      → PutsNow (one_key basis) PutsRecord o.walk t step
+  puts_now : (on : StepsOn (context_at (one_key context) step) (local t.subtx step.old.pages) (local step.after.subtx step.new.pages) (on_one o) (on_one goes.next)) → PutsBehindSplits o.walk goes.next.walk
+      → PutsNow (one_key context) PutsRecord o.walk t step
   puts_now on behind =
-      let last : steps_of_walk basis.root goes.next.walk (view_in step.after step.new) ≡ 1 = ap (λ (x : Phase). left_at x basis.root goes.next.walk (view_in step.after step.new)) behind.is in
+      let last : steps_of_walk context.root goes.next.walk (view_in step.after step.new) ≡ 1 = ap (λ (x : Phase). left_at x context.root goes.next.walk (view_in step.after step.new)) behind.is in
       record {
         going = going;
         value = behind.value;
@@ -95,14 +95,14 @@ module _ (basis : Basis) (op : ObjOp) (p : Pass) (o : WalkingFields) (t : Transa
           still = goes.now_at;
           puts = behind;
           depth = depth;
-          ends = end_comes (one_key basis) op p goes.next step.after (view_in step.after step.new) back
-              (subst (λ (n : ℕ). Stage (one_key basis) op n p goes.next step.after (view_in step.after step.new)) last (on_stage (one_key basis) op n p o t seen step stage goes on)) own;
+          ends = end_comes (one_key context) op p goes.next step.after (view_in step.after step.new) back
+              (subst (λ (n : ℕ). Stage (one_key context) op n p goes.next step.after (view_in step.after step.new)) last (on_stage (one_key context) op n p o t seen step stage goes on)) own;
         };
       }
 
   -- or goes on splitting
-  splits_on : (on : StepsOn (basis_at (one_key basis) step) (moment t.subtx step.old.pages) (moment step.after.subtx step.new.pages) (on_one o) (on_one goes.next))
-      → PutsNow (one_key basis) PutsRecord o.walk t step ⊎ SplitsOn (one_key basis) (SplitsAt (one_key basis) op p) o.walk t step
+  splits_on : (on : StepsOn (context_at (one_key context) step) (local t.subtx step.old.pages) (local step.after.subtx step.new.pages) (on_one o) (on_one goes.next))
+      → PutsNow (one_key context) PutsRecord o.walk t step ⊎ SplitsOn (one_key context) (SplitsAt (one_key context) op p) o.walk t step
   splits_on on = elim on.how.goes [
     | inr behind ↦ inl (puts_now on behind)
     | inl near ↦ elim near.down [
@@ -111,8 +111,8 @@ module _ (basis : Basis) (op : ObjOp) (p : Pass) (o : WalkingFields) (t : Transa
           let nearer = near.nearer in
           let one = near.by_one in
           let next_there : steps_to_bucket goes.next.walk.phase ≡ 0 = omega (arith, there, nearer) in
-          let stage' = on_stage (one_key basis) op n p o t seen step stage goes on in
-          let some = one_step_left goes.next.walk.phase basis.root goes.next.walk (view_in step.after step.new) down_by.is down_by.is_is in
+          let stage' = on_stage (one_key context) op n p o t seen step stage goes on in
+          let some = one_step_left goes.next.walk.phase context.root goes.next.walk (view_in step.after step.new) down_by.is down_by.is_is in
           inr (record {
             going = going;
             next = goes.next.walk;
@@ -125,11 +125,11 @@ module _ (basis : Basis) (op : ObjOp) (p : Pass) (o : WalkingFields) (t : Transa
   ]
 
 -- **What a step makes of a walk that splits.**
-split_outcome : (basis : Basis) (op : ObjOp) (p : Pass) (walk : WalkFields) (t : Transaction) (seen : View) (step : OwnStep) → SplitsAt (one_key basis) op p walk t seen → steps_to_bucket walk.phase ≡ 0 → view_in t step.old ≡ seen
-    → TellsOfTransaction (basis_at (one_key basis) step) t step.after step.old step.new step.told → SplitOutcome (one_key basis) (SplitsAt (one_key basis) op p) PutsRecord walk t step
-split_outcome basis op p walk t seen step s there sees tells =
-    subst (λ (w : WalkFields). SplitOutcome (one_key basis) (SplitsAt (one_key basis) op p) PutsRecord w t step) s.walk_is
-    (elim (one_step (one_key basis) (on_one s.o) t step s.stage.pending s.untold tells) [
+split_outcome : (context : WalkContext) (op : ObjOp) (p : Pass) (walk : WalkFields) (t : Transaction) (seen : View) (step : OwnStep) → SplitsAt (one_key context) op p walk t seen → steps_to_bucket walk.phase ≡ 0 → view_in t step.old ≡ seen
+    → TellsOfTransaction (context_at (one_key context) step) t step.after step.old step.new step.told → SplitOutcome (one_key context) (SplitsAt (one_key context) op p) PutsRecord walk t step
+split_outcome context op p walk t seen step s there sees tells =
+    subst (λ (w : WalkFields). SplitOutcome (one_key context) (SplitsAt (one_key context) op p) PutsRecord w t step) s.walk_is
+    (elim (one_step (one_key context) (on_one s.o) t step s.stage.pending s.untold tells) [
       | inl waits ↦ inl (record {
         page = waits.page;
         by = waits.by;
@@ -139,55 +139,55 @@ split_outcome basis op p walk t seen step s there sees tells =
           o = s.o;
           walk_is = refl;
           untold = s.untold;
-          stage = still_as (waits.same ∙ sees) (still_stage (one_key basis) op (steps_of_walk basis.root s.o.walk seen) p s.o t seen step s.stage waits.still (waits.same ∙ sees));
+          stage = still_as (waits.same ∙ sees) (still_stage (one_key context) op (steps_of_walk context.root s.o.walk seen) p s.o t seen step s.stage waits.still (waits.same ∙ sees));
         };
       })
       | inr (inr away) ↦ inr (inl away.refused)
       | inr (inl goes) ↦
-          let one = goes_on_one (one_key basis) s.o t step goes in
+          let one = goes_on_one (one_key context) s.o t step goes in
           let here : steps_to_bucket s.o.walk.phase ≡ 0 = ap (λ (w : WalkFields). steps_to_bucket w.phase) s.walk_is ∙ there in
           elim one.tells [
-            | inl on ↦ inr (inr (splits_on basis op p s.o t seen step (steps_of_walk basis.root s.o.walk seen) s.stage here s.untold one goes.going on))
+            | inl on ↦ inr (inr (splits_on context op p s.o t seen step (steps_of_walk context.root s.o.walk seen) s.stage here s.untold one goes.going on))
             | inr (inl splits) ↦ let last = splits.how.splits.reaches.last in absurd (omega (arith, here, last))
             | inr (inr again) ↦ let last = again.how.reaches.last in absurd (omega (arith, here, last))
           ]
     ])
   where
-    still_as : (same : view_in step.after step.new ≡ seen) → Stage (one_key basis) op (steps_of_walk basis.root s.o.walk seen) p s.o step.after (view_in step.after step.new)
-        → Stage (one_key basis) op (steps_of_walk basis.root s.o.walk (view_in step.after step.new)) p s.o step.after (view_in step.after step.new)
-    still_as same stage = subst (λ (v : View). Stage (one_key basis) op (steps_of_walk basis.root s.o.walk v) p s.o step.after (view_in step.after step.new)) (sym same) stage
+    still_as : (same : view_in step.after step.new ≡ seen) → Stage (one_key context) op (steps_of_walk context.root s.o.walk seen) p s.o step.after (view_in step.after step.new)
+        → Stage (one_key context) op (steps_of_walk context.root s.o.walk (view_in step.after step.new)) p s.o step.after (view_in step.after step.new)
+    still_as same stage = subst (λ (v : View). Stage (one_key context) op (steps_of_walk context.root s.o.walk v) p s.o step.after (view_in step.after step.new)) (sym same) stage
 
-module _ (basis : Basis) (op : ObjOp) (n : ℕ) (p : Pass) (o : WalkingFields) (t : Transaction) (seen : View) (step : OwnStep) (more : List OwnStep) (stage : Stage (one_key basis) op n p o t seen) (goes : GoesOnOne (one_key basis) o t step) where
+module _ (context : WalkContext) (op : ObjOp) (n : ℕ) (p : Pass) (o : WalkingFields) (t : Transaction) (seen : View) (step : OwnStep) (more : List OwnStep) (stage : Stage (one_key context) op n p o t seen) (goes : GoesOnOne (one_key context) o t step) where
   -- a pass that is given up
-  pub no_room : (Then : Pass → List OwnStep → Type 0) → ((next : Pass) (t : Transaction) (seen : View) (steps : List OwnStep) → MayFollow p next → t.at ≡ at.Pending (started_in (Do op) next) → AreOwnSteps (one_key basis) t seen steps → Then next steps)
-      → Restarts (basis_at (one_key basis) step) (moment t.subtx step.old.pages) (moment step.after.subtx step.new.pages) (on_one o) (on_one goes.next)
-      → AreOwnSteps (one_key basis) step.after (view_in step.after step.new) more → FindsNoRoom (one_key basis) op p Then t step more
+  pub no_room : (Then : Pass → List OwnStep → Type 0) → ((next : Pass) (t : Transaction) (seen : View) (steps : List OwnStep) → MayFollow p next → t.at ≡ at.Pending (started_in (Do op) next) → AreOwnSteps (one_key context) t seen steps → Then next steps)
+      → Restarts (context_at (one_key context) step) (local t.subtx step.old.pages) (local step.after.subtx step.new.pages) (on_one o) (on_one goes.next)
+      → AreOwnSteps (one_key context) step.after (view_in step.after step.new) more → FindsNoRoom (one_key context) op p Then t step more
   no_room Then then r own =
       let next = next_of r.how.full.phase in
-      let may = follows (basis_at (one_key basis) step) r.back.mid r.how.walk r.how.full p (r.how.reaches.same.pass ∙ stage.in_pass) r.how.restarts in
-      let anew = begun_anew (basis_at (one_key basis) step) (moment t.subtx step.old.pages) (moment step.after.subtx step.new.pages) op o goes.next stage.asked r in
+      let may = follows (context_at (one_key context) step) r.back.mid r.how.walk r.how.full p (r.how.reaches.same.pass ∙ stage.in_pass) r.how.restarts in
+      let anew = begun_anew (context_at (one_key context) step) (local t.subtx step.old.pages) (local step.after.subtx step.new.pages) op o goes.next stage.asked r in
       record {
         o = on_one o;
         pending = stage.pending;
         next = next;
         follows = may;
         begins = goes.now_at ∙ ap at.Pending anew;
-        restarts = subst (Restarts (basis_at (one_key basis) step) (moment t.subtx step.old.pages) (moment step.after.subtx step.new.pages) (on_one o)) anew r;
+        restarts = subst (Restarts (context_at (one_key context) step) (local t.subtx step.old.pages) (local step.after.subtx step.new.pages) (on_one o)) anew r;
         later = then next step.after (view_in step.after step.new) more may (goes.now_at ∙ ap at.Pending anew) own;
       }
 
   -- a pass that splits
-  pub splitting : (s : SplitsFromHere (basis_at (one_key basis) step) (moment t.subtx step.old.pages) (moment step.after.subtx step.new.pages) (on_one o) (on_one goes.next))
-      → AreOwnSteps (one_key basis) step.after (view_in step.after step.new) more → BeginsSplits (one_key basis) t step more
+  pub splitting : (s : SplitsFromHere (context_at (one_key context) step) (local t.subtx step.old.pages) (local step.after.subtx step.new.pages) (on_one o) (on_one goes.next))
+      → AreOwnSteps (one_key context) step.after (view_in step.after step.new) more → BeginsSplits (one_key context) t step more
   splitting s own =
       let seen' = view_in step.after step.new in
       let q = page_of s.how.splits.walk.phase in
       let adding = s.how.splits.needs.later (λ (first : s.how.splits.walk.pass ≡ pass.First). s.later (sym s.how.splits.reaches.same.pass ∙ first)) in
       let is : goes.next.walk.phase ≡ phase.Adding s.how.splits.value q adding.0 true = adding.1 in
-      let stands : IsAdding (basis_at (one_key basis) step) goes.next.walk seen' q adding.0 true = subst (λ (x : Phase). Stands x (basis_at (one_key basis) step) goes.next.walk seen') is s.operates.stands in
-      let adds : IsToAdd goes.next s.how.splits.value = subst (λ (x : Phase). FitsPhase x (basis_at (one_key basis) step) goes.next seen') is s.operates.fits in
+      let stands : IsAdding (context_at (one_key context) step) goes.next.walk seen' q adding.0 true = subst (λ (x : Phase). Stands x (context_at (one_key context) step) goes.next.walk seen') is s.operates.stands in
+      let adds : IsToAdd goes.next s.how.splits.value = subst (λ (x : Phase). FitsPhase x (context_at (one_key context) step) goes.next seen') is s.operates.fits in
       let l = bucket_depth seen' q in
-      let g = directory_depth seen' basis.root in
+      let g = directory_depth seen' context.root in
       let deep : l ≡ stands.fields.depth = ap (λ x. (bucket_of x).depth) stands.rest.found in
       let deeper = stands.unsplit_is refl in
       record {
@@ -208,7 +208,7 @@ module _ (basis : Basis) (op : ObjOp) (n : ℕ) (p : Pass) (o : WalkingFields) (
           deeper = omega (arith, deep, deeper);
           most = stands.most;
         };
-        ends = splits_and_puts (one_key basis) (SplitsAt (one_key basis) op p) PutsRecord (split_outcome (one_key basis) op p) more goes.next.walk step.after seen' s.how.splits.value q l g adding.0
+        ends = splits_and_puts (one_key context) (SplitsAt (one_key context) op p) PutsRecord (split_outcome (one_key context) op p) more goes.next.walk step.after seen' s.how.splits.value q l g adding.0
             (record {
               o = goes.next;
               walk_is = refl;
@@ -218,77 +218,77 @@ module _ (basis : Basis) (op : ObjOp) (n : ℕ) (p : Pass) (o : WalkingFields) (
                 asked = s.request ∙ stage.asked;
                 in_pass = s.how.in_pass ∙ stage.in_pass;
                 left = refl;
-                told = told_at_last goes.next.walk.phase (basis_at (one_key basis) step) goes.next seen' s.operates.stands s.operates.fits;
-                untold = untold_before goes.next.walk.phase (basis_at (one_key basis) step) goes.next seen' s.operates.fits;
+                told = told_at_last goes.next.walk.phase (context_at (one_key context) step) goes.next seen' s.operates.stands s.operates.fits;
+                untold = untold_before goes.next.walk.phase (context_at (one_key context) step) goes.next seen' s.operates.fits;
               };
             }) is refl refl (omega (arith, deep, deeper)) own;
       }
 
 -- how a pass comes to its third step, or what becomes of it there
-abbrev Third : Basis → ObjOp → (Pass → List OwnStep → Type 0) → Pass → ℕ → List OwnStep → Type 0
-Third basis op Then p n steps =
+abbrev Third : WalkContext → ObjOp → (Pass → List OwnStep → Type 0) → Pass → ℕ → List OwnStep → Type 0
+Third context op Then p n steps =
     GoesThen n IsDoneOrBlocked (answers_of steps)
     ⊎ (GoesUpTo n IsRefusal (answers_of steps) × (p ≡ pass.First → ⊥))
-    ⊎ (GoesToTurn (one_key basis) n (BeginsSplits (one_key basis)) steps × (p ≡ pass.First → ⊥))
-    ⊎ GoesToTurn (one_key basis) n (FindsNoRoom (one_key basis) op p Then) steps
+    ⊎ (GoesToTurn (one_key context) n (BeginsSplits (one_key context)) steps × (p ≡ pass.First → ⊥))
+    ⊎ GoesToTurn (one_key context) n (FindsNoRoom (one_key context) op p Then) steps
 
-third_after_wait : (basis : Basis) (op : ObjOp) (Then : Pass → List OwnStep → Type 0) (p : Pass) (n page by : ℕ) (step : OwnStep) (more : List OwnStep) → step.told ≡ answer.Waiting page by → Third (one_key basis) op Then p n more → Third (one_key basis) op Then p n (step ∷ more)
-third_after_wait basis op Then p n page by step more waits (inl then) = inl (then_after_wait step more n page by IsDoneOrBlocked waits then)
-third_after_wait basis op Then p n page by step more waits (inr (inl (away, later))) = inr (inl (up_to_after_wait step more n page by IsRefusal waits away, later))
-third_after_wait basis op Then p n page by step more waits (inr (inr (inl (splits, later)))) = inr (inr (inl (turn_after_wait step more (one_key basis) n page by (BeginsSplits (one_key basis)) waits splits, later)))
-third_after_wait basis op Then p n page by step more waits (inr (inr (inr none))) = inr (inr (inr (turn_after_wait step more (one_key basis) n page by (FindsNoRoom (one_key basis) op p Then) waits none)))
+third_after_wait : (context : WalkContext) (op : ObjOp) (Then : Pass → List OwnStep → Type 0) (p : Pass) (n page by : ℕ) (step : OwnStep) (more : List OwnStep) → step.told ≡ answer.Waiting page by → Third (one_key context) op Then p n more → Third (one_key context) op Then p n (step ∷ more)
+third_after_wait context op Then p n page by step more waits (inl then) = inl (then_after_wait step more n page by IsDoneOrBlocked waits then)
+third_after_wait context op Then p n page by step more waits (inr (inl (away, later))) = inr (inl (up_to_after_wait step more n page by IsRefusal waits away, later))
+third_after_wait context op Then p n page by step more waits (inr (inr (inl (splits, later)))) = inr (inr (inl (turn_after_wait step more (one_key context) n page by (BeginsSplits (one_key context)) waits splits, later)))
+third_after_wait context op Then p n page by step more waits (inr (inr (inr none))) = inr (inr (inr (turn_after_wait step more (one_key context) n page by (FindsNoRoom (one_key context) op p Then) waits none)))
 
-third_after_going : (basis : Basis) (op : ObjOp) (Then : Pass → List OwnStep → Type 0) (p : Pass) (n : ℕ) (step : OwnStep) (more : List OwnStep) → step.told ≡ answer.Going → Third (one_key basis) op Then p n more → Third (one_key basis) op Then p (suc n) (step ∷ more)
-third_after_going basis op Then p n step more goes (inl then) = inl (then_after_going step more n IsDoneOrBlocked goes then)
-third_after_going basis op Then p n step more goes (inr (inl (away, later))) = inr (inl (up_to_after_going step more n IsRefusal goes away, later))
-third_after_going basis op Then p n step more goes (inr (inr (inl (splits, later)))) = inr (inr (inl (turn_after_going step more (one_key basis) n (BeginsSplits (one_key basis)) goes splits, later)))
-third_after_going basis op Then p n step more goes (inr (inr (inr none))) = inr (inr (inr (turn_after_going step more (one_key basis) n (FindsNoRoom (one_key basis) op p Then) goes none)))
+third_after_going : (context : WalkContext) (op : ObjOp) (Then : Pass → List OwnStep → Type 0) (p : Pass) (n : ℕ) (step : OwnStep) (more : List OwnStep) → step.told ≡ answer.Going → Third (one_key context) op Then p n more → Third (one_key context) op Then p (suc n) (step ∷ more)
+third_after_going context op Then p n step more goes (inl then) = inl (then_after_going step more n IsDoneOrBlocked goes then)
+third_after_going context op Then p n step more goes (inr (inl (away, later))) = inr (inl (up_to_after_going step more n IsRefusal goes away, later))
+third_after_going context op Then p n step more goes (inr (inr (inl (splits, later)))) = inr (inr (inl (turn_after_going step more (one_key context) n (BeginsSplits (one_key context)) goes splits, later)))
+third_after_going context op Then p n step more goes (inr (inr (inr none))) = inr (inr (inr (turn_after_going step more (one_key context) n (FindsNoRoom (one_key context) op p Then) goes none)))
 
 -- at the step to the bucket one more answer says that it goes on
 last_of_way : (m root : ℕ) (walk : WalkFields) (view : View) → steps_of_walk root walk view ≡ suc (suc m) → steps_to_bucket walk.phase ≡ 1 → m ≡ 0
 last_of_way m root walk view left last = let two = two_left root walk view last in omega (arith, left, two)
 
-to_third : (basis : Basis) (op : ObjOp) (Then : Pass → List OwnStep → Type 0) (p : Pass) (then : (next : Pass) (t : Transaction) (seen : View) (steps : List OwnStep) → MayFollow p next → t.at ≡ at.Pending (started_in (Do op) next) → AreOwnSteps (one_key basis) t seen steps → Then next steps)
+to_third : (context : WalkContext) (op : ObjOp) (Then : Pass → List OwnStep → Type 0) (p : Pass) (then : (next : Pass) (t : Transaction) (seen : View) (steps : List OwnStep) → MayFollow p next → t.at ≡ at.Pending (started_in (Do op) next) → AreOwnSteps (one_key context) t seen steps → Then next steps)
     (steps : List OwnStep) (n : ℕ) (o : WalkingFields) (t : Transaction) (seen : View)
-    → Stage (one_key basis) op (suc n) p o t seen → n ≤ 3 → AreOwnSteps (one_key basis) t seen steps → Third (one_key basis) op Then p n steps
-to_third basis op Then p then [] zero o t seen stage few own = inl tt
-to_third basis op Then p then [] (suc m) o t seen stage few own = inl tt
-to_third basis op Then p then (step ∷ more) zero o t seen stage few own =
-    inl (ended_then step.told (answers_of more) (last_step (one_key basis) (on_one o) t step stage.pending (stage.told refl) own.1))
-to_third basis op Then p then (step ∷ more) (suc m) o t seen stage few own =
-    elim (one_step (one_key basis) (on_one o) t step stage.pending (stage.untold (omega arith)) own.1) [
-      | inl waits ↦ third_after_wait (one_key basis) op Then p (suc m) waits.page waits.by step more waits.waiting
-          (to_third (one_key basis) op Then p then more (suc m) o step.after (view_in step.after step.new) (still_stage (one_key basis) op (suc (suc m)) p o t seen step stage waits.still (waits.same ∙ own.0)) few own.2)
+    → Stage (one_key context) op (suc n) p o t seen → n ≤ 3 → AreOwnSteps (one_key context) t seen steps → Third (one_key context) op Then p n steps
+to_third context op Then p then [] zero o t seen stage few own = inl tt
+to_third context op Then p then [] (suc m) o t seen stage few own = inl tt
+to_third context op Then p then (step ∷ more) zero o t seen stage few own =
+    inl (ended_then step.told (answers_of more) (last_step (one_key context) (on_one o) t step stage.pending (stage.told refl) own.1))
+to_third context op Then p then (step ∷ more) (suc m) o t seen stage few own =
+    elim (one_step (one_key context) (on_one o) t step stage.pending (stage.untold (omega arith)) own.1) [
+      | inl waits ↦ third_after_wait (one_key context) op Then p (suc m) waits.page waits.by step more waits.waiting
+          (to_third (one_key context) op Then p then more (suc m) o step.after (view_in step.after step.new) (still_stage (one_key context) op (suc (suc m)) p o t seen step stage waits.still (waits.same ∙ own.0)) few own.2)
       | inr (inr away) ↦ inr (inl (refused_in m IsRefusal (λ told is. is) step.told (answers_of more) away.refused, λ first. away.later (stage.in_pass ∙ first)))
       | inr (inl going) ↦
-          let goes = goes_on_one (one_key basis) o t step going in
+          let goes = goes_on_one (one_key context) o t step going in
           elim goes.tells [
             | inl on ↦
-                let one = one_fewer_after (one_key basis) (suc (suc m)) o goes.next t seen step own.0 stage.left (omega (arith, few)) on in
-                let left : steps_of_walk basis.root goes.next.walk (view_in step.after step.new) ≡ suc m = omega (arith, one) in
-                third_after_going (one_key basis) op Then p m step more going.going
-                (to_third (one_key basis) op Then p then more m goes.next step.after (view_in step.after step.new)
-                (subst (λ (n : ℕ). Stage (one_key basis) op n p goes.next step.after (view_in step.after step.new)) left (on_stage (one_key basis) op (suc (suc m)) p o t seen step stage goes on)) (omega (arith, few)) own.2)
+                let one = one_fewer_after (one_key context) (suc (suc m)) o goes.next t seen step own.0 stage.left (omega (arith, few)) on in
+                let left : steps_of_walk context.root goes.next.walk (view_in step.after step.new) ≡ suc m = omega (arith, one) in
+                third_after_going (one_key context) op Then p m step more going.going
+                (to_third (one_key context) op Then p then more m goes.next step.after (view_in step.after step.new)
+                (subst (λ (n : ℕ). Stage (one_key context) op n p goes.next step.after (view_in step.after step.new)) left (on_stage (one_key context) op (suc (suc m)) p o t seen step stage goes on)) (omega (arith, few)) own.2)
             | inr (inl splits) ↦
-                let first : m ≡ 0 = last_of_way m basis.root o.walk seen stage.left splits.how.splits.reaches.last in
-                subst (λ (n : ℕ). Third (one_key basis) op Then p (suc n) (step ∷ more)) (sym first)
-                (inr (inr (inl (turn_here step more (one_key basis) (BeginsSplits (one_key basis)) t going.going (splitting (one_key basis) op (suc (suc m)) p o t seen step more stage goes splits own.2) own.2, λ is. splits.later (stage.in_pass ∙ is)))))
+                let first : m ≡ 0 = last_of_way m context.root o.walk seen stage.left splits.how.splits.reaches.last in
+                subst (λ (n : ℕ). Third (one_key context) op Then p (suc n) (step ∷ more)) (sym first)
+                (inr (inr (inl (turn_here step more (one_key context) (BeginsSplits (one_key context)) t going.going (splitting (one_key context) op (suc (suc m)) p o t seen step more stage goes splits own.2) own.2, λ is. splits.later (stage.in_pass ∙ is)))))
             | inr (inr again) ↦
-                let first : m ≡ 0 = last_of_way m basis.root o.walk seen stage.left again.how.reaches.last in
-                subst (λ (n : ℕ). Third (one_key basis) op Then p (suc n) (step ∷ more)) (sym first)
-                (inr (inr (inr (turn_here step more (one_key basis) (FindsNoRoom (one_key basis) op p Then) t going.going (no_room (one_key basis) op (suc (suc m)) p o t seen step more stage goes Then then again own.2) own.2))))
+                let first : m ≡ 0 = last_of_way m context.root o.walk seen stage.left again.how.reaches.last in
+                subst (λ (n : ℕ). Third (one_key context) op Then p (suc n) (step ∷ more)) (sym first)
+                (inr (inr (inr (turn_here step more (one_key context) (FindsNoRoom (one_key context) op p Then) t going.going (no_room (one_key context) op (suc (suc m)) p o t seen step more stage goes Then then again own.2) own.2))))
           ]
     ]
 
-from_start : (basis : Basis) (op : ObjOp) (Then : Pass → List OwnStep → Type 0) (p : Pass) (then : (next : Pass) (t : Transaction) (seen : View) (steps : List OwnStep) → MayFollow p next → t.at ≡ at.Pending (started_in (Do op) next) → AreOwnSteps (one_key basis) t seen steps → Then next steps)
-    (t : Transaction) (seen : View) (steps : List OwnStep) → t.at ≡ at.Pending (started_in (Do op) p) → AreOwnSteps (one_key basis) t seen steps → Third (one_key basis) op Then p 3 steps
-from_start basis op Then p then t seen steps pending own =
-    to_third (one_key basis) op Then p then steps 3 (walking (Do op) None (record (walk_for (Do op)) { pass = p })) t seen
+from_start : (context : WalkContext) (op : ObjOp) (Then : Pass → List OwnStep → Type 0) (p : Pass) (then : (next : Pass) (t : Transaction) (seen : View) (steps : List OwnStep) → MayFollow p next → t.at ≡ at.Pending (started_in (Do op) next) → AreOwnSteps (one_key context) t seen steps → Then next steps)
+    (t : Transaction) (seen : View) (steps : List OwnStep) → t.at ≡ at.Pending (started_in (Do op) p) → AreOwnSteps (one_key context) t seen steps → Third (one_key context) op Then p 3 steps
+from_start context op Then p then t seen steps pending own =
+    to_third (one_key context) op Then p then steps 3 (walking (Do op) None (record (walk_for (Do op)) { pass = p })) t seen
     (record { pending = pending; asked = refl; in_pass = refl; left = refl; told = λ (last : 4 ≡ 1). absurd (omega (arith, last)); untold = λ some. refl }) (omega arith) own
 
 -- **A wide pass.**
-pub wide_pass : (basis : Basis) (op : ObjOp) (t : Transaction) (seen : View) (steps : List OwnStep) → t.at ≡ at.Pending (started_in (Do op) pass.Wide) → AreOwnSteps (one_key basis) t seen steps → TakesLaterPass (one_key basis) steps
-wide_pass basis op t seen steps pending own = elim (from_start (one_key basis) op (λ next back. TakesLaterPass (one_key basis) back) pass.Wide (λ next t' seen' back never is own'. absurd never) t seen steps pending own) [
+pub wide_pass : (context : WalkContext) (op : ObjOp) (t : Transaction) (seen : View) (steps : List OwnStep) → t.at ≡ at.Pending (started_in (Do op) pass.Wide) → AreOwnSteps (one_key context) t seen steps → TakesLaterPass (one_key context) steps
+wide_pass context op t seen steps pending own = elim (from_start (one_key context) op (λ next back. TakesLaterPass (one_key context) back) pass.Wide (λ next t' seen' back never is own'. absurd never) t seen steps pending own) [
   | inl then ↦ inl then
   | inr (inl away) ↦ inr (inl away.0)
   | inr (inr (inl splits)) ↦ inr (inr splits.0)
@@ -296,12 +296,12 @@ wide_pass basis op t seen steps pending own = elim (from_start (one_key basis) o
 ]
 
 -- what follows a narrow pass
-after_narrow : (basis : Basis) (op : ObjOp) (next : Pass) (t : Transaction) (seen : View) (steps : List OwnStep) → MayFollow pass.Narrow next → t.at ≡ at.Pending (started_in (Do op) next) → AreOwnSteps (one_key basis) t seen steps → TakesLaterPass (one_key basis) steps
-after_narrow basis op next t seen steps is pending own = wide_pass (one_key basis) op t seen steps (pending ∙ ap (λ (p : Pass). at.Pending (started_in (Do op) p)) is) own
+after_narrow : (context : WalkContext) (op : ObjOp) (next : Pass) (t : Transaction) (seen : View) (steps : List OwnStep) → MayFollow pass.Narrow next → t.at ≡ at.Pending (started_in (Do op) next) → AreOwnSteps (one_key context) t seen steps → TakesLaterPass (one_key context) steps
+after_narrow context op next t seen steps is pending own = wide_pass (one_key context) op t seen steps (pending ∙ ap (λ (p : Pass). at.Pending (started_in (Do op) p)) is) own
 
 -- **A narrow pass.**
-pub narrow_pass : (basis : Basis) (op : ObjOp) (t : Transaction) (seen : View) (steps : List OwnStep) → t.at ≡ at.Pending (started_in (Do op) pass.Narrow) → AreOwnSteps (one_key basis) t seen steps → TakesNarrowPass (one_key basis) op steps
-narrow_pass basis op t seen steps pending own = elim (from_start (one_key basis) op (λ next back. TakesLaterPass (one_key basis) back) pass.Narrow (after_narrow (one_key basis) op) t seen steps pending own) [
+pub narrow_pass : (context : WalkContext) (op : ObjOp) (t : Transaction) (seen : View) (steps : List OwnStep) → t.at ≡ at.Pending (started_in (Do op) pass.Narrow) → AreOwnSteps (one_key context) t seen steps → TakesNarrowPass (one_key context) op steps
+narrow_pass context op t seen steps pending own = elim (from_start (one_key context) op (λ next back. TakesLaterPass (one_key context) back) pass.Narrow (after_narrow (one_key context) op) t seen steps pending own) [
   | inl then ↦ inl (inl then)
   | inr (inl away) ↦ inl (inr (inl away.0))
   | inr (inr (inl splits)) ↦ inl (inr (inr splits.0))
@@ -309,15 +309,15 @@ narrow_pass basis op t seen steps pending own = elim (from_start (one_key basis)
 ]
 
 -- what follows a first pass
-after_a_first : (basis : Basis) (op : ObjOp) (next : Pass) (t : Transaction) (seen : View) (steps : List OwnStep) → MayFollow pass.First next → t.at ≡ at.Pending (started_in (Do op) next) → AreOwnSteps (one_key basis) t seen steps → TakesNextPass (one_key basis) op next steps
-after_a_first basis op pass.First t seen steps (inl is) pending own = cc
-after_a_first basis op pass.First t seen steps (inr is) pending own = cc
-after_a_first basis op pass.Narrow t seen steps may pending own = narrow_pass (one_key basis) op t seen steps pending own
-after_a_first basis op pass.Wide t seen steps may pending own = wide_pass (one_key basis) op t seen steps pending own
+after_a_first : (context : WalkContext) (op : ObjOp) (next : Pass) (t : Transaction) (seen : View) (steps : List OwnStep) → MayFollow pass.First next → t.at ≡ at.Pending (started_in (Do op) next) → AreOwnSteps (one_key context) t seen steps → TakesNextPass (one_key context) op next steps
+after_a_first context op pass.First t seen steps (inl is) pending own = cc
+after_a_first context op pass.First t seen steps (inr is) pending own = cc
+after_a_first context op pass.Narrow t seen steps may pending own = narrow_pass (one_key context) op t seen steps pending own
+after_a_first context op pass.Wide t seen steps may pending own = wide_pass (one_key context) op t seen steps pending own
 
 -- **A first pass.**
-pub first_pass : (basis : Basis) (op : ObjOp) (t : Transaction) (seen : View) (steps : List OwnStep) → t.at ≡ at.Pending (started_in (Do op) pass.First) → AreOwnSteps (one_key basis) t seen steps → TakesFirstPass (one_key basis) op steps
-first_pass basis op t seen steps pending own = elim (from_start (one_key basis) op (TakesNextPass (one_key basis) op) pass.First (after_a_first (one_key basis) op) t seen steps pending own) [
+pub first_pass : (context : WalkContext) (op : ObjOp) (t : Transaction) (seen : View) (steps : List OwnStep) → t.at ≡ at.Pending (started_in (Do op) pass.First) → AreOwnSteps (one_key context) t seen steps → TakesFirstPass (one_key context) op steps
+first_pass context op t seen steps pending own = elim (from_start (one_key context) op (TakesNextPass (one_key context) op) pass.First (after_a_first (one_key context) op) t seen steps pending own) [
   | inl then ↦ inl then
   | inr (inl away) ↦ absurd (away.1 refl)
   | inr (inr (inl splits)) ↦ absurd (splits.1 refl)

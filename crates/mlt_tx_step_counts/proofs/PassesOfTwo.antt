@@ -5,8 +5,8 @@ use Rattle.mlt_object_kinds.specs.declared.operation.ObjReply.{ObjReply}
 use Rattle.mlt_object_base.specs.declared.request.Request.TheVariants.{Do, TakeBack}
 use Rattle.mlt_object_base.specs.Requests.{size_key_of}
 use Rattle.mlt_hash_access.specs.Views.{View}
-use Rattle.mlt_hash.specs.Walks.{Basis, one_key}
-use Rattle.mlt_tx_operation.specs.Operating.{course_for, started_for}
+use Rattle.mlt_hash.specs.Walks.{WalkContext, one_key}
+use Rattle.mlt_tx_operation.specs.Operating.{access_path_for, started_for}
 use Rattle.mlt_tx.specs.declared.transaction.At.TheVariants as at
 use Rattle.mlt_tx.specs.declared.transaction.Transaction.{Transaction}
 use Rattle.mlt_tx_step_counts.specs.Counts.{IsToTakeBack}
@@ -19,22 +19,22 @@ use Rattle.mlt_tx_step_counts.proofs.Passes.{first_pass}
 use Rattle.mlt_tx_step_counts.proofs.WideOfTwo.{wide_of_two}
 
 -- **A first pass on two records, and the wide one that may follow.**
-pub first_pass_of_two : (basis : Basis) (op : ObjOp) (t : Transaction) (seen : View) (steps : List OwnStep) → IsSome (size_key_of (Do op)) → t.at ≡ at.Pending (started_for (Do op)) → AreOwnSteps (one_key basis) t seen steps
-    → TakesFirstPassOfTwo (one_key basis) op steps
-first_pass_of_two basis op t seen steps two pending own = first_of_two (one_key basis) op (TakesWidePassOfTwo (one_key basis)) (wide_of_two (one_key basis) op) t seen steps two pending own
+pub first_pass_of_two : (context : WalkContext) (op : ObjOp) (t : Transaction) (seen : View) (steps : List OwnStep) → IsSome (size_key_of (Do op)) → t.at ≡ at.Pending (started_for (Do op)) → AreOwnSteps (one_key context) t seen steps
+    → TakesFirstPassOfTwo (one_key context) op steps
+first_pass_of_two context op t seen steps two pending own = first_of_two (one_key context) op (TakesWidePassOfTwo (one_key context)) (wide_of_two (one_key context) op) t seen steps two pending own
 
 -- **The first pass of any operation.**
-pub pass_of : (basis : Basis) (op : ObjOp) (t : Transaction) (seen : View) (steps : List OwnStep) → t.at ≡ at.Pending (started_for (Do op)) → AreOwnSteps (one_key basis) t seen steps → TakesPassOf (one_key basis) op steps
-pass_of basis op t seen steps pending own = by (size_key_of (Do op)) refl
+pub pass_of : (context : WalkContext) (op : ObjOp) (t : Transaction) (seen : View) (steps : List OwnStep) → t.at ≡ at.Pending (started_for (Do op)) → AreOwnSteps (one_key context) t seen steps → TakesPassOf (one_key context) op steps
+pass_of context op t seen steps pending own = by (size_key_of (Do op)) refl
   where
-    by : (size : Option ℕ) → size_key_of (Do op) ≡ size → TakesPassBy size (one_key basis) op steps
-    by None is = first_pass (one_key basis) op t seen steps (pending ∙ (λ i. at.Pending (record { request = Do op; reply = None; course = course_for (Do op) (is i) }))) own
-    by (Some key) is = first_pass_of_two (one_key basis) op t seen steps (ap is_some is) pending own
+    by : (size : Option ℕ) → size_key_of (Do op) ≡ size → TakesPassBy size (one_key context) op steps
+    by None is = first_pass (one_key context) op t seen steps (pending ∙ (λ i. at.Pending (record { request = Do op; reply = None; access_path = access_path_for (Do op) (is i) }))) own
+    by (Some key) is = first_pass_of_two (one_key context) op t seen steps (ap is_some is) pending own
 
 -- **And its inverse.**
-pub inverse_of_any : (basis : Basis) (t : Transaction) (last : ObjOp × ObjReply) (seen : View) (steps : List OwnStep) → IsToTakeBack t last → AreOwnSteps (one_key basis) t seen steps → TakesBackOf last steps
-inverse_of_any basis t last seen steps to own = by (size_key_of (TakeBack last)) refl
+pub inverse_of_any : (context : WalkContext) (t : Transaction) (last : ObjOp × ObjReply) (seen : View) (steps : List OwnStep) → IsToTakeBack t last → AreOwnSteps (one_key context) t seen steps → TakesBackOf last steps
+inverse_of_any context t last seen steps to own = by (size_key_of (TakeBack last)) refl
   where
     by : (size : Option ℕ) → size_key_of (TakeBack last) ≡ size → TakesBackBy size last steps
-    by None is = taken_back (one_key basis) t last seen steps is to own
-    by (Some key) is = taken_back_of_two (one_key basis) t last seen steps (ap is_some is) to own
+    by None is = taken_back (one_key context) t last seen steps is to own
+    by (Some key) is = taken_back_of_two (one_key context) t last seen steps (ap is_some is) to own

@@ -4,7 +4,7 @@ use Rattle.mlt_hash_access.specs.Views.{View}
 use Rattle.mlt_hash_split.specs.Splits.{SplitFields, directory_steps}
 use Rattle.mlt_hash.specs.Steps.{steps_to_bucket}
 use Rattle.mlt_hash.specs.StepsLeft.{bucket_depth, depth_after, directory_depth, steps_of_splits, steps_to_put, steps_to_put_at}
-use Rattle.mlt_hash.specs.Walks.{Basis, WalkFields, one_key}
+use Rattle.mlt_hash.specs.Walks.{WalkContext, WalkFields, one_key}
 use Rattle.mlt_hash.specs.declared.pass.Phase.{Phase}
 use Rattle.mlt_hash.specs.declared.pass.Phase.TheVariants as phase
 use Rattle.mlt_tx_two_records.specs.Depths.{Depths, GoesDown, deeper, depths_at}
@@ -13,7 +13,7 @@ use Rattle.mlt_tx.specs.declared.transaction.Transaction.{Transaction}
 use Rattle.mlt_tx.specs.Transactions.{TellsOfTransaction}
 use Rattle.mlt_tx_step_counts.specs.Counts.{IsRefusal, SplitsAndPutsOrNot}
 use Rattle.mlt_tx_step_counts.specs.Extra.{extra_of_splits}
-use Rattle.mlt_tx_step_counts.specs.OwnSteps.{AreOwnSteps, GoesToTurn, GoesUpTo, OwnStep, answers_of, basis_at, view_in}
+use Rattle.mlt_tx_step_counts.specs.OwnSteps.{AreOwnSteps, GoesToTurn, GoesUpTo, OwnStep, answers_of, context_at, view_in}
 use Rattle.mlt_tx_step_counts.proofs.Answers.{refused_in, turn_after_going, turn_after_wait, turn_here, up_to_after_going, up_to_after_wait}
 use Rattle.mlt_tx_step_counts.proofs.Extra.{of_one, of_splits, one_at_least}
 
@@ -93,49 +93,49 @@ pub record StaysPut (At : WalkFields → Transaction → View → Type 0) (walk 
   pub same : view_in own.after own.new ≡ view_in t own.old
   pub is : At walk own.after (view_in own.after own.new)
 
-pub record SplitsOn (basis : Basis) (At : WalkFields → Transaction → View → Type 0) (walk : WalkFields) (t : Transaction) (own : OwnStep) : Type 0 where
+pub record SplitsOn (context : WalkContext) (At : WalkFields → Transaction → View → Type 0) (walk : WalkFields) (t : Transaction) (own : OwnStep) : Type 0 where
   pub going : own.told ≡ answer.Going
   pub next : WalkFields
   pub is : At next own.after (view_in own.after own.new)
   pub there : steps_to_bucket next.phase ≡ 0
-  pub one : steps_to_put basis.root next (view_in own.after own.new) + 1 ≡ steps_to_put basis.root walk (view_in t own.old)
-  pub down_by : GoesDown basis.root walk next (view_in t own.old) (view_in own.after own.new)
+  pub one : steps_to_put context.root next (view_in own.after own.new) + 1 ≡ steps_to_put context.root walk (view_in t own.old)
+  pub down_by : GoesDown context.root walk next (view_in t own.old) (view_in own.after own.new)
 
-pub record PutsNow (basis : Basis) (Puts : ℕ → Transaction → OwnStep → List OwnStep → Type 0) (walk : WalkFields) (t : Transaction) (own : OwnStep) : Type 0 where
+pub record PutsNow (context : WalkContext) (Puts : ℕ → Transaction → OwnStep → List OwnStep → Type 0) (walk : WalkFields) (t : Transaction) (own : OwnStep) : Type 0 where
   pub going : own.told ≡ answer.Going
   pub value : ℕ
   pub bucket : ℕ
   pub room_depth : ℕ
   pub was : walk.phase ≡ phase.Adding value bucket room_depth false
-  pub puts : (l : ℕ) (back : List OwnStep) → bucket_depth (view_in t own.old) bucket ≡ l → AreOwnSteps (one_key basis) own.after (view_in own.after own.new) back → Puts l t own back
+  pub puts : (l : ℕ) (back : List OwnStep) → bucket_depth (view_in t own.old) bucket ≡ l → AreOwnSteps (one_key context) own.after (view_in own.after own.new) back → Puts l t own back
 
-abbrev pub SplitOutcome : Basis → (WalkFields → Transaction → View → Type 0) → (ℕ → Transaction → OwnStep → List OwnStep → Type 0) → WalkFields → Transaction → OwnStep → Type 0
-SplitOutcome basis At Puts walk t own = StaysPut At walk t own ⊎ IsRefusal own.told ⊎ PutsNow (one_key basis) Puts walk t own ⊎ SplitsOn (one_key basis) At walk t own
+abbrev pub SplitOutcome : WalkContext → (WalkFields → Transaction → View → Type 0) → (ℕ → Transaction → OwnStep → List OwnStep → Type 0) → WalkFields → Transaction → OwnStep → Type 0
+SplitOutcome context At Puts walk t own = StaysPut At walk t own ⊎ IsRefusal own.told ⊎ PutsNow (one_key context) Puts walk t own ⊎ SplitsOn (one_key context) At walk t own
 
 -- A pass has split its bucket j times. It was told Going so many times since it was to be split.
-pub record HasSplit (basis : Basis) (At : WalkFields → Transaction → View → Type 0) (depths : Depths) (gone j m : ℕ) (walk : WalkFields) (t : Transaction) (seen : View) : Type 0 where
+pub record HasSplit (context : WalkContext) (At : WalkFields → Transaction → View → Type 0) (depths : Depths) (gone j m : ℕ) (walk : WalkFields) (t : Transaction) (seen : View) : Type 0 where
   pub is : At walk t seen
   pub there : steps_to_bucket walk.phase ≡ 0
-  pub left : steps_to_put basis.root walk seen ≡ suc m
-  pub depths_is : depths_at walk.phase basis.root walk seen ≡ Some (down j depths)
+  pub left : steps_to_put context.root walk seen ≡ suc m
+  pub depths_is : depths_at walk.phase context.root walk seen ≡ Some (down j depths)
   pub few : depths.bucket + j ≤ depths.room
   pub gone_is : gone + suc m ≡ whole depths
   pub fresh : gone ≡ 0 → IsUnsplit walk.phase
 
 -- later the record is put
-pub record PutsLater (basis : Basis) (Puts : ℕ → Transaction → OwnStep → List OwnStep → Type 0) (depths : Depths) (gone : ℕ) (steps : List OwnStep) : Type 0 where
+pub record PutsLater (context : WalkContext) (Puts : ℕ → Transaction → OwnStep → List OwnStep → Type 0) (depths : Depths) (gone : ℕ) (steps : List OwnStep) : Type 0 where
   pub k : ℕ
   pub some : 1 ≤ k
   pub few : depths.bucket + k ≤ depths.room
   pub m : ℕ
   pub count : gone + m ≡ 1 + taken k depths
-  pub puts : GoesToTurn (one_key basis) m (Puts (depths.bucket + k)) steps
+  pub puts : GoesToTurn (one_key context) m (Puts (depths.bucket + k)) steps
 
-abbrev PutsOrNot : Basis → (ℕ → Transaction → OwnStep → List OwnStep → Type 0) → Depths → ℕ → ℕ → List OwnStep → Type 0
-PutsOrNot basis Puts depths gone m steps = GoesUpTo (suc m) IsRefusal (answers_of steps) ⊎ PutsLater (one_key basis) Puts depths gone steps
+abbrev PutsOrNot : WalkContext → (ℕ → Transaction → OwnStep → List OwnStep → Type 0) → Depths → ℕ → ℕ → List OwnStep → Type 0
+PutsOrNot context Puts depths gone m steps = GoesUpTo (suc m) IsRefusal (answers_of steps) ⊎ PutsLater (one_key context) Puts depths gone steps
 
-module _ (basis : Basis) (At : WalkFields → Transaction → View → Type 0) (Puts : ℕ → Transaction → OwnStep → List OwnStep → Type 0) (depths : Depths) where
-  after_wait : (gone m page by : ℕ) (step : OwnStep) (more : List OwnStep) → step.told ≡ answer.Waiting page by → PutsOrNot (one_key basis) Puts depths gone m more → PutsOrNot (one_key basis) Puts depths gone m (step ∷ more)
+module _ (context : WalkContext) (At : WalkFields → Transaction → View → Type 0) (Puts : ℕ → Transaction → OwnStep → List OwnStep → Type 0) (depths : Depths) where
+  after_wait : (gone m page by : ℕ) (step : OwnStep) (more : List OwnStep) → step.told ≡ answer.Waiting page by → PutsOrNot (one_key context) Puts depths gone m more → PutsOrNot (one_key context) Puts depths gone m (step ∷ more)
   after_wait gone m page by step more waits (inl not) = inl (up_to_after_wait step more (suc m) page by IsRefusal waits not)
   after_wait gone m page by step more waits (inr later) = inr (record {
     k = later.k;
@@ -143,10 +143,10 @@ module _ (basis : Basis) (At : WalkFields → Transaction → View → Type 0) (
     few = later.few;
     m = later.m;
     count = later.count;
-    puts = turn_after_wait step more (one_key basis) later.m page by (Puts (depths.bucket + later.k)) waits later.puts;
+    puts = turn_after_wait step more (one_key context) later.m page by (Puts (depths.bucket + later.k)) waits later.puts;
   })
 
-  after_going : (gone m : ℕ) (step : OwnStep) (more : List OwnStep) → step.told ≡ answer.Going → PutsOrNot (one_key basis) Puts depths (gone + 1) m more → PutsOrNot (one_key basis) Puts depths gone (suc m) (step ∷ more)
+  after_going : (gone m : ℕ) (step : OwnStep) (more : List OwnStep) → step.told ≡ answer.Going → PutsOrNot (one_key context) Puts depths (gone + 1) m more → PutsOrNot (one_key context) Puts depths gone (suc m) (step ∷ more)
   after_going gone m step more goes (inl not) = inl (up_to_after_going step more (suc m) IsRefusal goes not)
   after_going gone m step more goes (inr later) = inr (record {
     k = later.k;
@@ -154,20 +154,20 @@ module _ (basis : Basis) (At : WalkFields → Transaction → View → Type 0) (
     few = later.few;
     m = suc later.m;
     count = (let count = later.count in omega (arith, count));
-    puts = turn_after_going step more (one_key basis) later.m (Puts (depths.bucket + later.k)) goes later.puts;
+    puts = turn_after_going step more (one_key context) later.m (Puts (depths.bucket + later.k)) goes later.puts;
   })
 
-  module _ (gone j m : ℕ) (walk : WalkFields) (t : Transaction) (seen : View) (s : HasSplit (one_key basis) At depths gone j m walk t seen)
-      (step : OwnStep) (more : List OwnStep) (own : AreOwnSteps (one_key basis) t seen (step ∷ more)) where
+  module _ (gone j m : ℕ) (walk : WalkFields) (t : Transaction) (seen : View) (s : HasSplit (one_key context) At depths gone j m walk t seen)
+      (step : OwnStep) (more : List OwnStep) (own : AreOwnSteps (one_key context) t seen (step ∷ more)) where
     -- the record is put at this step
-    puts_here : PutsNow (one_key basis) Puts walk t step → PutsLater (one_key basis) Puts depths gone (step ∷ more)
+    puts_here : PutsNow (one_key context) Puts walk t step → PutsLater (one_key context) Puts depths gone (step ∷ more)
     puts_here now =
-        let at_put : Some (record { room = now.room_depth; bucket = bucket_depth seen now.bucket; directory = directory_depth seen basis.root }) ≡ Some (down j depths) =
-        sym (ap (λ (x : Phase). depths_at x basis.root walk seen) now.was) ∙ s.depths_is in
+        let at_put : Some (record { room = now.room_depth; bucket = bucket_depth seen now.bucket; directory = directory_depth seen context.root }) ≡ Some (down j depths) =
+        sym (ap (λ (x : Phase). depths_at x context.root walk seen) now.was) ∙ s.depths_is in
         let is = some_is_one _ _ at_put in
-        let left : steps_to_put basis.root walk seen ≡ steps_of_splits (now.room_depth - bucket_depth seen now.bucket) (bucket_depth seen now.bucket) (directory_depth seen basis.root) =
-        ap (λ (x : Phase). steps_to_put_at x basis.root walk seen) now.was in
-        let same : steps_of_splits (now.room_depth - bucket_depth seen now.bucket) (bucket_depth seen now.bucket) (directory_depth seen basis.root) ≡ whole (down j depths) = ap whole is in
+        let left : steps_to_put context.root walk seen ≡ steps_of_splits (now.room_depth - bucket_depth seen now.bucket) (bucket_depth seen now.bucket) (directory_depth seen context.root) =
+        ap (λ (x : Phase). steps_to_put_at x context.root walk seen) now.was in
+        let same : steps_of_splits (now.room_depth - bucket_depth seen now.bucket) (bucket_depth seen now.bucket) (directory_depth seen context.root) ≡ whole (down j depths) = ap whole is in
         let was = s.left in
         let parts = in_two j depths s.few in
         let all = s.gone_is in
@@ -179,19 +179,19 @@ module _ (basis : Basis) (At : WalkFields → Transaction → View → Type 0) (
           few = s.few;
           m = 1;
           count = omega (arith, gone_is);
-          puts = turn_here step more (one_key basis) (Puts (depths.bucket + j)) t now.going
+          puts = turn_here step more (one_key context) (Puts (depths.bucket + j)) t now.going
               (now.puts (depths.bucket + j) more (ap (λ (view : View). bucket_depth view now.bucket) own.0 ∙ depth) own.2) own.2;
         }
 
     -- the splits go on, by one at most
-    goes_down : (on : SplitsOn (one_key basis) At walk t step) (m' : ℕ) → m ≡ suc m' → (j' : ℕ) × HasSplit (one_key basis) At depths (gone + 1) j' m' on.next step.after (view_in step.after step.new)
+    goes_down : (on : SplitsOn (one_key context) At walk t step) (m' : ℕ) → m ≡ suc m' → (j' : ℕ) × HasSplit (one_key context) At depths (gone + 1) j' m' on.next step.after (view_in step.after step.new)
     goes_down on m' more_left =
-        let was_is : Some on.down_by.was ≡ Some (down j depths) = sym on.down_by.was_is ∙ ap (λ (view : View). depths_at walk.phase basis.root walk view) own.0 ∙ s.depths_is in
+        let was_is : Some on.down_by.was ≡ Some (down j depths) = sym on.down_by.was_is ∙ ap (λ (view : View). depths_at walk.phase context.root walk view) own.0 ∙ s.depths_is in
         let was = some_is_one _ _ was_is in
         let all = s.gone_is in
         let one = on.one in
-        let had : steps_to_put basis.root walk (view_in t step.old) ≡ suc m = ap (steps_to_put basis.root walk) own.0 ∙ s.left in
-        let made : (j' : ℕ) → on.down_by.is ≡ down j' depths → depths.bucket + j' ≤ depths.room → HasSplit (one_key basis) At depths (gone + 1) j' m' on.next step.after (view_in step.after step.new) = λ j' is few. record {
+        let had : steps_to_put context.root walk (view_in t step.old) ≡ suc m = ap (steps_to_put context.root walk) own.0 ∙ s.left in
+        let made : (j' : ℕ) → on.down_by.is ≡ down j' depths → depths.bucket + j' ≤ depths.room → HasSplit (one_key context) At depths (gone + 1) j' m' on.next step.after (view_in step.after step.new) = λ j' is few. record {
           is = on.is;
           there = on.there;
           left = omega (arith, one, had, more_left);
@@ -209,29 +209,29 @@ module _ (basis : Basis) (At : WalkFields → Transaction → View → Type 0) (
         ]
 
     -- where it goes on splitting there is a step more at least
-    more_left : (on : SplitsOn (one_key basis) At walk t step) → m ≡ suc (m - 1)
+    more_left : (on : SplitsOn (one_key context) At walk t step) → m ≡ suc (m - 1)
     more_left on =
         let one = on.one in
-        let had : steps_to_put basis.root walk (view_in t step.old) ≡ suc m = ap (steps_to_put basis.root walk) own.0 ∙ s.left in
-        let some = one_step_left on.next.phase basis.root on.next (view_in step.after step.new) on.down_by.is on.down_by.is_is in
+        let had : steps_to_put context.root walk (view_in t step.old) ≡ suc m = ap (steps_to_put context.root walk) own.0 ∙ s.left in
+        let some = one_step_left on.next.phase context.root on.next (view_in step.after step.new) on.down_by.is on.down_by.is_is in
         omega (arith, one, had, some)
 
-    waits_on : (waits : StaysPut At walk t step) → HasSplit (one_key basis) At depths gone j m walk step.after (view_in step.after step.new)
+    waits_on : (waits : StaysPut At walk t step) → HasSplit (one_key context) At depths gone j m walk step.after (view_in step.after step.new)
     waits_on waits = record {
       is = waits.is;
       there = s.there;
-      left = ap (steps_to_put basis.root walk) (waits.same ∙ own.0) ∙ s.left;
-      depths_is = ap (λ (view : View). depths_at walk.phase basis.root walk view) (waits.same ∙ own.0) ∙ s.depths_is;
+      left = ap (steps_to_put context.root walk) (waits.same ∙ own.0) ∙ s.left;
+      depths_is = ap (λ (view : View). depths_at walk.phase context.root walk view) (waits.same ∙ own.0) ∙ s.depths_is;
       few = s.few;
       gone_is = s.gone_is;
       fresh = s.fresh;
     }
 
   module _ (outcome : (walk : WalkFields) (t : Transaction) (seen : View) (step : OwnStep) → At walk t seen → steps_to_bucket walk.phase ≡ 0 → view_in t step.old ≡ seen
-      → TellsOfTransaction (basis_at (one_key basis) step) t step.after step.old step.new step.told → SplitOutcome (one_key basis) At Puts walk t step) where
+      → TellsOfTransaction (context_at (one_key context) step) t step.after step.old step.new step.told → SplitOutcome (one_key context) At Puts walk t step) where
     -- **Once a bucket is to be split, the record is put behind as many steps as the splits take that are made.**
     puts_or_not : (steps : List OwnStep) (gone j m : ℕ) (walk : WalkFields) (t : Transaction) (seen : View)
-        → HasSplit (one_key basis) At depths gone j m walk t seen → AreOwnSteps (one_key basis) t seen steps → PutsOrNot (one_key basis) Puts depths gone m steps
+        → HasSplit (one_key context) At depths gone j m walk t seen → AreOwnSteps (one_key context) t seen steps → PutsOrNot (one_key context) Puts depths gone m steps
     puts_or_not [] gone j m walk t seen s own = inl tt
     puts_or_not (step ∷ more) gone j m walk t seen s own =
         elim (outcome walk t seen step s.is s.there own.0 own.1) [
@@ -242,28 +242,28 @@ module _ (basis : Basis) (At : WalkFields → Transaction → View → Type 0) (
           | inr (inr (inr on)) ↦
               let some = more_left gone j m walk t seen s step more own on in
               let next = goes_down gone j m walk t seen s step more own on (m - 1) some in
-              subst (λ (n : ℕ). PutsOrNot (one_key basis) Puts depths gone n (step ∷ more)) (sym some)
+              subst (λ (n : ℕ). PutsOrNot (one_key context) Puts depths gone n (step ∷ more)) (sym some)
               (after_going gone (m - 1) step more on.going
               (puts_or_not more (gone + 1) next.0 (m - 1) on.next step.after (view_in step.after step.new) next.1 own.2))
         ]
 
 -- **From where a bucket is to be split.**
-module _ (basis : Basis) (At : WalkFields → Transaction → View → Type 0) (Puts : ℕ → Transaction → OwnStep → List OwnStep → Type 0)
+module _ (context : WalkContext) (At : WalkFields → Transaction → View → Type 0) (Puts : ℕ → Transaction → OwnStep → List OwnStep → Type 0)
     (outcome : (walk : WalkFields) (t : Transaction) (seen : View) (step : OwnStep) → At walk t seen → steps_to_bucket walk.phase ≡ 0 → view_in t step.old ≡ seen
-    → TellsOfTransaction (basis_at (one_key basis) step) t step.after step.old step.new step.told → SplitOutcome (one_key basis) At Puts walk t step) where
+    → TellsOfTransaction (context_at (one_key context) step) t step.after step.old step.new step.told → SplitOutcome (one_key context) At Puts walk t step) where
   pub splits_and_puts : (steps : List OwnStep) (walk : WalkFields) (t : Transaction) (seen : View) (value bucket l g d : ℕ)
-      → At walk t seen → walk.phase ≡ phase.Adding value bucket d true → bucket_depth seen bucket ≡ l → directory_depth seen basis.root ≡ g → l < d
-      → AreOwnSteps (one_key basis) t seen steps → SplitsAndPutsOrNot (one_key basis) l g d Puts steps
+      → At walk t seen → walk.phase ≡ phase.Adding value bucket d true → bucket_depth seen bucket ≡ l → directory_depth seen context.root ≡ g → l < d
+      → AreOwnSteps (one_key context) t seen steps → SplitsAndPutsOrNot (one_key context) l g d Puts steps
   splits_and_puts steps walk t seen value bucket l g d here is bucket_is directory_is deep own =
       let depths : Depths = record { room = d; bucket = l; directory = g } in
       let m : ℕ = 3 * (d - l) + extra_of_splits (d - l) l g in
       let all = of_splits (d - l) l g in
-      let left : steps_to_put basis.root walk seen ≡ steps_of_splits (d - l) l g = ap (λ (x : Phase). steps_to_put_at x basis.root walk seen) is ∙ (λ i. steps_of_splits (d - bucket_is i) (bucket_is i) (directory_is i)) in
-      elim (puts_or_not basis At Puts depths outcome steps 0 0 m walk t seen (record {
+      let left : steps_to_put context.root walk seen ≡ steps_of_splits (d - l) l g = ap (λ (x : Phase). steps_to_put_at x context.root walk seen) is ∙ (λ i. steps_of_splits (d - bucket_is i) (bucket_is i) (directory_is i)) in
+      elim (puts_or_not context At Puts depths outcome steps 0 0 m walk t seen (record {
         is = here;
         there = ap steps_to_bucket is;
         left = omega (arith, left, all);
-        depths_is = ap (λ (x : Phase). depths_at x basis.root walk seen) is ∙ (λ i. Some (record { room = d; bucket = bucket_is i; directory = directory_is i }));
+        depths_is = ap (λ (x : Phase). depths_at x context.root walk seen) is ∙ (λ i. Some (record { room = d; bucket = bucket_is i; directory = directory_is i }));
         few = omega (arith, deep);
         gone_is = omega (arith, all);
         fresh = λ none. subst IsUnsplit (sym is) tt;
@@ -273,6 +273,6 @@ module _ (basis : Basis) (At : WalkFields → Transaction → View → Type 0) (
           k = later.k;
           some = later.some;
           few = later.few;
-          puts = subst (λ (n : ℕ). GoesToTurn (one_key basis) n (Puts (l + later.k)) steps) (let count = later.count in omega (arith, count)) later.puts;
+          puts = subst (λ (n : ℕ). GoesToTurn (one_key context) n (Puts (l + later.k)) steps) (let count = later.count in omega (arith, count)) later.puts;
         })
       ]

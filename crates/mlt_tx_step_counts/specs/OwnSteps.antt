@@ -2,39 +2,39 @@
 use Rattle.std.specs.Prelude.{ℕ, zero, suc, ◌≡◌, ◌<◌, ◌⊎◌, List, [], ◌∷◌, ◌++◌}
 use Rattle.std.specs.Ordering.{nat_cmp}
 use Rattle.std.specs.FinSet as set
-use Rattle.mlt_hash_access.specs.Moments.{moment}
+use Rattle.mlt_hash_access.specs.LocalStates.{local}
 use Rattle.mlt_hash_access.specs.Views.{View, view_of}
-use Rattle.mlt_hash.specs.Walks.{Basis}
+use Rattle.mlt_hash.specs.Walks.{WalkContext}
 use Rattle.mlt_event.specs.declared.answer.Answer.{Answer}
 use Rattle.mlt_event.specs.declared.answer.Answer.TheVariants as answer
-use Rattle.mlt_tx.specs.declared.commons.Commons.{Commons}
+use Rattle.mlt_tx.specs.declared.shared.SharedState.{SharedState}
 use Rattle.mlt_tx.specs.declared.transaction.Transaction.{Transaction}
 use Rattle.mlt_tx.specs.Transactions.{TellsOfTransaction}
 
 -- one step of a transaction: who was open, what all transactions share before it and after it, what the transaction is after
 -- it, and what it was told
 pub record OwnStep : Type 0 where
-  pub opens : set.FinSet nat_cmp
-  pub old : Commons
-  pub new : Commons
+  pub active : set.FinSet nat_cmp
+  pub old : SharedState
+  pub new : SharedState
   pub after : Transaction
   pub told : Answer
 
 -- what a transaction sees of the pages that it holds
-abbrev pub view_in : Transaction → Commons → View
-view_in t commons = view_of (moment t.subtx commons.pages)
+abbrev pub view_in : Transaction → SharedState → View
+view_in t shared = view_of (local t.subtx shared.pages)
 
 -- what its walks go by at this step
-abbrev pub basis_at : Basis → OwnStep → Basis
-basis_at basis step = record basis { opens = step.opens }
+abbrev pub context_at : WalkContext → OwnStep → WalkContext
+context_at context step = record context { active = step.active }
 
 -- Steps of a transaction, which sees this before them. Between two of them others may do anything that leaves what it sees.
-abbrev pub AreOwnSteps : Basis → Transaction → View → List OwnStep → Type 0
-AreOwnSteps basis t seen [] = Unit {0}
-AreOwnSteps basis t seen (step ∷ more) =
+abbrev pub AreOwnSteps : WalkContext → Transaction → View → List OwnStep → Type 0
+AreOwnSteps context t seen [] = Unit {0}
+AreOwnSteps context t seen (step ∷ more) =
     (view_in t step.old ≡ seen)
-    × TellsOfTransaction (basis_at basis step) t step.after step.old step.new step.told
-    × AreOwnSteps basis step.after (view_in step.after step.new) more
+    × TellsOfTransaction (context_at context step) t step.after step.old step.new step.told
+    × AreOwnSteps context step.after (view_in step.after step.new) more
 
 -- an answer before these, unless it says to wait
 abbrev pub with_answer : Answer → List Answer → List Answer
@@ -74,7 +74,7 @@ GoesBelow n answers = (k : ℕ) × (k < n) × (answers ≡ goings k)
 
 -- The first n answers say that it goes on. Of the step told the last of them, of what the transaction was before it, and of
 -- the steps behind it this is so.
-pub record GoesToTurn (basis : Basis) (n : ℕ)
+pub record GoesToTurn (context : WalkContext) (n : ℕ)
     (Turns : Transaction → OwnStep → List OwnStep → Type 0) (steps : List OwnStep) : Type 0 where
   pub front : List OwnStep
   pub before : Transaction
@@ -83,4 +83,4 @@ pub record GoesToTurn (basis : Basis) (n : ℕ)
   pub parts : steps ≡ front ++ last ∷ back
   pub goes : answers_of (front ++ last ∷ []) ≡ goings n
   pub turns : Turns before last back
-  pub rest : AreOwnSteps basis last.after (view_in last.after last.new) back
+  pub rest : AreOwnSteps context last.after (view_in last.after last.new) back

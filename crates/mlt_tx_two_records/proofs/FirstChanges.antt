@@ -11,9 +11,9 @@ use Rattle.mlt_hash_access.specs.Views.{ReadsHeldBucket, View, WritesPage, Write
 use Rattle.mlt_hash_record.specs.Plans.{WriteFields, planned_page}
 use Rattle.mlt_hash_pair.specs.Changes.{HasChanged, IsHolding, LeavesLeft, LeavesRight, MakesBoth, Task, WritesBucketsAlone}
 use Rattle.mlt_hash_pair.specs.Pairs.{IsFinding, IsFound, PairFields, later_of, later_page}
-use Rattle.mlt_hash_pair.specs.Ways.{found_of, page_of}
+use Rattle.mlt_hash_pair.specs.Descents.{found_of, page_of}
 use Rattle.mlt_hash_pair.proofs.Laws.{holds_read}
-use Rattle.mlt_hash.specs.Walks.{Basis}
+use Rattle.mlt_hash.specs.Walks.{WalkContext}
 use Rattle.mlt_hash.specs.declared.pass.Change.{Change}
 use Rattle.mlt_tx_two_records.specs.FirstPass.{AsksForBoth, AsksForNone, ChangesBoth, HasKeys, HasToldFirst, OwesEither, OwesOne, task_for}
 use Rattle.mlt_tx_two_records.specs.Performing.{asked_of}
@@ -30,38 +30,38 @@ later_is left right = elim (cases_Bool (nat_lt left right)) [
 
 -- **A pair that has written its later bucket at most has written its buckets alone.**
 pub buckets_alone : (pair : PairFields) (view : View) → ((q : ℕ) → q ≢ later_page pair → view.own q ≡ None) → WritesBucketsAlone pair view
-buckets_alone pair view none q ne ne' = none q (λ same. elim (later_is (page_of pair.left_way) (page_of pair.right_way)) [
+buckets_alone pair view none q ne ne' = none q (λ same. elim (later_is (page_of pair.left_descent) (page_of pair.right_descent)) [
   | inl left ↦ ne (same ∙ left)
   | inr right ↦ ne' (same ∙ right)
 ])
 
-module _ (basis : Basis) (request : Request) (pair : PairFields) (view : View) (keys : HasKeys request pair.left pair.right) (finding : IsFinding basis.bits basis.root pair view) (found : IsFound pair) (reply : ObjReply)
-    (asks : AsksForBoth request reply (found_of pair.left_way) (found_of pair.right_way)) (own_can : CanChange (Some asks.change) (found_of pair.left_way)) (size_can : CanChange (Some asks.resize) (found_of pair.right_way))
-    (ghost : GhostThere basis asks.change pair.left (page_of pair.left_way) view) where
+module _ (context : WalkContext) (request : Request) (pair : PairFields) (view : View) (keys : HasKeys request pair.left pair.right) (finding : IsFinding context.bits context.root pair view) (found : IsFound pair) (reply : ObjReply)
+    (asks : AsksForBoth request reply (found_of pair.left_descent) (found_of pair.right_descent)) (own_can : CanChange (Some asks.change) (found_of pair.left_descent)) (size_can : CanChange (Some asks.resize) (found_of pair.right_descent))
+    (ghost : GhostThere context asks.change pair.left (page_of pair.left_descent) view) where
   abbrev own_page : ℕ
-  own_page = page_of pair.left_way
+  own_page = page_of pair.left_descent
 
   abbrev size_page : ℕ
-  size_page = page_of pair.right_way
+  size_page = page_of pair.right_descent
 
   abbrev task : Task
-  task = task_for basis pair asks.change asks.resize
+  task = task_for context pair asks.change asks.resize
 
-  own_fits : FitsThere (Some (asked_of asks.change (found_of pair.left_way))) pair.left own_page view
-  own_fits = way_fits basis.bits basis.root pair.left view (Some (asked_of asks.change (found_of pair.left_way))) pair.left_way found.0 finding.left finding.unwritten (asked_fits asks.change (found_of pair.left_way) own_can)
+  own_fits : FitsThere (Some (asked_of asks.change (found_of pair.left_descent))) pair.left own_page view
+  own_fits = way_fits context.bits context.root pair.left view (Some (asked_of asks.change (found_of pair.left_descent))) pair.left_descent found.0 finding.left finding.unwritten (asked_fits asks.change (found_of pair.left_descent) own_can)
 
-  size_fits : FitsThere (Some (asked_of asks.resize (found_of pair.right_way))) pair.right size_page view
-  size_fits = way_fits basis.bits basis.root pair.right view (Some (asked_of asks.resize (found_of pair.right_way))) pair.right_way found.1 finding.right finding.unwritten (asked_fits asks.resize (found_of pair.right_way) size_can)
+  size_fits : FitsThere (Some (asked_of asks.resize (found_of pair.right_descent))) pair.right size_page view
+  size_fits = way_fits context.bits context.root pair.right view (Some (asked_of asks.resize (found_of pair.right_descent))) pair.right_descent found.1 finding.right finding.unwritten (asked_fits asks.resize (found_of pair.right_descent) size_can)
 
-  size_ghost : (v : View) → GhostThere basis asks.resize pair.right size_page v
-  size_ghost v revives bucket reads = absurd (never_revives_size request reply (found_of pair.right_way) (asks.resized ∙ ap Some revives))
+  size_ghost : (v : View) → GhostThere context asks.resize pair.right size_page v
+  size_ghost v revives bucket reads = absurd (never_revives_size request reply (found_of pair.right_descent) (asks.resized ∙ ap Some revives))
 
   -- **Both are made in one step.**
-  pub makes_both : (new : View) → MakesBoth task basis.tx view new → ChangesBoth basis request pair reply new
+  pub makes_both : (new : View) → MakesBoth task context.tx view new → ChangesBoth context request pair reply new
   makes_both new makes =
-      let own : IsMade basis asks.change (found_of pair.left_way) pair.left own_page view makes.mid = is_made basis asks.change (found_of pair.left_way) pair.left own_page view makes.mid own_can own_fits ghost makes.left in
-      let fits = fits_beside (Some (asked_of asks.resize (found_of pair.right_way))) (asked_of asks.change (found_of pair.left_way)) basis.opens basis.tx pair.left pair.right own_page size_page view makes.mid keys.apart size_fits makes.left in
-      let size : IsMade basis asks.resize (found_of pair.right_way) pair.right size_page makes.mid new = is_made basis asks.resize (found_of pair.right_way) pair.right size_page makes.mid new size_can fits (size_ghost makes.mid) makes.right in
+      let own : IsMade context asks.change (found_of pair.left_descent) pair.left own_page view makes.mid = is_made context asks.change (found_of pair.left_descent) pair.left own_page view makes.mid own_can own_fits ghost makes.left in
+      let fits = fits_beside (Some (asked_of asks.resize (found_of pair.right_descent))) (asked_of asks.change (found_of pair.left_descent)) context.active context.tx pair.left pair.right own_page size_page view makes.mid keys.apart size_fits makes.left in
+      let size : IsMade context asks.resize (found_of pair.right_descent) pair.right size_page makes.mid new = is_made context asks.resize (found_of pair.right_descent) pair.right size_page makes.mid new size_can fits (size_ghost makes.mid) makes.right in
       record {
         asks = asks;
         own_done = own.done;
@@ -76,13 +76,13 @@ module _ (basis : Basis) (request : Request) (pair : PairFields) (view : View) (
       }
 
   -- **Or that of the later bucket is made, and the other is owed.**
-  pub owes_one : (new : View) (owed : Option WriteFields) → HasChanged basis.bits basis.root basis.opens basis.tx (record pair { owed = owed }) new → LeavesLeft task basis.tx view new owed ⊎ LeavesRight task basis.tx view new owed
-      → OwesOne basis request (record pair { owed = owed }) reply new
+  pub owes_one : (new : View) (owed : Option WriteFields) → HasChanged context.bits context.root context.active context.tx (record pair { owed = owed }) new → LeavesLeft task context.tx view new owed ⊎ LeavesRight task context.tx view new owed
+      → OwesOne context request (record pair { owed = owed }) reply new
   owes_one new owed changed (inl leaves) =
       let low = leaves.earlier in
       let ne : own_page ≢ size_page = λ same. omega (arith, low, same) in
-      let size : IsMade basis asks.resize (found_of pair.right_way) pair.right size_page view new = is_made basis asks.resize (found_of pair.right_way) pair.right size_page view new size_can size_fits (size_ghost view) leaves.right in
-      let own : IsOwed basis asks.change (found_of pair.left_way) pair.left own_page view owed = is_owed basis asks.change (found_of pair.left_way) pair.left own_page view owed own_can own_fits ghost leaves.owes in
+      let size : IsMade context asks.resize (found_of pair.right_descent) pair.right size_page view new = is_made context asks.resize (found_of pair.right_descent) pair.right size_page view new size_can size_fits (size_ghost view) leaves.right in
+      let own : IsOwed context asks.change (found_of pair.left_descent) pair.left own_page view owed = is_owed context asks.change (found_of pair.left_descent) pair.left own_page view owed own_can own_fits ghost leaves.owes in
       record {
         keys = keys;
         changed = changed;
@@ -96,13 +96,13 @@ module _ (basis : Basis) (request : Request) (pair : PairFields) (view : View) (
         unwritten = finding.unwritten;
         write = own.write;
         owed = own.owed_is;
-        owes = inl (size.writes, planned_beside basis own.done pair.left own_page size_page view new (planned_page size.writes.plan.bucket size.writes.write) own.write size.writes.writes ne own.plan);
+        owes = inl (size.writes, planned_beside context own.done pair.left own_page size_page view new (planned_page size.writes.plan.bucket size.writes.write) own.write size.writes.writes ne own.plan);
       }
   owes_one new owed changed (inr leaves) =
       let low = leaves.earlier in
       let ne : own_page ≢ size_page = λ same. omega (arith, low, same) in
-      let own : IsMade basis asks.change (found_of pair.left_way) pair.left own_page view new = is_made basis asks.change (found_of pair.left_way) pair.left own_page view new own_can own_fits ghost leaves.left in
-      let size : IsOwed basis asks.resize (found_of pair.right_way) pair.right size_page view owed = is_owed basis asks.resize (found_of pair.right_way) pair.right size_page view owed size_can size_fits (size_ghost view) leaves.owes in
+      let own : IsMade context asks.change (found_of pair.left_descent) pair.left own_page view new = is_made context asks.change (found_of pair.left_descent) pair.left own_page view new own_can own_fits ghost leaves.left in
+      let size : IsOwed context asks.resize (found_of pair.right_descent) pair.right size_page view owed = is_owed context asks.resize (found_of pair.right_descent) pair.right size_page view owed size_can size_fits (size_ghost view) leaves.owes in
       record {
         keys = keys;
         changed = changed;
@@ -116,7 +116,7 @@ module _ (basis : Basis) (request : Request) (pair : PairFields) (view : View) (
         unwritten = finding.unwritten;
         write = size.write;
         owed = size.owed_is;
-        owes = inr (own.writes, planned_beside basis size.done pair.right size_page own_page view new (planned_page own.writes.plan.bucket own.writes.write) size.write own.writes.writes (λ same. ne (sym same)) size.plan);
+        owes = inr (own.writes, planned_beside context size.done pair.right size_page own_page view new (planned_page own.writes.plan.bucket own.writes.write) size.write own.writes.writes (λ same. ne (sym same)) size.plan);
       }
 
 -- a view with a page written in it
@@ -131,21 +131,21 @@ page_written_there view q page = record {
   others = λ p ne. cond-false (p == q) (Some page) (view.own p) (ne_eqb p q ne);
 }
 
-module _ (basis : Basis) (own_done size_done : Change) (left right own_page size_page : ℕ) (ne : own_page ≢ size_page) (old view new : View) (size : WritesRecord basis size_done right size_page old view) (own : WritesRecord basis own_done left own_page view new) where
+module _ (context : WalkContext) (own_done size_done : Change) (left right own_page size_page : ℕ) (ne : own_page ≢ size_page) (old view new : View) (size : WritesRecord context size_done right size_page old view) (own : WritesRecord context own_done left own_page view new) where
   -- the own change is written first, as well as last: the two buckets differ
-  abbrev pub own_on_old : PlansRecord basis own_done left own_page old own.write
-  own_on_old = planned_beside_before basis own_done left own_page size_page old view (planned_page size.plan.bucket size.write) own.write size.writes ne own.plan
+  abbrev pub own_on_old : PlansRecord context own_done left own_page old own.write
+  own_on_old = planned_beside_before context own_done left own_page size_page old view (planned_page size.plan.bucket size.write) own.write size.writes ne own.plan
 
   abbrev pub mid : View
   mid = with_page_written old own_page (planned_page own_on_old.bucket own.write)
 
-  abbrev pub own_first : WritesRecord basis own_done left own_page old mid
+  abbrev pub own_first : WritesRecord context own_done left own_page old mid
   own_first = record { write = own.write; plan = own_on_old; writes = page_written_there old own_page (planned_page own_on_old.bucket own.write) }
 
-  abbrev size_on_mid : PlansRecord basis size_done right size_page mid size.write
-  size_on_mid = planned_beside basis size_done right size_page own_page old mid (planned_page own_on_old.bucket own.write) size.write own_first.writes (λ same. ne (sym same)) size.plan
+  abbrev size_on_mid : PlansRecord context size_done right size_page mid size.write
+  size_on_mid = planned_beside context size_done right size_page own_page old mid (planned_page own_on_old.bucket own.write) size.write own_first.writes (λ same. ne (sym same)) size.plan
 
-  pub size_last : WritesRecord basis size_done right size_page mid new
+  pub size_last : WritesRecord context size_done right size_page mid new
   size_last = record {
     write = size.write;
     plan = size_on_mid;
@@ -161,19 +161,19 @@ module _ (basis : Basis) (own_done size_done : Change) (left right own_page size
   }
 
 -- what is planned is made, where the slot is written
-made_where_planned : (basis : Basis) (done : Change) (key q : ℕ) (view new : View) (write : WriteFields) → PlansRecord basis done key q view write → WritesSlot view new write.number write.at write.slot → WritesRecord basis done key q view new
-made_where_planned basis done key q view new write plan writes = record {
+made_where_planned : (context : WalkContext) (done : Change) (key q : ℕ) (view new : View) (write : WriteFields) → PlansRecord context done key q view write → WritesSlot view new write.number write.at write.slot → WritesRecord context done key q view new
+made_where_planned context done key q view new write plan writes = record {
   write = write;
   plan = plan;
   writes = subst (λ n. WritesPage view new n (planned_page plan.bucket write)) plan.number (writes plan.bucket (subst (λ n. ReadsHeldBucket view n plan.bucket) (sym plan.number) plan.reads));
 }
 
 -- **Once the change that was owed is made, both are.**
-pub owed_made : (basis : Basis) (request : Request) (pair : PairFields) (reply : ObjReply) (view new : View) (owes : OwesOne basis request pair reply view) → WritesSlot view new owes.write.number owes.write.at owes.write.slot
-    → ChangesBoth basis request (record pair { owed = None }) reply new
-owed_made basis request pair reply view new owes writes = go owes.owes
+pub owed_made : (context : WalkContext) (request : Request) (pair : PairFields) (reply : ObjReply) (view new : View) (owes : OwesOne context request pair reply view) → WritesSlot view new owes.write.number owes.write.at owes.write.slot
+    → ChangesBoth context request (record pair { owed = None }) reply new
+owed_made context request pair reply view new owes writes = go owes.owes
   where
-    both : (mid : View) → WritesRecord basis owes.own_done pair.left (page_of pair.left_way) owes.old mid → WritesRecord basis owes.size_done pair.right (page_of pair.right_way) mid new → ChangesBoth basis request (record pair { owed = None }) reply new
+    both : (mid : View) → WritesRecord context owes.own_done pair.left (page_of pair.left_descent) owes.old mid → WritesRecord context owes.size_done pair.right (page_of pair.right_descent) mid new → ChangesBoth context request (record pair { owed = None }) reply new
     both mid own size = record {
       asks = owes.asks;
       own_done = owes.own_done;
@@ -187,26 +187,26 @@ owed_made basis request pair reply view new owes writes = go owes.owes
       size = size;
     }
 
-    go : OwesEither basis owes.own_done owes.size_done pair owes.old view owes.write → ChangesBoth basis request (record pair { owed = None }) reply new
+    go : OwesEither context owes.own_done owes.size_done pair owes.old view owes.write → ChangesBoth context request (record pair { owed = None }) reply new
     go (inl (size, plan)) =
-        let own = made_where_planned basis owes.own_done pair.left (page_of pair.left_way) view new owes.write plan writes in
-        both (mid basis owes.own_done owes.size_done pair.left pair.right (page_of pair.left_way) (page_of pair.right_way) owes.two owes.old view new size own)
-        (own_first basis owes.own_done owes.size_done pair.left pair.right (page_of pair.left_way) (page_of pair.right_way) owes.two owes.old view new size own)
-        (size_last basis owes.own_done owes.size_done pair.left pair.right (page_of pair.left_way) (page_of pair.right_way) owes.two owes.old view new size own)
-    go (inr (own, plan)) = both view own (made_where_planned basis owes.size_done pair.right (page_of pair.right_way) view new owes.write plan writes)
+        let own = made_where_planned context owes.own_done pair.left (page_of pair.left_descent) view new owes.write plan writes in
+        both (mid context owes.own_done owes.size_done pair.left pair.right (page_of pair.left_descent) (page_of pair.right_descent) owes.two owes.old view new size own)
+        (own_first context owes.own_done owes.size_done pair.left pair.right (page_of pair.left_descent) (page_of pair.right_descent) owes.two owes.old view new size own)
+        (size_last context owes.own_done owes.size_done pair.left pair.right (page_of pair.left_descent) (page_of pair.right_descent) owes.two owes.old view new size own)
+    go (inr (own, plan)) = both view own (made_where_planned context owes.size_done pair.right (page_of pair.right_descent) view new owes.write plan writes)
 
 -- **With all written, it is told its reply:** both changes are made,
-pub told_both : (basis : Basis) (request : Request) (pair : PairFields) (reply : ObjReply) (view : View) → HasKeys request pair.left pair.right → IsFound pair → IsHolding basis.bits basis.root pair view → WritesBucketsAlone pair view → ChangesBoth basis request pair reply view
-    → HasToldFirst basis request pair reply view
-told_both basis request pair reply view keys found holding alone both = record { keys = keys; found = found; holding = holding; alone = alone; done = inr both }
+pub told_both : (context : WalkContext) (request : Request) (pair : PairFields) (reply : ObjReply) (view : View) → HasKeys request pair.left pair.right → IsFound pair → IsHolding context.bits context.root pair view → WritesBucketsAlone pair view → ChangesBoth context request pair reply view
+    → HasToldFirst context request pair reply view
+told_both context request pair reply view keys found holding alone both = record { keys = keys; found = found; holding = holding; alone = alone; done = inr both }
 
 -- or none is asked for.
-pub told_none : (basis : Basis) (request : Request) (pair : PairFields) (reply : ObjReply) (view : View) → HasKeys request pair.left pair.right → IsFound pair → IsFinding basis.bits basis.root pair view → AsksForNone request reply (found_of pair.left_way) (found_of pair.right_way)
-    → HasToldFirst basis request pair reply view
-told_none basis request pair reply view keys found finding asks = record {
+pub told_none : (context : WalkContext) (request : Request) (pair : PairFields) (reply : ObjReply) (view : View) → HasKeys request pair.left pair.right → IsFound pair → IsFinding context.bits context.root pair view → AsksForNone request reply (found_of pair.left_descent) (found_of pair.right_descent)
+    → HasToldFirst context request pair reply view
+told_none context request pair reply view keys found finding asks = record {
   keys = keys;
   found = found;
-  holding = holds_read basis.bits basis.root pair view finding;
+  holding = holds_read context.bits context.root pair view finding;
   alone = λ q ne ne'. finding.unwritten q;
   done = inl (record { asks = asks; unwritten = finding.unwritten });
 }

@@ -7,10 +7,10 @@ pub mod FirstBuckets
 pub mod FirstSteps
 pub mod FirstLaws
 pub mod WideOwners
-pub mod DoubleLaws
+pub mod TwoRecordLaws
 pub mod LeftRecords
 pub mod SplitSteps
-pub mod DoubleSteps
+pub mod TwoRecordSteps
 pub mod WideDeciding
 pub mod WideDepths
 pub mod WideGoing

@@ -6,23 +6,23 @@ use Rattle.mlt_page_locks.specs.LockTables.{LockTable, pages_of}
 use Rattle.mlt_page_locks.specs.Requests.{released}
 use Rattle.mlt_page_locks.proofs.LockLaws.{pages_of-released}
 use Rattle.mlt_page_subtx.specs.Images.{Running, put_back, started}
-use Rattle.mlt_hash_access.specs.Moments.{Moment}
+use Rattle.mlt_hash_access.specs.LocalStates.{LocalState}
 use Rattle.mlt_hash_access.specs.PageTurns.{IsRolledBack}
 use Rattle.mlt_hash_access.specs.Views.{view_of}
 use Rattle.mlt_hash.specs.Walks.{IsAtStart}
 use Rattle.mlt_hash.proofs.Laws.{at_start}
 
--- a moment is rolled back, to what the parts say
-pub rolls_back : (m old new : Moment) → old ≡ m → new.store ≡ record old.store { pages = put_back old.running.images old.store.pages }
+-- a state is rolled back, to what the parts say
+pub rolls_back : (m old new : LocalState) → old ≡ m → new.store ≡ record old.store { pages = put_back old.running.images old.store.pages }
     → new.locks ≡ released old.locks old.running.tx → new.running ≡ started old.running.tx → IsRolledBack m new
 rolls_back m old new stays store locks running =
-    subst (λ (n : Moment). IsRolledBack n new) stays (record { locks = locks; running = running; store = store })
+    subst (λ (n : LocalState). IsRolledBack n new) stays (record { locks = locks; running = running; store = store })
 
-nothing_held : (old new : Moment) → IsRolledBack old new → pages_of new.locks new.running.tx ≡ map.empty
+nothing_held : (old new : LocalState) → IsRolledBack old new → pages_of new.locks new.running.tx ≡ map.empty
 nothing_held old new back =
     ap (λ (l : LockTable). pages_of l new.running.tx) back.locks ∙ ap (λ (r : Running). pages_of (released old.locks old.running.tx) r.tx) back.running
     ∙ grind (arith, nat_tests, pages_of-released old.locks old.running.tx old.running.tx)
 
 -- **Nothing is held, and nothing is written.**
-pub starts_again : (old new : Moment) → IsRolledBack old new → IsAtStart (view_of new)
+pub starts_again : (old new : LocalState) → IsRolledBack old new → IsAtStart (view_of new)
 starts_again old new back = at_start new (nothing_held old new back)

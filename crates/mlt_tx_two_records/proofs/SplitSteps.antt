@@ -44,13 +44,13 @@ counted zero l g deep small =
 counted (suc n) l g deep small = elim (cases_eq l g) [
   | inl same ↦
       let steps : directory_steps l g ≡ directory_steps g g = ap (λ d. directory_steps d g) same in
-      let doubles = doubling_steps g in
+      let two_records = doubling_steps g in
       let deeper : depth_after l g ≡ g + 1 = cond-true (nat_eq l g) _ _ (eq-eqb l g same) in
       let rest = counted n (l + 1) (g + 1) (omega (arith, deep)) (omega (arith, deep, same)) in
       let left : steps_of_splits n (l + 1) (depth_after l g) ≡ steps_of_splits n (l + 1) (g + 1) = ap (λ d. steps_of_splits n (l + 1) d) deeper in
       let one : 2 ^ (g + 1 - (l + 1 + 8)) ≡ 1 = (let zero_is : g + 1 - (l + 1 + 8) ≡ 0 = omega (arith, same) in ap (λ m. 2 ^ m) zero_is) in
       let some : 1 ≤ 2 ^ (g - (l + 8)) = pow-le-pow_right {n = 2} (omega arith) {i = 0} {j = g - (l + 8)} (omega arith) in
-      omega (arith, steps, doubles, rest, left, one, some)
+      omega (arith, steps, two_records, rest, left, one, some)
   | inr other ↦
       let steps : directory_steps l g ≡ 2 ^ (g - (l + 9)) = cond-false (nat_eq l g) _ _ (ne_eqb l g other) in
       let stays : depth_after l g ≡ g = cond-false (nat_eq l g) _ _ (ne_eqb l g other) in

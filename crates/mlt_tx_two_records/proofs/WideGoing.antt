@@ -1,6 +1,6 @@
 -- How a walk goes on within its pass, over whatever was written before
 use Rattle.std.proofs.Common.{◌≡◌, ℕ, ◌<◌, false, refl, sym, subst, inl, inr, arith}
-use Rattle.mlt_hash_access.specs.Moments.{Moment}
+use Rattle.mlt_hash_access.specs.LocalStates.{LocalState}
 use Rattle.mlt_hash_access.specs.PageSteps.{Leaves}
 use Rattle.mlt_hash_access.specs.Views.{view_of}
 use Rattle.mlt_hash_access.proofs.Rebased.{written_stays}
@@ -8,7 +8,7 @@ use Rattle.mlt_hash.specs.Changes.{Makes}
 use Rattle.mlt_hash.specs.Splitting.{IsUnderWay, TellsAt}
 use Rattle.mlt_hash.specs.Steps.{GoesOn, IsSameWalk, steps_to_bucket}
 use Rattle.mlt_hash.specs.StepsLeft.{IsPutting, steps_to_put}
-use Rattle.mlt_hash.specs.Walks.{Basis, IsStanding, MayWalk, WalkFields, view_for}
+use Rattle.mlt_hash.specs.Walks.{WalkContext, IsStanding, MayWalk, WalkFields, view_for}
 use Rattle.mlt_hash.specs.declared.answer.WalkAnswer.TheVariants as answer
 use Rattle.mlt_hash.specs.declared.pass.Change.TheVariants as change
 use Rattle.mlt_hash.specs.declared.pass.Phase.{Phase}
@@ -33,11 +33,11 @@ puts_none_on_way (at.Placed bucket depth) Is more = tt
 puts_none_on_way other Is more = absurd (omega (arith, more))
 
 -- What is so of a walk after a step that does not change the record.
-pub record GoesFurther (basis : Basis) (old new : Moment) (before after : WalkFields) : Type 0 where
-  pub nearer : GoesNearer basis.root (view_of old) (view_of new) before after
+pub record GoesFurther (context : WalkContext) (old new : LocalState) (before after : WalkFields) : Type 0 where
+  pub nearer : GoesNearer context.root (view_of old) (view_of new) before after
   pub same : IsSameWalk before after
   pub under_way : IsUnderWay after.phase
-  pub stands : IsStanding basis after (view_for basis new)
+  pub stands : IsStanding context after (view_for context new)
 
 -- the phase of a walk that adds or splits
 abbrev IsAddingPhase : Phase → ℕ → Type 0
@@ -65,13 +65,13 @@ puts_of (at.Adding v bucket depth unsplit) value Is same is = subst Is (sym same
 puts_of (at.Splitting v depth) value Is same is = subst Is (sym same) is
 puts_of other value Is same is = absurd same
 
-module _ (basis : Basis) (old new : Moment) (before after : WalkFields) (may : MayWalk basis old before) (leaves : Leaves old new) where
+module _ (context : WalkContext) (old new : LocalState) (before after : WalkFields) (may : MayWalk context old before) (leaves : Leaves old new) where
   -- a step on the way
-  on_way : GoesOn basis new before after → 0 < steps_to_bucket after.phase → GoesFurther basis old new before after
+  on_way : GoesOn context new before after → 0 < steps_to_bucket after.phase → GoesFurther context old new before after
   on_way goes more =
       let was : 0 < steps_to_bucket before.phase = omega (arith, goes.fewer, more) in
-      let none_before = put_on_way before.phase basis.root before (view_of old) was in
-      let none_after = put_on_way after.phase basis.root after (view_of new) more in
+      let none_before = put_on_way before.phase context.root before (view_of old) was in
+      let none_after = put_on_way after.phase context.root after (view_of new) more in
       record {
         nearer = record {
           nearer = omega (arith, goes.fewer);
@@ -84,21 +84,21 @@ module _ (basis : Basis) (old new : Moment) (before after : WalkFields) (may : M
       }
 
   -- a step of a split, or one that begins it
-  splits_on : (value : ℕ) → TellsAt before.phase basis old new before after answer.Going → IsSameWalk before after → IsStanding basis after (view_for basis new)
-      → IsAddingPhase before.phase value → IsAddingPhase after.phase value → GoesFurther basis old new before after
+  splits_on : (value : ℕ) → TellsAt before.phase context old new before after answer.Going → IsSameWalk before after → IsStanding context after (view_for context new)
+      → IsAddingPhase before.phase value → IsAddingPhase after.phase value → GoesFurther context old new before after
   splits_on value tells alike stands was is =
-      let clean = clean_over basis old before may in
-      let less = one_fewer basis old new before after clean (agrees_after basis old new before may leaves) may.file.form (is_putting before.phase value was) tells in
-      let is_written = written_stays basis.before.written old new may.may leaves.touches may.written in
-      let put_before : steps_to_put basis.root before (view_for basis old) ≡ steps_to_put basis.root before (view_of old) = same_steps basis old may.written before.phase before in
-      let put_after : steps_to_put basis.root after (view_for basis new) ≡ steps_to_put basis.root after (view_of new) = same_steps basis new is_written after.phase after in
+      let clean = clean_over context old before may in
+      let less = one_fewer context old new before after clean (agrees_after context old new before may leaves) may.file.form (is_putting before.phase value was) tells in
+      let is_written = written_stays context.before.written old new may.may leaves.touches may.written in
+      let put_before : steps_to_put context.root before (view_for context old) ≡ steps_to_put context.root before (view_of old) = same_steps context old may.written before.phase before in
+      let put_after : steps_to_put context.root after (view_for context new) ≡ steps_to_put context.root after (view_of new) = same_steps context new is_written after.phase after in
       let none_before = none_to_bucket before.phase value was in
       let none_after = none_to_bucket after.phase value is in
       record {
         nearer = record {
           nearer = omega (arith, none_after);
           by_one = omega (arith, less, put_before, put_after, none_before, none_after);
-          down = inr (goes_down basis old new before after may.written is_written clean (clean_agrees basis old before may) may.file.form may.stands (is_putting before.phase value was) tells);
+          down = inr (goes_down context old new before after may.written is_written clean (clean_agrees context old before may) may.file.form may.stands (is_putting before.phase value was) tells);
         };
         same = alike;
         under_way = is_under_way after.phase value is;
@@ -106,10 +106,10 @@ module _ (basis : Basis) (old new : Moment) (before after : WalkFields) (may : M
       }
 
   -- **A walk that goes on is nearer to its change.**
-  pub goes_further : TellsAt before.phase basis old new before after answer.Going → GoesFurther basis old new before after
+  pub goes_further : TellsAt before.phase context old new before after answer.Going → GoesFurther context old new before after
   goes_further tells = by before.phase refl tells
     where
-      by : (p : Phase) → before.phase ≡ p → TellsAt p basis old new before after answer.Going → GoesFurther basis old new before after
+      by : (p : Phase) → before.phase ≡ p → TellsAt p context old new before after answer.Going → GoesFurther context old new before after
       by (at.Adding value bucket depth unsplit) is told =
           splits_on value tells told.on.same told.on.stands (subst (λ (p : Phase). IsAddingPhase p value) (sym is) refl) (subst (λ (p : Phase). IsAddingPhase p value) (sym told.phase) refl)
       by (at.Splitting value depth) is (told, inl goes) =
@@ -119,21 +119,21 @@ module _ (basis : Basis) (old new : Moment) (before after : WalkFields) (may : M
       by other is told = on_way told.0 told.1
 
 -- **It puts the same value then.**
-pub puts_still : (p : Phase) (basis : Basis) (old new : Moment) (before after : WalkFields) (Is : ℕ → Type 0) → TellsAt p basis old new before after answer.Going → PutsThen p Is → PutsThen after.phase Is
-puts_still (at.Adding value bucket depth unsplit) basis old new before after Is told puts = puts_of after.phase value Is (subst (λ (p : Phase). IsAddingPhase p value) (sym told.phase) refl) puts
-puts_still (at.Splitting value depth) basis old new before after Is (told, inl goes) puts = puts_of after.phase value Is (subst (λ (p : Phase). IsAddingPhase p value) (sym goes.phase) refl) puts
-puts_still (at.Splitting value depth) basis old new before after Is (told, inr closes) puts = puts_of after.phase value Is (subst (λ (p : Phase). IsAddingPhase p value) (sym closes.phase) refl) puts
-puts_still other basis old new before after Is told puts = puts_none_on_way after.phase Is told.1
+pub puts_still : (p : Phase) (context : WalkContext) (old new : LocalState) (before after : WalkFields) (Is : ℕ → Type 0) → TellsAt p context old new before after answer.Going → PutsThen p Is → PutsThen after.phase Is
+puts_still (at.Adding value bucket depth unsplit) context old new before after Is told puts = puts_of after.phase value Is (subst (λ (p : Phase). IsAddingPhase p value) (sym told.phase) refl) puts
+puts_still (at.Splitting value depth) context old new before after Is (told, inl goes) puts = puts_of after.phase value Is (subst (λ (p : Phase). IsAddingPhase p value) (sym goes.phase) refl) puts
+puts_still (at.Splitting value depth) context old new before after Is (told, inr closes) puts = puts_of after.phase value Is (subst (λ (p : Phase). IsAddingPhase p value) (sym closes.phase) refl) puts
+puts_still other context old new before after Is told puts = puts_none_on_way after.phase Is told.1
 
 -- What is so of a walk that has put its record behind splits.
-pub record PutsRecord (basis : Basis) (new : Moment) (before after : WalkFields) : Type 0 where
+pub record PutsRecord (context : WalkContext) (new : LocalState) (before after : WalkFields) : Type 0 where
   pub value : ℕ
   pub bucket : ℕ
   pub room_depth : ℕ
   pub was : before.phase ≡ at.Adding value bucket room_depth false
-  pub makes : Makes basis new before after (change.Put value)
+  pub makes : Makes context new before after (change.Put value)
 
 -- **So it was, where it tells of a change.**
-pub puts_behind : (p : Phase) (basis : Basis) (old new : Moment) (before after : WalkFields) → before.phase ≡ p → TellsAt p basis old new before after answer.Changed → PutsRecord basis new before after
-puts_behind (at.Adding value bucket depth unsplit) basis old new before after is (behind, makes, writes, lowest) = record { value = value; bucket = bucket; room_depth = depth; was = behind; makes = makes }
-puts_behind other basis old new before after is never = absurd never
+pub puts_behind : (p : Phase) (context : WalkContext) (old new : LocalState) (before after : WalkFields) → before.phase ≡ p → TellsAt p context old new before after answer.Changed → PutsRecord context new before after
+puts_behind (at.Adding value bucket depth unsplit) context old new before after is (behind, makes, writes, lowest) = record { value = value; bucket = bucket; room_depth = depth; was = behind; makes = makes }
+puts_behind other context old new before after is never = absurd never

@@ -3,10 +3,10 @@ use Rattle.std.proofs.Common.{◌≡◌, ℕ, None, Some, refl, sym, ap, subst, 
 use Rattle.mlt_types.specs.declared.mode.Mode.TheVariants.{Exclusive}
 use Rattle.mlt_object_base.specs.declared.request.Request.{Request}
 use Rattle.mlt_object_base.specs.Requests.{size_key_of, target_of}
-use Rattle.mlt_hash_access.specs.Moments.{Moment}
+use Rattle.mlt_hash_access.specs.LocalStates.{LocalState}
 use Rattle.mlt_hash_access.specs.Views.{view_of}
 use Rattle.mlt_hash_access.proofs.Rebased.{same_some}
-use Rattle.mlt_hash.specs.Walks.{Basis, Before, IsChanged, MayWalk, SlotsStood, Stands, WalkFields, basis_after, before_of, nothing_before, one_key}
+use Rattle.mlt_hash.specs.Walks.{WalkContext, Before, IsChanged, MayWalk, SlotsStood, Stands, WalkFields, context_after, before_of, nothing_before, one_key}
 use Rattle.mlt_hash.specs.Splitting.{IsUnderWay}
 use Rattle.mlt_hash.specs.Changes.{IsChangedPhase}
 use Rattle.mlt_hash.specs.declared.pass.Phase.{Phase}
@@ -15,10 +15,10 @@ use Rattle.mlt_tx_two_records.specs.FirstPass.{HasKeys}
 use Rattle.mlt_tx_two_records.specs.AtWideBuckets.{HasJustPut}
 use Rattle.mlt_tx_two_records.specs.WidePass.{HasPutOwn, IsGoingToSize, PutsSize, PutsThen}
 
-module _ (basis : Basis) (m : Moment) (request : Request) (walk : WalkFields) (just : HasJustPut basis m request walk) where
+module _ (context : WalkContext) (m : LocalState) (request : Request) (walk : WalkFields) (just : HasJustPut context m request walk) where
   -- It may go on,
-  pub may_turn : basis.before ≡ nothing_before → MayWalk basis m walk
-  may_turn first = subst (λ (b : Before). MayWalk (basis_after b basis) m walk) (sym first) just.may.walks
+  pub may_turn : context.before ≡ nothing_before → MayWalk context m walk
+  may_turn first = subst (λ (b : Before). MayWalk (context_after b context) m walk) (sym first) just.may.walks
 
   pub has_changed : IsChangedPhase walk.phase
   has_changed = subst IsChangedPhase (sym just.phase) tt
@@ -27,11 +27,11 @@ module _ (basis : Basis) (m : Moment) (request : Request) (walk : WalkFields) (j
   abbrev pub all_of_it : Before
   all_of_it = before_of (view_of m)
 
-  changed : IsChanged (one_key basis) walk (view_of m) just.bucket just.done
-  changed = subst (λ (p : Phase). Stands p (one_key basis) walk (view_of m)) just.phase just.may.walks.stands
+  changed : IsChanged (one_key context) walk (view_of m) just.bucket just.done
+  changed = subst (λ (p : Phase). Stands p (one_key context) walk (view_of m)) just.phase just.may.walks.stands
 
   -- **and goes to the key of the size.**
-  module _ (on : WalkFields) (size dir row depth : ℕ) (is : size_key_of request ≡ Some size) (goes : on ≡ record walk { key = size; mode = Exclusive; phase = at.Headed dir row depth; split = None }) (over : MayWalk (basis_after all_of_it basis) m on) (stood : SlotsStood (view_of m).own basis.tx (view_of m)) where
+  module _ (on : WalkFields) (size dir row depth : ℕ) (is : size_key_of request ≡ Some size) (goes : on ≡ record walk { key = size; mode = Exclusive; phase = at.Headed dir row depth; split = None }) (over : MayWalk (context_after all_of_it context) m on) (stood : SlotsStood (view_of m).own context.tx (view_of m)) where
     key_is : on.key ≡ size
     key_is = ap (λ (w : WalkFields). w.key) goes
 
@@ -45,7 +45,7 @@ module _ (basis : Basis) (m : Moment) (request : Request) (walk : WalkFields) (j
       apart = λ same. just.may.keys.apart (just.may.keys.own_is ∙ same ∙ key_is ∙ same_some size just.may.size (sym is ∙ just.may.keys.size_is));
     }
 
-    put : HasPutOwn basis request (view_of m) all_of_it
+    put : HasPutOwn context request (view_of m) all_of_it
     put = record {
       walk = walk;
       to_key = just.may.to_key;
@@ -64,7 +64,7 @@ module _ (basis : Basis) (m : Moment) (request : Request) (walk : WalkFields) (j
       stood = stood;
     }
 
-    pub goes_over : IsGoingToSize basis request on (view_of m)
+    pub goes_over : IsGoingToSize context request on (view_of m)
     goes_over = record {
       adds = just.may.adds;
       since = all_of_it;

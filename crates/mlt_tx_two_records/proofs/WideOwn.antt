@@ -7,22 +7,22 @@ use Rattle.mlt_object_base.specs.declared.record.RecChange.{RecChange}
 use Rattle.mlt_object_base.specs.declared.record.RecChange.TheVariants.{Add}
 use Rattle.mlt_object_base.specs.declared.request.Request.{Request}
 use Rattle.mlt_object_base.specs.Requests.{decision, target_of}
-use Rattle.mlt_hash_access.specs.Moments.{Moment}
+use Rattle.mlt_hash_access.specs.LocalStates.{LocalState}
 use Rattle.mlt_hash_access.specs.PageSteps.{Leaves}
 use Rattle.mlt_hash_access.specs.PageTurns.{IsRolledBack}
 use Rattle.mlt_hash_access.specs.Views.{view_of}
 use Rattle.mlt_hash.specs.Changes.{HasNoRoom, IsAtAbsent, Makes, MayChange, NeedsSplit, TellsOfAddition, page_of}
 use Rattle.mlt_hash.specs.Splitting.{IsUnderWay}
 use Rattle.mlt_hash.specs.Steps.{HasFound, IsSameWalk}
-use Rattle.mlt_hash.specs.Walks.{Basis, WalkFields, one_key}
+use Rattle.mlt_hash.specs.Walks.{WalkContext, WalkFields, one_key}
 use Rattle.mlt_hash.specs.declared.answer.WalkAnswer.TheVariants as answer
 use Rattle.mlt_hash.specs.declared.pass.Change.{Change}
 use Rattle.mlt_hash.specs.declared.pass.Change.TheVariants as change
 use Rattle.mlt_hash.specs.declared.pass.Pass.TheVariants as pass
 use Rattle.mlt_hash.specs.declared.pass.Phase.{Phase}
 use Rattle.mlt_hash.specs.declared.pass.Phase.TheVariants as at
-use Rattle.mlt_tx_two_records.specs.declared.answer.DoubleAnswer.TheVariants as told
-use Rattle.mlt_tx_two_records.specs.declared.double.Leg.TheVariants as leg
+use Rattle.mlt_tx_two_records.specs.declared.answer.TwoRecordAnswer.TheVariants as told
+use Rattle.mlt_tx_two_records.specs.declared.two_records.WideStage.TheVariants as wide_stage
 use Rattle.mlt_tx_two_records.specs.AtWideBuckets.{HasJustPut, IsToSplit, MayActOnOwn, MayWalkToOwn, TellsAtOwn}
 use Rattle.mlt_tx_two_records.specs.FirstPass.{HasKeys}
 use Rattle.mlt_tx_two_records.specs.Performing.{Performs}
@@ -53,9 +53,9 @@ pub absent_at : (p : Phase) (found : Option ℕ) → HasFound p found → found 
 absent_at (at.AtBucket bucket depth f) found is none = (is ∙ none, is ∙ none)
 absent_at other found is none = absurd is
 
-module _ (basis : Basis) (m : Moment) (request : Request) (walk : WalkFields) (found : Option ℕ) (ready : MayActOnOwn basis m request walk found) where
+module _ (context : WalkContext) (m : LocalState) (request : Request) (walk : WalkFields) (found : Option ℕ) (ready : MayActOnOwn context m request walk found) where
   -- **It may put the record,**
-  pub may_put : MayChange (one_key basis) m walk
+  pub may_put : MayChange (one_key context) m walk
   may_put = record { walks = ready.may.walks; exclusive = ready.may.to_key.mode }
 
   -- **where it has found none.**
@@ -67,7 +67,7 @@ module _ (basis : Basis) (m : Moment) (request : Request) (walk : WalkFields) (f
   puts_own reply value is = subst (λ (f : Option ℕ). decision request f ≡ (reply, Some (Add value))) (own_change request found reply (Add value) ready.may.adds is).0 is
 
   -- **Where it has found one, it is told so, and all else stays.**
-  pub told_present : (reply : ObjReply) → decision request found ≡ (reply, None) → HasToldPresent basis request walk reply (view_of m)
+  pub told_present : (reply : ObjReply) → decision request found ≡ (reply, None) → HasToldPresent context request walk reply (view_of m)
   told_present reply is =
       let present = own_present request found reply ready.may.adds is in
       let place = at_bucket walk.phase found ready.at_bucket in
@@ -85,17 +85,17 @@ module _ (basis : Basis) (m : Moment) (request : Request) (walk : WalkFields) (f
         resized = present.2;
       }
 
-  module _ (new : Moment) (after : WalkFields) where
-    may_walk : Leaves m new → (done : Change) → Makes (one_key basis) new walk after done → MayWalkToOwn basis new request after
+  module _ (new : LocalState) (after : WalkFields) where
+    may_walk : Leaves m new → (done : Change) → Makes (one_key context) new walk after done → MayWalkToOwn context new request after
     may_walk leaves done makes = record {
       adds = ready.may.adds;
       size = ready.may.size;
       keys = same_keys request walk after ready.may.size ready.may.keys makes.same;
       to_key = still_wide walk after (target_of request).0 ready.may.to_key makes.same;
-      walks = walks_on (one_key basis) m new walk after ready.may.walks leaves makes.stands;
+      walks = walks_on (one_key context) m new walk after ready.may.walks leaves makes.stands;
     }
 
-    has_put : Leaves m new → (reply : ObjReply) (value : ℕ) → decision request found ≡ (reply, Some (Add value)) → (done : Change) → Makes (one_key basis) new walk after done → Performs (Add value) None done → HasJustPut basis new request after
+    has_put : Leaves m new → (reply : ObjReply) (value : ℕ) → decision request found ≡ (reply, Some (Add value)) → (done : Change) → Makes (one_key context) new walk after done → Performs (Add value) None done → HasJustPut context new request after
     has_put leaves reply value is done makes performs = record {
       may = may_walk leaves done makes;
       bucket = page_of walk.phase;
@@ -108,13 +108,13 @@ module _ (basis : Basis) (m : Moment) (request : Request) (walk : WalkFields) (f
     }
 
     -- **It has put the record,**
-    pub just_put : Leaves m new → (reply : ObjReply) (value : ℕ) → decision request found ≡ (reply, Some (Add value)) → TellsOfAddition (one_key basis) new walk after value answer.Changed → HasJustPut basis new request after
+    pub just_put : Leaves m new → (reply : ObjReply) (value : ℕ) → decision request found ≡ (reply, Some (Add value)) → TellsOfAddition (one_key context) new walk after value answer.Changed → HasJustPut context new request after
     just_put leaves reply value is (inl makes) = has_put leaves reply value is (change.Revive value) makes (inr refl)
     just_put leaves reply value is (inr makes) = has_put leaves reply value is (change.Put value) makes (inl refl)
 
     -- **or is to split the bucket,**
-    pub is_to_split : new ≡ m → (reply : ObjReply) (value : ℕ) → decision request found ≡ (reply, Some (Add value)) → NeedsSplit (one_key basis) new walk after value
-        → IsToSplit (one_key basis) m new walk after × IsGoingToOwn basis request after (view_of new)
+    pub is_to_split : new ≡ m → (reply : ObjReply) (value : ℕ) → decision request found ≡ (reply, Some (Add value)) → NeedsSplit (one_key context) new walk after value
+        → IsToSplit (one_key context) m new walk after × IsGoingToOwn context request after (view_of new)
     is_to_split stays reply value is needs =
         let adding = needs.later (not_first walk ready.may.to_key.wide) in (
           record { stays = stays; absent = (absent reply (Add value) is).1; value = value; needs = needs },
@@ -130,7 +130,7 @@ module _ (basis : Basis) (m : Moment) (request : Request) (walk : WalkFields) (f
         )
 
     -- **or there is no room at any depth.**
-    pub no_room : (back : Moment) → new ≡ m → (reply : ObjReply) (value : ℕ) → decision request found ≡ (reply, Some (Add value)) → (reason : Refusal) → TellsOfAddition (one_key basis) new walk after value (answer.Refused reason) → IsRolledBack m back
-        → TellsAtOwn basis m back request walk leg.Own after (told.Refused reason)
-    no_room back stays reply value is refusal.NoRoom none rolled = (rolled, record { absent = (absent reply (Add value) is).1; after = after; none = subst (λ (n : Moment). HasNoRoom (one_key basis) n walk after) stays none })
+    pub no_room : (back : LocalState) → new ≡ m → (reply : ObjReply) (value : ℕ) → decision request found ≡ (reply, Some (Add value)) → (reason : Refusal) → TellsOfAddition (one_key context) new walk after value (answer.Refused reason) → IsRolledBack m back
+        → TellsAtOwn context m back request walk wide_stage.Own after (told.Refused reason)
+    no_room back stays reply value is refusal.NoRoom none rolled = (rolled, record { absent = (absent reply (Add value) is).1; after = after; none = subst (λ (n : LocalState). HasNoRoom (one_key context) n walk after) stays none })
     no_room back stays reply value is other lacks rolled = absurd (lacks.1 refl)

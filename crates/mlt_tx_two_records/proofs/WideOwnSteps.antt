@@ -5,7 +5,7 @@ use Rattle.mlt_types.specs.declared.refusal.Refusal.TheVariants as refusal
 use Rattle.mlt_object_kinds.specs.declared.operation.ObjReply.{ObjReply}
 use Rattle.mlt_object_base.specs.declared.request.Request.{Request}
 use Rattle.mlt_object_base.specs.Requests.{target_of}
-use Rattle.mlt_hash_access.specs.Moments.{Moment}
+use Rattle.mlt_hash_access.specs.LocalStates.{LocalState}
 use Rattle.mlt_hash_access.specs.PageSteps.{Leaves, LocksAtMost}
 use Rattle.mlt_hash_access.specs.PageTurns.{IsRolledBack, TakesTurn}
 use Rattle.mlt_hash_access.specs.Views.{view_of}
@@ -13,18 +13,18 @@ use Rattle.mlt_hash_access.proofs.Since.{nothing_written}
 use Rattle.mlt_hash.specs.Changes.{page_of}
 use Rattle.mlt_hash.specs.Splitting.{TellsAt}
 use Rattle.mlt_hash.specs.Steps.{GoesOn, HasFound, IsSameWalk, steps_to_bucket}
-use Rattle.mlt_hash.specs.Walks.{Basis, IsStanding, MayWalk, WalkFields, one_key}
+use Rattle.mlt_hash.specs.Walks.{WalkContext, IsStanding, MayWalk, WalkFields, one_key}
 use Rattle.mlt_hash.specs.declared.answer.WalkAnswer.TheVariants as answer
 use Rattle.mlt_hash.specs.declared.pass.Change.TheVariants as change
 use Rattle.mlt_hash.specs.declared.pass.Phase.{Phase}
-use Rattle.mlt_tx_two_records.specs.declared.double.Double.TheVariants.{Wide}
-use Rattle.mlt_tx_two_records.specs.declared.answer.DoubleAnswer.{DoubleAnswer}
-use Rattle.mlt_tx_two_records.specs.declared.answer.DoubleAnswer.TheVariants as told
-use Rattle.mlt_tx_two_records.specs.declared.double.Leg.{Leg}
-use Rattle.mlt_tx_two_records.specs.declared.double.Leg.TheVariants as leg
-use Rattle.mlt_tx_two_records.specs.Answers.{TellsOfDouble}
+use Rattle.mlt_tx_two_records.specs.declared.two_records.TwoRecordWalk.TheVariants.{Wide}
+use Rattle.mlt_tx_two_records.specs.declared.answer.TwoRecordAnswer.{TwoRecordAnswer}
+use Rattle.mlt_tx_two_records.specs.declared.answer.TwoRecordAnswer.TheVariants as told
+use Rattle.mlt_tx_two_records.specs.declared.two_records.WideStage.{WideStage}
+use Rattle.mlt_tx_two_records.specs.declared.two_records.WideStage.TheVariants as wide_stage
+use Rattle.mlt_tx_two_records.specs.Answers.{TellsOfTwoRecords}
 use Rattle.mlt_tx_two_records.specs.AtWideBuckets.{HasJustPut, MayActOnOwn, MayWalkToOwn, TellsAtOwn}
-use Rattle.mlt_tx_two_records.specs.Doubles.{MayGoOn}
+use Rattle.mlt_tx_two_records.specs.TwoRecordWalks.{MayGoOn}
 use Rattle.mlt_tx_two_records.specs.WalkSteps.{ReachesBucket}
 use Rattle.mlt_tx_two_records.specs.WidePass.{CauseAtOwn, IsGoingToSize, OwnRefused, PutsOwn, PutsThen}
 use Rattle.mlt_tx_two_records.proofs.WideGoing.{goes_further, puts_behind, puts_still}
@@ -32,9 +32,9 @@ use Rattle.mlt_tx_two_records.proofs.WideOwn.{not_first, same_keys, still_wide}
 use Rattle.mlt_tx_two_records.proofs.WideTelling.{IsWhy, found_by_path, reaches, was_last}
 use Rattle.mlt_tx_two_records.proofs.WideTurns.{lock_and_write_turn, one_step_turns, walks_on}
 
-module _ (basis : Basis) (old : Moment) (request : Request) (before : WalkFields) (may : MayGoOn basis old request (Wide leg.Own before)) where
+module _ (context : WalkContext) (old : LocalState) (request : Request) (before : WalkFields) (may : MayGoOn context old request (Wide wide_stage.Own before)) where
   -- **It may take its step.**
-  pub may_walk : MayWalk (one_key basis) old before
+  pub may_walk : MayWalk (one_key context) old before
   may_walk = record {
     bounded = may.bounded;
     small = may.small;
@@ -45,23 +45,23 @@ module _ (basis : Basis) (old : Moment) (request : Request) (before : WalkFields
     stands = may.stands.stands;
   }
 
-  module _ (mid : Moment) (walk : WalkFields) (leaves : Leaves old mid) where
+  module _ (mid : LocalState) (walk : WalkFields) (leaves : Leaves old mid) where
     turn : TakesTurn old mid
-    turn = one_step_turns (one_key basis) old mid before may_walk leaves
+    turn = one_step_turns (one_key context) old mid before may_walk leaves
 
-    may_walk_on : IsSameWalk before walk → IsStanding (one_key basis) walk (view_of mid) → MayWalkToOwn basis mid request walk
+    may_walk_on : IsSameWalk before walk → IsStanding (one_key context) walk (view_of mid) → MayWalkToOwn context mid request walk
     may_walk_on same stands = record {
       adds = may.stands.adds;
       size = may.stands.size;
       keys = same_keys request before walk may.stands.size may.stands.keys same;
       to_key = still_wide before walk (target_of request).0 may.stands.to_key same;
-      walks = walks_on (one_key basis) old mid before walk may_walk leaves stands;
+      walks = walks_on (one_key context) old mid before walk may_walk leaves stands;
     }
 
     -- **It goes on,**
-    pub goes_to_own : TellsAt before.phase (one_key basis) old mid before walk answer.Going → TellsOfDouble basis old mid (Wide leg.Own before) (Wide leg.Own walk) request told.Going
+    pub goes_to_own : TellsAt before.phase (one_key context) old mid before walk answer.Going → TellsOfTwoRecords context old mid (Wide wide_stage.Own before) (Wide wide_stage.Own walk) request told.Going
     goes_to_own tells =
-        let further = goes_further (one_key basis) old mid before walk may_walk leaves tells in (
+        let further = goes_further (one_key context) old mid before walk may_walk leaves tells in (
           record {
             adds = may.stands.adds;
             size = may.stands.size;
@@ -69,25 +69,25 @@ module _ (basis : Basis) (old : Moment) (request : Request) (before : WalkFields
             to_key = still_wide before walk (target_of request).0 may.stands.to_key further.same;
             under_way = further.under_way;
             stands = further.stands;
-            puts = puts_still before.phase (one_key basis) old mid before walk (λ v. (r : ObjReply) × PutsOwn request r v) tells may.stands.puts;
+            puts = puts_still before.phase (one_key context) old mid before walk (λ v. (r : ObjReply) × PutsOwn request r v) tells may.stands.puts;
           },
           (turn, inl further.nearer),
         )
 
     -- **is refused,**
-    cause_of : (reason : Refusal) → IsWhy reason (one_key basis) old before → CauseAtOwn reason (one_key basis) old mid before
+    cause_of : (reason : Refusal) → IsWhy reason (one_key context) old before → CauseAtOwn reason (one_key context) old mid before
     cause_of refusal.NoRoom why = inr why
     cause_of refusal.OutOfMemory why = why
     cause_of other why = absurd why
 
-    pub is_refused : (new : Moment) (reason : Refusal) → IsWhy reason (one_key basis) old before → IsRolledBack mid new → OwnRefused basis old new before reason
+    pub is_refused : (new : LocalState) (reason : Refusal) → IsWhy reason (one_key context) old before → IsRolledBack mid new → OwnRefused context old new before reason
     is_refused new reason why back = record { back = record { mid = mid; turn = turn; back = back }; cause = cause_of reason why }
 
     -- **has put the record behind splits,**
-    module _ (tells : TellsAt before.phase (one_key basis) old mid before walk answer.Changed) where
-      pub has_put_behind : HasJustPut basis mid request walk
+    module _ (tells : TellsAt before.phase (one_key context) old mid before walk answer.Changed) where
+      pub has_put_behind : HasJustPut context mid request walk
       has_put_behind =
-          let put = puts_behind before.phase (one_key basis) old mid before walk refl tells in
+          let put = puts_behind before.phase (one_key context) old mid before walk refl tells in
           let decided = subst (λ (p : Phase). PutsThen p (λ v. (r : ObjReply) × PutsOwn request r v)) put.was may.stands.puts in
           record {
             may = may_walk_on put.makes.same put.makes.stands;
@@ -100,30 +100,30 @@ module _ (basis : Basis) (old : Moment) (request : Request) (before : WalkFields
             performs = inl refl;
           }
 
-      pub goes_over_behind : (after : WalkFields) → IsGoingToSize basis request after (view_of mid) → steps_to_bucket after.phase ≡ 2 → TellsOfDouble basis old mid (Wide leg.Own before) (Wide leg.Size after) request told.Going
+      pub goes_over_behind : (after : WalkFields) → IsGoingToSize context request after (view_of mid) → steps_to_bucket after.phase ≡ 2 → TellsOfTwoRecords context old mid (Wide wide_stage.Own before) (Wide wide_stage.Size after) request told.Going
       goes_over_behind after goes steps =
-          let put = puts_behind before.phase (one_key basis) old mid before walk refl tells in
+          let put = puts_behind before.phase (one_key context) old mid before walk refl tells in
           (goes, (turn, record { size = goes; changed = inr (put.value, put.bucket, put.room_depth, put.was); steps = steps }))
 
     -- **or has found its key.**
-    module _ (found : Option ℕ) (locks : LocksAtMost old mid (page_of walk.phase)) (tells : TellsAt before.phase (one_key basis) old mid before walk (answer.Found found)) where
-      path : GoesOn (one_key basis) mid before walk × HasFound walk.phase found
-      path = found_by_path before.phase (one_key basis) old mid before walk found tells
+    module _ (found : Option ℕ) (locks : LocksAtMost old mid (page_of walk.phase)) (tells : TellsAt before.phase (one_key context) old mid before walk (answer.Found found)) where
+      path : GoesOn (one_key context) mid before walk × HasFound walk.phase found
+      path = found_by_path before.phase (one_key context) old mid before walk found tells
 
       last : steps_to_bucket before.phase ≡ 1
-      last = was_last (one_key basis) mid before walk found path.0 path.1
+      last = was_last (one_key context) mid before walk found path.0 path.1
 
-      pub may_act : MayActOnOwn basis mid request walk found
+      pub may_act : MayActOnOwn context mid request walk found
       may_act = record { may = may_walk_on path.0.same path.0.stands; at_bucket = path.1 }
 
-      reaches_now : (new : Moment) → new ≡ mid → HasFound walk.phase None → ReachesBucket (one_key basis) new before walk
-      reaches_now new stays none = subst (λ (m : Moment). ReachesBucket (one_key basis) m before walk) (sym stays) (reaches (one_key basis) mid before walk path.0 none)
+      reaches_now : (new : LocalState) → new ≡ mid → HasFound walk.phase None → ReachesBucket (one_key context) new before walk
+      reaches_now new stays none = subst (λ (m : LocalState). ReachesBucket (one_key context) m before walk) (sym stays) (reaches (one_key context) mid before walk path.0 none)
 
-      pub tells_there : (new : Moment) (next : Leg) (after : WalkFields) (answer : DoubleAnswer) → TellsAtOwn basis mid new request walk next after answer → TellsOfDouble basis old new (Wide leg.Own before) (Wide next after) request answer
-      tells_there new leg.Own after told.Going (splits, goes) = (
+      pub tells_there : (new : LocalState) (next : WideStage) (after : WalkFields) (answer : TwoRecordAnswer) → TellsAtOwn context mid new request walk next after answer → TellsOfTwoRecords context old new (Wide wide_stage.Own before) (Wide next after) request answer
+      tells_there new wide_stage.Own after told.Going (splits, goes) = (
         goes,
         (
-          subst (λ (m : Moment). TakesTurn old m) (sym splits.stays) turn,
+          subst (λ (m : LocalState). TakesTurn old m) (sym splits.stays) turn,
           inr (record {
             walk = walk;
             reaches = reaches_now new splits.stays splits.absent;
@@ -133,16 +133,16 @@ module _ (basis : Basis) (old : Moment) (request : Request) (before : WalkFields
           }),
         ),
       )
-      tells_there new leg.Size after told.Going (writes, goes, steps) = (
+      tells_there new wide_stage.Size after told.Going (writes, goes, steps) = (
         goes,
         (
-          lock_and_write_turn (one_key basis) old mid new before (page_of walk.phase) may_walk locks writes.writes,
+          lock_and_write_turn (one_key context) old mid new before (page_of walk.phase) may_walk locks writes.writes,
           record { size = goes; changed = inl last; steps = steps },
         ),
       )
-      tells_there new leg.Own after (told.Told reply) (stays, present) = (subst (λ (m : Moment). TakesTurn old m) (sym stays) turn, last, present)
-      tells_there new leg.Own after (told.Refused refusal.NoRoom) (back, none) = record {
+      tells_there new wide_stage.Own after (told.Told reply) (stays, present) = (subst (λ (m : LocalState). TakesTurn old m) (sym stays) turn, last, present)
+      tells_there new wide_stage.Own after (told.Refused refusal.NoRoom) (back, none) = record {
         back = record { mid = mid; turn = turn; back = back };
-        cause = inl (record { walk = walk; after = none.after; reaches = reaches (one_key basis) mid before walk path.0 none.absent; none = none.none });
+        cause = inl (record { walk = walk; after = none.after; reaches = reaches (one_key context) mid before walk path.0 none.absent; none = none.none });
       }
       tells_there new other after other' never = absurd never

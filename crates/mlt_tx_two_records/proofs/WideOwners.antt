@@ -9,7 +9,7 @@ use Rattle.mlt_hash_form.specs.Held.{Agrees, over}
 use Rattle.mlt_hash_access.specs.Views.{View, rebased}
 use Rattle.mlt_hash_access.proofs.Rebased.{rebased_agrees}
 use Rattle.mlt_hash_split.specs.Rests.{KeepsNoMore}
-use Rattle.mlt_hash.specs.Walks.{Basis, Before, IsChanged, IsStanding, Stands, WalkFields, basis_after, one_key}
+use Rattle.mlt_hash.specs.Walks.{WalkContext, Before, IsChanged, IsStanding, Stands, WalkFields, context_after, one_key}
 use Rattle.mlt_hash.specs.declared.pass.Phase.{Phase}
 use Rattle.mlt_hash.proofs.Owners.{stands_still}
 use Rattle.mlt_hash.proofs.Passed.{read_as}
@@ -17,27 +17,27 @@ use Rattle.mlt_hash.proofs.Stood.{keeps_no_more_written}
 use Rattle.mlt_tx_two_records.specs.WidePass.{HasPutOwn, HasToldBoth, HasToldPresent, IsGoingToOwn, IsGoingToSize}
 
 -- **What was put for the own record leaves a hash file, whatever the clean pages are elsewhere.**
-module _ (basis : Basis) (request : Request) (view : View) (since : Before) (clean : FilePages) (put : HasPutOwn basis request view since) (agree : Agrees view.seen clean) (form : HasForm basis.bits clean basis.root) where
+module _ (context : WalkContext) (request : Request) (view : View) (since : Before) (clean : FilePages) (put : HasPutOwn context request view since) (agree : Agrees view.seen clean) (form : HasForm context.bits clean context.root) where
   pub agreed_then : Agrees put.then_view.seen clean
   agreed_then q p sees = agree q p (put.seen q p sees)
 
-  pub form_since : HasForm basis.bits (over clean since.written) basis.root
+  pub form_since : HasForm context.bits (over clean since.written) context.root
   form_since =
-      let changed : IsChanged (one_key basis) put.walk put.then_view put.bucket put.done = put.changed in
-      subst (λ (s : Before). HasForm basis.bits (over clean s.written) basis.root) (sym put.since_is) (changed.changes.changes clean agreed_then form).form
+      let changed : IsChanged (one_key context) put.walk put.then_view put.bucket put.done = put.changed in
+      subst (λ (s : Before). HasForm context.bits (over clean s.written) context.root) (sym put.since_is) (changed.changes.changes clean agreed_then form).form
 
   pub agreed_since : Agrees (rebased since.written view).seen (over clean since.written)
   agreed_since = rebased_agrees since.written view clean agree
 
-module _ (basis : Basis) (fewer : set.FinSet nat_cmp) (view : View) (clean : FilePages) (no_more : KeepsNoMore basis.opens fewer view) (is_open : set.contains basis.opens basis.tx ≡ true)
-    (agree : Agrees view.seen clean) (form : HasForm basis.bits clean basis.root) (request : Request) where
-  abbrev closed : Basis
-  closed = record basis { opens = fewer }
+module _ (context : WalkContext) (fewer : set.FinSet nat_cmp) (view : View) (clean : FilePages) (no_more : KeepsNoMore context.active fewer view) (is_open : set.contains context.active context.tx ≡ true)
+    (agree : Agrees view.seen clean) (form : HasForm context.bits clean context.root) (request : Request) where
+  abbrev closed : WalkContext
+  closed = record context { active = fewer }
 
-  put_still : (since : Before) → HasPutOwn basis request view since → HasPutOwn closed request view since
+  put_still : (since : Before) → HasPutOwn context request view since → HasPutOwn closed request view since
   put_still since put =
-      let was : IsStanding (one_key basis) put.walk put.then_view = subst (λ (p : Phase). Stands p (one_key basis) put.walk put.then_view) (sym put.phase) put.changed in
-      let still = stands_still (one_key basis) fewer put.walk put.then_view clean (λ q p sees. no_more q p (put.seen q p sees)) (agreed_then basis request view since clean put agree form) form was in
+      let was : IsStanding (one_key context) put.walk put.then_view = subst (λ (p : Phase). Stands p (one_key context) put.walk put.then_view) (sym put.phase) put.changed in
+      let still = stands_still (one_key context) fewer put.walk put.then_view clean (λ q p sees. no_more q p (put.seen q p sees)) (agreed_then context request view since clean put agree form) form was in
       record {
         walk = put.walk;
         to_key = put.to_key;
@@ -56,24 +56,24 @@ module _ (basis : Basis) (fewer : set.FinSet nat_cmp) (view : View) (clean : Fil
         stood = put.stood;
       }
 
-  since_still : (since : Before) (walk : WalkFields) → HasPutOwn basis request view since → IsStanding (basis_after since basis) walk (rebased since.written view) → IsStanding (basis_after since closed) walk (rebased since.written view)
+  since_still : (since : Before) (walk : WalkFields) → HasPutOwn context request view since → IsStanding (context_after since context) walk (rebased since.written view) → IsStanding (context_after since closed) walk (rebased since.written view)
   since_still since walk put stands =
-      stands_still (basis_after since basis) fewer walk (rebased since.written view) (over clean since.written)
-      (keeps_no_more_written since.written basis.tx basis.opens fewer view put.stood is_open no_more)
-      (agreed_since basis request view since clean put agree form) (form_since basis request view since clean put agree form) stands
+      stands_still (context_after since context) fewer walk (rebased since.written view) (over clean since.written)
+      (keeps_no_more_written since.written context.tx context.active fewer view put.stood is_open no_more)
+      (agreed_since context request view since clean put agree form) (form_since context request view since clean put agree form) stands
 
-  pub own_still : (walk : WalkFields) → IsGoingToOwn basis request walk view → IsGoingToOwn closed request walk view
+  pub own_still : (walk : WalkFields) → IsGoingToOwn context request walk view → IsGoingToOwn closed request walk view
   own_still walk going = record {
     adds = going.adds;
     size = going.size;
     keys = going.keys;
     to_key = going.to_key;
     under_way = going.under_way;
-    stands = stands_still (one_key basis) fewer walk view clean no_more agree form going.stands;
+    stands = stands_still (one_key context) fewer walk view clean no_more agree form going.stands;
     puts = going.puts;
   }
 
-  pub size_still : (walk : WalkFields) → IsGoingToSize basis request walk view → IsGoingToSize closed request walk view
+  pub size_still : (walk : WalkFields) → IsGoingToSize context request walk view → IsGoingToSize closed request walk view
   unfolding put_still
   size_still walk going = record {
     adds = going.adds;
@@ -86,7 +86,7 @@ module _ (basis : Basis) (fewer : set.FinSet nat_cmp) (view : View) (clean : Fil
     puts = going.puts;
   }
 
-  pub present_still : (walk : WalkFields) (reply : ObjReply) → HasToldPresent basis request walk reply view → HasToldPresent closed request walk reply view
+  pub present_still : (walk : WalkFields) (reply : ObjReply) → HasToldPresent context request walk reply view → HasToldPresent closed request walk reply view
   present_still walk reply told = record {
     adds = told.adds;
     size = told.size;
@@ -96,12 +96,12 @@ module _ (basis : Basis) (fewer : set.FinSet nat_cmp) (view : View) (clean : Fil
     depth = told.depth;
     value = told.value;
     at_bucket = told.at_bucket;
-    stands = stands_still (one_key basis) fewer walk view clean no_more agree form told.stands;
+    stands = stands_still (one_key context) fewer walk view clean no_more agree form told.stands;
     decided = told.decided;
     resized = told.resized;
   }
 
-  pub told_both_still : (walk : WalkFields) (reply : ObjReply) → HasToldBoth basis request walk reply view → HasToldBoth closed request walk reply view
+  pub told_both_still : (walk : WalkFields) (reply : ObjReply) → HasToldBoth context request walk reply view → HasToldBoth closed request walk reply view
   unfolding put_still
   told_both_still walk reply told = record {
     adds = told.adds;
@@ -115,7 +115,7 @@ module _ (basis : Basis) (fewer : set.FinSet nat_cmp) (view : View) (clean : Fil
     phase = told.phase;
     stands = since_still told.since walk told.put told.stands;
     found = told.found;
-    read = read_as (basis_after told.since basis) fewer walk.key (rebased told.since.written view) told.found told.read;
+    read = read_as (context_after told.since context) fewer walk.key (rebased told.since.written view) told.found told.read;
     resize = told.resize;
     resized = told.resized;
     performs = told.performs;

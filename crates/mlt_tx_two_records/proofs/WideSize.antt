@@ -10,7 +10,7 @@ use Rattle.mlt_object_base.specs.declared.request.Request.{Request}
 use Rattle.mlt_object_base.specs.Requests.{decision, size_decision, target_of}
 use Rattle.mlt_hash_form.specs.File.{FilePages, look_up}
 use Rattle.mlt_hash_form.specs.Held.{Agrees}
-use Rattle.mlt_hash_access.specs.Moments.{MayStep, Moment}
+use Rattle.mlt_hash_access.specs.LocalStates.{MayStep, LocalState}
 use Rattle.mlt_hash_access.specs.PageSteps.{Leaves, TouchesOnePage}
 use Rattle.mlt_hash_access.specs.PageTurns.{IsRolledBack}
 use Rattle.mlt_hash_access.specs.Views.{View, rebased, view_of}
@@ -19,7 +19,7 @@ use Rattle.mlt_hash_access.proofs.Rebased.{written_stays}
 use Rattle.mlt_hash.specs.Changes.{HasNoRoom, MayChange, NeedsSplit, WritesIfChanged, page_of}
 use Rattle.mlt_hash.specs.Splitting.{IsUnderWay}
 use Rattle.mlt_hash.specs.Steps.{HasFound, IsSameWalk}
-use Rattle.mlt_hash.specs.Walks.{Basis, Before, HasRead, IsChanged, Stands, WalkFields, basis_after}
+use Rattle.mlt_hash.specs.Walks.{WalkContext, Before, HasRead, IsChanged, Stands, WalkFields, context_after}
 use Rattle.mlt_hash.specs.declared.answer.WalkAnswer.TheVariants as answer
 use Rattle.mlt_hash.specs.declared.pass.Phase.{Phase}
 use Rattle.mlt_hash.specs.declared.pass.Phase.TheVariants as at
@@ -27,7 +27,7 @@ use Rattle.mlt_hash.proofs.Laws.{found_there}
 use Rattle.mlt_hash.proofs.Passed.{read_of}
 use Rattle.mlt_hash.proofs.Standings.{found_still}
 use Rattle.mlt_hash.proofs.Stood.{still_stood}
-use Rattle.mlt_tx_two_records.specs.declared.answer.DoubleAnswer.TheVariants as told
+use Rattle.mlt_tx_two_records.specs.declared.answer.TwoRecordAnswer.TheVariants as told
 use Rattle.mlt_tx_two_records.specs.AtWideBuckets.{IsMade, MayActOnSize, OfAddition, Raises, TellsAtSize, TellsOfRaise}
 use Rattle.mlt_tx_two_records.specs.FirstPass.{HasKeys}
 use Rattle.mlt_tx_two_records.specs.WidePass.{HasPutOwn, HasToldBoth, IsWideTo, PutsSize, PutsThen}
@@ -36,8 +36,8 @@ use Rattle.mlt_tx_two_records.proofs.WideOwn.{absent_at, not_first}
 use Rattle.mlt_tx_two_records.proofs.WideTurns.{agrees_after, clean_agrees, clean_over}
 
 -- **What was put is put still after a step.**
-abbrev pub put_still : (basis : Basis) (request : Request) (since : Before) (old new : Moment) → MayStep old → TouchesOnePage old new → HasPutOwn basis request (view_of old) since → HasPutOwn basis request (view_of new) since
-put_still basis request since old new may touches put = record {
+abbrev pub put_still : (context : WalkContext) (request : Request) (since : Before) (old new : LocalState) → MayStep old → TouchesOnePage old new → HasPutOwn context request (view_of old) since → HasPutOwn context request (view_of new) since
+put_still context request since old new may touches put = record {
   walk = put.walk;
   to_key = put.to_key;
   then_view = put.then_view;
@@ -52,7 +52,7 @@ put_still basis request since old new may touches put = record {
   since_is = put.since_is;
   seen = λ q p sees. own_step_sees_more old new q p may touches (put.seen q p sees);
   written = written_stays since.written old new may touches put.written;
-  stood = still_stood since.written basis.tx (view_of old) (view_of new) put.stood (λ q p sees. own_step_sees_more old new q p may touches sees);
+  stood = still_stood since.written context.tx (view_of old) (view_of new) put.stood (λ q p sees. own_step_sees_more old new q p may touches sees);
 }
 
 -- the keys, and the pass
@@ -63,9 +63,9 @@ pub size_wide : (before after : WalkFields) → IsWideTo before before.key → I
 size_wide before after is same = record { key_is = refl; wide = same.pass ∙ is.wide; mode = same.mode ∙ is.mode }
 
 -- what the bucket had is what the clean pages have
-pub found_clean : (phase : Phase) (basis : Basis) (walk : WalkFields) (view : View) (found : Option ℕ) (clean : ℕ → Option Page) → HasFound phase found → Stands phase basis walk view → Agrees view.seen clean → look_up basis.bits clean basis.root walk.key ≡ found
-found_clean (at.AtBucket bucket depth f) basis walk view found clean is stands agree = found_there basis walk view bucket depth f clean stands agree ∙ is
-found_clean other basis walk view found clean is stands agree = absurd is
+pub found_clean : (phase : Phase) (context : WalkContext) (walk : WalkFields) (view : View) (found : Option ℕ) (clean : ℕ → Option Page) → HasFound phase found → Stands phase context walk view → Agrees view.seen clean → look_up context.bits clean context.root walk.key ≡ found
+found_clean (at.AtBucket bucket depth f) context walk view found clean is stands agree = found_there context walk view bucket depth f clean stands agree ∙ is
+found_clean other context walk view found clean is stands agree = absurd is
 
 -- what is told to be raised was to be added, where nothing was found
 added_at : (raise : RecChange) (Is : ℕ → Type 0) → OfAddition raise Is → (value : ℕ) × (raise ≡ Add value) × Is value
@@ -79,9 +79,9 @@ found_none (Plus n) found value raises is = absurd (let both : Plus n ≡ Add va
 found_none other None value raises is = absurd raises
 found_none other (Some w) value raises is = absurd raises
 
-module _ (basis : Basis) (m : Moment) (request : Request) (walk : WalkFields) (found : Option ℕ) (since : Before) (ready : MayActOnSize basis m request walk found since) (reply : ObjReply) (told_is : (decision request None).0 ≡ reply) where
-  abbrev over : Basis
-  over = basis_after since basis
+module _ (context : WalkContext) (m : LocalState) (request : Request) (walk : WalkFields) (found : Option ℕ) (since : Before) (ready : MayActOnSize context m request walk found since) (reply : ObjReply) (told_is : (decision request None).0 ≡ reply) where
+  abbrev over : WalkContext
+  over = context_after since context
 
   -- **It may raise the size.**
   pub may_raise : MayChange over m walk
@@ -108,11 +108,11 @@ module _ (basis : Basis) (m : Moment) (request : Request) (walk : WalkFields) (f
     absent value added = (absent_at walk.phase found ready.at_bucket (found_none raise found value raises_it added)).1
 
     -- **It is raised,**
-    module _ (new : Moment) (after : WalkFields) (leaves : Leaves m new) (made : IsMade over new walk after raise found) where
+    module _ (new : LocalState) (after : WalkFields) (leaves : Leaves m new) (made : IsMade over new walk after raise found) where
       abbrev clean : FilePages
       clean = clean_over over m walk ready.may.walks
 
-      was : look_up basis.bits clean basis.root walk.key ≡ found
+      was : look_up context.bits clean context.root walk.key ≡ found
       was = found_clean walk.phase over walk (rebased since.written (view_of m)) found clean ready.at_bucket ready.may.walks.stands (clean_agrees over m walk ready.may.walks)
 
       changed : IsChanged over after (rebased since.written (view_of new)) (page_of walk.phase) made.done
@@ -121,13 +121,13 @@ module _ (basis : Basis) (m : Moment) (request : Request) (walk : WalkFields) (f
       read : HasRead over after.key (rebased since.written (view_of new)) found
       read =
           let still = found_still over after.key (rebased since.written (view_of new)) changed.found clean changed.read (agrees_after over m new walk ready.may.walks leaves) in
-          read_of over after.key (rebased since.written (view_of new)) changed.found found (still ∙ ap (λ key. look_up basis.bits clean basis.root key) made.makes.same.key ∙ was) changed.read
+          read_of over after.key (rebased since.written (view_of new)) changed.found found (still ∙ ap (λ key. look_up context.bits clean context.root key) made.makes.same.key ∙ was) changed.read
 
-      pub told_both : HasToldBoth basis request after reply (view_of new)
+      pub told_both : HasToldBoth context request after reply (view_of new)
       told_both = record {
         adds = ready.may.adds;
         since = since;
-        put = put_still basis request since m new ready.may.walks.may leaves.touches ready.may.put;
+        put = put_still context request since m new ready.may.walks.may leaves.touches ready.may.put;
         reply_is = reply_is;
         keys = size_keys request walk after ready.may.keys made.makes.same;
         to_key = size_wide walk after ready.may.to_key made.makes.same;
@@ -142,11 +142,11 @@ module _ (basis : Basis) (m : Moment) (request : Request) (walk : WalkFields) (f
         performs = made.performs;
       }
 
-      pub raised : WritesIfChanged m new (page_of walk.phase) answer.Changed → TellsAtSize basis since m new request walk after (told.Told reply)
+      pub raised : WritesIfChanged m new (page_of walk.phase) answer.Changed → TellsAtSize context since m new request walk after (told.Told reply)
       raised writes = (record { leaves = leaves; writes = inr writes }, told_both)
 
     -- **is to be split for,**
-    splits_there : (after : WalkFields) (value : ℕ) → raise ≡ Add value → NeedsSplit over m walk after value → TellsAtSize basis since m m request walk after told.Going
+    splits_there : (after : WalkFields) (value : ℕ) → raise ≡ Add value → NeedsSplit over m walk after value → TellsAtSize context since m m request walk after told.Going
     splits_there after value added needs =
         let adding = needs.later (not_first walk ready.may.to_key.wide) in (
           record { stays = refl {a = m}; absent = absent value added; value = value; needs = needs },
@@ -162,16 +162,16 @@ module _ (basis : Basis) (m : Moment) (request : Request) (walk : WalkFields) (f
           },
         )
 
-    pub splits_for_it : (new : Moment) (after : WalkFields) → new ≡ m → TellsOfRaise over new walk after raise found answer.NeedSplit → TellsAtSize basis since m new request walk after told.Going
+    pub splits_for_it : (new : LocalState) (after : WalkFields) → new ≡ m → TellsOfRaise over new walk after raise found answer.NeedSplit → TellsAtSize context since m new request walk after told.Going
     splits_for_it new after stays tells =
         let added = added_at raise (λ value. NeedsSplit over new walk after value) tells in
-        subst (λ (n : Moment). TellsAtSize basis since m n request walk after told.Going) (sym stays)
-        (splits_there after added.0 added.1 (subst (λ (n : Moment). NeedsSplit over n walk after added.0) stays added.2))
+        subst (λ (n : LocalState). TellsAtSize context since m n request walk after told.Going) (sym stays)
+        (splits_there after added.0 added.1 (subst (λ (n : LocalState). NeedsSplit over n walk after added.0) stays added.2))
 
     -- **or is refused.**
-    pub refused_there : (new back : Moment) (after last : WalkFields) (reason : Refusal) → new ≡ m → TellsOfRaise over new walk after raise found (answer.Refused reason) → IsRolledBack m back → TellsAtSize basis since m back request walk last (told.Refused reason)
+    pub refused_there : (new back : LocalState) (after last : WalkFields) (reason : Refusal) → new ≡ m → TellsOfRaise over new walk after raise found (answer.Refused reason) → IsRolledBack m back → TellsAtSize context since m back request walk last (told.Refused reason)
     refused_there new back after last refusal.NoRoom stays tells rolled =
         let added = added_at raise (λ value. HasNoRoom over new walk after) tells in
-        (rolled, record { absent = absent added.0 added.1; after = after; none = subst (λ (n : Moment). HasNoRoom over n walk after) stays added.2 })
+        (rolled, record { absent = absent added.0 added.1; after = after; none = subst (λ (n : LocalState). HasNoRoom over n walk after) stays added.2 })
     refused_there new back after last refusal.OutOfMemory stays tells rolled = (rolled, tt)
     refused_there new back after last other stays tells rolled = absurd (let only : other ≡ refusal.OutOfMemory = tells in cc)

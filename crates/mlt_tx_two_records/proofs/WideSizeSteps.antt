@@ -11,7 +11,7 @@ use Rattle.mlt_object_base.specs.declared.request.Request.{Request}
 use Rattle.mlt_object_base.specs.Requests.{decision, size_decision}
 use Rattle.mlt_hash_form.specs.File.{depth_of, header_of}
 use Rattle.mlt_hash_form.specs.Held.{Agrees, over}
-use Rattle.mlt_hash_access.specs.Moments.{Moment}
+use Rattle.mlt_hash_access.specs.LocalStates.{LocalState}
 use Rattle.mlt_hash_access.specs.PageSteps.{Leaves, LocksAtMost}
 use Rattle.mlt_hash_access.specs.PageTurns.{IsRolledBack, TakesTurn}
 use Rattle.mlt_hash_access.specs.Views.{view_of}
@@ -19,20 +19,20 @@ use Rattle.mlt_hash_access.proofs.Views.{agrees}
 use Rattle.mlt_hash.specs.Changes.{NeedsSplit, page_of}
 use Rattle.mlt_hash.specs.Splitting.{HasToMake, TellsAt}
 use Rattle.mlt_hash.specs.Steps.{GoesOn, HasFound, steps_to_bucket}
-use Rattle.mlt_hash.specs.Walks.{Basis, Before, HasRead, IsChanged, MayWalk, Stands, WalkFields, basis_after, one_key, view_for}
+use Rattle.mlt_hash.specs.Walks.{WalkContext, Before, HasRead, IsChanged, MayWalk, Stands, WalkFields, context_after, one_key, view_for}
 use Rattle.mlt_hash.specs.declared.answer.WalkAnswer.TheVariants as answer
 use Rattle.mlt_hash.specs.declared.pass.Change.TheVariants as change
 use Rattle.mlt_hash.specs.declared.pass.Phase.{Phase}
 use Rattle.mlt_hash.specs.declared.pass.Phase.TheVariants as at
 use Rattle.mlt_hash.proofs.Passed.{read_of}
 use Rattle.mlt_hash_split.proofs.Closing.{held_page_over}
-use Rattle.mlt_tx_two_records.specs.declared.answer.DoubleAnswer.{DoubleAnswer}
-use Rattle.mlt_tx_two_records.specs.declared.answer.DoubleAnswer.TheVariants as told
-use Rattle.mlt_tx_two_records.specs.declared.double.Double.TheVariants.{Wide}
-use Rattle.mlt_tx_two_records.specs.declared.double.Leg.TheVariants as leg
-use Rattle.mlt_tx_two_records.specs.Answers.{TellsOfDouble}
+use Rattle.mlt_tx_two_records.specs.declared.answer.TwoRecordAnswer.{TwoRecordAnswer}
+use Rattle.mlt_tx_two_records.specs.declared.answer.TwoRecordAnswer.TheVariants as told
+use Rattle.mlt_tx_two_records.specs.declared.two_records.TwoRecordWalk.TheVariants.{Wide}
+use Rattle.mlt_tx_two_records.specs.declared.two_records.WideStage.TheVariants as wide_stage
+use Rattle.mlt_tx_two_records.specs.Answers.{TellsOfTwoRecords}
 use Rattle.mlt_tx_two_records.specs.AtWideBuckets.{MayActOnSize, MayStepToSize, RefusesAt, TellsAtSize}
-use Rattle.mlt_tx_two_records.specs.Doubles.{MayGoOn}
+use Rattle.mlt_tx_two_records.specs.TwoRecordWalks.{MayGoOn}
 use Rattle.mlt_tx_two_records.specs.WidePass.{CauseAtSize, HasPutOwn, PutsSize, PutsThen, SizeRefused, SizeWalksOn}
 use Rattle.mlt_tx_two_records.proofs.WideGoing.{goes_further, puts_behind, puts_still}
 use Rattle.mlt_tx_two_records.proofs.WideOwn.{not_first}
@@ -43,29 +43,29 @@ use Rattle.mlt_tx_two_records.proofs.WideTurns.{lock_and_write_turn, one_step_tu
 
 -- ---- what the pass did before it went on to this key
 
-module _ (basis : Basis) (m : Moment) (request : Request) (walk : WalkFields) (may : MayGoOn basis m request (Wide leg.Size walk)) where
+module _ (context : WalkContext) (m : LocalState) (request : Request) (walk : WalkFields) (may : MayGoOn context m request (Wide wide_stage.Size walk)) where
   abbrev since : Before
   since = may.stands.since
 
-  abbrev put : HasPutOwn basis request (view_of m) since
+  abbrev put : HasPutOwn context request (view_of m) since
   put = may.stands.put
 
   agree : Agrees (view_of m).seen may.file.clean
   agree = agrees m may.file.clean may.may may.file.is_clean
 
   -- the directory is as shallow as it was left
-  shallow : depth_of (over may.file.clean since.written) basis.root ≤ basis.max_depth
+  shallow : depth_of (over may.file.clean since.written) context.root ≤ context.max_depth
   shallow =
       let clean = may.file.clean in
-      let then_agrees = agreed_then basis request (view_of m) since clean put agree may.file.form in
-      let changed : IsChanged (one_key basis) put.walk put.then_view put.bucket put.done = put.changed in
-      let seen : is_some (put.then_view.seen basis.root) ≡ true = ap is_some changed.read.way.placed.head in
-      let head : over clean put.then_view.own basis.root ≡ Some (page.Head changed.header) = sym (held_page_over put.then_view clean basis.root then_agrees seen) ∙ changed.head in
-      let most : depth_of (over clean put.then_view.own) basis.root ≤ basis.max_depth = subst (λ (p : Option Page). (header_of p).depth ≤ basis.max_depth) (sym head) changed.shallow in
-      subst (λ (s : Before). depth_of (over clean s.written) basis.root ≤ basis.max_depth) (sym put.since_is) most
+      let then_agrees = agreed_then context request (view_of m) since clean put agree may.file.form in
+      let changed : IsChanged (one_key context) put.walk put.then_view put.bucket put.done = put.changed in
+      let seen : is_some (put.then_view.seen context.root) ≡ true = ap is_some changed.read.way.placed.head in
+      let head : over clean put.then_view.own context.root ≡ Some (page.Head changed.header) = sym (held_page_over put.then_view clean context.root then_agrees seen) ∙ changed.head in
+      let most : depth_of (over clean put.then_view.own) context.root ≤ context.max_depth = subst (λ (p : Option Page). (header_of p).depth ≤ context.max_depth) (sym head) changed.shallow in
+      subst (λ (s : Before). depth_of (over clean s.written) context.root ≤ context.max_depth) (sym put.since_is) most
 
   -- **It may take its step over that.**
-  pub may_step : MayStepToSize basis m request walk since
+  pub may_step : MayStepToSize context m request walk since
   may_step = record {
     may = record {
       adds = may.stands.adds;
@@ -77,7 +77,7 @@ module _ (basis : Basis) (m : Moment) (request : Request) (walk : WalkFields) (m
         small = may.small;
         may = may.may;
         written = put.written;
-        file = record { clean = may.file.clean; is_clean = may.file.is_clean; form = form_since basis request (view_of m) since may.file.clean put agree may.file.form };
+        file = record { clean = may.file.clean; is_clean = may.file.is_clean; form = form_since context request (view_of m) since may.file.clean put agree may.file.form };
         shallow = shallow;
         stands = may.stands.stands;
       };
@@ -87,33 +87,33 @@ module _ (basis : Basis) (m : Moment) (request : Request) (walk : WalkFields) (m
   }
 
 -- at the last step of its way it makes no page
-no_page_made : (p : Phase) (basis : Basis) (old : Moment) (walk : WalkFields) → steps_to_bucket p ≡ 1 → HasToMake p basis old walk → ⊥
-no_page_made (at.Adding value bucket depth unsplit) basis old walk one makes = absurd (omega (arith, one))
-no_page_made (at.Splitting value depth) basis old walk one makes = absurd (omega (arith, one))
-no_page_made other basis old walk one makes = makes
+no_page_made : (p : Phase) (context : WalkContext) (old : LocalState) (walk : WalkFields) → steps_to_bucket p ≡ 1 → HasToMake p context old walk → ⊥
+no_page_made (at.Adding value bucket depth unsplit) context old walk one makes = absurd (omega (arith, one))
+no_page_made (at.Splitting value depth) context old walk one makes = absurd (omega (arith, one))
+no_page_made other context old walk one makes = makes
 
 -- ---- its steps
 
-module _ (basis : Basis) (old : Moment) (request : Request) (before : WalkFields) (since : Before) (ready : MayStepToSize basis old request before since) where
-  abbrev on : Basis
-  on = basis_after since basis
+module _ (context : WalkContext) (old : LocalState) (request : Request) (before : WalkFields) (since : Before) (ready : MayStepToSize context old request before since) where
+  abbrev on : WalkContext
+  on = context_after since context
 
   abbrev may_walk : MayWalk on old before
   may_walk = ready.may.walks
 
   -- **It waits,**
-  pub waits_there : (new : Moment) (after : WalkFields) (page by : ℕ) → TellsAt before.phase on old new before after (answer.Waiting page by) → TellsOfDouble basis old new (Wide leg.Size before) (Wide leg.Size after) request (told.Waiting page by)
+  pub waits_there : (new : LocalState) (after : WalkFields) (page by : ℕ) → TellsAt before.phase on old new before after (answer.Waiting page by) → TellsOfTwoRecords context old new (Wide wide_stage.Size before) (Wide wide_stage.Size after) request (told.Waiting page by)
   waits_there new after page by tells = record { since = since; put = ready.may.put; waits = waits on old new before after page by tells }
 
-  module _ (mid : Moment) (walk : WalkFields) (leaves : Leaves old mid) where
+  module _ (mid : LocalState) (walk : WalkFields) (leaves : Leaves old mid) where
     turn : TakesTurn old mid
     turn = one_step_turns on old mid before may_walk leaves
 
-    abbrev put_now : HasPutOwn basis request (view_of mid) since
-    put_now = put_still basis request since old mid may_walk.may leaves.touches ready.may.put
+    abbrev put_now : HasPutOwn context request (view_of mid) since
+    put_now = put_still context request since old mid may_walk.may leaves.touches ready.may.put
 
     -- **goes on,**
-    pub goes_to_size : TellsAt before.phase on old mid before walk answer.Going → TellsOfDouble basis old mid (Wide leg.Size before) (Wide leg.Size walk) request told.Going
+    pub goes_to_size : TellsAt before.phase on old mid before walk answer.Going → TellsOfTwoRecords context old mid (Wide wide_stage.Size before) (Wide wide_stage.Size walk) request told.Going
     goes_to_size tells =
         let further = goes_further on old mid before walk may_walk leaves tells in (
           record {
@@ -135,11 +135,11 @@ module _ (basis : Basis) (old : Moment) (request : Request) (before : WalkFields
     cause_of refusal.OutOfMemory why = let none = why.0 in (omega (arith, none), why.1)
     cause_of other why = absurd why
 
-    pub is_refused : (new : Moment) (reason : Refusal) → IsWhy reason on old before → IsRolledBack mid new → SizeRefused basis old new request before reason
+    pub is_refused : (new : LocalState) (reason : Refusal) → IsWhy reason on old before → IsRolledBack mid new → SizeRefused context old new request before reason
     is_refused new reason why back = record { back = record { mid = mid; turn = turn; back = back }; since = since; put = ready.may.put; cause = cause_of reason why }
 
     -- **has put the record behind splits,**
-    pub told_behind : (reply : ObjReply) → reply ≡ (decision request None).0 → TellsAt before.phase on old mid before walk answer.Changed → TellsOfDouble basis old mid (Wide leg.Size before) (Wide leg.Size walk) request (told.Told reply)
+    pub told_behind : (reply : ObjReply) → reply ≡ (decision request None).0 → TellsAt before.phase on old mid before walk answer.Changed → TellsOfTwoRecords context old mid (Wide wide_stage.Size before) (Wide wide_stage.Size walk) request (told.Told reply)
     told_behind reply is tells =
         let put = puts_behind before.phase on old mid before walk refl tells in
         let value_is : PutsSize request ready.may.put.reply put.value = subst (λ (p : Phase). PutsThen p (PutsSize request ready.may.put.reply)) put.was ready.puts in
@@ -175,7 +175,7 @@ module _ (basis : Basis) (old : Moment) (request : Request) (before : WalkFields
       last : steps_to_bucket before.phase ≡ 1
       last = was_last on mid before walk found path.0 path.1
 
-      pub may_act : MayActOnSize basis mid request walk found since
+      pub may_act : MayActOnSize context mid request walk found since
       may_act = record {
         may = record {
           adds = ready.may.adds;
@@ -192,19 +192,19 @@ module _ (basis : Basis) (old : Moment) (request : Request) (before : WalkFields
       refused_at_bucket refusal.OutOfMemory none = (omega (arith, last), λ lacks. no_page_made before.phase on old before last lacks.makes)
       refused_at_bucket other none = absurd none
 
-      pub tells_there : (new : Moment) (after : WalkFields) (told : DoubleAnswer) → TellsAtSize basis since mid new request walk after told → TellsOfDouble basis old new (Wide leg.Size before) (Wide leg.Size after) request told
+      pub tells_there : (new : LocalState) (after : WalkFields) (told : TwoRecordAnswer) → TellsAtSize context since mid new request walk after told → TellsOfTwoRecords context old new (Wide wide_stage.Size before) (Wide wide_stage.Size after) request told
       tells_there new after told.Going (splits, goes) = (
         goes,
         (
-          subst (λ (m : Moment). TakesTurn old m) (sym splits.stays) turn,
-          subst (λ (m : Moment). SizeWalksOn basis old m request before after) (sym splits.stays) (record {
+          subst (λ (m : LocalState). TakesTurn old m) (sym splits.stays) turn,
+          subst (λ (m : LocalState). SizeWalksOn context old m request before after) (sym splits.stays) (record {
             since = since;
             put = put_now;
             walks = inr (record {
               walk = walk;
               reaches = reaches on mid before walk path.0 splits.absent;
               value = splits.value;
-              needs = subst (λ (m : Moment). NeedsSplit on m walk after splits.value) splits.stays splits.needs;
+              needs = subst (λ (m : LocalState). NeedsSplit on m walk after splits.value) splits.stays splits.needs;
               at_bucket = ap steps_to_bucket (splits.needs.later (not_first walk (path.0.same.pass ∙ ready.may.to_key.wide))).1;
             });
           }),

@@ -3,11 +3,11 @@ use Rattle.std.proofs.Common.{◌≡◌, ◌⊎◌, ℕ, ◌↔◌, None, Option
 use Rattle.mlt_types.specs.declared.mode.Mode.TheVariants.{Exclusive}
 use Rattle.mlt_types.specs.declared.refusal.Refusal.{Refusal}
 use Rattle.mlt_types.specs.declared.refusal.Refusal.TheVariants as refusal
-use Rattle.mlt_hash_access.specs.Moments.{Moment}
+use Rattle.mlt_hash_access.specs.LocalStates.{LocalState}
 use Rattle.mlt_hash_access.specs.PageSteps.{HasNoPageLeft}
 use Rattle.mlt_hash.specs.Splitting.{HasToMake, TellsAt}
 use Rattle.mlt_hash.specs.Steps.{GoesOn, HasFound, next_mode, next_page, steps_to_bucket}
-use Rattle.mlt_hash.specs.Walks.{Basis, WalkFields, view_for}
+use Rattle.mlt_hash.specs.Walks.{WalkContext, WalkFields, view_for}
 use Rattle.mlt_hash.specs.declared.answer.WalkAnswer.{WalkAnswer}
 use Rattle.mlt_hash.specs.declared.answer.WalkAnswer.TheVariants as answer
 use Rattle.mlt_hash.specs.declared.pass.Phase.{Phase}
@@ -16,82 +16,82 @@ use Rattle.mlt_hash.proofs.Splittings.{none_left}
 use Rattle.mlt_tx_two_records.specs.WalkSteps.{AsksForAt, LacksPage, ReachesBucket, WalkWaits}
 
 -- **What it waits for**
-waits_at : (p : Phase) (basis : Basis) (old new : Moment) (before after : WalkFields) (page by : ℕ) → before.phase ≡ p → TellsAt p basis old new before after (answer.Waiting page by) → WalkWaits basis old new before after page by
-waits_at (at.Adding value bucket depth unsplit) basis old new before after page by is told = absurd told
-waits_at (at.Splitting value depth) basis old new before after page by is (next, lowest, pages, walk) = record {
+waits_at : (p : Phase) (context : WalkContext) (old new : LocalState) (before after : WalkFields) (page by : ℕ) → before.phase ≡ p → TellsAt p context old new before after (answer.Waiting page by) → WalkWaits context old new before after page by
+waits_at (at.Adding value bucket depth unsplit) context old new before after page by is told = absurd told
+waits_at (at.Splitting value depth) context old new before after page by is (next, lowest, pages, walk) = record {
   mode = Exclusive;
-  asks = subst (λ (p : Phase). AsksForAt p basis (view_for basis old) before page Exclusive) (sym is) (next, refl);
+  asks = subst (λ (p : Phase). AsksForAt p context (view_for context old) before page Exclusive) (sym is) (next, refl);
   lowest = lowest;
   pages = pages;
   stays = walk;
 }
-waits_at other basis old new before after page by is (next, lowest, pages, walk) = record {
+waits_at other context old new before after page by is (next, lowest, pages, walk) = record {
   mode = next_mode before before.phase;
-  asks = subst (λ (p : Phase). AsksForAt p basis (view_for basis old) before page (next_mode before before.phase)) (sym is) (next ∙ ap (λ (p : Phase). next_page basis.root p) is, ap (λ (p : Phase). next_mode before p) is);
+  asks = subst (λ (p : Phase). AsksForAt p context (view_for context old) before page (next_mode before before.phase)) (sym is) (next ∙ ap (λ (p : Phase). next_page context.root p) is, ap (λ (p : Phase). next_mode before p) is);
   lowest = lowest;
   pages = pages;
   stays = walk;
 }
 
-pub waits : (basis : Basis) (old new : Moment) (before after : WalkFields) (page by : ℕ) → TellsAt before.phase basis old new before after (answer.Waiting page by) → WalkWaits basis old new before after page by
-waits basis old new before after page by told = waits_at before.phase basis old new before after page by refl told
+pub waits : (context : WalkContext) (old new : LocalState) (before after : WalkFields) (page by : ℕ) → TellsAt before.phase context old new before after (answer.Waiting page by) → WalkWaits context old new before after page by
+waits context old new before after page by told = waits_at before.phase context old new before after page by refl told
 
 -- **What it tells that has found its key,**
-pub found_by_path : (p : Phase) (basis : Basis) (old mid : Moment) (walk after : WalkFields) (found : Option ℕ) → TellsAt p basis old mid walk after (answer.Found found) → GoesOn basis mid walk after × HasFound after.phase found
-found_by_path (at.Adding value bucket depth unsplit) basis old mid walk after found told = absurd told
-found_by_path (at.Splitting value depth) basis old mid walk after found told = absurd told
-found_by_path other basis old mid walk after found told = told
+pub found_by_path : (p : Phase) (context : WalkContext) (old mid : LocalState) (walk after : WalkFields) (found : Option ℕ) → TellsAt p context old mid walk after (answer.Found found) → GoesOn context mid walk after × HasFound after.phase found
+found_by_path (at.Adding value bucket depth unsplit) context old mid walk after found told = absurd told
+found_by_path (at.Splitting value depth) context old mid walk after found told = absurd told
+found_by_path other context old mid walk after found told = told
 
 -- **by the last step of its way.**
-pub was_last : (basis : Basis) (mid : Moment) (before walk : WalkFields) (found : Option ℕ) → GoesOn basis mid before walk → HasFound walk.phase found → steps_to_bucket before.phase ≡ 1
-was_last basis mid before walk found goes is = let left = none_left walk.phase found is in omega (arith, goes.fewer, left)
+pub was_last : (context : WalkContext) (mid : LocalState) (before walk : WalkFields) (found : Option ℕ) → GoesOn context mid before walk → HasFound walk.phase found → steps_to_bucket before.phase ≡ 1
+was_last context mid before walk found goes is = let left = none_left walk.phase found is in omega (arith, goes.fewer, left)
 
-pub reaches : (basis : Basis) (mid : Moment) (before walk : WalkFields) → GoesOn basis mid before walk → HasFound walk.phase None → ReachesBucket basis mid before walk
-reaches basis mid before walk goes none = record { last = was_last basis mid before walk None goes none; same = goes.same; found = none; stands = goes.stands }
+pub reaches : (context : WalkContext) (mid : LocalState) (before walk : WalkFields) → GoesOn context mid before walk → HasFound walk.phase None → ReachesBucket context mid before walk
+reaches context mid before walk goes none = record { last = was_last context mid before walk None goes none; same = goes.same; found = none; stands = goes.stands }
 
 -- memory is told only where no page is lacked
-no_memory : (p : Phase) (basis : Basis) (old : Moment) (before : WalkFields) → before.phase ≡ p → steps_to_bucket p ≡ 0
-    → ((answer.Refused refusal.OutOfMemory ≡ answer.Refused refusal.NoRoom) ↔ (HasToMake p basis old before × HasNoPageLeft old.store))
-    → (steps_to_bucket before.phase ≡ 0) × (LacksPage basis old before → ⊥)
-no_memory p basis old before is zero_left exact =
-    (ap steps_to_bucket is ∙ zero_left, λ lacks. (let same : answer.Refused refusal.OutOfMemory ≡ answer.Refused refusal.NoRoom = exact.1 (subst (λ (q : Phase). HasToMake q basis old before) is lacks.makes, lacks.full) in absurd cc))
+no_memory : (p : Phase) (context : WalkContext) (old : LocalState) (before : WalkFields) → before.phase ≡ p → steps_to_bucket p ≡ 0
+    → ((answer.Refused refusal.OutOfMemory ≡ answer.Refused refusal.NoRoom) ↔ (HasToMake p context old before × HasNoPageLeft old.store))
+    → (steps_to_bucket before.phase ≡ 0) × (LacksPage context old before → ⊥)
+no_memory p context old before is zero_left exact =
+    (ap steps_to_bucket is ∙ zero_left, λ lacks. (let same : answer.Refused refusal.OutOfMemory ≡ answer.Refused refusal.NoRoom = exact.1 (subst (λ (q : Phase). HasToMake q context old before) is lacks.makes, lacks.full) in absurd cc))
 
 -- Why it is refused on its way.
-abbrev pub IsWhy : Refusal → Basis → Moment → WalkFields → Type 0
-IsWhy refusal.NoRoom basis old before = LacksPage basis old before
-IsWhy refusal.OutOfMemory basis old before = (steps_to_bucket before.phase ≡ 0) × (LacksPage basis old before → ⊥)
-IsWhy other basis old before = ⊥
+abbrev pub IsWhy : Refusal → WalkContext → LocalState → WalkFields → Type 0
+IsWhy refusal.NoRoom context old before = LacksPage context old before
+IsWhy refusal.OutOfMemory context old before = (steps_to_bucket before.phase ≡ 0) × (LacksPage context old before → ⊥)
+IsWhy other context old before = ⊥
 
-refused_at : (p : Phase) (basis : Basis) (old mid : Moment) (before after : WalkFields) (reason : Refusal) → before.phase ≡ p
-    → TellsAt p basis old mid before after (answer.Refused reason)
-    → ((answer.Refused reason ≡ answer.Refused refusal.NoRoom) ↔ (HasToMake p basis old before × HasNoPageLeft old.store))
-    → IsWhy reason basis old before
-refused_at (at.Adding value bucket depth unsplit) basis old mid before after refusal.NoRoom is told exact =
-    record { makes = subst (λ (p : Phase). HasToMake p basis old before) (sym is) told.0; full = told.1 }
-refused_at (at.Adding value bucket depth unsplit) basis old mid before after refusal.OutOfMemory is told exact = no_memory (at.Adding value bucket depth unsplit) basis old before is refl exact
-refused_at (at.Adding value bucket depth unsplit) basis old mid before after other is told exact = absurd (let only : other ≡ refusal.OutOfMemory = told in cc)
-refused_at (at.Splitting value depth) basis old mid before after refusal.NoRoom is told exact =
-    record { makes = subst (λ (p : Phase). HasToMake p basis old before) (sym is) told.0; full = told.2 }
-refused_at (at.Splitting value depth) basis old mid before after refusal.OutOfMemory is told exact = no_memory (at.Splitting value depth) basis old before is refl exact
-refused_at (at.Splitting value depth) basis old mid before after other is told exact = absurd (let only : other ≡ refusal.OutOfMemory = told.0 in cc)
-refused_at other basis old mid before after reason is told exact = absurd told
+refused_at : (p : Phase) (context : WalkContext) (old mid : LocalState) (before after : WalkFields) (reason : Refusal) → before.phase ≡ p
+    → TellsAt p context old mid before after (answer.Refused reason)
+    → ((answer.Refused reason ≡ answer.Refused refusal.NoRoom) ↔ (HasToMake p context old before × HasNoPageLeft old.store))
+    → IsWhy reason context old before
+refused_at (at.Adding value bucket depth unsplit) context old mid before after refusal.NoRoom is told exact =
+    record { makes = subst (λ (p : Phase). HasToMake p context old before) (sym is) told.0; full = told.1 }
+refused_at (at.Adding value bucket depth unsplit) context old mid before after refusal.OutOfMemory is told exact = no_memory (at.Adding value bucket depth unsplit) context old before is refl exact
+refused_at (at.Adding value bucket depth unsplit) context old mid before after other is told exact = absurd (let only : other ≡ refusal.OutOfMemory = told in cc)
+refused_at (at.Splitting value depth) context old mid before after refusal.NoRoom is told exact =
+    record { makes = subst (λ (p : Phase). HasToMake p context old before) (sym is) told.0; full = told.2 }
+refused_at (at.Splitting value depth) context old mid before after refusal.OutOfMemory is told exact = no_memory (at.Splitting value depth) context old before is refl exact
+refused_at (at.Splitting value depth) context old mid before after other is told exact = absurd (let only : other ≡ refusal.OutOfMemory = told.0 in cc)
+refused_at other context old mid before after reason is told exact = absurd told
 
 -- **Why it is refused**
-pub refused : (basis : Basis) (old mid : Moment) (before after : WalkFields) (reason : Refusal) → TellsAt before.phase basis old mid before after (answer.Refused reason)
-    → ((answer.Refused reason ≡ answer.Refused refusal.NoRoom) ↔ (HasToMake before.phase basis old before × HasNoPageLeft old.store)) → IsWhy reason basis old before
-refused basis old mid before after reason told exact = refused_at before.phase basis old mid before after reason refl told exact
+pub refused : (context : WalkContext) (old mid : LocalState) (before after : WalkFields) (reason : Refusal) → TellsAt before.phase context old mid before after (answer.Refused reason)
+    → ((answer.Refused reason ≡ answer.Refused refusal.NoRoom) ↔ (HasToMake before.phase context old before × HasNoPageLeft old.store)) → IsWhy reason context old before
+refused context old mid before after reason told exact = refused_at before.phase context old mid before after reason refl told exact
 
 -- no step says that a split is needed, or a wide pass
-never_splits : (p : Phase) (basis : Basis) (old new : Moment) (before after : WalkFields) → TellsAt p basis old new before after answer.NeedSplit → ⊥
-never_splits (at.Adding value bucket depth unsplit) basis old new before after told = told
-never_splits (at.Splitting value depth) basis old new before after told = told
-never_splits other basis old new before after told = told
+never_splits : (p : Phase) (context : WalkContext) (old new : LocalState) (before after : WalkFields) → TellsAt p context old new before after answer.NeedSplit → ⊥
+never_splits (at.Adding value bucket depth unsplit) context old new before after told = told
+never_splits (at.Splitting value depth) context old new before after told = told
+never_splits other context old new before after told = told
 
-never_widens : (p : Phase) (basis : Basis) (old new : Moment) (before after : WalkFields) → TellsAt p basis old new before after answer.Widen → ⊥
-never_widens (at.Adding value bucket depth unsplit) basis old new before after told = told
-never_widens (at.Splitting value depth) basis old new before after told = told
-never_widens other basis old new before after told = told
+never_widens : (p : Phase) (context : WalkContext) (old new : LocalState) (before after : WalkFields) → TellsAt p context old new before after answer.Widen → ⊥
+never_widens (at.Adding value bucket depth unsplit) context old new before after told = told
+never_widens (at.Splitting value depth) context old new before after told = told
+never_widens other context old new before after told = told
 
-pub never_needs : (basis : Basis) (old new : Moment) (before after : WalkFields) (told : WalkAnswer) → TellsAt before.phase basis old new before after told → (told ≡ answer.NeedSplit) ⊎ (told ≡ answer.Widen) → ⊥
-never_needs basis old new before after told tells (inl is) = never_splits before.phase basis old new before after (subst (λ (a : WalkAnswer). TellsAt before.phase basis old new before after a) is tells)
-never_needs basis old new before after told tells (inr is) = never_widens before.phase basis old new before after (subst (λ (a : WalkAnswer). TellsAt before.phase basis old new before after a) is tells)
+pub never_needs : (context : WalkContext) (old new : LocalState) (before after : WalkFields) (told : WalkAnswer) → TellsAt before.phase context old new before after told → (told ≡ answer.NeedSplit) ⊎ (told ≡ answer.Widen) → ⊥
+never_needs context old new before after told tells (inl is) = never_splits before.phase context old new before after (subst (λ (a : WalkAnswer). TellsAt before.phase context old new before after a) is tells)
+never_needs context old new before after told tells (inr is) = never_widens before.phase context old new before after (subst (λ (a : WalkAnswer). TellsAt before.phase context old new before after a) is tells)

@@ -7,45 +7,45 @@ use Rattle.mlt_object_base.specs.declared.record.RecChange.{RecChange}
 use Rattle.mlt_object_base.specs.declared.record.RecChange.TheVariants.{Add, Plus}
 use Rattle.mlt_object_base.specs.declared.request.Request.{Request}
 use Rattle.mlt_object_base.specs.Requests.{target_of}
-use Rattle.mlt_hash_access.specs.Moments.{Moment}
+use Rattle.mlt_hash_access.specs.LocalStates.{LocalState}
 use Rattle.mlt_hash_access.specs.PageTurns.{IsRolledBack}
 use Rattle.mlt_hash_access.specs.Views.{view_of}
 use Rattle.mlt_hash.specs.Changes.{HasNoRoom, Makes, NeedsSplit, page_of}
 use Rattle.mlt_hash.specs.Splitting.{IsUnderWay}
 use Rattle.mlt_hash.specs.Steps.{HasFound, steps_to_bucket}
-use Rattle.mlt_hash.specs.Walks.{Basis, Before, MayWalk, WalkFields, basis_after, one_key}
+use Rattle.mlt_hash.specs.Walks.{WalkContext, Before, MayWalk, WalkFields, context_after, one_key}
 use Rattle.mlt_hash.specs.declared.answer.WalkAnswer.{WalkAnswer}
 use Rattle.mlt_hash.specs.declared.answer.WalkAnswer.TheVariants as answer
 use Rattle.mlt_hash.specs.declared.pass.Change.{Change}
 use Rattle.mlt_hash.specs.declared.pass.Phase.TheVariants as at
-use Rattle.mlt_tx_two_records.specs.declared.answer.DoubleAnswer.{DoubleAnswer}
-use Rattle.mlt_tx_two_records.specs.declared.answer.DoubleAnswer.TheVariants as told
-use Rattle.mlt_tx_two_records.specs.declared.double.Leg.{Leg}
-use Rattle.mlt_tx_two_records.specs.declared.double.Leg.TheVariants as leg
+use Rattle.mlt_tx_two_records.specs.declared.answer.TwoRecordAnswer.{TwoRecordAnswer}
+use Rattle.mlt_tx_two_records.specs.declared.answer.TwoRecordAnswer.TheVariants as told
+use Rattle.mlt_tx_two_records.specs.declared.two_records.WideStage.{WideStage}
+use Rattle.mlt_tx_two_records.specs.declared.two_records.WideStage.TheVariants as wide_stage
 use Rattle.mlt_tx_two_records.specs.AtBuckets.{Writes}
 use Rattle.mlt_tx_two_records.specs.FirstPass.{HasKeys}
 use Rattle.mlt_tx_two_records.specs.Performing.{AddsElement, Performs}
 use Rattle.mlt_tx_two_records.specs.WidePass.{HasPutOwn, HasToldBoth, HasToldPresent, IsGoingToOwn, IsGoingToSize, IsWideTo, PutsOwn, PutsSize, PutsThen}
 
 -- A walk of a wide pass to its own key, which may go on.
-pub record MayWalkToOwn (basis : Basis) (m : Moment) (request : Request) (walk : WalkFields)
+pub record MayWalkToOwn (context : WalkContext) (m : LocalState) (request : Request) (walk : WalkFields)
     : Type 0 where
   pub adds : AddsElement request
   pub size : ℕ
   pub keys : HasKeys request walk.key size
   pub to_key : IsWideTo walk (target_of request).0
-  pub walks : MayWalk (one_key basis) m walk
+  pub walks : MayWalk (one_key context) m walk
 
 -- It is at its bucket, and has found this there.
-pub record MayActOnOwn (basis : Basis) (m : Moment) (request : Request) (walk : WalkFields)
+pub record MayActOnOwn (context : WalkContext) (m : LocalState) (request : Request) (walk : WalkFields)
     (found : Option ℕ) : Type 0 where
-  pub may : MayWalkToOwn basis m request walk
+  pub may : MayWalkToOwn context m request walk
   pub at_bucket : HasFound walk.phase found
 
 -- It has put the own record.
-pub record HasJustPut (basis : Basis) (m : Moment) (request : Request) (walk : WalkFields)
+pub record HasJustPut (context : WalkContext) (m : LocalState) (request : Request) (walk : WalkFields)
     : Type 0 where
-  pub may : MayWalkToOwn basis m request walk
+  pub may : MayWalkToOwn context m request walk
   pub bucket : ℕ
   pub done : Change
   pub phase : walk.phase ≡ at.Changed bucket done
@@ -55,54 +55,54 @@ pub record HasJustPut (basis : Basis) (m : Moment) (request : Request) (walk : W
   pub performs : Performs (Add value) None done
 
 -- The bucket, which has no record of the key, is to be split in this pass.
-pub record IsToSplit (basis : Basis) (old new : Moment) (before after : WalkFields) : Type 0 where
+pub record IsToSplit (context : WalkContext) (old new : LocalState) (before after : WalkFields) : Type 0 where
   pub stays : new ≡ old
   pub absent : HasFound before.phase None
   pub value : ℕ
-  pub needs : NeedsSplit basis new before after value
+  pub needs : NeedsSplit context new before after value
 
 -- There is no room at any depth, and all is rolled back.
-pub record HasNoRoomThere (basis : Basis) (old : Moment) (before : WalkFields) : Type 0 where
+pub record HasNoRoomThere (context : WalkContext) (old : LocalState) (before : WalkFields) : Type 0 where
   pub absent : HasFound before.phase None
   pub after : WalkFields
-  pub none : HasNoRoom basis old before after
+  pub none : HasNoRoom context old before after
 
--- what it tells there, by the leg that follows
-abbrev pub TellsAtOwn : Basis → Moment → Moment → Request → WalkFields → Leg → WalkFields
-    → DoubleAnswer → Type 0
-TellsAtOwn basis old new request before leg.Own after told.Going =
-    IsToSplit (one_key basis) old new before after
-    × IsGoingToOwn basis request after (view_of new)
-TellsAtOwn basis old new request before leg.Size after told.Going =
-    Writes old new (page_of before.phase) × IsGoingToSize basis request after (view_of new)
+-- what it tells there, by the stage that follows
+abbrev pub TellsAtOwn : WalkContext → LocalState → LocalState → Request → WalkFields → WideStage → WalkFields
+    → TwoRecordAnswer → Type 0
+TellsAtOwn context old new request before wide_stage.Own after told.Going =
+    IsToSplit (one_key context) old new before after
+    × IsGoingToOwn context request after (view_of new)
+TellsAtOwn context old new request before wide_stage.Size after told.Going =
+    Writes old new (page_of before.phase) × IsGoingToSize context request after (view_of new)
     × (steps_to_bucket after.phase ≡ 2)
-TellsAtOwn basis old new request before leg.Own after (told.Told reply) =
-    (new ≡ old) × HasToldPresent basis request after reply (view_of new)
-TellsAtOwn basis old new request before leg.Own after (told.Refused refusal.NoRoom) =
-    IsRolledBack old new × HasNoRoomThere (one_key basis) old before
-TellsAtOwn basis old new request before other after other' = ⊥
+TellsAtOwn context old new request before wide_stage.Own after (told.Told reply) =
+    (new ≡ old) × HasToldPresent context request after reply (view_of new)
+TellsAtOwn context old new request before wide_stage.Own after (told.Refused refusal.NoRoom) =
+    IsRolledBack old new × HasNoRoomThere (one_key context) old before
+TellsAtOwn context old new request before other after other' = ⊥
 
 -- A walk of a wide pass to the size's key, over what it wrote for the own one, which may go on. What the pass did before is a
 -- parameter here, since the walk goes by it.
-pub record MayWalkToSize (basis : Basis) (m : Moment) (request : Request) (walk : WalkFields)
+pub record MayWalkToSize (context : WalkContext) (m : LocalState) (request : Request) (walk : WalkFields)
     (since : Before) : Type 0 where
   pub adds : AddsElement request
-  pub put : HasPutOwn basis request (view_of m) since
+  pub put : HasPutOwn context request (view_of m) since
   pub keys : HasKeys request (target_of request).0 walk.key
   pub to_key : IsWideTo walk walk.key
-  pub walks : MayWalk (basis_after since basis) m walk
+  pub walks : MayWalk (context_after since context) m walk
 
 -- It has a next step.
-pub record MayStepToSize (basis : Basis) (m : Moment) (request : Request) (walk : WalkFields)
+pub record MayStepToSize (context : WalkContext) (m : LocalState) (request : Request) (walk : WalkFields)
     (since : Before) : Type 0 where
-  pub may : MayWalkToSize basis m request walk since
+  pub may : MayWalkToSize context m request walk since
   pub under_way : IsUnderWay walk.phase
   pub puts : PutsThen walk.phase (PutsSize request may.put.reply)
 
 -- It is at its bucket, and has found this there.
-pub record MayActOnSize (basis : Basis) (m : Moment) (request : Request) (walk : WalkFields)
+pub record MayActOnSize (context : WalkContext) (m : LocalState) (request : Request) (walk : WalkFields)
     (found : Option ℕ) (since : Before) : Type 0 where
-  pub may : MayWalkToSize basis m request walk since
+  pub may : MayWalkToSize context m request walk since
   pub at_bucket : HasFound walk.phase found
 
 -- A size is raised: its record is added where there was none.
@@ -112,10 +112,10 @@ Raises (Some value) (Plus amount) = Unit {0}
 Raises found other = ⊥
 
 -- The change that was decided on is made.
-pub record IsMade (basis : Basis) (new : Moment) (before after : WalkFields) (decided : RecChange)
+pub record IsMade (context : WalkContext) (new : LocalState) (before after : WalkFields) (decided : RecChange)
     (found : Option ℕ) : Type 0 where
   pub done : Change
-  pub makes : Makes basis new before after done
+  pub makes : Makes context new before after done
   pub performs : Performs decided found done
 
 -- what is so of the value, where a record is added
@@ -124,31 +124,31 @@ OfAddition (Add value) Is = Is value
 OfAddition other Is = ⊥
 
 -- what a change tells that raises the size: only where the record is added may there be no room
-abbrev pub TellsOfRaise : Basis → Moment → WalkFields → WalkFields → RecChange → Option ℕ
+abbrev pub TellsOfRaise : WalkContext → LocalState → WalkFields → WalkFields → RecChange → Option ℕ
     → WalkAnswer → Type 0
-TellsOfRaise basis new before after decided found answer.Changed =
-    IsMade basis new before after decided found
-TellsOfRaise basis new before after decided found answer.NeedSplit =
-    OfAddition decided (λ value. NeedsSplit basis new before after value)
-TellsOfRaise basis new before after decided found (answer.Refused refusal.NoRoom) =
-    OfAddition decided (λ value. HasNoRoom basis new before after)
-TellsOfRaise basis new before after decided found (answer.Refused reason) =
+TellsOfRaise context new before after decided found answer.Changed =
+    IsMade context new before after decided found
+TellsOfRaise context new before after decided found answer.NeedSplit =
+    OfAddition decided (λ value. NeedsSplit context new before after value)
+TellsOfRaise context new before after decided found (answer.Refused refusal.NoRoom) =
+    OfAddition decided (λ value. HasNoRoom context new before after)
+TellsOfRaise context new before after decided found (answer.Refused reason) =
     reason ≡ refusal.OutOfMemory
-TellsOfRaise basis new before after decided found other = ⊥
+TellsOfRaise context new before after decided found other = ⊥
 
 -- It is refused there: there is no room at any depth, or memory was refused to keep the page as it was.
-abbrev pub RefusesAt : Refusal → Basis → Moment → WalkFields → Type 0
-RefusesAt refusal.NoRoom basis old before = HasNoRoomThere basis old before
-RefusesAt refusal.OutOfMemory basis old before = Unit {0}
-RefusesAt other basis old before = ⊥
+abbrev pub RefusesAt : Refusal → WalkContext → LocalState → WalkFields → Type 0
+RefusesAt refusal.NoRoom context old before = HasNoRoomThere context old before
+RefusesAt refusal.OutOfMemory context old before = Unit {0}
+RefusesAt other context old before = ⊥
 
-abbrev pub TellsAtSize : Basis → Before → Moment → Moment → Request → WalkFields → WalkFields
-    → DoubleAnswer → Type 0
-TellsAtSize basis since old new request before after told.Going =
-    IsToSplit (basis_after since basis) old new before after
-    × IsGoingToSize basis request after (view_of new)
-TellsAtSize basis since old new request before after (told.Told reply) =
-    Writes old new (page_of before.phase) × HasToldBoth basis request after reply (view_of new)
-TellsAtSize basis since old new request before after (told.Refused reason) =
-    IsRolledBack old new × RefusesAt reason (basis_after since basis) old before
-TellsAtSize basis since old new request before after other = ⊥
+abbrev pub TellsAtSize : WalkContext → Before → LocalState → LocalState → Request → WalkFields → WalkFields
+    → TwoRecordAnswer → Type 0
+TellsAtSize context since old new request before after told.Going =
+    IsToSplit (context_after since context) old new before after
+    × IsGoingToSize context request after (view_of new)
+TellsAtSize context since old new request before after (told.Told reply) =
+    Writes old new (page_of before.phase) × HasToldBoth context request after reply (view_of new)
+TellsAtSize context since old new request before after (told.Refused reason) =
+    IsRolledBack old new × RefusesAt reason (context_after since context) old before
+TellsAtSize context since old new request before after other = ⊥

@@ -5,15 +5,15 @@ use Rattle.mlt_object_base.specs.declared.record.RecChange.{RecChange}
 use Rattle.mlt_object_base.specs.declared.request.Request.{Request}
 use Rattle.mlt_object_base.specs.Requests.{decision, size_decision, size_key_of, target_of}
 use Rattle.mlt_page_locks.specs.Requests.{IsLowest, conflicts}
-use Rattle.mlt_hash_access.specs.Moments.{Moment}
+use Rattle.mlt_hash_access.specs.LocalStates.{LocalState}
 use Rattle.mlt_hash_access.specs.PageTurns.{TakesTurn, TurnsBack}
 use Rattle.mlt_hash_access.specs.Views.{IsUnwritten, View, view_of}
 use Rattle.mlt_hash_record.specs.Plans.{WriteFields}
 use Rattle.mlt_hash_pair.specs.Changes.{HasChanged, IsFull, IsFullBehind, IsHolding, Task, WritesBucketsAlone, task_of}
 use Rattle.mlt_hash_pair.specs.Pairs.{IsFinding, IsFound, IsUnderWay, PairFields, least_steps, mode_next, most_steps, page_next}
-use Rattle.mlt_hash_pair.specs.Ways.{found_of, page_of}
-use Rattle.mlt_hash_pair.specs.declared.asked.Changes.{Changes}
-use Rattle.mlt_hash.specs.Walks.{Basis, IsAtStart}
+use Rattle.mlt_hash_pair.specs.Descents.{found_of, page_of}
+use Rattle.mlt_hash_pair.specs.declared.asked.PairChanges.{PairChanges}
+use Rattle.mlt_hash.specs.Walks.{WalkContext, IsAtStart}
 use Rattle.mlt_hash.specs.declared.pass.Change.{Change}
 use Rattle.mlt_tx_two_records.specs.declared.first.FirstAnswer.{FirstAnswer}
 use Rattle.mlt_tx_two_records.specs.declared.first.FirstAnswer.TheVariants as answer
@@ -29,11 +29,11 @@ pub record HasKeys (request : Request) (own size : ℕ) : Type 0 where
   pub apart : own ≢ size
 
 -- It is on its way to both buckets.
-pub record IsFindingBoth (basis : Basis) (request : Request) (pair : PairFields) (view : View)
+pub record IsFindingBoth (context : WalkContext) (request : Request) (pair : PairFields) (view : View)
     : Type 0 where
   pub keys : HasKeys request pair.left pair.right
   pub under_way : IsUnderWay pair
-  pub finding : IsFinding basis.bits basis.root pair view
+  pub finding : IsFinding context.bits context.root pair view
 
 -- What was found of both keys asks for these changes of their records, and tells this reply.
 pub record AsksForBoth (request : Request) (reply : ObjReply) (own size : Option ℕ) : Type 0 where
@@ -48,92 +48,92 @@ pub record AsksForNone (request : Request) (reply : ObjReply) (own size : Option
   pub resized : size_decision request reply size ≡ None
 
 -- what a pair is asked for then
-abbrev pub changes_for : RecChange → RecChange → Option ℕ → Option ℕ → Changes
+abbrev pub changes_for : RecChange → RecChange → Option ℕ → Option ℕ → PairChanges
 changes_for change resize own size =
     record { left = Some (asked_of change own); right = Some (asked_of resize size) }
 
 -- The change of the size's record is written, and that of the own one is planned, in another bucket; or the other way round.
-abbrev pub OwesEither : Basis → Change → Change → PairFields → View → View → WriteFields → Type 0
-OwesEither basis own size pair old view write =
-    (WritesRecord basis size pair.right (page_of pair.right_way) old view
-    × PlansRecord basis own pair.left (page_of pair.left_way) view write)
-    ⊎ (WritesRecord basis own pair.left (page_of pair.left_way) old view
-    × PlansRecord basis size pair.right (page_of pair.right_way) view write)
+abbrev pub OwesEither : WalkContext → Change → Change → PairFields → View → View → WriteFields → Type 0
+OwesEither context own size pair old view write =
+    (WritesRecord context size pair.right (page_of pair.right_descent) old view
+    × PlansRecord context own pair.left (page_of pair.left_descent) view write)
+    ⊎ (WritesRecord context own pair.left (page_of pair.left_descent) old view
+    × PlansRecord context size pair.right (page_of pair.right_descent) view write)
 
 -- The change in the later bucket is written, and that in the earlier one is owed.
-pub record OwesOne (basis : Basis) (request : Request) (pair : PairFields) (reply : ObjReply)
+pub record OwesOne (context : WalkContext) (request : Request) (pair : PairFields) (reply : ObjReply)
     (view : View) : Type 0 where
   pub keys : HasKeys request pair.left pair.right
-  pub changed : HasChanged basis.bits basis.root basis.opens basis.tx pair view
-  pub asks : AsksForBoth request reply (found_of pair.left_way) (found_of pair.right_way)
+  pub changed : HasChanged context.bits context.root context.active context.tx pair view
+  pub asks : AsksForBoth request reply (found_of pair.left_descent) (found_of pair.right_descent)
   pub own_done : Change
   pub size_done : Change
-  pub own_performs : Performs asks.change (found_of pair.left_way) own_done
-  pub size_performs : Performs asks.resize (found_of pair.right_way) size_done
-  pub two : page_of pair.left_way ≢ page_of pair.right_way
+  pub own_performs : Performs asks.change (found_of pair.left_descent) own_done
+  pub size_performs : Performs asks.resize (found_of pair.right_descent) size_done
+  pub two : page_of pair.left_descent ≢ page_of pair.right_descent
   pub old : View
   pub unwritten : IsUnwritten old
   pub write : WriteFields
   pub owed : pair.owed ≡ Some write
-  pub owes : OwesEither basis own_done size_done pair old view write
+  pub owes : OwesEither context own_done size_done pair old view write
 
 -- Both changes are written: that of the own record, and that of the size's with the first one in it.
-pub record ChangesBoth (basis : Basis) (request : Request) (pair : PairFields) (reply : ObjReply)
+pub record ChangesBoth (context : WalkContext) (request : Request) (pair : PairFields) (reply : ObjReply)
     (view : View) : Type 0 where
-  pub asks : AsksForBoth request reply (found_of pair.left_way) (found_of pair.right_way)
+  pub asks : AsksForBoth request reply (found_of pair.left_descent) (found_of pair.right_descent)
   pub own_done : Change
   pub size_done : Change
-  pub own_performs : Performs asks.change (found_of pair.left_way) own_done
-  pub size_performs : Performs asks.resize (found_of pair.right_way) size_done
+  pub own_performs : Performs asks.change (found_of pair.left_descent) own_done
+  pub size_performs : Performs asks.resize (found_of pair.right_descent) size_done
   pub old : View
   pub mid : View
   pub unwritten : IsUnwritten old
-  pub own : WritesRecord basis own_done pair.left (page_of pair.left_way) old mid
-  pub size : WritesRecord basis size_done pair.right (page_of pair.right_way) mid view
+  pub own : WritesRecord context own_done pair.left (page_of pair.left_descent) old mid
+  pub size : WritesRecord context size_done pair.right (page_of pair.right_descent) mid view
 
 -- No change is asked for, and nothing is written.
 pub record ChangesNone (request : Request) (pair : PairFields) (reply : ObjReply) (view : View)
     : Type 0 where
-  pub asks : AsksForNone request reply (found_of pair.left_way) (found_of pair.right_way)
+  pub asks : AsksForNone request reply (found_of pair.left_descent) (found_of pair.right_descent)
   pub unwritten : IsUnwritten view
 
 -- All is written, and both buckets are still held: the next step is the end.
-pub record HasToldFirst (basis : Basis) (request : Request) (pair : PairFields) (reply : ObjReply)
+pub record HasToldFirst (context : WalkContext) (request : Request) (pair : PairFields) (reply : ObjReply)
     (view : View) : Type 0 where
   pub keys : HasKeys request pair.left pair.right
   pub found : IsFound pair
-  pub holding : IsHolding basis.bits basis.root pair view
+  pub holding : IsHolding context.bits context.root pair view
   pub alone : WritesBucketsAlone pair view
-  pub done : ChangesNone request pair reply view ⊎ ChangesBoth basis request pair reply view
+  pub done : ChangesNone request pair reply view ⊎ ChangesBoth context request pair reply view
 
 -- ---- what its steps tell
 
 -- One step of the first pass is taken: of those up to both buckets, by the two bounds.
 pub record StepsToBuckets (before after : PairFields) : Type 0 where
-  pub least : least_steps before.left_way before.right_way
-      ≤ least_steps after.left_way after.right_way + 1
-  pub most : most_steps after.left_way after.right_way + 1
-      ≤ most_steps before.left_way before.right_way
+  pub least : least_steps before.left_descent before.right_descent
+      ≤ least_steps after.left_descent after.right_descent + 1
+  pub most : most_steps after.left_descent after.right_descent + 1
+      ≤ most_steps before.left_descent before.right_descent
 
 -- it was the last one of these
 pub record WasLast (before : PairFields) : Type 0 where
-  pub least : least_steps before.left_way before.right_way ≤ 1
-  pub most : 1 ≤ most_steps before.left_way before.right_way
+  pub least : least_steps before.left_descent before.right_descent ≤ 1
+  pub most : 1 ≤ most_steps before.left_descent before.right_descent
 
 -- The bucket of either key has no room: of its own key, or of the size's with the own record's change in it.
 abbrev pub HasFullBucket : Task → ℕ → View → Type 0
 HasFullBucket task tx view =
-    IsFull task.changes.left task.opens tx task.left task.left_page view
+    IsFull task.changes.left task.active tx task.left task.left_page view
     ⊎ IsFullBehind task tx view
 
 -- what a pair is to do that has found its keys
-abbrev pub task_for : Basis → PairFields → RecChange → RecChange → Task
-task_for basis pair change resize =
-    task_of basis.opens pair (page_of pair.left_way) (page_of pair.right_way)
-    (changes_for change resize (found_of pair.left_way) (found_of pair.right_way))
+abbrev pub task_for : WalkContext → PairFields → RecChange → RecChange → Task
+task_for context pair change resize =
+    task_of context.active pair (page_of pair.left_descent) (page_of pair.right_descent)
+    (changes_for change resize (found_of pair.left_descent) (found_of pair.right_descent))
 
 -- It has found both keys, and one of the buckets has no room. All is rolled back, and nothing is held.
-pub record FindsNoRoom (basis : Basis) (old new : Moment) (request : Request) (before : PairFields)
+pub record FindsNoRoom (context : WalkContext) (old new : LocalState) (request : Request) (before : PairFields)
     : Type 0 where
   pub back : TurnsBack old new
   pub start : IsAtStart (view_of new)
@@ -142,13 +142,13 @@ pub record FindsNoRoom (basis : Basis) (old new : Moment) (request : Request) (b
   pub pair : PairFields
   pub keys : HasKeys request pair.left pair.right
   pub found : IsFound pair
-  pub finding : IsFinding basis.bits basis.root pair (view_of back.mid)
+  pub finding : IsFinding context.bits context.root pair (view_of back.mid)
   pub reply : ObjReply
-  pub asks : AsksForBoth request reply (found_of pair.left_way) (found_of pair.right_way)
-  pub full : HasFullBucket (task_for basis pair asks.change asks.resize) basis.tx (view_of back.mid)
+  pub asks : AsksForBoth request reply (found_of pair.left_descent) (found_of pair.right_descent)
+  pub full : HasFullBucket (task_for context pair asks.change asks.resize) context.tx (view_of back.mid)
 
 -- It waits for its next page, told the lowest transaction whose lock stands against its own. Nothing has changed.
-pub record PairWaits (root : ℕ) (old new : Moment) (before after : PairFields) (page by : ℕ)
+pub record PairWaits (root : ℕ) (old new : LocalState) (before after : PairFields) (page by : ℕ)
     : Type 0 where
   pub page_is : page ≡ page_next root before
   pub lowest : IsLowest (conflicts old.locks old.running.tx page (mode_next before)) by
@@ -156,16 +156,16 @@ pub record PairWaits (root : ℕ) (old new : Moment) (before after : PairFields)
   pub stays : after ≡ before
 
 -- what a step of the first pass tells, up to the one that finds both keys
-abbrev pub TellsOfFirst : Basis → Moment → Moment → Request → PairFields → PairFields → FirstAnswer
+abbrev pub TellsOfFirst : WalkContext → LocalState → LocalState → Request → PairFields → PairFields → FirstAnswer
     → Type 0
-TellsOfFirst basis old new request before after answer.Going =
+TellsOfFirst context old new request before after answer.Going =
     TakesTurn old new × StepsToBuckets before after
-    × IsFindingBoth basis request after (view_of new)
-TellsOfFirst basis old new request before after (answer.Waiting page by) =
-    PairWaits basis.root old new before after page by
-TellsOfFirst basis old new request before after (answer.OneLeft reply) =
-    TakesTurn old new × WasLast before × OwesOne basis request after reply (view_of new)
-TellsOfFirst basis old new request before after (answer.Told reply) =
-    TakesTurn old new × WasLast before × HasToldFirst basis request after reply (view_of new)
-TellsOfFirst basis old new request before after answer.Full =
-    FindsNoRoom basis old new request before
+    × IsFindingBoth context request after (view_of new)
+TellsOfFirst context old new request before after (answer.Waiting page by) =
+    PairWaits context.root old new before after page by
+TellsOfFirst context old new request before after (answer.OneLeft reply) =
+    TakesTurn old new × WasLast before × OwesOne context request after reply (view_of new)
+TellsOfFirst context old new request before after (answer.Told reply) =
+    TakesTurn old new × WasLast before × HasToldFirst context request after reply (view_of new)
+TellsOfFirst context old new request before after answer.Full =
+    FindsNoRoom context old new request before

@@ -9,57 +9,57 @@ use Rattle.mlt_hash_form.specs.File.{FilePages, depth_of, look_up}
 use Rattle.mlt_hash_form.specs.Held.{RearrangesSlots, SeenPages, over}
 use Rattle.mlt_hash_access.specs.Views.{View}
 use Rattle.mlt_hash.specs.Passes.{slot_after, value_after}
-use Rattle.mlt_hash.specs.Walks.{Basis, StoodBefore}
+use Rattle.mlt_hash.specs.Walks.{WalkContext, StoodBefore}
 use Rattle.mlt_hash.specs.declared.pass.Change.{Change}
 use Rattle.mlt_tx_two_records.specs.Performing.{Performs}
 
 -- The record of a key is changed: slots of the pages were rearranged, on pages that are seen, up to `rest`; and then one slot of
 -- the bucket that the key leads to was set.
-pub record LeavesRecord (basis : Basis) (key : ℕ) (done : Change) (seen : SeenPages)
+pub record LeavesRecord (context : WalkContext) (key : ℕ) (done : Change) (seen : SeenPages)
     (pages pages' : FilePages) : Type 0 where
   pub rest : FilePages
-  pub keeps : RearrangesSlots basis.bits basis.opens seen pages rest basis.root
+  pub keeps : RearrangesSlots context.bits context.active seen pages rest context.root
   pub spot : Spot
-  pub home : IsAtHome basis.bits rest basis.root key spot
-  pub was : StoodBefore done basis key spot.bucket.slots (slot_of spot)
-  pub changes : ChangesRecord basis.bits rest pages' basis.root
-      (slot_change key (value_after done) spot.number spot.at (slot_after done key basis.tx))
-  pub shallow : depth_of pages' basis.root ≤ basis.max_depth
+  pub home : IsAtHome context.bits rest context.root key spot
+  pub was : StoodBefore done context key spot.bucket.slots (slot_of spot)
+  pub changes : ChangesRecord context.bits rest pages' context.root
+      (slot_change key (value_after done) spot.number spot.at (slot_after done key context.tx))
+  pub shallow : depth_of pages' context.root ≤ context.max_depth
 
 -- Both are changed: the own record, as the reply asks for that goes with what the clean pages have of the key; and over that the
 -- size's. What is written first, `written`, is on pages that are held.
-pub record LeavesBoth (basis : Basis) (request : Request) (reply : ObjReply) (size_key : ℕ)
+pub record LeavesBoth (context : WalkContext) (request : Request) (reply : ObjReply) (size_key : ℕ)
     (view : View) (clean : FilePages) : Type 0 where
   pub change : RecChange
-  pub decided : decision request (look_up basis.bits clean basis.root (target_of request).0)
+  pub decided : decision request (look_up context.bits clean context.root (target_of request).0)
       ≡ (reply, Some change)
   pub resize : RecChange
-  pub resized : size_decision request reply (look_up basis.bits clean basis.root size_key)
+  pub resized : size_decision request reply (look_up context.bits clean context.root size_key)
       ≡ Some resize
   pub own_done : Change
   pub own_performs : Performs change
-      (look_up basis.bits clean basis.root (target_of request).0) own_done
+      (look_up context.bits clean context.root (target_of request).0) own_done
   pub size_done : Change
-  pub size_performs : Performs resize (look_up basis.bits clean basis.root size_key) size_done
+  pub size_performs : Performs resize (look_up context.bits clean context.root size_key) size_done
   pub written : FilePages
   pub held : (q : ℕ) → view.seen q ≡ None → written q ≡ None
-  pub own : LeavesRecord basis (target_of request).0 own_done view.seen
+  pub own : LeavesRecord context (target_of request).0 own_done view.seen
       clean (over clean written)
   pub between : SeenPages
-  pub size : LeavesRecord basis size_key size_done between (over clean written) (over clean view.own)
+  pub size : LeavesRecord context size_key size_done between (over clean written) (over clean view.own)
 
 -- Nothing is changed: what the clean pages have of both keys asks for no change, and tells the reply.
-pub record LeavesAll (basis : Basis) (request : Request) (reply : ObjReply) (size_key : ℕ)
+pub record LeavesAll (context : WalkContext) (request : Request) (reply : ObjReply) (size_key : ℕ)
     (view : View) (clean : FilePages) : Type 0 where
-  pub decided : decision request (look_up basis.bits clean basis.root (target_of request).0)
+  pub decided : decision request (look_up context.bits clean context.root (target_of request).0)
       ≡ (reply, None)
-  pub resized : size_decision request reply (look_up basis.bits clean basis.root size_key) ≡ None
+  pub resized : size_decision request reply (look_up context.bits clean context.root size_key) ≡ None
   pub unwritten : (q : ℕ) → view.own q ≡ None
 
 -- what is told goes with what the clean pages have of both keys, and just the changes that this
 -- asks for are left
-abbrev pub LeavesAsTold : Basis → Request → ObjReply → View → FilePages → Type 0
-LeavesAsTold basis request reply view clean =
+abbrev pub LeavesAsTold : WalkContext → Request → ObjReply → View → FilePages → Type 0
+LeavesAsTold context request reply view clean =
     (size : ℕ) × (size_key_of request ≡ Some size)
-    × (LeavesAll basis request reply size view clean
-    ⊎ LeavesBoth basis request reply size view clean)
+    × (LeavesAll context request reply size view clean
+    ⊎ LeavesBoth context request reply size view clean)

@@ -5,7 +5,7 @@ pub mod Records
 pub mod FirstPass
 pub mod WidePass
 pub mod AtWideBuckets
-pub mod Doubles
+pub mod TwoRecordWalks
 pub mod AtBuckets
 pub mod Answers
 pub mod Leaving

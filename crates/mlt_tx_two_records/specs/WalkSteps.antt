@@ -3,11 +3,11 @@ use Rattle.std.specs.Prelude.{ℕ, ◌≡◌, ◌<◌, ◌≤◌, ◌+◌, ◌�
 use Rattle.mlt_types.specs.declared.mode.Mode.{Mode}
 use Rattle.mlt_types.specs.declared.mode.Mode.TheVariants.{Exclusive}
 use Rattle.mlt_page_locks.specs.Requests.{IsLowest, conflicts}
-use Rattle.mlt_hash_access.specs.Moments.{Moment}
+use Rattle.mlt_hash_access.specs.LocalStates.{LocalState}
 use Rattle.mlt_hash_access.specs.PageSteps.{HasNoPageLeft}
 use Rattle.mlt_hash_access.specs.Views.{View}
 use Rattle.mlt_hash_split.specs.Steps.{IsNextPage}
-use Rattle.mlt_hash.specs.Walks.{Basis, IsStanding, WalkFields, aim_of, view_for}
+use Rattle.mlt_hash.specs.Walks.{WalkContext, IsStanding, WalkFields, split_target, view_for}
 use Rattle.mlt_hash.specs.Steps.{HasFound, IsSameWalk, next_mode, next_page, steps_to_bucket}
 use Rattle.mlt_hash.specs.StepsLeft.{steps_to_put}
 use Rattle.mlt_hash.specs.Splitting.{HasToMake, OfSplit}
@@ -27,46 +27,46 @@ pub record GoesNearer (root : ℕ) (old new : View) (before after : WalkFields) 
   pub down : (0 < steps_to_bucket before.phase) ⊎ GoesDown root before after old new
 
 -- It has reached its bucket, and found no record there.
-pub record ReachesBucket (basis : Basis) (m : Moment) (before walk : WalkFields) : Type 0 where
+pub record ReachesBucket (context : WalkContext) (m : LocalState) (before walk : WalkFields) : Type 0 where
   pub last : steps_to_bucket before.phase ≡ 1
   pub same : IsSameWalk before walk
   pub found : HasFound walk.phase None
-  pub stands : IsStanding basis walk (view_for basis m)
+  pub stands : IsStanding context walk (view_for context m)
 
 -- Its bucket has no room, and it is to be split in this pass.
-pub record BeginsToSplit (basis : Basis) (new : Moment) (before after : WalkFields) : Type 0 where
+pub record BeginsToSplit (context : WalkContext) (new : LocalState) (before after : WalkFields) : Type 0 where
   pub walk : WalkFields
-  pub reaches : ReachesBucket basis new before walk
+  pub reaches : ReachesBucket context new before walk
   pub value : ℕ
-  pub needs : NeedsSplit basis new walk after value
+  pub needs : NeedsSplit context new walk after value
   pub at_bucket : steps_to_bucket after.phase ≡ 0
 
 -- the lock that its next step asks for: of which page, and in which mode
-abbrev pub AsksForAt : Phase → Basis → View → WalkFields → ℕ → Mode → Type 0
-AsksForAt (at.Splitting value room_depth) basis view walk page mode =
-    OfSplit walk (λ split. IsNextPage split.phase (aim_of basis walk room_depth) view page)
+abbrev pub AsksForAt : Phase → WalkContext → View → WalkFields → ℕ → Mode → Type 0
+AsksForAt (at.Splitting value room_depth) context view walk page mode =
+    OfSplit walk (λ split. IsNextPage split.phase (split_target context walk room_depth) view page)
     × (mode ≡ Exclusive)
-AsksForAt (at.Adding value bucket room_depth unsplit) basis view walk page mode = ⊥
-AsksForAt other basis view walk page mode =
-    (page ≡ next_page basis.root other) × (mode ≡ next_mode walk other)
+AsksForAt (at.Adding value bucket room_depth unsplit) context view walk page mode = ⊥
+AsksForAt other context view walk page mode =
+    (page ≡ next_page context.root other) × (mode ≡ next_mode walk other)
 
 -- It waits for a page, told the lowest transaction whose lock stands against its own. Nothing has changed.
-pub record WalkWaits (basis : Basis) (old new : Moment) (before after : WalkFields) (page by : ℕ)
+pub record WalkWaits (context : WalkContext) (old new : LocalState) (before after : WalkFields) (page by : ℕ)
     : Type 0 where
   pub mode : Mode
-  pub asks : AsksForAt before.phase basis (view_for basis old) before page mode
+  pub asks : AsksForAt before.phase context (view_for context old) before page mode
   pub lowest : IsLowest (conflicts old.locks old.running.tx page mode) by
   pub pages : new ≡ old
   pub stays : after ≡ before
 
 -- its next step makes a page, and there may be no more
-pub record LacksPage (basis : Basis) (old : Moment) (before : WalkFields) : Type 0 where
-  pub makes : HasToMake before.phase basis old before
+pub record LacksPage (context : WalkContext) (old : LocalState) (before : WalkFields) : Type 0 where
+  pub makes : HasToMake before.phase context old before
   pub full : HasNoPageLeft old.store
 
 -- it has reached its bucket, and has no room at any depth
-pub record LacksRoom (basis : Basis) (m : Moment) (before : WalkFields) : Type 0 where
+pub record LacksRoom (context : WalkContext) (m : LocalState) (before : WalkFields) : Type 0 where
   pub walk : WalkFields
   pub after : WalkFields
-  pub reaches : ReachesBucket basis m before walk
-  pub none : HasNoRoom basis m walk after
+  pub reaches : ReachesBucket context m before walk
+  pub none : HasNoRoom context m walk after

@@ -9,10 +9,10 @@ use Rattle.mlt_object_base.specs.declared.record.RecChange.{RecChange}
 use Rattle.mlt_object_base.specs.declared.record.RecChange.TheVariants.{Add}
 use Rattle.mlt_object_base.specs.declared.request.Request.{Request}
 use Rattle.mlt_object_base.specs.Requests.{decision, size_decision, target_of}
-use Rattle.mlt_hash_access.specs.Moments.{Moment}
+use Rattle.mlt_hash_access.specs.LocalStates.{LocalState}
 use Rattle.mlt_hash_access.specs.PageTurns.{TurnsBack}
 use Rattle.mlt_hash_access.specs.Views.{HasWritten, View, rebased, view_of}
-use Rattle.mlt_hash.specs.Walks.{Basis, Before, HasRead, IsChanged, IsStanding, SlotsStood, WalkFields, basis_after, before_of, one_key}
+use Rattle.mlt_hash.specs.Walks.{WalkContext, Before, HasRead, IsChanged, IsStanding, SlotsStood, WalkFields, context_after, before_of, one_key}
 use Rattle.mlt_hash.specs.Splitting.{IsUnderWay}
 use Rattle.mlt_hash.specs.Steps.{steps_to_bucket}
 use Rattle.mlt_hash.specs.declared.pass.Change.{Change}
@@ -56,26 +56,26 @@ abbrev pub PutsSize : Request → ObjReply → ℕ → Type 0
 PutsSize request reply value = size_decision request reply None ≡ Some (Add value)
 
 -- It goes to its own key.
-pub record IsGoingToOwn (basis : Basis) (request : Request) (walk : WalkFields) (view : View)
+pub record IsGoingToOwn (context : WalkContext) (request : Request) (walk : WalkFields) (view : View)
     : Type 0 where
   pub adds : AddsElement request
   pub size : ℕ
   pub keys : HasKeys request walk.key size
   pub to_key : IsWideTo walk (target_of request).0
   pub under_way : IsUnderWay walk.phase
-  pub stands : IsStanding (one_key basis) walk view
+  pub stands : IsStanding (one_key context) walk view
   pub puts : PutsThen walk.phase (λ value. (reply : ObjReply) × PutsOwn request reply value)
 
 -- The own record is put, where none was found, and this is what was done then: seen as it was when the pass went on. What was
 -- seen then is seen still.
-pub record HasPutOwn (basis : Basis) (request : Request) (view : View) (since : Before) : Type 0 where
+pub record HasPutOwn (context : WalkContext) (request : Request) (view : View) (since : Before) : Type 0 where
   pub walk : WalkFields
   pub to_key : IsWideTo walk (target_of request).0
   pub then_view : View
   pub bucket : ℕ
   pub done : Change
   pub phase : walk.phase ≡ at.Changed bucket done
-  pub changed : IsChanged (one_key basis) walk then_view bucket done
+  pub changed : IsChanged (one_key context) walk then_view bucket done
   pub reply : ObjReply
   pub value : ℕ
   pub decided : PutsOwn request reply value
@@ -83,22 +83,22 @@ pub record HasPutOwn (basis : Basis) (request : Request) (view : View) (since : 
   pub since_is : since ≡ before_of then_view
   pub seen : (q : ℕ) (p : Option Page) → then_view.seen q ≡ Some p → view.seen q ≡ Some p
   pub written : HasWritten since.written view
-  pub stood : SlotsStood since.written basis.tx view
+  pub stood : SlotsStood since.written context.tx view
 
 -- It has gone on to the key of the size, over what it wrote.
-pub record IsGoingToSize (basis : Basis) (request : Request) (walk : WalkFields) (view : View)
+pub record IsGoingToSize (context : WalkContext) (request : Request) (walk : WalkFields) (view : View)
     : Type 0 where
   pub adds : AddsElement request
   pub since : Before
-  pub put : HasPutOwn basis request view since
+  pub put : HasPutOwn context request view since
   pub keys : HasKeys request (target_of request).0 walk.key
   pub to_key : IsWideTo walk walk.key
   pub under_way : IsUnderWay walk.phase
-  pub stands : IsStanding (basis_after since basis) walk (rebased since.written view)
+  pub stands : IsStanding (context_after since context) walk (rebased since.written view)
   pub puts : PutsThen walk.phase (PutsSize request put.reply)
 
 -- The own record is there: it is told so, and nothing is written. What the size is was not read.
-pub record HasToldPresent (basis : Basis) (request : Request) (walk : WalkFields) (reply : ObjReply)
+pub record HasToldPresent (context : WalkContext) (request : Request) (walk : WalkFields) (reply : ObjReply)
     (view : View) : Type 0 where
   pub adds : AddsElement request
   pub size : ℕ
@@ -108,25 +108,25 @@ pub record HasToldPresent (basis : Basis) (request : Request) (walk : WalkFields
   pub depth : ℕ
   pub value : ℕ
   pub at_bucket : walk.phase ≡ at.AtBucket bucket depth (Some value)
-  pub stands : IsStanding (one_key basis) walk view
+  pub stands : IsStanding (one_key context) walk view
   pub decided : decision request (Some value) ≡ (reply, None)
   pub resized : (found : Option ℕ) → size_decision request reply found ≡ None
 
 -- Both records are written, the size's over what was written for the own one.
-pub record HasToldBoth (basis : Basis) (request : Request) (walk : WalkFields) (reply : ObjReply)
+pub record HasToldBoth (context : WalkContext) (request : Request) (walk : WalkFields) (reply : ObjReply)
     (view : View) : Type 0 where
   pub adds : AddsElement request
   pub since : Before
-  pub put : HasPutOwn basis request view since
+  pub put : HasPutOwn context request view since
   pub reply_is : reply ≡ put.reply
   pub keys : HasKeys request (target_of request).0 walk.key
   pub to_key : IsWideTo walk walk.key
   pub bucket : ℕ
   pub done : Change
   pub phase : walk.phase ≡ at.Changed bucket done
-  pub stands : IsStanding (basis_after since basis) walk (rebased since.written view)
+  pub stands : IsStanding (context_after since context) walk (rebased since.written view)
   pub found : Option ℕ
-  pub read : HasRead (basis_after since basis) walk.key (rebased since.written view) found
+  pub read : HasRead (context_after since context) walk.key (rebased since.written view) found
   pub resize : RecChange
   pub resized : size_decision request reply found ≡ Some resize
   pub performs : Performs resize found done
@@ -143,54 +143,54 @@ HasChangedNow before = (steps_to_bucket before.phase ≡ 1) ⊎ PutsBehind befor
 
 -- Why it is refused: no split makes room, or it lacks a page, or memory, to make a page or to keep an image. The record of its
 -- own key takes none where no bucket is split.
-abbrev pub CauseAtOwn : Refusal → Basis → Moment → Moment → WalkFields → Type 0
-CauseAtOwn refusal.NoRoom basis old mid before = LacksRoom basis mid before ⊎ LacksPage basis old before
-CauseAtOwn refusal.OutOfMemory basis old mid before =
-    (steps_to_bucket before.phase ≡ 0) × (LacksPage basis old before → ⊥)
-CauseAtOwn other basis old mid before = ⊥
+abbrev pub CauseAtOwn : Refusal → WalkContext → LocalState → LocalState → WalkFields → Type 0
+CauseAtOwn refusal.NoRoom context old mid before = LacksRoom context mid before ⊎ LacksPage context old before
+CauseAtOwn refusal.OutOfMemory context old mid before =
+    (steps_to_bucket before.phase ≡ 0) × (LacksPage context old before → ⊥)
+CauseAtOwn other context old mid before = ⊥
 
-abbrev pub CauseAtSize : Refusal → Basis → Moment → Moment → WalkFields → Type 0
-CauseAtSize refusal.NoRoom basis old mid before = LacksRoom basis mid before ⊎ LacksPage basis old before
-CauseAtSize refusal.OutOfMemory basis old mid before =
-    (steps_to_bucket before.phase ≤ 1) × (LacksPage basis old before → ⊥)
-CauseAtSize other basis old mid before = ⊥
+abbrev pub CauseAtSize : Refusal → WalkContext → LocalState → LocalState → WalkFields → Type 0
+CauseAtSize refusal.NoRoom context old mid before = LacksRoom context mid before ⊎ LacksPage context old before
+CauseAtSize refusal.OutOfMemory context old mid before =
+    (steps_to_bucket before.phase ≤ 1) × (LacksPage context old before → ⊥)
+CauseAtSize other context old mid before = ⊥
 
 -- It is refused, and all is rolled back.
-pub record OwnRefused (basis : Basis) (old new : Moment) (before : WalkFields) (reason : Refusal)
+pub record OwnRefused (context : WalkContext) (old new : LocalState) (before : WalkFields) (reason : Refusal)
     : Type 0 where
   pub back : TurnsBack old new
-  pub cause : CauseAtOwn reason (one_key basis) old back.mid before
+  pub cause : CauseAtOwn reason (one_key context) old back.mid before
 
-pub record SizeRefused (basis : Basis) (old new : Moment) (request : Request) (before : WalkFields)
+pub record SizeRefused (context : WalkContext) (old new : LocalState) (request : Request) (before : WalkFields)
     (reason : Refusal) : Type 0 where
   pub back : TurnsBack old new
   pub since : Before
-  pub put : HasPutOwn basis request (view_of old) since
-  pub cause : CauseAtSize reason (basis_after since basis) old back.mid before
+  pub put : HasPutOwn context request (view_of old) since
+  pub cause : CauseAtSize reason (context_after since context) old back.mid before
 
 -- One step on the way to the key: nearer to the change, or at a bucket without room.
-abbrev pub WalksOn : Basis → Moment → Moment → WalkFields → WalkFields → Type 0
-WalksOn basis old new before after =
-    GoesNearer basis.root (view_of old) (view_of new) before after
-    ⊎ BeginsToSplit basis new before after
+abbrev pub WalksOn : WalkContext → LocalState → LocalState → WalkFields → WalkFields → Type 0
+WalksOn context old new before after =
+    GoesNearer context.root (view_of old) (view_of new) before after
+    ⊎ BeginsToSplit context new before after
 
 -- The walk to the size's key waits over what was written for the own one.
-pub record SizeWaits (basis : Basis) (old new : Moment) (request : Request)
+pub record SizeWaits (context : WalkContext) (old new : LocalState) (request : Request)
     (before after : WalkFields) (page by : ℕ) : Type 0 where
   pub since : Before
-  pub put : HasPutOwn basis request (view_of old) since
-  pub waits : WalkWaits (basis_after since basis) old new before after page by
+  pub put : HasPutOwn context request (view_of old) since
+  pub waits : WalkWaits (context_after since context) old new before after page by
 
 -- and so it walks on
-pub record SizeWalksOn (basis : Basis) (old new : Moment) (request : Request)
+pub record SizeWalksOn (context : WalkContext) (old new : LocalState) (request : Request)
     (before after : WalkFields) : Type 0 where
   pub since : Before
-  pub put : HasPutOwn basis request (view_of new) since
-  pub walks : WalksOn (basis_after since basis) old new before after
+  pub put : HasPutOwn context request (view_of new) since
+  pub walks : WalksOn (context_after since context) old new before after
 
 -- It goes on to the key of the size, since its own record is put. Two steps lead to that bucket.
-pub record GoesOver (basis : Basis) (new : Moment) (request : Request) (before after : WalkFields)
+pub record GoesOver (context : WalkContext) (new : LocalState) (request : Request) (before after : WalkFields)
     : Type 0 where
-  pub size : IsGoingToSize basis request after (view_of new)
+  pub size : IsGoingToSize context request after (view_of new)
   pub changed : HasChangedNow before
   pub steps : steps_to_bucket after.phase ≡ 2

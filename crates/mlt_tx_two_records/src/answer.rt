@@ -5,7 +5,7 @@ use mlt_types::{PageNo, Refusal, TxId};
 
 /// The answer to a step of an operation on two records.
 #[derive(Clone, Copy, Debug, PartialEq, Eq)]
-pub enum DoubleAnswer {
+pub enum TwoRecordAnswer {
     /// It goes on.
     Going,
     /// This page is held by this transaction, the lowest whose lock stands against the one asked for. Nothing has

@@ -1,18 +1,18 @@
 //! The first pass.
 
 ghost use Rattle.std.specs.Prelude.{◌≡◌};
-ghost use Rattle.mlt_hash_access.specs.Moments.{moment};
+ghost use Rattle.mlt_hash_access.specs.LocalStates.{local};
 ghost use Rattle.mlt_hash_pair.specs.Pairs.{FileRoot};
-ghost use Rattle.mlt_hash.specs.Walks.{basis_in};
-ghost use Rattle.mlt_tx_two_records.specs.Doubles.{MayGoOn};
+ghost use Rattle.mlt_hash.specs.Walks.{context_in};
+ghost use Rattle.mlt_tx_two_records.specs.TwoRecordWalks.{MayGoOn};
 ghost use Rattle.mlt_tx_two_records.specs.FirstPass.{TellsOfFirst};
 ghost use Rattle.mlt_tx_two_records.specs.AtBuckets.{MayActOnBoth, TellsAtBuckets};
-ghost use Rattle.mlt_tx_two_records.specs.declared.double.Double.TheVariants.{First};
+ghost use Rattle.mlt_tx_two_records.specs.declared.two_records.TwoRecordWalk.TheVariants.{First};
 
 use crate::asked::asked_for;
-use mlt_hash::Setting;
+use mlt_hash::Environment;
 use mlt_hash_access::LockedStore;
-use mlt_hash_pair::{ChangeAnswer, Changes, Pair, PairAnswer};
+use mlt_hash_pair::{ChangeAnswer, Pair, PairAnswer, PairChanges};
 use mlt_object_base::Request;
 use mlt_object_kinds::ObjReply;
 use mlt_page_subtx::Subtx;
@@ -39,21 +39,21 @@ pub(crate) enum FirstAnswer {
 pub(crate) fn step_first<P: Pseudo>(
     pair: &mut Pair,
     request: &Request,
-    setting: &Setting<P>,
+    environment: &Environment<P>,
     subtx: &mut Subtx,
     pages: &mut LockedStore,
 ) -> FirstAnswer
-    requires ready { MayGoOn (basis_in P.bits_of setting.now subtx.old.tx)
-        (moment subtx.old pages.old) request.now (First pair.old) }
-    ensures tells { TellsOfFirst (basis_in P.bits_of setting.now subtx.old.tx)
-        (moment subtx.old pages.old) (moment subtx.new pages.new)
+    requires ready { MayGoOn (context_in P.bits_of environment.now subtx.old.tx)
+        (local subtx.old pages.old) request.now (First pair.old) }
+    ensures tells { TellsOfFirst (context_in P.bits_of environment.now subtx.old.tx)
+        (local subtx.old pages.old) (local subtx.new pages.new)
         request.now pair.old pair.new result }
 {
-    match pair.advance(setting.root, subtx, pages) {
+    match pair.advance(environment.root, subtx, pages) {
         PairAnswer::Going => FirstAnswer::Going,
         PairAnswer::Waiting(page, by) => FirstAnswer::Waiting(page, by),
         PairAnswer::Found(own, size) => {
-            act_on_both(pair, own, size, request, setting, subtx, pages)
+            act_on_both(pair, own, size, request, environment, subtx, pages)
         }
     }
 }
@@ -65,19 +65,19 @@ fn act_on_both<P: Pseudo>(
     own: Option<Value>,
     size: Option<Value>,
     request: &Request,
-    setting: &Setting<P>,
+    environment: &Environment<P>,
     subtx: &mut Subtx,
     pages: &mut LockedStore,
 ) -> FirstAnswer
     ghost read_by: { FileRoot }
     requires read_by { read_by ≡ record {
-      bits = P.bits_of setting.now.root.now.pseudo;
-      root = setting.now.root.now.page;
+      bits = P.bits_of environment.now.root.now.pseudo;
+      root = environment.now.root.now.page;
     } }
-    requires ready { MayActOnBoth (basis_in P.bits_of setting.now subtx.old.tx)
-        (moment subtx.old pages.old) request.now pair.old own size }
-    ensures tells { TellsAtBuckets (basis_in P.bits_of setting.now subtx.old.tx)
-        (moment subtx.old pages.old) (moment subtx.new pages.new)
+    requires ready { MayActOnBoth (context_in P.bits_of environment.now subtx.old.tx)
+        (local subtx.old pages.old) request.now pair.old own size }
+    ensures tells { TellsAtBuckets (context_in P.bits_of environment.now subtx.old.tx)
+        (local subtx.old pages.old) (local subtx.new pages.new)
         request.now pair.old pair.new result }
 {
     let (reply, change) = request.decide(own);
@@ -85,11 +85,11 @@ fn act_on_both<P: Pseudo>(
     let (Some(change), Some(resize)) = (change, resize) else {
         return FirstAnswer::Told(reply);
     };
-    let changes = Changes {
+    let changes = PairChanges {
         left: Some(asked_for(change, own)),
         right: Some(asked_for(resize, size)),
     };
-    match pair.change(&changes, subtx, pages, setting.opens) {
+    match pair.change(&changes, subtx, pages, environment.active) {
         ChangeAnswer::Changed => FirstAnswer::Told(reply),
         ChangeAnswer::OneLeft => FirstAnswer::OneLeft(reply),
         ChangeAnswer::Full(_) => {

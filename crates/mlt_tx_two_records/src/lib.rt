@@ -7,14 +7,15 @@
 
 mod answer;
 mod asked;
-mod double;
-mod double_laws;
 mod first;
+mod two_record_laws;
+mod two_records;
 mod wide;
 
-pub use answer::DoubleAnswer;
-pub use double::{Double, Leg};
-pub use double_laws::{
-    changes_are_left_as_told, closed_owners_keep_the_double, double_starts_without_pages,
-    doubles_come_to_an_end, doubles_hold_fewer_than_300_pages, same_view_keeps_the_double,
+pub use answer::TwoRecordAnswer;
+pub use two_record_laws::{
+    changes_are_left_as_told, closed_owners_keep_the_two_record_walk,
+    same_view_keeps_the_two_record_walk, two_record_walks_come_to_an_end,
+    two_record_walks_hold_fewer_than_300_pages, two_record_walks_start_without_pages,
 };
+pub use two_records::{TwoRecordWalk, WideStage};

@@ -7,7 +7,7 @@ use Rattle.mlt_script_tree.specs.declared.script.Script.{Script}
 use Rattle.mlt_script_tree.specs.Clients.{parts_of}
 use Rattle.mlt_script_tree.specs.Scripts.{ScriptForm}
 use Rattle.mlt_work_clients.specs.Places.{scripts_of_clients}
-use Rattle.mlt_script_serial.specs.declared.report.Form.TheVariants.{Run}
+use Rattle.mlt_script_serial.specs.declared.report.ReportForm.TheVariants.{Run}
 use Rattle.mlt_script_serial.specs.declared.report.Report.{Report}
 use Rattle.mlt_script_serial.specs.Texts.{report_text}
 use Rattle.mlt_manager.specs.Managers.{ManagerFields}

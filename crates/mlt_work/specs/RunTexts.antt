@@ -5,7 +5,7 @@ use Rattle.mlt_text.specs.Inputs.{GivesWhole}
 use Rattle.mlt_script.specs.Grammar.{Spells}
 use Rattle.mlt_script_tree.specs.Clients.{parts_of}
 use Rattle.mlt_script_tree.specs.Scripts.{ScriptForm}
-use Rattle.mlt_script_serial.specs.declared.report.Form.TheVariants.{Run}
+use Rattle.mlt_script_serial.specs.declared.report.ReportForm.TheVariants.{Run}
 use Rattle.mlt_script_serial.specs.declared.report.Report.{Report}
 use Rattle.mlt_script_serial.specs.Texts.{report_text}
 use Rattle.mlt_manager.specs.Managers.{ManagerFields}

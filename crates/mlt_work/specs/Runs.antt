@@ -20,6 +20,6 @@ pub record HasRunAll {P : Type 0} (clients : List (List ScriptForm)) (limits : L
   -- the events that the workers counted are those of the manager
   pub events : manager.events ≡ report.events
   -- what scripts were told is what the manager has done
-  pub agrees : Agrees report.outcomes manager.commons.history.items
+  pub agrees : Agrees report.outcomes manager.shared.history.items
   -- the committed scripts, run alone in commit order, lead to this base
   pub base : IsBaseOfOutcomes report.outcomes report.base

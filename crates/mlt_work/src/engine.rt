@@ -12,7 +12,7 @@ use crate::options::RunOptions;
 use crate::running::run;
 use mlt_manager::Manager;
 use mlt_script::parse;
-use mlt_script_serial::{Form, write_report};
+use mlt_script_serial::{ReportForm, write_report};
 use mlt_script_tree::by_client;
 use mlt_text::read_input;
 use mlt_types::{Pseudo, Refusal};
@@ -55,7 +55,7 @@ pub fn run_scripts<
         input text manager
         × Appends (W.contents writer.old) (W.contents writer.new) text) }
     // all of the history is there
-    ensures history { IfOk result (λ manager. manager.commons.history.handed ≡ []) }
+    ensures history { IfOk result (λ manager. manager.shared.history.handed ≡ []) }
     // a fault is the first one of the input
     ensures fault { (line : ℕ) (cause : ScriptCause) → result ≡ Err (Refusal.ScriptFault line cause)
         → (input : List ℕ) × GivesWhole (R.remaining reader.old) (R.remaining reader.new) input
@@ -71,7 +71,7 @@ pub fn run_scripts<
     let scripts = parse(alloc, input.as_slice())?;
     let clients = by_client(alloc, scripts)?;
     let (report, manager) = run(rt, alloc, pseudo, clients.as_slice(), options, gate)?;
-    let written = write_report(alloc, &report, Form::Run, writer);
+    let written = write_report(alloc, &report, ReportForm::Run, writer);
     // The program ends behind a run, and the system takes its memory back: to free each list would take 100 instructions an operation.
     mem::forget(clients);
     mem::forget(report);

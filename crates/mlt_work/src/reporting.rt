@@ -23,8 +23,8 @@ fn audit_and_base<P: Pseudo, R: Threads>(
     outcomes: &[Outcome],
     manager: &Manager<P>,
 ) -> (Result<(), Refusal>, Result<Base, Refusal>)
-    requires { manager.now.commons.history.handed ≡ [] }
-    ensures agrees { OnOk result.0 (Agrees outcomes.now manager.now.commons.history.items) }
+    requires { manager.now.shared.history.handed ≡ [] }
+    ensures agrees { OnOk result.0 (Agrees outcomes.now manager.now.shared.history.items) }
     ensures differs { IsOkUnless result.0 Refusal.Audit }
     ensures base { IfOk result.1 (λ base. IsCommittedBaseOf manager.now base) }
     ensures refusal { IsOkUnless result.1 Refusal.OutOfMemory }
@@ -60,11 +60,11 @@ pub(crate) fn report_of<P: Pseudo, R: Threads>(
     events: u64,
     manager: &Manager<P>,
 ) -> Result<Report, Refusal>
-    requires { manager.now.commons.history.handed ≡ [] }
+    requires { manager.now.shared.history.handed ≡ [] }
     ensures outcomes { IfOk result (λ report. report.outcomes ≡ outcomes) }
     ensures events { IfOk result (λ report. report.events ≡ events) }
     ensures agrees { IfOk result
-        (λ report. Agrees report.outcomes manager.now.commons.history.items) }
+        (λ report. Agrees report.outcomes manager.now.shared.history.items) }
     ensures base { IfOk result (λ report. IsBaseOfOutcomes report.outcomes report.base) }
     ensures refusal { IfErr result
         (λ refusal. (refusal ≡ Refusal.OutOfMemory) ⊎ (refusal ≡ Refusal.Audit)) }

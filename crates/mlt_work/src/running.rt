@@ -14,7 +14,7 @@ use mlt_manager::Manager;
 use mlt_script_serial::Report;
 use mlt_script_tree::Script;
 use mlt_types::{Pseudo, Refusal};
-use mlt_work_clients::{Counter, collect, empty_slots, jobs_for};
+use mlt_work_clients::{ClientCounter, collect, empty_slots, jobs_for};
 use mlt_work_desk::{BlankRecords, Gate, LockedState, MadeWith, Shared};
 use std::alloc::Global;
 use std::marker::Brand;
@@ -45,13 +45,13 @@ fn run_with<
     requires most { options.now.workers ≤ 8 }
     ensures ran { IfOk result
         (λ got. HasRunAll (scripts_of_clients clients.now) options.now.limits pseudo got.0 got.1) }
-    ensures history { IfOk result (λ got. got.1.commons.history.handed ≡ []) }
+    ensures history { IfOk result (λ got. got.1.shared.history.handed ≡ []) }
     ensures refusal { IfErr result
         (λ refusal. (refusal ≡ Refusal.OutOfMemory) ⊎ (refusal ≡ Refusal.Audit)) }
 {
     let BlankRecords { blank, log, writer } = records;
     let (book, mut all) = blank.open::<L>();
-    let (counter, mut first) = Counter::new(alloc, clients.len() as u64)?;
+    let (counter, mut first) = ClientCounter::new(alloc, clients.len() as u64)?;
     let slots = empty_slots(alloc, clients.len())?;
     let jobs = jobs_for(
         alloc,
@@ -119,7 +119,7 @@ pub fn run<P: Pseudo + Drop + Send, R: Threads + Wait + Sync, G: Gate + Sync>(
     ensures ran { IfOk result
         (λ got. HasRunAll (scripts_of_clients clients.now) options.now.limits pseudo got.0 got.1) }
     // all of the history is there
-    ensures history { IfOk result (λ got. got.1.commons.history.handed ≡ []) }
+    ensures history { IfOk result (λ got. got.1.shared.history.handed ≡ []) }
     ensures refusal { IfErr result
         (λ refusal. (refusal ≡ Refusal.OutOfMemory) ⊎ (refusal ≡ Refusal.Audit)) }
 {

@@ -7,7 +7,7 @@ ghost use Rattle.mlt_work_clients.specs.Workers.{HasWorked, IsFresh};
 use mlt_script_desk::run_client;
 use mlt_script_tree::Script;
 use mlt_types::Pseudo;
-use mlt_work_clients::{ClientRun, Counter, Drawer, Job, Worked};
+use mlt_work_clients::{ClaimHandle, ClientCounter, ClientRun, Worked, WorkerJob};
 use mlt_work_desk::{Gate, LockDesk, MadeWith, Shared, Tries};
 use std::alloc::Global;
 use std::sync::Wait;
@@ -18,18 +18,18 @@ fn run_claimed<P: Pseudo, L: MadeWith<P>, R: Wait, G: Gate>(
     rt: &R,
     alloc: Global,
     desk: &mut LockDesk<'_, P, L, R, G>,
-    counter: &Counter,
+    counter: &ClientCounter,
     clients: &[Vec<Script>],
-    drawer: &mut Drawer,
+    claim_handle: &mut ClaimHandle,
     runs: &mut Vec<ClientRun>,
 ) -> bool
-    requires fresh { IsFresh counter.now (length clients.now) drawer.old }
+    requires fresh { IsFresh counter.now (length clients.now) claim_handle.old }
     requires empty { runs.old.items ≡ [] }
     ensures { HasWorked counter.now (scripts_of_clients clients.now)
-        drawer.new runs.new.items result }
+        claim_handle.new runs.new.items result }
 {
     'claims: for _ in rt.forever() {
-        let number = counter.draw(drawer);
+        let number = counter.draw(claim_handle);
         if number >= clients.len() as u64 {
             return false;
         }
@@ -54,7 +54,7 @@ fn run_claimed<P: Pseudo, L: MadeWith<P>, R: Wait, G: Gate>(
 pub(crate) struct RunContext<'a, P: Pseudo, L: MadeWith<P>, G: Gate> {
     pub(crate) shared: &'a Shared<P, L>,
     pub(crate) gate: &'a G,
-    pub(crate) counter: &'a Counter,
+    pub(crate) counter: &'a ClientCounter,
     pub(crate) clients: &'a [Vec<Script>],
     /// How often a script may be told to wait, 1 to 1,000,000.
     pub(crate) tries: u64,
@@ -65,13 +65,16 @@ pub(crate) fn work<P: Pseudo, L: MadeWith<P>, R: Wait, G: Gate>(
     rt: &R,
     alloc: Global,
     context: &RunContext<'_, P, L, G>,
-    job: Job<L>,
+    job: WorkerJob<L>,
 ) -> Worked<L>
-    requires { IsFresh context.now.counter.now (length context.now.clients.now) job.drawer }
+    requires { IsFresh context.now.counter.now (length context.now.clients.now) job.claim_handle }
     ensures { HasWorked context.now.counter.now (scripts_of_clients context.now.clients.now)
-        result.drawer result.runs.items result.failed }
+        result.claim_handle result.runs.items result.failed }
 {
-    let Job { mut drawer, share } = job;
+    let WorkerJob {
+        mut claim_handle,
+        share,
+    } = job;
     let mut runs = Vec::new(alloc);
     let tries = Tries::PerScript(context.tries);
     let mut desk = LockDesk::new(rt, context.shared, context.gate, share, tries);
@@ -81,12 +84,12 @@ pub(crate) fn work<P: Pseudo, L: MadeWith<P>, R: Wait, G: Gate>(
         &mut desk,
         context.counter,
         context.clients,
-        &mut drawer,
+        &mut claim_handle,
         &mut runs,
     );
     let (share, events, _) = desk.close();
     Worked {
-        drawer,
+        claim_handle,
         share,
         events,
         runs,

@@ -6,7 +6,7 @@ ghost use Rattle.mlt_work_clients.specs.Workers.{HasWorked, IsFresh};
 
 use crate::worker::{RunContext, work};
 use mlt_types::Pseudo;
-use mlt_work_clients::{Job, Worked};
+use mlt_work_clients::{Worked, WorkerJob};
 use mlt_work_desk::{Gate, MadeWith};
 use std::alloc::{AllocError, Global};
 use std::sync::Wait;
@@ -26,13 +26,14 @@ pub(crate) fn work_all<
     rt: &R,
     alloc: Global,
     context: &RunContext<'_, P, L, G>,
-    jobs: Vec<Job<L>>,
+    jobs: Vec<WorkerJob<L>>,
 ) -> Result<Vec<Worked<L>>, AllocError>
     requires { All (λ job. IsFresh context.now.counter.now
-        (length context.now.clients.now) job.drawer) jobs.items }
+        (length context.now.clients.now) job.claim_handle) jobs.items }
     ensures len { IfOk result (λ results. vec_len results ≡ vec_len jobs) }
     ensures each { IfOk result (λ results. All (λ worked. HasWorked context.now.counter.now
-        (scripts_of_clients context.now.clients.now) worked.drawer worked.runs.items worked.failed)
+        (scripts_of_clients context.now.clients.now) worked.claim_handle worked.runs.items
+        worked.failed)
         results.items) }
 {
     thread::map_vec(rt, jobs, &|job| { work(rt, alloc, context, job) })

@@ -8,16 +8,16 @@ use lib.ListN.{get_elem?}
 use Rattle.atomic_table.specs.Table.{State, Me, Allows, Splits, Joins}
 use Rattle.atomic_table.specs.Table.Act.{keeps}
 use Rattle.atomic_table.proofs.Lists.{at_set, at_snoc}
-use Rattle.mlt_work_clients.specs.declared.view.View.{View}
+use Rattle.mlt_work_clients.specs.declared.view.SeatView.{SeatView}
 use Rattle.mlt_work_clients.specs.Claims.{view, times, total, once_below, parts_of, overruns_of, times_of, IsSeat, IsClaimed, IsKept, after_draw, after_split, after_join}
 
 -- the total after a change of one view
-pub total_set : (f : View → ℕ) (views : List View) (port : ℕ) (v w : View) → get_elem? views port ≡ some v → total f (set views port w) + f v ≡ total f views + f w
+pub total_set : (f : SeatView → ℕ) (views : List SeatView) (port : ℕ) (v w : SeatView) → get_elem? views port ≡ some v → total f (set views port w) + f v ≡ total f views + f w
 total_set f [] port v w e = absurd (some-ne-none v (sym e))
 total_set f (x ∷ xs) zero v w e = let same : f x ≡ f v = ap f (some-injective x v e) in omega arith
 total_set f (x ∷ xs) (suc port) v w e = let rest = total_set f xs port v w e in omega arith
 
-pub total_snoc : (f : View → ℕ) (views : List View) (w : View) → total f (views ++ w ∷ []) ≡ total f views + f w
+pub total_snoc : (f : SeatView → ℕ) (views : List SeatView) (w : SeatView) → total f (views ++ w ∷ []) ≡ total f views + f w
 total_snoc f [] w = omega arith
 total_snoc f (x ∷ xs) w = let rest = total_snoc f xs w in omega arith
 
@@ -29,20 +29,20 @@ pub once_next : (x n : ℕ) → once_below x (n + 1) ≡ once_below x n + times 
 once_next x n = grind (arith, nat_tests)
 
 -- a fact of each view, after a change of one
-pub each_set : (F : View → Type 0) (views : List View) (port : ℕ) (w : View) → F w → ((j : ℕ) (u : View) → get_elem? views j ≡ some u → F u) → (j : ℕ) (u : View) → get_elem? (set views port w) j ≡ some u → F u
+pub each_set : (F : SeatView → Type 0) (views : List SeatView) (port : ℕ) (w : SeatView) → F w → ((j : ℕ) (u : SeatView) → get_elem? views j ≡ some u → F u) → (j : ℕ) (u : SeatView) → get_elem? (set views port w) j ≡ some u → F u
 each_set F views port w mine others j u e =
     ⊎_elim (λ (x : (j ≡ port) × (w ≡ u)). subst F x.1 mine) (λ (x : (j ≢ port) × (get_elem? views j ≡ some u)). others j u x.1) (at_set views port j w u e)
 
-pub each_snoc : (F : View → Type 0) (views : List View) (w : View) → F w → ((j : ℕ) (u : View) → get_elem? views j ≡ some u → F u) → (j : ℕ) (u : View) → get_elem? (views ++ w ∷ []) j ≡ some u → F u
+pub each_snoc : (F : SeatView → Type 0) (views : List SeatView) (w : SeatView) → F w → ((j : ℕ) (u : SeatView) → get_elem? views j ≡ some u → F u) → (j : ℕ) (u : SeatView) → get_elem? (views ++ w ∷ []) j ≡ some u → F u
 each_snoc F views w mine others j u e = ⊎_elim (λ x. others j u x) (λ (x : w ≡ u). subst F x mine) (at_snoc views w u j e)
 
 -- a view's number is at most the total
-pub one_of : (f : View → ℕ) (views : List View) (port : ℕ) (v : View) → get_elem? views port ≡ some v → f v ≤ total f views
+pub one_of : (f : SeatView → ℕ) (views : List SeatView) (port : ℕ) (v : SeatView) → get_elem? views port ≡ some v → f v ≤ total f views
 one_of f [] port v e = absurd (some-ne-none v (sym e))
 one_of f (x ∷ xs) zero v e = let same : f x ≡ f v = ap f (some-injective x v e) in omega arith
 one_of f (x ∷ xs) (suc port) v e = let rest = one_of f xs port v e in omega arith
 
-none_of : (f : View → ℕ) (views : List View) → ((j : ℕ) (u : View) → get_elem? views j ≡ some u → u.parts ≡ 0 → f u ≡ 0) → total parts_of views ≡ 0 → total f views ≡ 0
+none_of : (f : SeatView → ℕ) (views : List SeatView) → ((j : ℕ) (u : SeatView) → get_elem? views j ≡ some u → u.parts ≡ 0 → f u ≡ 0) → total parts_of views ≡ 0 → total f views ≡ 0
 none_of f [] h e = refl
 none_of f (x ∷ xs) h e =
     let here : f x ≡ 0 = h 0 x refl (omega arith) in
@@ -50,7 +50,7 @@ none_of f (x ∷ xs) h e =
     omega arith
 
 -- where one view has every part, the total is its own
-pub all_of : (f : View → ℕ) (views : List View) (port : ℕ) (v : View) → ((j : ℕ) (u : View) → get_elem? views j ≡ some u → u.parts ≡ 0 → f u ≡ 0)
+pub all_of : (f : SeatView → ℕ) (views : List SeatView) (port : ℕ) (v : SeatView) → ((j : ℕ) (u : SeatView) → get_elem? views j ≡ some u → u.parts ≡ 0 → f u ≡ 0)
     → get_elem? views port ≡ some v → total parts_of views ≡ v.parts → total f views ≡ f v
 all_of f [] port v h e p = absurd (some-ne-none v (sym e))
 all_of f (x ∷ xs) zero v h e p =
@@ -73,7 +73,7 @@ draw_bound clients word left v w after (inr b) few pos within sum (inl m) = (ome
 draw_bound clients word left v w after (inl b) few pos within sum (inr m) = (omega arith, inr (omega arith))
 draw_bound clients word left v w after (inr b) few pos within sum (inr m) = (omega arith, inr (omega arith))
 
-left_after : (v : View) (n clients : ℕ) → v.clients ≡ clients → 0 < v.overruns → ((n < clients) × ((after_draw v n).overruns ≡ v.overruns)) ⊎ ((clients ≤ n) × ((after_draw v n).overruns + 1 ≡ v.overruns))
+left_after : (v : SeatView) (n clients : ℕ) → v.clients ≡ clients → 0 < v.overruns → ((n < clients) × ((after_draw v n).overruns ≡ v.overruns)) ⊎ ((clients ≤ n) × ((after_draw v n).overruns + 1 ≡ v.overruns))
 left_after v n clients e pos =
     ⊎_elim
     (λ t. inl (omega (arith, t.1), ap (λ (b : Bool). cond b v.overruns (v.overruns - 1)) t.0))
@@ -82,7 +82,7 @@ left_after v n clients e pos =
     inr (omega (arith, t.1), omega arith))
     (leb_tells (suc n) v.clients)
 
-pub claims_draw : (clients word id : ℕ) (views : List View) (v : View) → IsClaimed clients word views → get_elem? views id ≡ some v → 0 < v.parts → 0 < v.overruns
+pub claims_draw : (clients word id : ℕ) (views : List SeatView) (v : SeatView) → IsClaimed clients word views → get_elem? views id ≡ some v → 0 < v.parts → 0 < v.overruns
     → IsClaimed clients (word + 1) (set views id (after_draw v word))
 claims_draw clients word id views v h at some_part some_left =
     let w = after_draw v word in
@@ -106,7 +106,7 @@ word_fits : (clients word left : ℕ) → clients < 2 ^ 63 → (word ≤ clients
 word_fits clients word left few (inl b) = omega arith
 word_fits clients word left few (inr b) = omega arith
 
-pub kept_draw : (clients id : ℕ) (words : List ℕ) (views : List View) (v : View) → IsKept clients words views → get_elem? views id ≡ some v → 0 < v.parts → 0 < v.overruns
+pub kept_draw : (clients id : ℕ) (words : List ℕ) (views : List SeatView) (v : SeatView) → IsKept clients words views → get_elem? views id ≡ some v → 0 < v.parts → 0 < v.overruns
     → IsKept clients (set words 0 ((slice_index words 0 + 1) % 2 ^ 64)) (set views id (after_draw v (slice_index words 0)))
 kept_draw clients id [] views v h at a b = absurd (omega arith)
 kept_draw clients id (word ∷ m ∷ rest) views v h at a b = absurd (omega arith)
@@ -114,13 +114,13 @@ kept_draw clients id (word ∷ []) views v h at a b =
     let next : (word + 1) % 2 ^ 64 ≡ word + 1 = mod-eq_of_lt (word_fits clients word (total overruns_of views) h.1.few h.1.bound) in
     (refl, subst (λ (k : ℕ). IsClaimed clients k (set views id (after_draw v word))) (sym next) (claims_draw clients word id views v h.1 at a b))
 
-pub draws : (clients slots id : ℕ) (me : Me (Unit {0}) View) → 0 < me.0.parts → 0 < me.0.overruns
-    → Allows (λ (s : State (Unit {0}) View). IsKept clients s.words s.views) slots id me 0 (λ n. (n + 1) % 2 ^ 64) (λ n w. w ≡ (after_draw me.0 n, me.1))
+pub draws : (clients slots id : ℕ) (me : Me (Unit {0}) SeatView) → 0 < me.0.parts → 0 < me.0.overruns
+    → Allows (λ (s : State (Unit {0}) SeatView). IsKept clients s.words s.views) slots id me 0 (λ n. (n + 1) % 2 ^ 64) (λ n w. w ≡ (after_draw me.0 n, me.1))
 draws clients slots id me a b s h homes at small =
     (after_draw me.0 (slice_index s.words 0), keeps, tt, kept_draw clients id s.words s.views me.0 h at a b, refl)
 
-pub splits : (clients id : ℕ) (v : View) → 1 < v.parts → 0 < v.overruns
-    → Splits (λ (s : State (Unit {0}) View). IsKept clients s.words s.views) id v (after_split v) (view 1 1 v.clients [])
+pub splits : (clients id : ℕ) (v : SeatView) → 1 < v.parts → 0 < v.overruns
+    → Splits (λ (s : State (Unit {0}) SeatView). IsKept clients s.words s.views) id v (after_split v) (view 1 1 v.clients [])
 splits clients id v a b s h at =
     let c = h.1 in
     let first = after_split v in
@@ -144,8 +144,8 @@ less_left : (clients word left after : ℕ) → (word ≤ clients) ⊎ (word + l
 less_left clients word left after (inl b) e = inl b
 less_left clients word left after (inr b) e = inr (omega arith)
 
-pub joins : (clients id other : ℕ) (v w : View) → 0 < v.parts
-    → Joins (λ (s : State (Unit {0}) View). IsKept clients s.words s.views) id v other w (after_join v w) (view 0 0 0 [])
+pub joins : (clients id other : ℕ) (v w : SeatView) → 0 < v.parts
+    → Joins (λ (s : State (Unit {0}) SeatView). IsKept clients s.words s.views) id v other w (after_join v w) (view 0 0 0 [])
 joins clients id other v w a s h at two at' =
     let c = h.1 in
     let both = after_join v w in
@@ -169,11 +169,11 @@ joins clients id other v w a s h at two at' =
       },
     )
 
-idle_times : (clients x : ℕ) (u : View) → IsSeat clients u → u.parts ≡ 0 → times_of x u ≡ 0
+idle_times : (clients x : ℕ) (u : SeatView) → IsSeat clients u → u.parts ≡ 0 → times_of x u ≡ 0
 idle_times clients x u f e = ap (times x) (f.spent e)
 
 -- the seat with every part drew just the numbers below the word
-pub learns : (clients id : ℕ) (words : List ℕ) (views : List View) (v : View) (word : ℕ) → IsKept clients words views → get_elem? views id ≡ some v → v.parts ≡ 9 → get_elem? words 0 ≡ some word
+pub learns : (clients id : ℕ) (words : List ℕ) (views : List SeatView) (v : SeatView) (word : ℕ) → IsKept clients words views → get_elem? views id ≡ some v → v.parts ≡ 9 → get_elem? words 0 ≡ some word
     → (x : ℕ) → times x v.drawn ≡ once_below x word
 learns clients id [] views v word h at whole is x = absurd (some-ne-none word (sym is))
 learns clients id (n ∷ ns) views v word h at whole is x =

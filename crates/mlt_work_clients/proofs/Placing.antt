@@ -4,7 +4,7 @@ use Rattle.std.specs.Prelude.{Option, Some, None, IfSome, IsSome}
 use Rattle.std.proofs.lemmas.Bool.{lt-ltb}
 use Rattle.std.proofs.lemmas.List.{map-append, append-nil, length-set, get_or-set_same, get_or-set_other}
 use Rattle.std.proofs.lemmas.Bool.Decides.{eqb_tells, nat_tests}
-use Rattle.mlt_work_clients.specs.declared.view.View.{View}
+use Rattle.mlt_work_clients.specs.declared.view.SeatView.{SeatView}
 use Rattle.mlt_work_clients.specs.Claims.{view, times, once_below, after_draw}
 use Rattle.mlt_work_clients.proofs.Moves.{times-append}
 use Rattle.mlt_script_serial.specs.declared.outcome.Outcome.{Outcome}
@@ -13,14 +13,14 @@ use Rattle.mlt_work_clients.specs.declared.forms.ClientRun.{ClientRun}
 use Rattle.mlt_work_clients.specs.Places.{AllHaveRuns, AreAllOutcomes, AreClientOutcomes, AreInPlace, HaveRuns, IsClientRun, KeepsRuns, place_of}
 
 -- a draw of a client
-pub draws_client : (v w : View) (clients n : ℕ) (drawn : List ℕ) → v ≡ view 1 1 clients drawn → w ≡ after_draw v n → n < clients → w ≡ view 1 1 clients (drawn ++ n ∷ [])
+pub draws_client : (v w : SeatView) (clients n : ℕ) (drawn : List ℕ) → v ≡ view 1 1 clients drawn → w ≡ after_draw v n → n < clients → w ≡ view 1 1 clients (drawn ++ n ∷ [])
 draws_client v w clients n drawn e f small =
-    f ∙ ap (λ (u : View). after_draw u n) e ∙ ap (λ (b : Bool). view 1 (cond b 1 (1 - 1)) clients (drawn ++ n ∷ [])) (lt-ltb n clients small)
+    f ∙ ap (λ (u : SeatView). after_draw u n) e ∙ ap (λ (b : Bool). view 1 (cond b 1 (1 - 1)) clients (drawn ++ n ∷ [])) (lt-ltb n clients small)
 
 -- any draw
-pub draws_any : (v w : View) (clients n : ℕ) (drawn : List ℕ) → v ≡ view 1 1 clients drawn → w ≡ after_draw v n → (w.parts ≡ 1) × (w.drawn ≡ drawn ++ n ∷ [])
+pub draws_any : (v w : SeatView) (clients n : ℕ) (drawn : List ℕ) → v ≡ view 1 1 clients drawn → w ≡ after_draw v n → (w.parts ≡ 1) × (w.drawn ≡ drawn ++ n ∷ [])
 draws_any v w clients n drawn e f =
-    (ap (λ (u : View). u.parts) f ∙ ap (λ (u : View). u.parts) e, ap (λ (u : View). u.drawn) f ∙ ap (λ (u : View). u.drawn ++ n ∷ []) e)
+    (ap (λ (u : SeatView). u.parts) f ∙ ap (λ (u : SeatView). u.parts) e, ap (λ (u : SeatView). u.drawn) f ∙ ap (λ (u : SeatView). u.drawn ++ n ∷ []) e)
 
 pub get_any : {X : Type 0} → (l : List X) (i : ℕ) (d e : X) → i < length l → get_or l i d ≡ get_or l i e
 get_any [] i d e h = absurd (omega arith)

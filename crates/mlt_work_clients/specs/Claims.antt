@@ -2,10 +2,10 @@
 use Rattle.std.specs.Prelude.{◌≡◌, ℕ, ◌+◌, ◌-◌, ◌^◌, ◌<◌, ◌≤◌, ◌⊎◌, List, [], ◌∷◌, ◌++◌, length, slice_index, nat_lt, ◌==◌, if◌then◌else◌}
 use mathlib.Core.Option.{some}
 use lib.ListN.{get_elem?}
-use Rattle.mlt_work_clients.specs.declared.view.View.{View}
+use Rattle.mlt_work_clients.specs.declared.view.SeatView.{SeatView}
 
 -- what a seat knows, by its fields in order
-abbrev pub view : ℕ → ℕ → ℕ → List ℕ → View
+abbrev pub view : ℕ → ℕ → ℕ → List ℕ → SeatView
 view parts overruns clients drawn = record { parts = parts; overruns = overruns; clients = clients; drawn = drawn }
 
 -- how often the number stands in the list
@@ -22,65 +22,65 @@ abbrev pub AreAllBelow : ℕ → List ℕ → Type 0
 AreAllBelow word drawn = (number : ℕ) → times number drawn ≡ once_below number word
 
 -- a number of each view, added up
-abbrev pub total : (View → ℕ) → List View → ℕ
+abbrev pub total : (SeatView → ℕ) → List SeatView → ℕ
 total of_view [] = 0
 total of_view (v ∷ vs) = of_view v + total of_view vs
 
 -- the parts of a seat
-abbrev pub parts_of : View → ℕ
+abbrev pub parts_of : SeatView → ℕ
 parts_of v = v.parts
 
 -- how many numbers past the last client a seat may draw
-abbrev pub overruns_of : View → ℕ
+abbrev pub overruns_of : SeatView → ℕ
 overruns_of v = v.overruns
 
 -- how often the seat drew the number
-abbrev pub times_of : ℕ → View → ℕ
+abbrev pub times_of : ℕ → SeatView → ℕ
 times_of number v = times number v.drawn
 
 -- a spent view drew nothing, and every other one knows the number of clients
-pub record IsSeat (clients : ℕ) (v : View) : Type 0 where
+pub record IsSeat (clients : ℕ) (v : SeatView) : Type 0 where
   pub spent : v.parts ≡ 0 → v.drawn ≡ []
   pub known : 0 < v.parts → v.clients ≡ clients
 
 -- The rule. All seats together drew each number below the word just once, and no other number. Together they have the nine
 -- parts of the whole. Numbers past the last client are at most as many as seats were split off, so at most eight.
-pub record IsClaimed (clients word : ℕ) (views : List View) : Type 0 where
+pub record IsClaimed (clients word : ℕ) (views : List SeatView) : Type 0 where
   pub few : clients < 2 ^ 63
   pub parts : total parts_of views ≡ 9
   pub overruns : total overruns_of views ≤ 8
   pub bound : (word ≤ clients) ⊎ (word + total overruns_of views ≤ clients + 8)
   pub drawn : (number : ℕ) → total (times_of number) views ≡ once_below number word
-  pub each : (seat : ℕ) (v : View) → get_elem? views seat ≡ some v → IsSeat clients v
+  pub each : (seat : ℕ) (v : SeatView) → get_elem? views seat ≡ some v → IsSeat clients v
 
 -- the rule of the one word and of all views
-abbrev pub IsKept : ℕ → List ℕ → List View → Type 0
+abbrev pub IsKept : ℕ → List ℕ → List SeatView → Type 0
 IsKept clients words views = (length words ≡ 1) × IsClaimed clients (slice_index words 0) views
 
 -- Table made: the word is 0. The first seat has all parts, may be split eight times and drew nothing.
-abbrev pub first_view : ℕ → View
+abbrev pub first_view : ℕ → SeatView
 first_view clients = view 9 8 clients []
 
 -- Seat split: the first seat's count of splits rises, so it has one part and one overrun less.
-abbrev pub after_split : View → View
+abbrev pub after_split : SeatView → SeatView
 after_split v = view (v.parts - 1) (v.overruns - 1) v.clients v.drawn
 
 -- The seat split off drew nothing. It may draw one number past the last client.
-abbrev pub new_view : ℕ → View
+abbrev pub new_view : ℕ → SeatView
 new_view clients = view 1 1 clients []
 
 -- Word raised by one: the seat drew the old word. Past the last client it draws no more.
-abbrev pub after_draw : View → ℕ → View
+abbrev pub after_draw : SeatView → ℕ → SeatView
 after_draw v word = view v.parts (if nat_lt word v.clients then v.overruns else v.overruns - 1) v.clients (v.drawn ++ word ∷ [])
 
 -- Seat joined: the first seat takes in the part and the numbers of the other.
-abbrev pub after_join : View → View → View
+abbrev pub after_join : SeatView → SeatView → SeatView
 after_join v w = view (v.parts + w.parts) v.overruns v.clients (v.drawn ++ w.drawn)
 
 -- The view of the seat that was taken in.
-abbrev pub spent_view : View
+abbrev pub spent_view : SeatView
 spent_view = view 0 0 0 []
 
 -- Table closed: the seat that has all parts drew just the numbers below the word.
-abbrev pub HasAll : View → Type 0
+abbrev pub HasAll : SeatView → Type 0
 HasAll v = v.parts ≡ 9

@@ -1,17 +1,17 @@
 -- Seats of a counter.
 use Rattle.std.specs.Prelude.{◌≡◌}
-use Rattle.mlt_work_clients.specs.declared.view.View.{View}
-use Rattle.mlt_work_clients.specs.declared.seats.Counter.{Counter}
-use Rattle.mlt_work_clients.specs.declared.seats.Drawer.{Drawer}
+use Rattle.mlt_work_clients.specs.declared.view.SeatView.{SeatView}
+use Rattle.mlt_work_clients.specs.declared.seats.ClientCounter.{ClientCounter}
+use Rattle.mlt_work_clients.specs.declared.seats.ClaimHandle.{ClaimHandle}
 
 -- the seat draws from this counter
-abbrev pub IsOf : Counter → Drawer → Type 0
-IsOf counter drawer = drawer.seat.table_id ≡ counter.table.shared.table_id
+abbrev pub IsOf : ClientCounter → ClaimHandle → Type 0
+IsOf counter claim_handle = claim_handle.seat.table_id ≡ counter.table.shared.table_id
 
 -- both seats draw from one counter
-abbrev pub IsBeside : Drawer → Drawer → Type 0
+abbrev pub IsBeside : ClaimHandle → ClaimHandle → Type 0
 IsBeside before after = after.seat.table_id ≡ before.seat.table_id
 
 -- what the seat knows
-abbrev pub view_of : Drawer → View
-view_of drawer = drawer.seat.me.0
+abbrev pub view_of : ClaimHandle → SeatView
+view_of claim_handle = claim_handle.seat.me.0

@@ -1,21 +1,21 @@
 -- Workers, before and after their work.
 use Rattle.std.specs.Prelude.{◌≡◌, ℕ, ◌-◌, ◌<◌, ◌≤◌, List, [], ◌∷◌, ◌++◌, All, length, map, Bool, false}
 use Rattle.mlt_script_tree.specs.Scripts.{ScriptForm}
-use Rattle.mlt_work_clients.specs.declared.view.View.{View}
-use Rattle.mlt_work_clients.specs.declared.seats.Counter.{Counter}
-use Rattle.mlt_work_clients.specs.declared.seats.Drawer.{Drawer}
+use Rattle.mlt_work_clients.specs.declared.view.SeatView.{SeatView}
+use Rattle.mlt_work_clients.specs.declared.seats.ClientCounter.{ClientCounter}
+use Rattle.mlt_work_clients.specs.declared.seats.ClaimHandle.{ClaimHandle}
 use Rattle.mlt_work_clients.specs.Claims.{new_view, times, view}
 use Rattle.mlt_work_clients.specs.Seats.{IsOf, view_of}
 use Rattle.mlt_work_clients.specs.declared.forms.ClientRun.{ClientRun}
 use Rattle.mlt_work_clients.specs.Places.{IsClientRun, place_of}
 
 -- what the first seat knows once it was split so often
-abbrev pub view_after_splits : ℕ → ℕ → View
+abbrev pub view_after_splits : ℕ → ℕ → SeatView
 view_after_splits splits clients = view (9 - splits) (8 - splits) clients []
 
 -- a seat that has drawn nothing
-abbrev pub IsFresh : Counter → ℕ → Drawer → Type 0
-IsFresh counter clients drawer = IsOf counter drawer × (view_of drawer ≡ new_view clients)
+abbrev pub IsFresh : ClientCounter → ℕ → ClaimHandle → Type 0
+IsFresh counter clients claim_handle = IsOf counter claim_handle × (view_of claim_handle ≡ new_view clients)
 
 -- these places were drawn, and then a number past the last client
 abbrev pub HasDrawn : ℕ → List ℕ → List ℕ → Type 0
@@ -27,8 +27,8 @@ HasDrawnPast clients drawn = (number : ℕ) × (clients ≤ number) × (0 < time
 
 -- A worker's seat and its runs: each is a run of the client at its place. A worker that has not failed ran each client that it
 -- claimed, and claimed on until none was left.
-pub record HasWorked (counter : Counter) (clients : List (List ScriptForm)) (drawer : Drawer) (runs : List ClientRun) (failed : Bool) : Type 0 where
-  pub seat : IsOf counter drawer
-  pub parts : (view_of drawer).parts ≡ 1
+pub record HasWorked (counter : ClientCounter) (clients : List (List ScriptForm)) (claim_handle : ClaimHandle) (runs : List ClientRun) (failed : Bool) : Type 0 where
+  pub seat : IsOf counter claim_handle
+  pub parts : (view_of claim_handle).parts ≡ 1
   pub runs_each : All (IsClientRun clients) runs
-  pub drew : failed ≡ false → HasDrawn (length clients) (map place_of runs) (view_of drawer).drawn
+  pub drew : failed ≡ false → HasDrawn (length clients) (map place_of runs) (view_of claim_handle).drawn

@@ -7,7 +7,7 @@ ghost use Rattle.mlt_work_clients.specs.Places.{AreAllOutcomes, HaveRuns, AllHav
 ghost use Rattle.mlt_work_clients.specs.Workers.{HasDrawnPast, HasWorked, view_after_splits};
 
 use crate::forms::{ClientRun, Worked};
-use crate::seats::{Counter, Drawer};
+use crate::seats::{ClaimHandle, ClientCounter};
 use crate::slots::place_all;
 use mlt_script_serial::{Outcome, Outcomes};
 use mlt_script_tree::Script;
@@ -18,9 +18,9 @@ use std::sync::ledger::{Ledger, Share};
 /// Takes in what each worker gives back: the first seat takes in its seat, the whole its share, and its runs come to their
 /// places. It answers the number of all events, and whether a worker has failed.
 fn gather<L: Ledger>(
-    counter: &Counter,
+    counter: &ClientCounter,
     clients: &[Vec<Script>],
-    first: &mut Drawer,
+    first: &mut ClaimHandle,
     all: &mut Share<L>,
     slots: &mut Vec<Option<ClientRun>>,
     results: Vec<Worked<L>>,
@@ -33,7 +33,7 @@ fn gather<L: Ledger>(
     requires share { all.old.parts + vec_len results ≡ 9 }
     requires amount { all.old.amount ≡ 0 }
     requires worked { All (λ worked. HasWorked counter.now (scripts_of_clients clients.now)
-        worked.drawer worked.runs.items worked.failed) results.items }
+        worked.claim_handle worked.runs.items worked.failed) results.items }
     requires len { length slots.old.items ≡ length clients.now }
     requires placed { AreInPlace (scripts_of_clients clients.now) slots.old.items }
     ensures seat { IsOf counter.now first.new }
@@ -51,13 +51,13 @@ fn gather<L: Ledger>(
     let mut failed = false;
     while let Some(worked) = rest.pop() {
         let Worked {
-            drawer,
+            claim_handle,
             share,
             events: more,
             runs,
             failed: stopped,
         } = worked;
-        counter.join(first, drawer);
+        counter.join(first, claim_handle);
         all.merge(share);
         events = events.saturating_add(more);
         failed = either(failed, stopped);
@@ -109,9 +109,9 @@ fn flatten(
 /// `OutOfMemory`, where a worker was refused a growth, or this call is.
 pub fn collect<L: Ledger>(
     alloc: Global,
-    counter: Counter,
+    counter: ClientCounter,
     clients: &[Vec<Script>],
-    first: Drawer,
+    first: ClaimHandle,
     all: &mut Share<L>,
     slots: Vec<Option<ClientRun>>,
     results: Vec<Worked<L>>,
@@ -123,7 +123,7 @@ pub fn collect<L: Ledger>(
     requires share { all.old.parts + vec_len results ≡ 9 }
     requires amount { all.old.amount ≡ 0 }
     requires worked { All (λ worked. HasWorked counter (scripts_of_clients clients.now)
-        worked.drawer worked.runs.items worked.failed) results.items }
+        worked.claim_handle worked.runs.items worked.failed) results.items }
     requires slots { slots.items ≡ replicate (length clients.now) None }
     ensures outcomes { IfOk result
         (λ got. AreAllOutcomes (scripts_of_clients clients.now) got.0) }

@@ -5,26 +5,26 @@ ghost use Rattle.mlt_work_clients.specs.Claims.{AreAllBelow, HasAll, after_draw,
 ghost use Rattle.mlt_work_clients.specs.Seats.{IsBeside, IsOf, view_of};
 
 use crate::rule::Draws;
-use crate::seats::{Counter, Drawer};
+use crate::seats::{ClaimHandle, ClientCounter};
 use atomic_table::Table;
 use std::alloc::{AllocError, Global};
 
-impl Counter {
+impl ClientCounter {
     /// A counter for that many clients, and its first seat.
     ///
     /// # Errors
     /// Where memory for the one word is refused.
-    pub fn new(alloc: Global, clients: u64) -> Result<(Counter, Drawer), AllocError>
+    pub fn new(alloc: Global, clients: u64) -> Result<(ClientCounter, ClaimHandle), AllocError>
         requires { clients < 2 ^ 63 }
         ensures of { IfOk result (λ made. IsOf made.0 made.1) }
         ensures view { IfOk result (λ made. view_of made.1 ≡ first_view clients) }
     {
         let (table, seat) = Table::of_words(alloc, &[0], &clients)?;
-        Ok((Counter { table }, Drawer { seat }))
+        Ok((ClientCounter { table }, ClaimHandle { seat }))
     }
 
     /// A further seat. It may draw until it has drawn one number past the last client.
-    pub fn split(&self, first: &mut Drawer) -> Drawer
+    pub fn split(&self, first: &mut ClaimHandle) -> ClaimHandle
         requires of { IsOf self.now first.old }
         requires overruns { 0 < (view_of first.old).overruns }
         requires parts { 1 < (view_of first.old).parts }
@@ -34,40 +34,42 @@ impl Counter {
         ensures new { view_of result ≡ new_view (view_of first.old).clients }
     {
         let seat = self.table.shared.split_seat::<Draws>(&mut first.seat);
-        Drawer { seat }
+        ClaimHandle { seat }
     }
 
     /// The next number, which no other seat draws.
-    pub fn draw(&self, drawer: &mut Drawer) -> u64
-        requires of { IsOf self.now drawer.old }
-        requires overruns { 0 < (view_of drawer.old).overruns }
-        requires parts { 0 < (view_of drawer.old).parts }
-        ensures beside { IsBeside drawer.old drawer.new }
-        ensures drawn { view_of drawer.new ≡ after_draw (view_of drawer.old) result }
+    pub fn draw(&self, claim_handle: &mut ClaimHandle) -> u64
+        requires of { IsOf self.now claim_handle.old }
+        requires overruns { 0 < (view_of claim_handle.old).overruns }
+        requires parts { 0 < (view_of claim_handle.old).parts }
+        ensures beside { IsBeside claim_handle.old claim_handle.new }
+        ensures drawn { view_of claim_handle.new ≡ after_draw (view_of claim_handle.old) result }
     {
-        self.table.shared.fetch_add::<Draws>(&mut drawer.seat, 0, 1)
+        self.table
+            .shared
+            .fetch_add::<Draws>(&mut claim_handle.seat, 0, 1)
     }
 
     /// The first seat takes in what the other one drew.
-    pub fn join(&self, first: &mut Drawer, other: Drawer)
+    pub fn join(&self, first: &mut ClaimHandle, other: ClaimHandle)
         requires first { IsOf self.now first.old }
         requires other { IsOf self.now other }
         requires parts { 0 < (view_of first.old).parts }
         ensures beside { IsBeside first.old first.new }
         ensures both { view_of first.new ≡ after_join (view_of first.old) (view_of other) }
     {
-        let Drawer { seat } = other;
+        let ClaimHandle { seat } = other;
         self.table.shared.join_seat::<Draws>(&mut first.seat, seat);
     }
 
     /// How many numbers were drawn. The seat that has taken in all others drew just the numbers below that, each once.
-    pub fn close(self, first: Drawer) -> u64
+    pub fn close(self, first: ClaimHandle) -> u64
         requires of { IsOf self first }
         requires all { HasAll (view_of first) }
         ensures { AreAllBelow result (view_of first).drawn }
     {
-        let Counter { table } = self;
-        let Drawer { seat } = first;
+        let ClientCounter { table } = self;
+        let ClaimHandle { seat } = first;
         let closed = table.close_with(seat);
         let word = closed.word(0);
         closed.free();

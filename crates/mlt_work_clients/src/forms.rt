@@ -2,15 +2,15 @@
 
 ghost use Rattle.std.specs.Prelude.{◌≡◌, ◌-◌, ◌^◌, min};
 
-use crate::seats::Drawer;
+use crate::seats::ClaimHandle;
 use mlt_script_serial::Outcome;
 use std::sync::ledger::{Ledger, Share};
 
 /// What a worker begins with: its seat at the counter of clients, and its share of the ledger of events.
 #[derive(Drop)]
-pub struct Job<L: Ledger> {
+pub struct WorkerJob<L: Ledger> {
     /// The seat, by which it claims clients.
-    pub drawer: Drawer,
+    pub claim_handle: ClaimHandle,
     /// The share, to which its events are added.
     pub share: Share<L>,
     ghost one_part: { share.parts ≡ 1 },
@@ -30,7 +30,7 @@ pub struct ClientRun {
 #[derive(Drop)]
 pub struct Worked<L: Ledger> {
     /// Its seat.
-    pub drawer: Drawer,
+    pub claim_handle: ClaimHandle,
     /// Its share.
     pub share: Share<L>,
     /// The number of its events; it stays at 2^64 - 1.

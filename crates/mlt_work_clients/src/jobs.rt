@@ -5,8 +5,8 @@ ghost use Rattle.mlt_work_clients.specs.Claims.{first_view};
 ghost use Rattle.mlt_work_clients.specs.Seats.{IsOf, view_of};
 ghost use Rattle.mlt_work_clients.specs.Workers.{IsFresh, view_after_splits};
 
-use crate::forms::Job;
-use crate::seats::{Counter, Drawer};
+use crate::forms::WorkerJob;
+use crate::seats::{ClaimHandle, ClientCounter};
 use std::alloc::{AllocError, Global};
 use std::sync::ledger::{Ledger, Share};
 
@@ -16,12 +16,12 @@ use std::sync::ledger::{Ledger, Share};
 /// Where a growth is refused.
 pub fn jobs_for<L: Ledger>(
     alloc: Global,
-    counter: &Counter,
-    first: &mut Drawer,
+    counter: &ClientCounter,
+    first: &mut ClaimHandle,
     all: &mut Share<L>,
     clients: u64,
     workers: usize,
-) -> Result<Vec<Job<L>>, AllocError>
+) -> Result<Vec<WorkerJob<L>>, AllocError>
     requires workers { workers ≤ 8 }
     requires seat { IsOf counter.now first.old }
     requires view { view_of first.old ≡ first_view clients }
@@ -29,7 +29,7 @@ pub fn jobs_for<L: Ledger>(
     requires amount { all.old.amount ≡ 0 }
     ensures len { IfOk result (λ jobs. vec_len jobs ≡ workers) }
     ensures fresh { IfOk result
-        (λ jobs. All (λ job. IsFresh counter.now clients job.drawer) jobs.items) }
+        (λ jobs. All (λ job. IsFresh counter.now clients job.claim_handle) jobs.items) }
     ensures seat { IfOk result (λ _. IsOf counter.now first.new) }
     ensures view { IfOk result (λ _. view_of first.new ≡ view_after_splits workers clients) }
     ensures parts { IfOk result (λ _. all.new.parts + workers ≡ 9) }
@@ -37,9 +37,12 @@ pub fn jobs_for<L: Ledger>(
 {
     let mut jobs = Vec::with_capacity(alloc, workers)?;
     for i in 0..workers {
-        let drawer = counter.split(first);
+        let claim_handle = counter.split(first);
         let share = all.split_off(1, 0);
-        jobs.push(Job { drawer, share })?;
+        jobs.push(WorkerJob {
+            claim_handle,
+            share,
+        })?;
     }
     Ok(jobs)
 }

@@ -15,7 +15,7 @@ mod slots;
 mod view;
 
 pub use collecting::collect;
-pub use forms::{ClientRun, Job, Worked};
+pub use forms::{ClientRun, Worked, WorkerJob};
 pub use jobs::jobs_for;
-pub use seats::{Counter, Drawer};
+pub use seats::{ClaimHandle, ClientCounter};
 pub use slots::empty_slots;

@@ -1,12 +1,12 @@
 //! The rule of the counter, and what each kind of step does to what seats know.
 
-use crate::view::View;
+use crate::view::SeatView;
 use atomic_table::{Join, Play, Split, TableRule};
 
 /// The numbers drawn are just those below the word, each once.
 pub struct Draws;
 
-impl TableRule<(), View, u64> for Draws {
+impl TableRule<(), SeatView, u64> for Draws {
     ghost use Rattle.std.specs.Prelude.{[]};
     ghost use Rattle.mlt_work_clients.specs.Claims.{IsKept, first_view};
 
@@ -15,7 +15,7 @@ impl TableRule<(), View, u64> for Draws {
     ghost first = { λ clients. first_view clients };
 }
 
-impl Split<View> for Draws {
+impl Split<SeatView> for Draws {
     ghost use Rattle.mlt_work_clients.specs.Claims.{after_split, new_view};
 
     ghost left = { λ v. after_split v };
@@ -23,7 +23,7 @@ impl Split<View> for Draws {
     ghost right = { λ v. new_view v.clients };
 }
 
-impl Join<View> for Draws {
+impl Join<SeatView> for Draws {
     ghost use Rattle.mlt_work_clients.specs.Claims.{after_join, spent_view};
 
     ghost both = { λ v w. after_join v w };
@@ -31,7 +31,7 @@ impl Join<View> for Draws {
     ghost spent = { spent_view };
 }
 
-impl Play<(), View> for Draws {
+impl Play<(), SeatView> for Draws {
     ghost use Rattle.std.specs.Prelude.{◌≡◌};
     ghost use Rattle.mlt_work_clients.specs.Claims.{after_draw};
 

@@ -42,7 +42,7 @@ is_op_at (at.Undoing inverting) op none = absurd none
 
 -- what an event was told is what it adds to the history
 pub event_adds : {P : Type 0} (bits_of : P → ℕ → ℕ) (e : Event) (t : Told) (m m' : ManagerFields P) → Meets bits_of e t (counted m) m'
-    → (here : List TraceItem) × (called : CalledOps) × (m'.commons.history.items ≡ m.commons.history.items ++ here) × AddsItems e t called here
+    → (here : List TraceItem) × (called : CalledOps) × (m'.shared.history.items ≡ m.shared.history.items ++ here) × AddsItems e t called here
 unfolding op_of op_at pending_in
 event_adds bits_of e t m m' meets =
     let called = pending_in m.txs in

@@ -52,14 +52,14 @@ reply_then X Y e t follows is = of_reply Y e t (λ tx reply step was.
 
 -- the item of a reply was not handed out before, and so it is kept
 pub keeps_reply : {P : Type 0} (bits_of : P → ℕ → ℕ) (e : Event) (t : Told) (m m' : ManagerFields P) (kept : List TraceItem)
-    → m.commons.history.items ≡ m.commons.history.handed ++ kept → m'.commons.history.handed ≡ m.commons.history.handed
-    → Meets bits_of e t (counted m) m' → IfReply e t (m'.commons.history.items ≢ m'.commons.history.handed)
+    → m.shared.history.items ≡ m.shared.history.handed ++ kept → m'.shared.history.handed ≡ m.shared.history.handed
+    → Meets bits_of e t (counted m) m' → IfReply e t (m'.shared.history.items ≢ m'.shared.history.handed)
 keeps_reply bits_of e t m m' kept whole same meets = of_reply _ e t (λ tx reply step was all.
     let adds = event_adds bits_of (event.Step tx) (told.Answered (answer.Done reply)) m m'
     (subst (λ u. Meets bits_of (event.Step tx) u (counted m) m') was (subst (λ a. Meets bits_of a t (counted m) m') step meets)) in
     let here : length adds.0 ≡ 1 = ap length adds.3.2 in
-    let now : length m'.commons.history.items ≡ length m.commons.history.items + length adds.0 = ap length adds.2 ∙ length-append m.commons.history.items adds.0 in
-    let had : length m.commons.history.items ≡ length m.commons.history.handed + length kept = ap length whole ∙ length-append m.commons.history.handed kept in
-    let none : length m'.commons.history.items ≡ length m'.commons.history.handed = ap length all in
-    let handed : length m'.commons.history.handed ≡ length m.commons.history.handed = ap length same in
+    let now : length m'.shared.history.items ≡ length m.shared.history.items + length adds.0 = ap length adds.2 ∙ length-append m.shared.history.items adds.0 in
+    let had : length m.shared.history.items ≡ length m.shared.history.handed + length kept = ap length whole ∙ length-append m.shared.history.handed kept in
+    let none : length m'.shared.history.items ≡ length m'.shared.history.handed = ap length all in
+    let handed : length m'.shared.history.handed ≡ length m.shared.history.handed = ap length same in
     absurd (omega (arith, here, now, had, none, handed)))

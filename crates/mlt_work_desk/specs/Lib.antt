@@ -1,5 +1,5 @@
 pub mod Holds
-pub mod Looks
+pub mod Statistics
 pub mod Makings
 pub mod Refusals
 pub mod Tries

@@ -49,8 +49,8 @@ SpendsTries before (call.Operation tx op) after = SpendsByWaits (tries_called be
 SpendsTries before (call.Commit tx) after = after ≡ before
 SpendsTries before (call.Abort tx) after = after ≡ before
 
--- The transaction is the youngest of a circle of waits, which its own wait would close.
-pub record IsYoungestOfCircle (tx : ℕ) : Type 0 where
+-- The transaction is the youngest of a cycle of waits, which its own wait would close.
+pub record IsYoungestOfCycle (tx : ℕ) : Type 0 where
   pub wait : Waiting
   pub waits : Waits
   pub youngest : Waiting
@@ -58,7 +58,7 @@ pub record IsYoungestOfCircle (tx : ℕ) : Type 0 where
   pub is_own : wait.waiter ≡ tx
   pub same : youngest.waiter ≡ wait.waiter
 
--- why an operation gives up: its tries are spent, its transaction is the youngest of a circle, or its gate is out of patience
+-- why an operation gives up: its tries are spent, its transaction is the youngest of a cycle, or its gate is out of patience
 abbrev pub GivesUp : ℕ → TriesLeft → Type 0
 GivesUp tx tries =
-    (tries.left ≡ 0) ⊎ IsYoungestOfCircle tx ⊎ (tries.is_patient ≡ false)
+    (tries.left ≡ 0) ⊎ IsYoungestOfCycle tx ⊎ (tries.is_patient ≡ false)

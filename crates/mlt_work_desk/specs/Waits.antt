@@ -17,7 +17,7 @@ use Rattle.mlt_work_queue.specs.declared.blocked_queue.Blocked.{Blocked}
 use Rattle.mlt_work_queue.specs.Queues.{stands, with_blocked, without}
 use Rattle.mlt_work_desk.specs.declared.turn.GivenBack.{GivenBack}
 use Rattle.mlt_work_desk.specs.declared.turn.GivenBack.TheVariants as given
-use Rattle.mlt_work_desk.specs.declared.turn.Sleeper.{Sleeper}
+use Rattle.mlt_work_desk.specs.declared.turn.SleepingThread.{SleepingThread}
 use Rattle.mlt_work_desk.specs.declared.turn.Turn.{Turn}
 use Rattle.mlt_work_desk.specs.declared.turn.Turn.TheVariants as turn
 
@@ -44,29 +44,29 @@ is_to_wait (told.Answered (answer.Waiting page by)) = true
 is_to_wait (told.Answered (answer.Blocked by)) = true
 is_to_wait other = false
 
--- the wait of a sleeper for a lock of y
-abbrev pub wait_for : Sleeper → ℕ → Waiting
-wait_for sleeper y = record {
-  waiter = sleeper.tx;
+-- the wait of a sleeping thread for a lock of y
+abbrev pub wait_for : SleepingThread → ℕ → Waiting
+wait_for thread y = record {
+  waiter = thread.tx;
   holder = y;
-  waker = sleeper.waker;
-  timestamp = Some sleeper.timestamp;
+  waker = thread.waker;
+  timestamp = Some thread.timestamp;
 }
 
 -- its wait for its turn behind y
-abbrev pub turn_behind : Sleeper → ℕ → Waiting
-turn_behind sleeper y = record (wait_for sleeper y) { timestamp = None }
+abbrev pub turn_behind : SleepingThread → ℕ → Waiting
+turn_behind thread y = record (wait_for thread y) { timestamp = None }
 
--- the wait of a sleeper that was told this, if it is to wait
-abbrev pub wait_of : Told → Sleeper → Option (Awaited × Waiting)
-wait_of (told.Answered (answer.Waiting page by)) sleeper = Some (awaited.Pages, wait_for sleeper by)
-wait_of (told.Answered (answer.Blocked by)) sleeper = Some (awaited.Objects, wait_for sleeper by)
-wait_of other sleeper = None
+-- the wait of a sleeping thread that was told this, if it is to wait
+abbrev pub wait_of : Told → SleepingThread → Option (Awaited × Waiting)
+wait_of (told.Answered (answer.Waiting page by)) thread = Some (awaited.Pages, wait_for thread by)
+wait_of (told.Answered (answer.Blocked by)) thread = Some (awaited.Objects, wait_for thread by)
+wait_of other thread = None
 
 -- and if it may sleep
-abbrev pub wait_if : Bool → Told → Sleeper → Option (Awaited × Waiting)
-wait_if true told sleeper = wait_of told sleeper
-wait_if false told sleeper = None
+abbrev pub wait_if : Bool → Told → SleepingThread → Option (Awaited × Waiting)
+wait_if true told thread = wait_of told thread
+wait_if false told thread = None
 
 -- who still waits once locks were given back: those who wait for others
 abbrev pub waits_after : GivenBack → Waits → Waits
@@ -116,7 +116,7 @@ CanSleep count kind wait waits = (waiting waits + 1 < count) × CanJoin kind wai
 abbrev pub CantSleep : ℕ → Awaited → Waiting → Waits → Type 0
 CantSleep count kind wait waits = (count ≤ waiting waits + 1) ⊎ CantJoin kind wait waits
 
--- The wait would close a circle, of which this one, of another transaction, is the youngest.
+-- The wait would close a cycle, of which this one, of another transaction, is the youngest.
 pub record GivesWay (wait : Waiting) (before : Waits) (one : Waiting) : Type 0 where
   pub youngest : IsYoungest wait before one
   pub is_other : one.waiter ≡ wait.waiter → ⊥
@@ -130,12 +130,12 @@ abbrev pub woken_first : Option Waiting → Waits → List Waker
 woken_first None waits = []
 woken_first (Some one) waits = wakers_in (whose.Of one.waiter) waits.objects
 
--- no circle would be closed, or this one gives way
+-- no cycle would be closed, or this one gives way
 abbrev pub IsCleared : Waiting → Waits → Option Waiting → Type 0
 IsCleared wait before None = Deadlocks wait before → ⊥
 IsCleared wait before (Some one) = GivesWay wait before one
 
--- what becomes of the desk once the circle is gone: it sleeps if it can, and else tries at once
+-- what becomes of the desk once the cycle is gone: it sleeps if it can, and else tries at once
 abbrev pub SleepsIfItCan : ℕ → Waiting → Waits → Turn → Waits → Type 0
 SleepsIfItCan count wait before turn.Sleeps after =
     CanSleep count awaited.Objects wait before × (after ≡ joined awaited.Objects wait before)
@@ -144,7 +144,7 @@ SleepsIfItCan count wait before turn.Goes after =
 SleepsIfItCan count wait before turn.Deadlock after = ⊥
 
 -- Who waits, and who is woken, after one that was to wait for an object has taken its turn, of so many desks. It gives up if its
--- transaction is the youngest of a circle; else the youngest gives way, if a circle would be closed.
+-- transaction is the youngest of a cycle; else the youngest gives way, if a cycle would be closed.
 abbrev pub ObjectTurns : ℕ → Waiting → Waits → Turn → Waits → List Waker → Type 0
 ObjectTurns count wait before turn.Deadlock after woken =
     ((one : Waiting) × IsYoungest wait before one × (one.waiter ≡ wait.waiter))
@@ -187,16 +187,16 @@ queue_after (given.All x) queue = without x queue
 queue_after (given.Operation x) queue = without x queue
 queue_after other queue = queue
 
--- who is blocked once a sleeper was told this
-abbrev pub queue_with : Told → Sleeper → List Blocked → List Blocked
-queue_with (told.Answered (answer.Blocked by)) sleeper queue =
-    with_blocked sleeper.tx sleeper.op queue
-queue_with other sleeper queue = queue
+-- who is blocked once a sleeping thread was told this
+abbrev pub queue_with : Told → SleepingThread → List Blocked → List Blocked
+queue_with (told.Answered (answer.Blocked by)) thread queue =
+    with_blocked thread.tx thread.op queue
+queue_with other thread queue = queue
 
 -- and if it may sleep
-abbrev pub queue_if : Bool → Told → Sleeper → List Blocked → List Blocked
-queue_if true told sleeper queue = queue_with told sleeper queue
-queue_if false told sleeper queue = queue
+abbrev pub queue_if : Bool → Told → SleepingThread → List Blocked → List Blocked
+queue_if true told thread queue = queue_with told thread queue
+queue_if false told thread queue = queue
 
 -- who has precedence once locks were given back: no longer one that did so
 abbrev pub precedence_after : GivenBack → Option ℕ → Option ℕ
@@ -205,13 +205,13 @@ precedence_after (given.Operation x) (Some y) = if x == y then None else Some y
 precedence_after (given.Pages x) (Some y) = if x == y then None else Some y
 precedence_after other before = before
 
--- who has precedence once a sleeper was told this: one that waits for pages and takes it, if nobody has it yet
-abbrev pub precedence_with : Told → Sleeper → Option ℕ → Option ℕ
-precedence_with (told.Answered (answer.Waiting page by)) sleeper None =
-    if sleeper.takes_precedence then Some sleeper.tx else None
-precedence_with other sleeper before = before
+-- who has precedence once a sleeping thread was told this: one that waits for pages and takes it, if nobody has it yet
+abbrev pub precedence_with : Told → SleepingThread → Option ℕ → Option ℕ
+precedence_with (told.Answered (answer.Waiting page by)) thread None =
+    if thread.takes_precedence then Some thread.tx else None
+precedence_with other thread before = before
 
 -- and if it may sleep
-abbrev pub precedence_if : Bool → Told → Sleeper → Option ℕ → Option ℕ
-precedence_if true told sleeper before = precedence_with told sleeper before
-precedence_if false told sleeper before = before
+abbrev pub precedence_if : Bool → Told → SleepingThread → Option ℕ → Option ℕ
+precedence_if true told thread before = precedence_with told thread before
+precedence_if false told thread before = before

@@ -7,7 +7,7 @@ ghost use Rattle.mlt_work_log.specs.Seats.{IsOf, first_items};
 ghost use Rattle.mlt_script_cursor.specs.declared.call.DeskCall.TheVariants as call;
 ghost use Rattle.mlt_event.specs.declared.event.Event.TheVariants as event;
 ghost use Rattle.mlt_work_desk.specs.Holds.{EndsWithOp, IfReply, IsToldTo, MayAnswerOperation, SeesAnswer, SeesEvent, desk_view, is_done};
-ghost use Rattle.mlt_work_desk.specs.Tries.{GivesUp, IsYoungestOfCircle, SpendsByWaits, tries_spent};
+ghost use Rattle.mlt_work_desk.specs.Tries.{GivesUp, IsYoungestOfCycle, SpendsByWaits, tries_spent};
 
 use crate::called::Called;
 use crate::gate::Gate;
@@ -17,7 +17,7 @@ use crate::shared::Shared;
 use crate::timestamp::Timestamp;
 use crate::tries::{Tries, TriesLeft};
 use crate::tuning::WAITS_BEFORE_PRECEDENCE;
-use crate::turn::{Sleeper, Turn, goes_on, is_done};
+use crate::turn::{SleepingThread, Turn, goes_on, is_done};
 use mlt_event::{Answer, Event, Told};
 use mlt_object_kinds::{ObjOp, ObjReply};
 use mlt_script_cursor::{Answering, DeskAnswer};
@@ -65,7 +65,7 @@ impl<'a, P: Pseudo, L: MadeWith<P>, R: Wait, G: Gate> LockDesk<'a, P, L, R, G> {
             gate,
             client: 0,
             tries: TriesLeft::new(tries),
-            sleeper: Sleeper {
+            thread: SleepingThread {
                 tx: TxId(0),
                 timestamp: 0,
                 waker,
@@ -103,7 +103,7 @@ impl<'a, P: Pseudo, L: MadeWith<P>, R: Wait, G: Gate> LockDesk<'a, P, L, R, G> {
             gate: _,
             client: _,
             tries: _,
-            sleeper,
+            thread,
             is_asleep: _,
             is_reply: _,
             called: _,
@@ -113,7 +113,7 @@ impl<'a, P: Pseudo, L: MadeWith<P>, R: Wait, G: Gate> LockDesk<'a, P, L, R, G> {
             events,
             snapshot,
         } = self;
-        shared.lock(rt).desks.leave(sleeper.waker, &mut wakers);
+        shared.lock(rt).desks.leave(thread.waker, &mut wakers);
         shared.wake(&wakers);
         (share, events, snapshot)
     }
@@ -126,18 +126,18 @@ impl<'a, P: Pseudo, L: MadeWith<P>, R: Wait, G: Gate> LockDesk<'a, P, L, R, G> {
         ensures sees { SeesEvent (first_items self.old.snapshot) event result.0
             (first_items self.new.snapshot) }
         ensures reply { self.new.is_reply ≡ true
-            → EndsWithOp (first_items self.new.snapshot) self.old.sleeper.op }
+            → EndsWithOp (first_items self.new.snapshot) self.old.thread.op }
         ensures another { self.new.is_reply ≡ false → IfReply event result.0
-            (EndsWithOp (first_items self.new.snapshot) self.old.sleeper.op → ⊥) }
-        ensures youngest { result.1 ≡ Turn.Deadlock → IsYoungestOfCircle self.old.sleeper.tx }
+            (EndsWithOp (first_items self.new.snapshot) self.old.thread.op → ⊥) }
+        ensures youngest { result.1 ≡ Turn.Deadlock → IsYoungestOfCycle self.old.thread.tx }
         ensures one { self.new.share.amount ≡ self.old.share.amount + 1 }
-        ensures sleeper { self.new.sleeper ≡ self.old.sleeper }
+        ensures thread { self.new.thread ≡ self.old.thread }
         ensures tries { self.new.tries ≡ self.old.tries }
     {
         let LockDesk {
             rt,
             shared,
-            sleeper,
+            thread,
             is_asleep,
             is_reply,
             wakers,
@@ -148,15 +148,15 @@ impl<'a, P: Pseudo, L: MadeWith<P>, R: Wait, G: Gate> LockDesk<'a, P, L, R, G> {
         } = self;
         *events = events.saturating_add(1);
         let is_call = matches!(event, Event::Call(..));
-        let mut state = shared.enter(*rt, sleeper, *is_asleep, is_call);
+        let mut state = shared.enter(*rt, thread, *is_asleep, is_call);
         *is_asleep = false;
         *is_reply = false;
         let log = &shared.log;
-        let (told, turn) = state.act(event, share, may_sleep, sleeper, log, snapshot, wakers);
+        let (told, turn) = state.act(event, share, may_sleep, thread, log, snapshot, wakers);
         if goes_on(&told) {
             return (told, turn);
         }
-        *is_reply = is_done(&told) && state.ends_with(&sleeper.op);
+        *is_reply = is_done(&told) && state.ends_with(&thread.op);
         shared.note_blocked(state.desks.blocked());
         drop(state);
         if !wakers.is_empty() {
@@ -174,12 +174,12 @@ impl<'a, P: Pseudo, L: MadeWith<P>, R: Wait, G: Gate> LockDesk<'a, P, L, R, G> {
         ensures sees { SeesEvent (first_items self.old.snapshot) event result.0
             (first_items self.new.snapshot) }
         ensures reply { self.new.is_reply ≡ true
-            → EndsWithOp (first_items self.new.snapshot) self.old.sleeper.op }
+            → EndsWithOp (first_items self.new.snapshot) self.old.thread.op }
         ensures another { self.new.is_reply ≡ false → IfReply event result.0
-            (EndsWithOp (first_items self.new.snapshot) self.old.sleeper.op → ⊥) }
-        ensures youngest { result.1 ≡ Turn.Deadlock → IsYoungestOfCircle self.old.sleeper.tx }
+            (EndsWithOp (first_items self.new.snapshot) self.old.thread.op → ⊥) }
+        ensures youngest { result.1 ≡ Turn.Deadlock → IsYoungestOfCycle self.old.thread.tx }
         ensures one { self.new.share.amount ≡ self.old.share.amount + 1 }
-        ensures sleeper { self.new.sleeper ≡ self.old.sleeper }
+        ensures thread { self.new.thread ≡ self.old.thread }
         ensures tries { self.new.tries ≡ self.old.tries }
     {
         let (told, turn) = self.event(event, may_sleep);
@@ -189,12 +189,12 @@ impl<'a, P: Pseudo, L: MadeWith<P>, R: Wait, G: Gate> LockDesk<'a, P, L, R, G> {
 
     /// From now on it sleeps as one of this transaction, which has not waited yet.
     fn is_in(&mut self, tx: TxId)
-        ensures tx { self.new.sleeper.tx ≡ tx }
+        ensures tx { self.new.thread.tx ≡ tx }
         ensures snapshot { self.new.snapshot ≡ self.old.snapshot }
         ensures tries { self.new.tries ≡ self.old.tries }
     {
-        self.sleeper.tx = tx;
-        self.sleeper.takes_precedence = false;
+        self.thread.tx = tx;
+        self.thread.takes_precedence = false;
     }
 
     /// The transaction is to call the operation that it is in. Where others are blocked in operations that may clash with it, the desk
@@ -202,10 +202,10 @@ impl<'a, P: Pseudo, L: MadeWith<P>, R: Wait, G: Gate> LockDesk<'a, P, L, R, G> {
     #[inline(always)]
     fn wait_for_turn(&mut self)
         ensures snapshot { self.new.snapshot ≡ self.old.snapshot }
-        ensures sleeper { self.new.sleeper ≡ self.old.sleeper }
+        ensures thread { self.new.thread ≡ self.old.thread }
         ensures tries { self.new.tries ≡ self.old.tries }
     {
-        let op = self.sleeper.op;
+        let op = self.thread.op;
         let is_new = self.called.add(&op);
         if is_new && self.shared.has_blocked() {
             self.queue_behind();
@@ -218,12 +218,12 @@ impl<'a, P: Pseudo, L: MadeWith<P>, R: Wait, G: Gate> LockDesk<'a, P, L, R, G> {
     #[inline(never)]
     fn queue_behind(&mut self)
         ensures snapshot { self.new.snapshot ≡ self.old.snapshot }
-        ensures sleeper { self.new.sleeper ≡ self.old.sleeper }
+        ensures thread { self.new.thread ≡ self.old.thread }
         ensures tries { self.new.tries ≡ self.old.tries }
     {
         let mut state = self.shared.lock(self.rt);
-        let op = self.sleeper.op;
-        let queues = state.desks.queues(&self.sleeper, &op);
+        let op = self.thread.op;
+        let queues = state.desks.queues(&self.thread, &op);
         drop(state);
         if queues {
             self.is_asleep = true;
@@ -232,17 +232,17 @@ impl<'a, P: Pseudo, L: MadeWith<P>, R: Wait, G: Gate> LockDesk<'a, P, L, R, G> {
     }
 
     /// The operation is to wait, which spends a try. It answers whether it gives up: where no tries are left, where its transaction is
-    /// the youngest of a circle, so that each would be told the same, and where the gate is out of patience.
+    /// the youngest of a cycle, so that each would be told the same, and where the gate is out of patience.
     fn spends_last_try(&mut self, turn: Turn) -> bool
-        requires youngest { turn ≡ Turn.Deadlock → IsYoungestOfCircle self.old.sleeper.tx }
+        requires youngest { turn ≡ Turn.Deadlock → IsYoungestOfCycle self.old.thread.tx }
         ensures spent { self.new.tries ≡ tries_spent self.old.tries }
-        ensures reason { result ≡ true → GivesUp self.old.sleeper.tx self.new.tries }
+        ensures reason { result ≡ true → GivesUp self.old.thread.tx self.new.tries }
         ensures snapshot { self.new.snapshot ≡ self.old.snapshot }
-        ensures tx { self.new.sleeper.tx ≡ self.old.sleeper.tx }
-        ensures op { self.new.sleeper.op ≡ self.old.sleeper.op }
+        ensures tx { self.new.thread.tx ≡ self.old.thread.tx }
+        ensures op { self.new.thread.op ≡ self.old.thread.op }
     {
         self.tries.spend();
-        self.sleeper.takes_precedence = self.tries.waited >= WAITS_BEFORE_PRECEDENCE;
+        self.thread.takes_precedence = self.tries.waited >= WAITS_BEFORE_PRECEDENCE;
         self.tries.left == 0 || turn == Turn::Deadlock || !self.tries.is_patient
     }
 
@@ -250,15 +250,15 @@ impl<'a, P: Pseudo, L: MadeWith<P>, R: Wait, G: Gate> LockDesk<'a, P, L, R, G> {
     #[tactic(auto, using(crate::proofs::Seeing::sees_more))]
     fn cancel(&mut self, turn: Turn)
         ensures cancels { (cancelled : Told)
-            × IsToldTo P.bits_of (event.Cancel self.old.sleeper.tx) cancelled }
+            × IsToldTo P.bits_of (event.Cancel self.old.thread.tx) cancelled }
         ensures more { StartsWith (first_items self.new.snapshot) (first_items self.old.snapshot) }
-        ensures sleeper { self.new.sleeper ≡ self.old.sleeper }
+        ensures thread { self.new.thread ≡ self.old.thread }
         ensures tries { self.new.tries ≡ self.old.tries }
     {
         if turn == Turn::Deadlock {
             self.gate.deadlock(self.client);
         }
-        self.hold(Event::Cancel(self.sleeper.tx), false);
+        self.hold(Event::Cancel(self.thread.tx), false);
         self.timestamp.give_up();
     }
 
@@ -268,13 +268,13 @@ impl<'a, P: Pseudo, L: MadeWith<P>, R: Wait, G: Gate> LockDesk<'a, P, L, R, G> {
     #[cold]
     #[inline(never)]
     fn gives_up(&mut self, turn: Turn) -> bool
-        requires youngest { turn ≡ Turn.Deadlock → IsYoungestOfCircle self.old.sleeper.tx }
+        requires youngest { turn ≡ Turn.Deadlock → IsYoungestOfCycle self.old.thread.tx }
         ensures cancels { result ≡ true → (cancelled : Told)
-            × IsToldTo P.bits_of (event.Cancel self.old.sleeper.tx) cancelled }
-        ensures reason { result ≡ true → GivesUp self.old.sleeper.tx self.new.tries }
+            × IsToldTo P.bits_of (event.Cancel self.old.thread.tx) cancelled }
+        ensures reason { result ≡ true → GivesUp self.old.thread.tx self.new.tries }
         ensures spent { self.new.tries ≡ tries_spent self.old.tries }
-        ensures tx { self.new.sleeper.tx ≡ self.old.sleeper.tx }
-        ensures op { self.new.sleeper.op ≡ self.old.sleeper.op }
+        ensures tx { self.new.thread.tx ≡ self.old.thread.tx }
+        ensures op { self.new.thread.op ≡ self.old.thread.op }
         ensures more { StartsWith (first_items self.new.snapshot) (first_items self.old.snapshot) }
     {
         let gives_up = self.spends_last_try(turn);
@@ -290,21 +290,21 @@ impl<'a, P: Pseudo, L: MadeWith<P>, R: Wait, G: Gate> LockDesk<'a, P, L, R, G> {
     #[tactic(auto, using(crate::proofs::Trying::spends_none, crate::proofs::Trying::spends_one))]
     #[inline(always)]
     fn step(&mut self) -> Option<Result<ObjReply, Refusal>>
-        ensures told { IfSome result (λ reply. MayAnswerOperation P.bits_of self.old.sleeper.tx
-            self.old.sleeper.op (answer_by DeskAnswer.Replied reply)
+        ensures told { IfSome result (λ reply. MayAnswerOperation P.bits_of self.old.thread.tx
+            self.old.thread.op (answer_by DeskAnswer.Replied reply)
             (desk_view self.new.snapshot self.new.tries)) }
         ensures sees { IfSome result (λ reply. SeesAnswer P.bits_of (first_items self.old.snapshot)
-            (call.Operation self.old.sleeper.tx self.old.sleeper.op)
+            (call.Operation self.old.thread.tx self.old.thread.op)
             (answer_by DeskAnswer.Replied reply) (first_items self.new.snapshot)) }
         ensures more { StartsWith (first_items self.new.snapshot) (first_items self.old.snapshot) }
         ensures spends { SpendsByWaits self.old.tries self.new.tries }
-        ensures tx { self.new.sleeper.tx ≡ self.old.sleeper.tx }
-        ensures op { self.new.sleeper.op ≡ self.old.sleeper.op }
+        ensures tx { self.new.thread.tx ≡ self.old.thread.tx }
+        ensures op { self.new.thread.op ≡ self.old.thread.op }
     {
         self.tries.is_patient = self.gate.is_patient(self.client);
         // With its last try it does not wait, nor where the gate is out of patience.
         let may_sleep = self.tries.left > 1 && self.tries.is_patient;
-        let (told, turn) = self.hold(Event::Step(self.sleeper.tx), may_sleep);
+        let (told, turn) = self.hold(Event::Step(self.thread.tx), may_sleep);
         match told {
             Told::Answered(Answer::Going) => None,
             Told::Answered(Answer::Waiting { .. } | Answer::Blocked { .. }) => {
@@ -325,10 +325,10 @@ impl<'a, P: Pseudo, L: MadeWith<P>, R: Wait, G: Gate> LockDesk<'a, P, L, R, G> {
     /// Steps of the operation that the desk is in, which was called, up to its answer.
     #[tactic(auto, using(crate::proofs::Seeing::more_than, crate::proofs::Seeing::no_more, crate::proofs::Seeing::sees_later, crate::proofs::Trying::spends_nothing, crate::proofs::Trying::spends_more))]
     fn steps(&mut self) -> Result<ObjReply, Refusal>
-        ensures told { MayAnswerOperation P.bits_of self.old.sleeper.tx self.old.sleeper.op
+        ensures told { MayAnswerOperation P.bits_of self.old.thread.tx self.old.thread.op
             (answer_by DeskAnswer.Replied result) (desk_view self.new.snapshot self.new.tries) }
         ensures sees { SeesAnswer P.bits_of (first_items self.old.snapshot)
-            (call.Operation self.old.sleeper.tx self.old.sleeper.op)
+            (call.Operation self.old.thread.tx self.old.thread.op)
             (answer_by DeskAnswer.Replied result) (first_items self.new.snapshot) }
         ensures spends { SpendsByWaits self.old.tries self.new.tries }
     {
@@ -345,12 +345,12 @@ impl<'a, P: Pseudo, L: MadeWith<P>, R: Wait, G: Gate> LockDesk<'a, P, L, R, G> {
     /// come: the last one is told that the transaction was aborted, or that the desk may not act for it.
     fn undo_step(&mut self) -> bool
         ensures ends { result ≡ false → SeesAnswer P.bits_of (first_items self.old.snapshot)
-            (call.Abort self.old.sleeper.tx) DeskAnswer.Aborted (first_items self.new.snapshot) }
+            (call.Abort self.old.thread.tx) DeskAnswer.Aborted (first_items self.new.snapshot) }
         ensures more { StartsWith (first_items self.new.snapshot) (first_items self.old.snapshot) }
-        ensures tx { self.new.sleeper.tx ≡ self.old.sleeper.tx }
+        ensures tx { self.new.thread.tx ≡ self.old.thread.tx }
         ensures tries { self.new.tries ≡ self.old.tries }
     {
-        let (told, _) = self.hold(Event::Step(self.sleeper.tx), true);
+        let (told, _) = self.hold(Event::Step(self.thread.tx), true);
         match told {
             Told::Answered(Answer::Aborted) => false,
             Told::Refused(_) => false,
@@ -362,7 +362,7 @@ impl<'a, P: Pseudo, L: MadeWith<P>, R: Wait, G: Gate> LockDesk<'a, P, L, R, G> {
     #[tactic(auto, using(crate::proofs::Seeing::more_than, crate::proofs::Seeing::no_more, crate::proofs::Seeing::sees_later))]
     fn undo(&mut self)
         ensures ends { SeesAnswer P.bits_of (first_items self.old.snapshot)
-            (call.Abort self.old.sleeper.tx) DeskAnswer.Aborted (first_items self.new.snapshot) }
+            (call.Abort self.old.thread.tx) DeskAnswer.Aborted (first_items self.new.snapshot) }
         ensures tries { self.new.tries ≡ self.old.tries }
     {
         let rt = self.rt;
@@ -384,7 +384,7 @@ impl<'a, P: Pseudo, L: MadeWith<P>, R: Wait, G: Gate> Answering for LockDesk<'a,
     fn operation(&mut self, tx: TxId, op: ObjOp) -> Result<ObjReply, Refusal> {
         self.tries.call();
         self.is_in(tx);
-        self.sleeper.op = op;
+        self.thread.op = op;
         self.gate.call(self.client, &op);
         self.wait_for_turn();
         let (told, _) = self.hold(Event::Call(tx, op), false);
@@ -404,7 +404,7 @@ impl<'a, P: Pseudo, L: MadeWith<P>, R: Wait, G: Gate> Desk for LockDesk<'a, P, L
         match told {
             Told::Begun(tx) => {
                 self.timestamp.begin(tx);
-                self.sleeper.timestamp = self.timestamp.number();
+                self.thread.timestamp = self.timestamp.number();
                 self.called = Called::none();
                 Ok(tx)
             }

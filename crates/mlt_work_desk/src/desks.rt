@@ -5,14 +5,14 @@ ghost use Rattle.mlt_work_waits.specs.Waits.{joined};
 ghost use Rattle.mlt_work_queue.specs.Queues.{last_before};
 ghost use Rattle.mlt_work_desk.specs.Waits.{AreInTurn, CanSleep, CantSleep, ObjectTurns, PageTurns, precedence_after, precedence_if, precedence_with, queue_after, queue_if, queue_with, turn_behind, TurnsIfWaits, wait_for, wait_if, waiting, waits_after, waits_in_turn, waits_of_others, waits_without, woken_by, woken_by_end, woken_of};
 
-use crate::turn::{GivenBack, Sleeper, Turn, wait_for, wait_of};
+use crate::turn::{GivenBack, SleepingThread, Turn, wait_for, wait_of};
 use mlt_event::{Answer, Told};
 use mlt_object_kinds::ObjOp;
 use mlt_types::TxId;
 use mlt_work_queue::BlockedQueue;
 use mlt_work_waits::{Awaited, Waiting, WaitsFor, Waker, Wakers, Whose};
 
-/// How many desks there are, and whose transactions wait for which. Not all wait, and none in a circle.
+/// How many desks there are, and whose transactions wait for which. Not all wait, and none in a cycle.
 #[derive(Debug, Drop)]
 pub(crate) struct Desks {
     count: u64,
@@ -118,7 +118,7 @@ impl Desks {
     }
 
     /// A transaction waits no longer, if it does: its desk tries again, and its waker is added.
-    pub(crate) fn rouse(&mut self, tx: TxId, wakers: &mut Wakers)
+    pub(crate) fn wake_waiter(&mut self, tx: TxId, wakers: &mut Wakers)
         requires { wakers.old.items ≡ [] }
         ensures waits { self.new.waits ≡ waits_without tx self.old.waits }
         ensures wakes { wakers.new.items ≡ woken_of tx self.old.waits }
@@ -137,29 +137,29 @@ impl Desks {
         &self.waits
     }
 
-    /// What a desk does that was told this, which may sleep or not. Where it is to wait, and may sleep, it does so as this sleeper.
+    /// What a desk does that was told this, which may sleep or not. Where it is to wait, and may sleep, it does so as this thread.
     #[inline(always)]
     pub(crate) fn take_turn(
         &mut self,
         told: &Told,
         may_sleep: bool,
-        sleeper: &Sleeper,
+        thread: &SleepingThread,
         wakers: &mut Wakers,
     ) -> Turn
         requires { length wakers.old.items ≤ 128 }
         ensures turns { (woken : List Waker) × (wakers.new.items ≡ wakers.old.items ++ woken)
-            × TurnsIfWaits self.old.count (wait_if may_sleep told.now sleeper.now)
+            × TurnsIfWaits self.old.count (wait_if may_sleep told.now thread.now)
             self.old.waits result self.new.waits woken }
-        ensures queue { self.new.queue ≡ queue_if may_sleep told.now sleeper.now self.old.queue }
+        ensures queue { self.new.queue ≡ queue_if may_sleep told.now thread.now self.old.queue }
         ensures precedence { self.new.precedence
-            ≡ precedence_if may_sleep told.now sleeper.now self.old.precedence }
+            ≡ precedence_if may_sleep told.now thread.now self.old.precedence }
         ensures count { self.new.count ≡ self.old.count }
     {
         if !may_sleep {
             return Turn::Goes;
         }
-        self.note(told, sleeper);
-        self.turn(wait_of(told, sleeper), wakers)
+        self.note(told, thread);
+        self.turn(wait_of(told, thread), wakers)
     }
 
     /// What a desk does that is to wait so, if it is to.
@@ -182,8 +182,8 @@ impl Desks {
 
     /// What a desk does that is to wait for an object.
     ///
-    /// Where its wait would close a circle of such waits, the youngest of the circle gives way. If that is its own transaction it
-    /// gives up; else the other one wakes: it tries again, and if it is blocked as before, it closes the circle itself. Then the
+    /// Where its wait would close a cycle of such waits, the youngest of the cycle gives way. If that is its own transaction it
+    /// gives up; else the other one wakes: it tries again, and if it is blocked as before, it closes the cycle itself. Then the
     /// desk sleeps, and is counted; where all others sleep it tries at once.
     #[tactic(auto, using(crate::proofs::Fewer::fewer_wait))]
     fn wait_for_object(&mut self, wait: Waiting, wakers: &mut Wakers) -> Turn
@@ -211,7 +211,7 @@ impl Desks {
 
     /// What a desk does that is to wait for a page.
     ///
-    /// The last desk that is awake tries at once, and so does one whose wait would close a circle. It wakes those that want a page
+    /// The last desk that is awake tries at once, and so does one whose wait would close a cycle. It wakes those that want a page
     /// too: a pass that is to start anew gives its pages back as well, and is told to go on. Any other desk sleeps, and is counted.
     #[tactic(auto, using(crate::proofs::Fewer::fewer_wait))]
     fn wait_for_page(&mut self, wait: Waiting, wakers: &mut Wakers) -> Turn
@@ -230,20 +230,20 @@ impl Desks {
         Turn::Goes
     }
 
-    /// A sleeper was told this. If it is blocked it stands in the queue from now on. If it waits for pages and takes precedence
+    /// A sleeping thread was told this. If it is blocked it stands in the queue from now on. If it waits for pages and takes precedence
     /// it has it, unless another does.
     #[inline(always)]
-    pub(crate) fn note(&mut self, told: &Told, sleeper: &Sleeper)
-        ensures queue { self.new.queue ≡ queue_with told.now sleeper.now self.old.queue }
+    pub(crate) fn note(&mut self, told: &Told, thread: &SleepingThread)
+        ensures queue { self.new.queue ≡ queue_with told.now thread.now self.old.queue }
         ensures precedence { self.new.precedence
-            ≡ precedence_with told.now sleeper.now self.old.precedence }
+            ≡ precedence_with told.now thread.now self.old.precedence }
         ensures waits { self.new.waits ≡ self.old.waits }
         ensures count { self.new.count ≡ self.old.count }
     {
         match told {
-            Told::Answered(Answer::Blocked { .. }) => self.queue.push(sleeper.tx, sleeper.op),
-            Told::Answered(Answer::Waiting { .. }) if sleeper.takes_precedence => {
-                self.precedence = self.precedence.or(Some(sleeper.tx));
+            Told::Answered(Answer::Blocked { .. }) => self.queue.push(thread.tx, thread.op),
+            Told::Answered(Answer::Waiting { .. }) if thread.takes_precedence => {
+                self.precedence = self.precedence.or(Some(thread.tx));
             }
             _ => (),
         }
@@ -251,10 +251,10 @@ impl Desks {
 
     /// One is about to call an operation. Where another has precedence it yields, that is it waits for the pages of that one, if
     /// another desk is awake and its wait can join. It answers whether it does.
-    pub(crate) fn yields(&mut self, sleeper: &Sleeper) -> bool
+    pub(crate) fn yields(&mut self, thread: &SleepingThread) -> bool
         ensures yields { result ≡ true → (y : ℕ) × (self.old.precedence ≡ Some y)
-            × CanSleep self.old.count Awaited.Pages (wait_for sleeper.now y) self.old.waits
-            × (self.new.waits ≡ joined Awaited.Pages (wait_for sleeper.now y) self.old.waits) }
+            × CanSleep self.old.count Awaited.Pages (wait_for thread.now y) self.old.waits
+            × (self.new.waits ≡ joined Awaited.Pages (wait_for thread.now y) self.old.waits) }
         ensures none { self.old.precedence ≡ None → result ≡ false }
         ensures stays { result ≡ false → self.new.waits ≡ self.old.waits }
         ensures queue { self.new.queue ≡ self.old.queue }
@@ -264,18 +264,18 @@ impl Desks {
         let Some(holder) = self.precedence else {
             return false;
         };
-        self.join(Awaited::Pages, wait_for(sleeper, holder))
+        self.join(Awaited::Pages, wait_for(thread, holder))
     }
 
     /// One is about to call an operation. Where others are blocked in operations that may clash with it, it waits for its turn
     /// behind the last of them, if another desk is awake and its wait can join. It answers whether it does.
-    pub(crate) fn queues(&mut self, sleeper: &Sleeper, op: &ObjOp) -> bool
+    pub(crate) fn queues(&mut self, thread: &SleepingThread, op: &ObjOp) -> bool
         ensures queues { result ≡ true → (y : ℕ) × (last_before op.now self.old.queue ≡ Some y)
-            × CanSleep self.old.count Awaited.Objects (turn_behind sleeper.now y) self.old.waits
-            × (self.new.waits ≡ joined Awaited.Objects (turn_behind sleeper.now y) self.old.waits) }
+            × CanSleep self.old.count Awaited.Objects (turn_behind thread.now y) self.old.waits
+            × (self.new.waits ≡ joined Awaited.Objects (turn_behind thread.now y) self.old.waits) }
         ensures goes { result ≡ false → (last_before op.now self.old.queue ≡ None)
             ⊎ ((y : ℕ) × (last_before op.now self.old.queue ≡ Some y)
-            × CantSleep self.old.count Awaited.Objects (turn_behind sleeper.now y) self.old.waits) }
+            × CantSleep self.old.count Awaited.Objects (turn_behind thread.now y) self.old.waits) }
         ensures stays { result ≡ false → self.new.waits ≡ self.old.waits }
         ensures queue { self.new.queue ≡ self.old.queue }
         ensures precedence { self.new.precedence ≡ self.old.precedence }
@@ -285,9 +285,9 @@ impl Desks {
             return false;
         };
         let wait = Waiting {
-            waiter: sleeper.tx,
+            waiter: thread.tx,
             holder,
-            waker: sleeper.waker,
+            waker: thread.waker,
             timestamp: None,
         };
         self.join(Awaited::Objects, wait)

@@ -24,7 +24,7 @@ pub trait Gate {
         true
     }
 
-    /// The client's operation is given up since its transaction is the youngest of a circle of waits. Most gates have nothing to do
+    /// The client's operation is given up since its transaction is the youngest of a cycle of waits. Most gates have nothing to do
     /// then.
     fn deadlock(&self, _client: u32) {}
 }

@@ -14,7 +14,7 @@ ghost use Rattle.mlt_work_desk.specs.Waits.{given_back_by, precedence_after, pre
 use crate::desks::Desks;
 use crate::locked_state::LockedState;
 use crate::made_with::MadeWith;
-use crate::turn::{Sleeper, Turn, given_back, goes_on};
+use crate::turn::{SleepingThread, Turn, given_back, goes_on};
 use mlt_event::{Event, Told};
 use mlt_manager::Manager;
 use mlt_object_kinds::ObjOp;
@@ -29,10 +29,10 @@ impl<P: Pseudo, L: MadeWith<P>> LockedState<P, L> {
     pub fn new(manager: Manager<P>, book: Book<L>, writer: LogWriter) -> LockedState<P, L>
         requires events { manager.events ≡ 0 }
         requires made { Some (making_of manager) ≡ L.made_with }
-        requires history { L.hands_out ≡ false → manager.commons.history.handed ≡ [] }
+        requires history { L.hands_out ≡ false → manager.shared.history.handed ≡ [] }
         requires total { book.total ≡ 0 }
         requires of_log { IsWriterOf L.log_id writer }
-        requires logged { all_items writer ≡ manager.commons.history.items }
+        requires logged { all_items writer ≡ manager.shared.history.items }
     {
         LockedState {
             manager,
@@ -54,7 +54,7 @@ impl<P: Pseudo, L: MadeWith<P>> LockedState<P, L> {
         requires of_log { IsWriterOf L.log_id writer }
         requires none { all_items writer ≡ [] }
         requires made { Some (making_of manager) ≡ L.made_with }
-        requires history { L.hands_out ≡ false → manager.commons.history.handed ≡ [] }
+        requires history { L.hands_out ≡ false → manager.shared.history.handed ≡ [] }
         requires total { book.total ≡ 0 }
         requires part { 0 < share.old.parts }
         ensures amount { share.new.amount ≡ share.old.amount + manager.events }
@@ -73,7 +73,7 @@ impl<P: Pseudo, L: MadeWith<P>> LockedState<P, L> {
         }
     }
 
-    /// One event of a desk, which counts in the share. Where it is to wait, and may sleep, it does so as this sleeper. Whoever waits
+    /// One event of a desk, which counts in the share. Where it is to wait, and may sleep, it does so as this thread. Whoever waits
     /// for what it gave back is awake then, and its waker is added. It answers what was told, and what the desk does next. The snapshot is
     /// one of the history after it then, but where an operation goes on: there nothing that the desk has to look after has changed.
     #[inline(always)]
@@ -82,7 +82,7 @@ impl<P: Pseudo, L: MadeWith<P>> LockedState<P, L> {
         event: Event,
         share: &mut Share<L>,
         may_sleep: bool,
-        sleeper: &Sleeper,
+        thread: &SleepingThread,
         log: &HistoryLog,
         snapshot: &mut LogSnapshot,
         wakers: &mut Wakers,
@@ -93,27 +93,27 @@ impl<P: Pseudo, L: MadeWith<P>> LockedState<P, L> {
         requires of_log { IsOf L.log_id snapshot.old }
         ensures of_log { IsOf L.log_id snapshot.new }
         ensures seen { goes_on result.0 ≡ false
-            → first_items snapshot.new ≡ self.new.manager.commons.history.items }
+            → first_items snapshot.new ≡ self.new.manager.shared.history.items }
         ensures sees { SeesEvent (first_items snapshot.old) event result.0
             (first_items snapshot.new) }
         ensures before { IsManager P.bits_of self.old.manager }
         ensures after { IsManager P.bits_of self.new.manager }
         ensures meets { Meets P.bits_of event result.0
             (counted self.old.manager) self.new.manager }
-        ensures keeps { IfReply event result.0 (self.new.manager.commons.history.items
-            ≢ self.new.manager.commons.history.handed) }
+        ensures keeps { IfReply event result.0 (self.new.manager.shared.history.items
+            ≢ self.new.manager.shared.history.handed) }
         ensures amount { share.new.amount ≡ share.old.amount + 1 }
         ensures parts { share.new.parts ≡ share.old.parts }
         ensures desks { self.new.desks.count ≡ self.old.desks.count }
         ensures turns { (woken : List Waker) × (wakers.new.items
             ≡ woken_by (given_back_by event result.0) self.old.desks.waits ++ woken)
-            × TurnsIfWaits self.old.desks.count (wait_if may_sleep result.0 sleeper.now)
+            × TurnsIfWaits self.old.desks.count (wait_if may_sleep result.0 thread.now)
             (waits_after (given_back_by event result.0) self.old.desks.waits)
             result.1 self.new.desks.waits woken }
-        ensures queue { self.new.desks.queue ≡ queue_if may_sleep result.0 sleeper.now
+        ensures queue { self.new.desks.queue ≡ queue_if may_sleep result.0 thread.now
             (queue_after (given_back_by event result.0) self.old.desks.queue) }
         ensures precedence { self.new.desks.precedence
-            ≡ precedence_if may_sleep result.0 sleeper.now
+            ≡ precedence_if may_sleep result.0 thread.now
             (precedence_after (given_back_by event result.0) self.old.desks.precedence) }
     {
         let LockedState {
@@ -133,17 +133,17 @@ impl<P: Pseudo, L: MadeWith<P>> LockedState<P, L> {
         }
         see_history::<Brand, P>(log, writer, snapshot, manager);
         desks.give_back(given_back(&event, &told), wakers);
-        let turn = desks.take_turn(&told, may_sleep, sleeper, wakers);
+        let turn = desks.take_turn(&told, may_sleep, thread, wakers);
         (told, turn)
     }
 
     /// Whether the last item of the history tells of this operation. Of a history that was all handed out it does not know.
     #[inline(always)]
     pub(crate) fn ends_with(&self, op: &ObjOp) -> bool
-        ensures is { result ≡ true → EndsWithOp self.now.manager.commons.history.items op.now }
+        ensures is { result ≡ true → EndsWithOp self.now.manager.shared.history.items op.now }
         ensures is_not { result ≡ false
-            → self.now.manager.commons.history.items ≢ self.now.manager.commons.history.handed
-            → EndsWithOp self.now.manager.commons.history.items op.now → ⊥ }
+            → self.now.manager.shared.history.items ≢ self.now.manager.shared.history.handed
+            → EndsWithOp self.now.manager.shared.history.items op.now → ⊥ }
     {
         let Some((last, _)) = self.manager.kept_history().split_last() else {
             return false;
@@ -165,7 +165,7 @@ impl<P: Pseudo, L: MadeWith<P>> LockedState<P, L> {
         requires log { id_of log.now ≡ L.log_id }
         requires of_log { IsOf L.log_id snapshot }
         ensures same { self.new.manager ≡ self.old.manager }
-        ensures first { StartsWith self.old.manager.commons.history.items (first_items snapshot) }
+        ensures first { StartsWith self.old.manager.shared.history.items (first_items snapshot) }
     {
         let mut snapshot = snapshot;
         see_history::<Brand, P>(log, &mut self.writer, &mut snapshot, &self.manager);
@@ -177,7 +177,7 @@ impl<P: Pseudo, L: MadeWith<P>> LockedState<P, L> {
         ensures same { result ≡ self.manager }
         ensures events { result.events ≡ min all.old.amount (2 ^ 64 - 1) }
         ensures made { Some (making_of result) ≡ L.made_with }
-        ensures history { L.hands_out ≡ false → result.commons.history.handed ≡ [] }
+        ensures history { L.hands_out ≡ false → result.shared.history.handed ≡ [] }
         ensures amount { all.new.amount ≡ all.old.amount }
         ensures parts { all.new.parts ≡ all.old.parts }
     {
@@ -214,14 +214,14 @@ fn see_history<G: Growth, P: Pseudo>(
     snapshot: &mut LogSnapshot,
     manager: &Manager<P>,
 )
-    requires picked { G.items ≡ manager.now.commons.history.items }
+    requires picked { G.items ≡ manager.now.shared.history.items }
     requires writer { IsWriterOf (id_of log.now) writer.old }
     requires of_log { IsOf (id_of log.now) snapshot.old }
-    requires grows { StartsWith manager.now.commons.history.items (all_items writer.old) }
+    requires grows { StartsWith manager.now.shared.history.items (all_items writer.old) }
     ensures writer { IsWriterOf (id_of log.now) writer.new }
     ensures of_log { IsOf (id_of log.now) snapshot.new }
-    ensures logged { all_items writer.new ≡ manager.now.commons.history.items }
-    ensures seen { first_items snapshot.new ≡ manager.now.commons.history.items }
+    ensures logged { all_items writer.new ≡ manager.now.shared.history.items }
+    ensures seen { first_items snapshot.new ≡ manager.now.shared.history.items }
     ensures first { StartsWith (all_items writer.old) (first_items snapshot.old) }
 {
     log.see::<G>(writer, snapshot)

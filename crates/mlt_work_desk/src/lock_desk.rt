@@ -9,7 +9,7 @@ use crate::made_with::MadeWith;
 use crate::shared::Shared;
 use crate::timestamp::Timestamp;
 use crate::tries::TriesLeft;
-use crate::turn::Sleeper;
+use crate::turn::SleepingThread;
 use mlt_types::Pseudo;
 use mlt_work_log::LogSnapshot;
 use mlt_work_waits::Wakers;
@@ -25,7 +25,7 @@ pub struct LockDesk<'a, P: Pseudo, L: MadeWith<P>, R: Wait, G: Gate> {
     pub(crate) client: u32,
     pub(crate) tries: TriesLeft,
     /// As whom it sleeps where it waits: its transaction, and the operation that this is in.
-    pub(crate) sleeper: Sleeper,
+    pub(crate) thread: SleepingThread,
     /// Whether it sleeps before its next event.
     pub(crate) is_asleep: bool,
     /// Whether its last event told a reply to the operation that it is in.

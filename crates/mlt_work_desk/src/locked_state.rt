@@ -21,6 +21,6 @@ pub struct LockedState<P: Pseudo, L: MadeWith<P>> {
     ghost counted: { manager.events ≡ min book.total (2 ^ 64 - 1) },
     ghost made: { Some (making_of manager) ≡ L.made_with },
     ghost of_log: { IsWriterOf L.log_id writer },
-    ghost logged: { all_items writer ≡ manager.commons.history.items },
-    ghost history: { L.hands_out ≡ false → manager.commons.history.handed ≡ [] },
+    ghost logged: { all_items writer ≡ manager.shared.history.items },
+    ghost history: { L.hands_out ≡ false → manager.shared.history.handed ≡ [] },
 }

@@ -5,10 +5,10 @@ ghost use Rattle.mlt_work_log.specs.Seats.{IsOf, first_items, id_of};
 ghost use Rattle.mlt_work_desk.specs.Makings.{making_of};
 
 use crate::locked_state::LockedState;
-use crate::look::Look;
 use crate::made_with::MadeWith;
+use crate::statistics::DeskStatistics;
 use crate::tuning::{FIRST_LOCK_SPINS, LOCK_SPINS, PAUSES_PER_LOCK_SPIN};
-use crate::turn::Sleeper;
+use crate::turn::SleepingThread;
 use crate::unlocked::Unlocked;
 use mlt_manager::Manager;
 use mlt_trace::KeptItem;
@@ -94,28 +94,28 @@ impl<P: Pseudo, L: MadeWith<P>> Shared<P, L> {
     pub(crate) fn enter<R: Wait>(
         &self,
         rt: &R,
-        sleeper: &Sleeper,
+        thread: &SleepingThread,
         is_asleep: bool,
         is_call: bool,
     ) -> MutexGuard<'_, LockedState<P, L>> {
         let mut state = self.lock(rt);
         if is_asleep {
-            state = self.sleep(rt, state, sleeper);
+            state = self.sleep(rt, state, thread);
         }
-        if is_call && state.desks.yields(sleeper) {
-            return self.sleep(rt, state, sleeper);
+        if is_call && state.desks.yields(thread) {
+            return self.sleep(rt, state, thread);
         }
         state
     }
 
-    /// The state, once nobody else has it, and the sleeper is awake.
+    /// The state, once nobody else has it, and the sleeping thread is awake.
     fn sleep<'a, R: Wait>(
         &'a self,
         rt: &R,
         state: MutexGuard<'a, LockedState<P, L>>,
-        sleeper: &Sleeper,
+        thread: &SleepingThread,
     ) -> MutexGuard<'a, LockedState<P, L>> {
-        let Sleeper { tx, waker, .. } = *sleeper;
+        let SleepingThread { tx, waker, .. } = *thread;
         self.condvar(waker)
             .wait_while(rt, state, |state| !state.desks.is_awake(tx))
     }
@@ -135,18 +135,18 @@ impl<P: Pseudo, L: MadeWith<P>> Shared<P, L> {
     }
 
     /// A transaction waits no longer, if it does: its desk tries again. It takes the lock once, and is no event.
-    pub fn rouse<R: Wait>(&self, rt: &R, tx: TxId) {
+    pub fn wake_waiter<R: Wait>(&self, rt: &R, tx: TxId) {
         let mut wakers = Wakers::new();
         let mut state = self.lock(rt);
-        state.desks.rouse(tx, &mut wakers);
+        state.desks.wake_waiter(tx, &mut wakers);
         drop(state);
         self.wake(&wakers);
     }
 
-    /// What a look at the manager sees, and who waits for whom. It takes the lock once, and is no event.
-    pub fn look<R: Wait>(&self, rt: &R) -> Look {
+    /// The statistics of the manager, and who waits for whom. It takes the lock once, and is no event.
+    pub fn statistics<R: Wait>(&self, rt: &R) -> DeskStatistics {
         let state = self.lock(rt);
-        state.look()
+        state.statistics()
     }
 
     /// Adds the items of the history that are kept, from this place among them on, at most so many. It takes the lock once, and is no
@@ -196,7 +196,7 @@ impl<P: Pseudo, L: MadeWith<P>> Shared<P, L> {
         self.log.copy(snapshot)
     }
 
-    /// Wakes the sleepers, with the lock free.
+    /// Wakes the sleeping threads, with the lock free.
     pub(crate) fn wake(&self, wakers: &Wakers) {
         for waker in wakers {
             self.condvar(*waker).notify_all();
@@ -213,7 +213,7 @@ impl<P: Pseudo, L: MadeWith<P>> Shared<P, L> {
         requires { all.old.parts ≡ L.parts }
         ensures events { result.events ≡ min all.old.amount (2 ^ 64 - 1) }
         ensures made { Some (making_of result) ≡ L.made_with }
-        ensures history { L.hands_out ≡ false → result.commons.history.handed ≡ [] }
+        ensures history { L.hands_out ≡ false → result.shared.history.handed ≡ [] }
         ensures amount { all.new.amount ≡ all.old.amount }
         ensures parts { all.new.parts ≡ all.old.parts }
     {

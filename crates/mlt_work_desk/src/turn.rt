@@ -16,7 +16,7 @@ pub(crate) enum Turn {
     Goes,
     /// It sleeps before its next event, and is counted as one that waits.
     Sleeps,
-    /// It gives up: its transaction is the youngest of a circle of waits for objects that its wait would close, and while that
+    /// It gives up: its transaction is the youngest of a cycle of waits for objects that its wait would close, and while that
     /// stands each try is told the same.
     Deadlock,
 }
@@ -36,7 +36,7 @@ pub(crate) enum GivenBack {
 /// One that may sleep: its transaction and the timestamp of that, what wakes it, whether it has waited so often for pages that it
 /// takes precedence, and the operation that it is in, or was in last.
 #[derive(Clone, Copy, Debug)]
-pub(crate) struct Sleeper {
+pub(crate) struct SleepingThread {
     pub tx: TxId,
     pub timestamp: u64,
     pub waker: Waker,
@@ -95,27 +95,27 @@ pub fn is_to_wait(told: &Told) -> bool
     )
 }
 
-/// The wait of a sleeper that was told this, if it is to wait.
-pub(crate) fn wait_of(told: &Told, sleeper: &Sleeper) -> Option<(Awaited, Waiting)>
-    ensures { result ≡ wait_of told.now sleeper.now }
+/// The wait of a sleeping thread that was told this, if it is to wait.
+pub(crate) fn wait_of(told: &Told, thread: &SleepingThread) -> Option<(Awaited, Waiting)>
+    ensures { result ≡ wait_of told.now thread.now }
 {
     match told {
         Told::Answered(Answer::Waiting { by, .. }) => {
-            Some((Awaited::Pages, wait_for(sleeper, *by)))
+            Some((Awaited::Pages, wait_for(thread, *by)))
         }
-        Told::Answered(Answer::Blocked { by }) => Some((Awaited::Objects, wait_for(sleeper, *by))),
+        Told::Answered(Answer::Blocked { by }) => Some((Awaited::Objects, wait_for(thread, *by))),
         _ => None,
     }
 }
 
-/// The wait of a sleeper for a lock of this transaction.
-pub(crate) fn wait_for(sleeper: &Sleeper, holder: TxId) -> Waiting
-    ensures { result ≡ wait_for sleeper.now holder }
+/// The wait of a sleeping thread for a lock of this transaction.
+pub(crate) fn wait_for(thread: &SleepingThread, holder: TxId) -> Waiting
+    ensures { result ≡ wait_for thread.now holder }
 {
     Waiting {
-        waiter: sleeper.tx,
+        waiter: thread.tx,
         holder,
-        waker: sleeper.waker,
-        timestamp: Some(sleeper.timestamp),
+        waker: thread.waker,
+        timestamp: Some(thread.timestamp),
     }
 }

@@ -24,7 +24,7 @@ impl<P: Pseudo, L: MadeWith<P>> Unlocked<P, L> {
     pub fn compare(&mut self, snapshot: LogSnapshot)
         requires { IsOf L.log_id snapshot }
         ensures same { self.new.state.manager ≡ self.old.state.manager }
-        ensures first { StartsWith self.old.state.manager.commons.history.items
+        ensures first { StartsWith self.old.state.manager.shared.history.items
             (first_items snapshot) }
     {
         self.state.compare(&self.log, snapshot);
@@ -36,7 +36,7 @@ impl<P: Pseudo, L: MadeWith<P>> Unlocked<P, L> {
         ensures same { result ≡ self.state.manager }
         ensures events { result.events ≡ min all.old.amount (2 ^ 64 - 1) }
         ensures made { Some (making_of result) ≡ L.made_with }
-        ensures history { L.hands_out ≡ false → result.commons.history.handed ≡ [] }
+        ensures history { L.hands_out ≡ false → result.shared.history.handed ≡ [] }
         ensures amount { all.new.amount ≡ all.old.amount }
         ensures parts { all.new.parts ≡ all.old.parts }
     {

@@ -8,7 +8,7 @@ use Rattle.atomic_table.specs.Table.{State, Me, Allows, Splits, Joins}
 use Rattle.atomic_table.specs.Table.Act.{keeps}
 use Rattle.atomic_table.proofs.Lists.{at_set, at_snoc, set_else}
 use Rattle.mlt_trace.specs.declared.item.TraceItem.{TraceItem}
-use Rattle.mlt_work_log.specs.declared.view.View.{View}
+use Rattle.mlt_work_log.specs.declared.view.LogView.{LogView}
 use Rattle.mlt_work_log.specs.Prefixes.{AreKept, HasGrown, Knows, StartsWith, after_join, first_view, snapshot_view, spent_view, writer_view}
 
 pub starts_with_itself : (items : List TraceItem) → StartsWith items items
@@ -21,9 +21,9 @@ pub starts_with_first : (items between first : List TraceItem) → StartsWith it
 starts_with_first items between first (more, is) (rest, was) = (rest ++ more, (is ∙ ap (λ xs. xs ++ more) was ∙ append_assoc first rest more))
 
 -- what each seat knows, after a change of one
-each_set : (items : List TraceItem) (writer : ℕ) (views : List View) (seat : ℕ) (w : View) → Knows items writer seat w
-    → ((j : ℕ) (u : View) → j ≢ seat → get_elem? views j ≡ some u → Knows items writer j u)
-    → (j : ℕ) (u : View) → get_elem? (set views seat w) j ≡ some u → Knows items writer j u
+each_set : (items : List TraceItem) (writer : ℕ) (views : List LogView) (seat : ℕ) (w : LogView) → Knows items writer seat w
+    → ((j : ℕ) (u : LogView) → j ≢ seat → get_elem? views j ≡ some u → Knows items writer j u)
+    → (j : ℕ) (u : LogView) → get_elem? (set views seat w) j ≡ some u → Knows items writer j u
 each_set items writer views seat w mine others j u e =
     ⊎_elim (λ (x : (j ≡ seat) × (w ≡ u)). subst (Knows items writer j) x.1 (subst (λ k. Knows items writer k w) (sym x.0) mine))
     (λ (x : (j ≢ seat) × (get_elem? views j ≡ some u)). others j u x.0 x.1) (at_set views seat j w u e)
@@ -32,8 +32,8 @@ knows_none : (items : List TraceItem) (writer seat : ℕ) → Knows items writer
 knows_none items writer seat = record { first = starts_with_none items; taken = starts_with_none items; all = λ writes. absurd (false≢true writes) }
 
 -- the history grows
-pub grows : (items : List TraceItem) (slots seat : ℕ) (me : Me (Unit {0}) View) → me.0.writes ≡ true → StartsWith items me.0.items
-    → Allows (λ (s : State (Unit {0}) View). AreKept s.views) slots seat me 0 (λ n. n) (λ n after. HasGrown items me.0 after.0 × (after.1 ≡ me.1))
+pub grows : (items : List TraceItem) (slots seat : ℕ) (me : Me (Unit {0}) LogView) → me.0.writes ≡ true → StartsWith items me.0.items
+    → Allows (λ (s : State (Unit {0}) LogView). AreKept s.views) slots seat me 0 (λ n. n) (λ n after. HasGrown items me.0 after.0 × (after.1 ≡ me.1))
 grows items slots seat me writes more s (all, writer, each) homes at small =
     let mine = each seat me.0 at in
     let mine_all = mine.all writes in
@@ -57,7 +57,7 @@ grows items slots seat me writes more s (all, writer, each) homes at small =
     )
 
 -- a snapshot is made of what a seat knows
-pub splits : (seat : ℕ) (v : View) → Splits (λ (s : State (Unit {0}) View). AreKept s.views) seat v v (snapshot_view v.items)
+pub splits : (seat : ℕ) (v : LogView) → Splits (λ (s : State (Unit {0}) LogView). AreKept s.views) seat v v (snapshot_view v.items)
 splits seat v s (all, writer, each) at =
     let mine = each seat v at in (
       all,
@@ -69,7 +69,7 @@ splits seat v s (all, writer, each) at =
     )
 
 -- a snapshot is taken in
-pub joins : (seat other : ℕ) (v w : View) → Joins (λ (s : State (Unit {0}) View). AreKept s.views) seat v other w (after_join v w) spent_view
+pub joins : (seat other : ℕ) (v w : LogView) → Joins (λ (s : State (Unit {0}) LogView). AreKept s.views) seat v other w (after_join v w) spent_view
 joins seat other v w s (all, writer, each) at apart at_other =
     let mine = each seat v at in
     let theirs = each other w (sym (set_else s.views seat other (after_join v w) apart) ∙ at_other) in (
@@ -81,10 +81,10 @@ joins seat other v w s (all, writer, each) at apart at_other =
     )
 
 -- the first seat is the writer's, of no items
-first_is : (u : View) → some first_view ≡ some u → first_view ≡ u
+first_is : (u : LogView) → some first_view ≡ some u → first_view ≡ u
 first_is u is = some-injective first_view u is
 
-first_knows : (j : ℕ) (u : View) → get_elem? (first_view ∷ []) j ≡ some u → Knows [] 0 j u
+first_knows : (j : ℕ) (u : LogView) → get_elem? (first_view ∷ []) j ≡ some u → Knows [] 0 j u
 first_knows zero u is = subst (Knows [] 0 0) (first_is u is) (record { first = starts_with_none []; taken = starts_with_none []; all = λ _. (refl, refl) })
 first_knows (suc j) u is = absurd (some-ne-none u (sym is))
 

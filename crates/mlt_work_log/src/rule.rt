@@ -3,14 +3,14 @@
 ghost use Rattle.std.specs.Prelude.{[], List};
 ghost use Rattle.mlt_trace.specs.declared.item.TraceItem.{TraceItem};
 
-use crate::view::View;
+use crate::view::LogView;
 use atomic_table::{Join, Play, Split, TableRule};
 use std::marker::{Brand, PhantomData};
 
 /// The writer knows all items, and any other seat the first ones.
 pub struct Prefixes;
 
-impl TableRule<(), View, ()> for Prefixes {
+impl TableRule<(), LogView, ()> for Prefixes {
     ghost use Rattle.mlt_work_log.specs.Prefixes.{AreKept, first_view};
 
     ghost holds = { λ _ state. AreKept state.views };
@@ -18,7 +18,7 @@ impl TableRule<(), View, ()> for Prefixes {
     ghost first = { λ _. first_view };
 }
 
-impl Split<View> for Prefixes {
+impl Split<LogView> for Prefixes {
     ghost use Rattle.mlt_work_log.specs.Prefixes.{snapshot_view};
 
     ghost left = { λ v. v };
@@ -26,7 +26,7 @@ impl Split<View> for Prefixes {
     ghost right = { λ v. snapshot_view v.items };
 }
 
-impl Join<View> for Prefixes {
+impl Join<LogView> for Prefixes {
     ghost use Rattle.mlt_work_log.specs.Prefixes.{after_join, spent_view};
 
     ghost both = { λ v w. after_join v w };
@@ -48,7 +48,7 @@ pub struct Grows<G> {
     growth: PhantomData<G>,
 }
 
-impl<G: Growth> Play<(), View> for Grows<G> {
+impl<G: Growth> Play<(), LogView> for Grows<G> {
     ghost use Rattle.std.specs.Prelude.{◌≡◌};
     ghost use Rattle.mlt_work_log.specs.Prefixes.{HasGrown};
 

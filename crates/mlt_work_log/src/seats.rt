@@ -4,21 +4,21 @@ ghost use Rattle.std.specs.Prelude.{◌≡◌, []};
 ghost use Rattle.mlt_work_log.specs.Prefixes.{snapshot_view, writer_view};
 
 use crate::rule::Prefixes;
-use crate::view::View;
+use crate::view::LogView;
 use atomic_table::{Seat, Table};
 use std::alloc::Global;
 
 /// The log of a history: a word that nobody writes. Contracts see which log it is.
 #[derive(Drop)]
 pub struct HistoryLog {
-    pub(crate) table: Table<(), View, (), Prefixes, Global>,
+    pub(crate) table: Table<(), LogView, (), Prefixes, Global>,
     ghost one_word: { table.shared.table_id.words ≡ 1 },
 }
 
 /// The right to add to the history. It takes no bytes. Contracts see all items of the history.
 #[derive(Drop)]
 pub struct LogWriter {
-    pub(crate) seat: Seat<(), View>,
+    pub(crate) seat: Seat<(), LogView>,
     ghost holds_nothing: { seat.me.1 ≡ [] },
     ghost knows_all: { seat.me.0 ≡ writer_view seat.me.0.items },
 }
@@ -26,7 +26,7 @@ pub struct LogWriter {
 /// What the history was at some time. It takes no bytes. Contracts see its items then.
 #[derive(Drop)]
 pub struct LogSnapshot {
-    pub(crate) seat: Seat<(), View>,
+    pub(crate) seat: Seat<(), LogView>,
     ghost holds_nothing: { seat.me.1 ≡ [] },
     ghost knows_first: { seat.me.0 ≡ snapshot_view seat.me.0.items },
 }

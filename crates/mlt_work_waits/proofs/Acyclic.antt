@@ -39,7 +39,7 @@ splits_at which one waits x y (next ∷ more) (first, rest) =
       ]
     ]
 
--- **One more wait closes no circle, where its holder does not wait for its waiter, and this one waits for nobody yet.**
+-- **One more wait closes no cycle, where its holder does not wait for its waiter, and this one waits for nobody yet.**
 pub stays_acyclic : (which : Awaited) (one : Waiting) (waits : Waits) → IsAcyclic waits → ((y : ℕ) → IsFor waits one.waiter y → ⊥) → (LeadsTo waits one.holder one.waiter → ⊥) → IsAcyclic (joined which one waits)
 stays_acyclic which one waits was idle apart = record {
   functional = λ x y z for other. elim (for_one_more which one waits x y for) [
@@ -52,9 +52,9 @@ stays_acyclic which one waits was idle apart = record {
       | inr same ↦ sym is.1 ∙ same.1
     ]
   ];
-  no_circle = λ x y for back. elim (for_one_more which one waits x y for) [
+  no_cycle = λ x y for back. elim (for_one_more which one waits x y for) [
     | inl old ↦ elim (splits_at which one waits y x back.0 back.1) [
-      | inl on ↦ was.no_circle x y old on
+      | inl on ↦ was.no_cycle x y old on
       | inr both ↦ apart (leads_on waits one.holder x one.waiter both.1.0 both.1.1 (y ∷ both.0.0, (old, both.0.1)))
     ]
     | inr is ↦ elim (splits_at which one waits y x back.0 back.1) [
@@ -72,11 +72,11 @@ leads_fewer : (fewer waits : Waits) → AreAmong fewer waits → (x y : ℕ) (pa
 leads_fewer fewer waits among x y [] same = same
 leads_fewer fewer waits among x y (next ∷ more) (first, rest) = (among x next first, leads_fewer fewer waits among next y more rest)
 
--- **Fewer waits close no circle.**
+-- **Fewer waits close no cycle.**
 acyclic_fewer : (fewer waits : Waits) → AreAmong fewer waits → IsAcyclic waits → IsAcyclic fewer
 acyclic_fewer fewer waits among was = record {
   functional = λ x y z for other. was.functional x y z (among x y for) (among x z other);
-  no_circle = λ x y for back. was.no_circle x y (among x y for) (back.0, leads_fewer fewer waits among y x back.0 back.1);
+  no_cycle = λ x y for back. was.no_cycle x y (among x y for) (back.0, leads_fewer fewer waits among y x back.0 back.1);
 }
 
 -- who still waits waited before
@@ -105,9 +105,9 @@ objects_are_among waits x y (inr none) = absurd none
 pub objects_are_acyclic : (waits : Waits) → IsAcyclic waits → IsAcyclic (for_objects waits)
 objects_are_acyclic waits was = acyclic_fewer (for_objects waits) waits (objects_are_among waits) was
 
--- **Nobody waits in a circle where nobody waits.**
+-- **Nobody waits in a cycle where nobody waits.**
 pub nobody_is_acyclic : IsAcyclic nobody_waits
 nobody_is_acyclic = record {
   functional = λ x y z for other. elim for [ inl none ↦ absurd none | inr none ↦ absurd none ];
-  no_circle = λ x y for back. elim for [ inl none ↦ none | inr none ↦ none ];
+  no_cycle = λ x y for back. elim for [ inl none ↦ none | inr none ↦ none ];
 }

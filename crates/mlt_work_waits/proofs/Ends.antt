@@ -1,4 +1,4 @@
--- From each the waits lead to one that waits for nobody, as there are finitely many and no circle
+-- From each the waits lead to one that waits for nobody, as there are finitely many and no cycle
 use Rattle.std.proofs.Common.{◌≡◌, ℕ, zero, suc, ◌+◌, ◌≤◌, ◌⊎◌, List, [], ◌∷◌, ◌++◌, length, length-append, None, Some, refl, sym, subst, ◌∙◌, inl, inr, arith}
 use Rattle.mlt_work_waits.specs.declared.wait.Waiting.{Waiting}
 use Rattle.mlt_work_waits.specs.Waits.{IsAcyclic, IsAmong, IsAwake, IsFor, LeadsBy, LeadsTo, LeadToAwake, Waits, holder_of}
@@ -90,7 +90,7 @@ leads_along waits x y (next ∷ more) (first, rest) z (inr has) = let on = leads
 apart_along : (waits : Waits) (x y : ℕ) (path : List ℕ) → IsAcyclic waits → LeadsBy waits x path y → Apart (waiting_along x path)
 apart_along waits x y [] acyclic by = tt
 apart_along waits x y (next ∷ more) acyclic (first, rest) = (
-  λ again. acyclic.no_circle x next first (leads_along waits next y more rest x again),
+  λ again. acyclic.no_cycle x next first (leads_along waits next y more rest x again),
   apart_along waits next y more acyclic rest,
 )
 

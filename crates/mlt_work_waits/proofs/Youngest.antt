@@ -1,9 +1,9 @@
--- Walking a circle of waits for objects, and which of them is the youngest
+-- Walking a cycle of waits for objects, and which of them is the youngest
 use Rattle.std.proofs.Common.{◌≡◌, ◌⊎◌, ◌∙◌, ◌+◌, ◌<◌, ℕ, Bool, true, false, List, [], ◌∷◌, ◌++◌, length, Option, None, Some, refl, sym, subst, ap, inl, inr, arith, le-ltb, ltb-false, ltb-true}
 use Rattle.std.proofs.lemmas.Bool.{false≢true}
 use Rattle.std.specs.Option.{option_map, option_or}
 use Rattle.mlt_work_waits.specs.declared.wait.Waiting.{Waiting}
-use Rattle.mlt_work_waits.specs.Waits.{Deadlocks, IsAcyclic, IsAmong, IsFor, IsOfCircle, IsOnWay, IsYoungest, LeadsBy, LeadsTo, Waits, for_objects, holder_of, is_later, is_younger, wait_in}
+use Rattle.mlt_work_waits.specs.Waits.{Deadlocks, IsAcyclic, IsAmong, IsFor, IsOfCycle, IsOnWay, IsYoungest, LeadsBy, LeadsTo, Waits, for_objects, holder_of, is_later, is_younger, wait_in}
 use Rattle.mlt_work_waits.proofs.Acyclic.{leads_on, objects_are_acyclic}
 use Rattle.mlt_work_waits.proofs.Ends.{ways_end}
 use Rattle.mlt_work_waits.proofs.Found.{found_is_wait}
@@ -59,7 +59,7 @@ module _ (waits : Waits) (acyclic : IsAcyclic waits) where
   -- no wait stands on a way from one back to it
   none_around : (x : ℕ) (other : Waiting) → IsOnWay waits x x other → ⊥
   none_around x other way =
-      (objects_are_acyclic waits acyclic).no_circle other.waiter other.holder (for_holder other.waiter other way.stands)
+      (objects_are_acyclic waits acyclic).no_cycle other.waiter other.holder (for_holder other.waiter other way.stands)
       (leads_on (for_objects waits) other.holder x other.waiter way.behind.0 way.behind.1 way.before)
 
   -- So many waits were followed from a wait's holder, of which, with the wait itself, this one is the youngest.
@@ -133,15 +133,15 @@ module _ (waits : Waits) (acyclic : IsAcyclic waits) where
     ];
   }
 
-  -- **Back at the waiter, the youngest of the way is that of the circle.**
+  -- **Back at the waiter, the youngest of the way is that of the cycle.**
   pub walked_around : (wait youngest : Waiting) (at count : ℕ) → Walked wait at youngest count → at ≡ wait.waiter → IsYoungest wait waits youngest
   walked_around wait youngest at count w same = record {
     closes = (w.path, subst (LeadsBy (for_objects waits) wait.holder w.path) same w.by);
-    of_circle = elim w.of_way [
+    of_cycle = elim w.of_way [
       | inl is ↦ inl is
       | inr way ↦ inr (subst (λ n. IsOnWay waits wait.holder n youngest) same way)
     ];
-    youngest = λ other of_circle. elim of_circle [
+    youngest = λ other of_cycle. elim of_cycle [
       | inl is ↦ subst (λ o. is_younger o youngest ≡ false) (sym is) w.own
       | inr way ↦ elim (w.others other way) [
         | inl not ↦ not
@@ -150,7 +150,7 @@ module _ (waits : Waits) (acyclic : IsAcyclic waits) where
     ];
   }
 
-  -- **Where the way ends before, there is no circle,**
+  -- **Where the way ends before, there is no cycle,**
   pub walked_to_end : (wait youngest : Waiting) (at count : ℕ) → Walked wait at youngest count → (at ≡ wait.waiter → ⊥) → wait_in waits.objects at ≡ None → Deadlocks wait waits → ⊥
   walked_to_end wait youngest at count w apart none closes =
       leads_nowhere (for_objects waits) at wait.waiter (none_seen at none) apart (w.leads closes)

@@ -104,22 +104,22 @@ IsFunctional waits = (x y z : ℕ) → IsFor waits x y → IsFor waits x z → y
 -- Nobody waits for two, and whom somebody waits for never waits for it, be it by way of others.
 pub record IsAcyclic (waits : Waits) : Type 0 where
   pub functional : IsFunctional waits
-  pub no_circle : (x y : ℕ) → IsFor waits x y → LeadsTo waits y x → ⊥
+  pub no_cycle : (x y : ℕ) → IsFor waits x y → LeadsTo waits y x → ⊥
 
--- One more wait finds room, is the first of its transaction, and closes no circle.
+-- One more wait finds room, is the first of its transaction, and closes no cycle.
 pub record CanJoin (awaited : Awaited) (wait : Waiting) (waits : Waits) : Type 0 where
   pub room : length (waits_of awaited waits) < 64
   pub first : IsAwake waits wait.waiter
   pub open_end : LeadsTo waits wait.holder wait.waiter → ⊥
 
--- there is no room for one more wait, or it waits already, or the wait would close a circle
+-- there is no room for one more wait, or it waits already, or the wait would close a cycle
 abbrev pub CantJoin : Awaited → Waiting → Waits → Type 0
 CantJoin awaited wait waits =
     (length (waits_of awaited waits) ≡ 64)
     ⊎ (((y : ℕ) × IsFor waits wait.waiter y)
     ⊎ LeadsTo waits wait.holder wait.waiter)
 
--- the wait would close a circle with waits for objects alone
+-- the wait would close a cycle with waits for objects alone
 abbrev pub Deadlocks : Waiting → Waits → Type 0
 Deadlocks wait waits = LeadsTo (for_objects waits) wait.holder wait.waiter
 
@@ -130,11 +130,11 @@ pub record IsOnWay (waits : Waits) (x y : ℕ) (wait : Waiting) : Type 0 where
   pub behind : LeadsTo (for_objects waits) wait.holder y
 
 -- one is the wait itself, or stands on the way that leads back to it
-abbrev pub IsOfCircle : Waiting → Waits → Waiting → Type 0
-IsOfCircle wait waits one = (one ≡ wait) ⊎ IsOnWay waits wait.holder wait.waiter one
+abbrev pub IsOfCycle : Waiting → Waits → Waiting → Type 0
+IsOfCycle wait waits one = (one ≡ wait) ⊎ IsOnWay waits wait.holder wait.waiter one
 
--- The wait would close a circle, of which none is younger than this one.
+-- The wait would close a cycle, of which none is younger than this one.
 pub record IsYoungest (wait : Waiting) (waits : Waits) (one : Waiting) : Type 0 where
   pub closes : Deadlocks wait waits
-  pub of_circle : IsOfCircle wait waits one
-  pub youngest : (other : Waiting) → IsOfCircle wait waits other → is_younger other one ≡ false
+  pub of_cycle : IsOfCycle wait waits one
+  pub youngest : (other : Waiting) → IsOfCycle wait waits other → is_younger other one ≡ false

@@ -1,5 +1,5 @@
 //! Which transactions wait for which: a waits-for graph (Bernstein, Hadzilacos and Goodman, Concurrency Control and
-//! Recovery in Database Systems, 1987, section 3.4). No circle ever stands in it: a wait that would close one is not taken in.
+//! Recovery in Database Systems, 1987, section 3.4). No cycle ever stands in it: a wait that would close one is not taken in.
 #![tactic(auto)]
 
 mod wait;

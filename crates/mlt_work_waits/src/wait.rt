@@ -28,11 +28,11 @@ pub enum Whose {
     All,
 }
 
-/// What wakes one sleeper: the number of a condition variable, 0 to 255.
+/// What wakes one sleeping thread: the number of a condition variable, 0 to 255.
 #[derive(Clone, Copy, Debug, Default, PartialEq, Eq)]
 pub struct Waker(pub u8);
 
-/// Those of sleepers that are to be woken, in turn: room for all who wait, and for those who wait for one kind of lock once more.
+/// Those of sleeping threads that are to be woken, in turn: room for all who wait, and for those who wait for one kind of lock once more.
 pub type Wakers = ArrayVec<Waker, 192>;
 
 /// One transaction waits for a lock of another, or for its turn behind it, and is woken by its waker.

@@ -10,7 +10,7 @@ use mlt_types::TxId;
 use std::marker::Model;
 
 /// Which transactions wait for which, at most 64 for locks of objects and 64 for locks of pages. It takes no memory. A
-/// contract sees both lists. Nobody waits for two, or in a circle.
+/// contract sees both lists. Nobody waits for two, or in a cycle.
 #[derive(Debug, Drop)]
 pub struct WaitsFor {
     objects: ArrayVec<Waiting, 64>,
@@ -72,17 +72,17 @@ impl WaitsFor {
         self.holder_of(tx).is_none()
     }
 
-    /// The youngest wait of the circle that this one would close with others for objects, if it would close one.
+    /// The youngest wait of the cycle that this one would close with others for objects, if it would close one.
     pub fn youngest(&self, wait: &Waiting) -> Option<Waiting>
         ensures youngest { IfSome result (IsYoungest wait.now self.now) }
         ensures free { IfNone result (Deadlocks wait.now self.now → ⊥) }
     {
-        // That no circle stands is known where the waits are read.
+        // That no cycle stands is known where the waits are read.
         let _objects = &self.objects;
         self.youngest_along(wait)
     }
 
-    /// A transaction begins to wait. Where that would close a circle it doesn't, and it doesn't where there is no room for
+    /// A transaction begins to wait. Where that would close a cycle it doesn't, and it doesn't where there is no room for
     /// one more, or where it waits already; then the answer is `false`.
     pub fn join(&mut self, awaited: Awaited, wait: Waiting) -> bool
         ensures can { result ≡ true → CanJoin awaited wait self.old }
@@ -116,7 +116,7 @@ impl WaitsFor {
         }
     }
 
-    /// Whether one more wait finds room, is the first of its transaction, and closes no circle.
+    /// Whether one more wait finds room, is the first of its transaction, and closes no cycle.
     fn can_join(&self, awaited: Awaited, wait: &Waiting) -> bool
         ensures can { IsAcyclic self.now → result ≡ true → CanJoin awaited wait.now self.now }
         ensures cant { IsAcyclic self.now → result ≡ false → CantJoin awaited wait.now self.now }
@@ -166,7 +166,7 @@ impl WaitsFor {
         true
     }
 
-    /// The youngest wait of the circle that this one would close with others for objects, if it would close one.
+    /// The youngest wait of the cycle that this one would close with others for objects, if it would close one.
     fn youngest_along(&self, wait: &Waiting) -> Option<Waiting>
         ensures youngest { IsAcyclic self.now → IfSome result (IsYoungest wait.now self.now) }
         ensures free { IsAcyclic self.now → IfNone result (Deadlocks wait.now self.now → ⊥) }

@@ -7,7 +7,7 @@ use std::io::{Read, Stdin};
 
 // Where the program reads from.
 #[derive(Drop)]
-enum Source {
+enum InputSource {
     // Standard input.
     Standard(Stdin),
     // A file.
@@ -17,7 +17,7 @@ enum Source {
 /// An input, and what is known of it once it was read.
 #[derive(Drop)]
 pub(crate) struct Input {
-    source: Source,
+    source: InputSource,
     // How many bytes came.
     length: usize,
     // These bytes, where they are kept.
@@ -34,9 +34,9 @@ impl Input {
     /// The system's, where the file can't be opened.
     pub(crate) fn open(rt: &HostRuntime, file: &str, keeps: bool) -> io::Result<Input> {
         let source = if file == "-" {
-            Source::Standard(rt.stdin())
+            InputSource::Standard(rt.stdin())
         } else {
-            Source::Opened(File::open(rt, file)?)
+            InputSource::Opened(File::open(rt, file)?)
         };
         Ok(Input {
             source,
@@ -78,8 +78,8 @@ impl Input {
 impl Read for Input {
     fn read(&mut self, buf: &mut [u8]) -> io::Result<usize> {
         let told = match &mut self.source {
-            Source::Standard(stdin) => stdin.read(buf),
-            Source::Opened(file) => file.read(buf),
+            InputSource::Standard(stdin) => stdin.read(buf),
+            InputSource::Opened(file) => file.read(buf),
         };
         match told {
             Ok(count) => self.keep(&buf[..count]),

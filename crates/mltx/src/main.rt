@@ -350,7 +350,7 @@ fn write_history<P: Pseudo>(
     manager: &Manager<P>,
     run: &Run,
 ) -> Result<(), Failure>
-    requires { manager.now.commons.history.handed ≡ [] }
+    requires { manager.now.shared.history.handed ≡ [] }
 {
     let Some(file) = &run.trace else {
         return Ok(());

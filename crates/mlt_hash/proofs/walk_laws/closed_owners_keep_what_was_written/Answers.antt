@@ -5,4 +5,4 @@ pub returns-clause-stood : goal.returns-clause-stood
 returns-clause-stood c = λ written tx old new stood more. still_stood written tx old new stood more
 
 pub returns-clause-no_more : goal.returns-clause-no_more
-returns-clause-no_more c = λ written tx opens fewer view stood is_open no_more. keeps_no_more_written written tx opens fewer view stood is_open no_more
+returns-clause-no_more c = λ written tx active fewer view stood is_open no_more. keeps_no_more_written written tx active fewer view stood is_open no_more

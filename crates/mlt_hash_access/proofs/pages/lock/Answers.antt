@@ -1,7 +1,7 @@
 use Rattle.std.proofs.Common.{ap, refl}
 use Rattle.mlt_page_store.specs.Stores.{page_at}
 use Rattle.mlt_hash_form.proofs.HeldPages.{seen_as}
-use Rattle.mlt_hash_access.specs.Moments.{Moment, moment}
+use Rattle.mlt_hash_access.specs.LocalStates.{LocalState, local}
 use Rattle.mlt_hash_access.specs.PageSteps.{LocksPage}
 use Rattle.mlt_hash_access.proofs.Leaving.{leaves_by_locking, leaves_it}
 use Rattle.mlt_hash_access.proofs.Results.{lock_granted}
@@ -9,11 +9,11 @@ use Rattle.mlt_hash_access.proofs.Views.{lock_reads}
 use Rattle.mlt_hash_access.proofs.pages.lock.Goals.{After-ask, In-Held}
 use Rattle.mlt_hash_access.proofs.pages.lock.Goals as goal
 
-abbrev before : After-ask → Moment
-before c = moment c.args.subtx.now c.args.pages.now
+abbrev before : After-ask → LocalState
+before c = local c.args.subtx.now c.args.pages.now
 
-abbrev after : After-ask → Moment
-after c = moment c.args.subtx.now (record { store = c.args.pages.now.store; locks = c.ask.new.self })
+abbrev after : After-ask → LocalState
+after c = local c.args.subtx.now (record { store = c.args.pages.now.store; locks = c.ask.new.self })
 
 told : (c : In-Held) → LocksPage (before c.before) (after c.before) c.args.number c.args.mode
 told c = lock_granted (before c.before) c.ask.new.self c.tx.result c.args.number c.args.mode c.tx.ensures c.requires.there c.in-Held.ensures.answer
@@ -27,4 +27,4 @@ pub returns-in-Held-clause-leaves : goal.returns-in-Held-clause-leaves
 returns-in-Held-clause-leaves c = leaves_by_locking (before c.before) (after c.before) _ c.args.number c.args.mode c.requires.may (told c) refl
 
 pub returns-in-Waiting-clause-leaves : goal.returns-in-Waiting-clause-leaves
-returns-in-Waiting-clause-leaves c = leaves_it (before c.before) _ c.requires.may (ap (λ locks. moment c.args.subtx.now (record { store = c.args.pages.now.store; locks = locks })) c.in-Waiting.ensures.answer.1)
+returns-in-Waiting-clause-leaves c = leaves_it (before c.before) _ c.requires.may (ap (λ locks. local c.args.subtx.now (record { store = c.args.pages.now.store; locks = locks })) c.in-Waiting.ensures.answer.1)

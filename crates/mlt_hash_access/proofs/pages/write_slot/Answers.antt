@@ -1,13 +1,13 @@
-use Rattle.mlt_hash_access.specs.Moments.{Moment, moment}
+use Rattle.mlt_hash_access.specs.LocalStates.{LocalState, local}
 use Rattle.mlt_hash_access.proofs.Results.{bucket_there, slot_leaves, slot_writes, slot_writes_in_view}
 use Rattle.mlt_hash_access.proofs.pages.write_slot.Goals as goal
 
-abbrev before : goal.After-write_slot → Moment
-before c = moment c.args.subtx.now c.args.pages.now
+abbrev before : goal.After-write_slot → LocalState
+before c = local c.args.subtx.now c.args.pages.now
 
 pub write_slot-requires-clause-bucket : goal.write_slot-requires-clause-bucket
 write_slot-requires-clause-bucket c =
-    let before : Moment = moment c.args.subtx.now c.args.pages.now in
+    let before : LocalState = local c.args.subtx.now c.args.pages.now in
     (c.requires.bucket.0, bucket_there before c.args.number c.requires.bucket.0 c.requires.may c.requires.held c.requires.bucket.1)
 
 pub returns-clause-writes : goal.returns-clause-writes

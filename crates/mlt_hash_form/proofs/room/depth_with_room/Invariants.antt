@@ -4,4 +4,4 @@ use Rattle.mlt_hash_form.proofs.room.depth_with_room.Given as goal
 
 abbrev pub invariant-loop-depth : goal.invariant-loop-depth
 invariant-loop-depth g l =
-    (d : ℕ) → l.bucket.depth ≤ d → d < l.depth → is_crowded (g.P.Pseudo.bits_of l.pseudo) l.opens d l.bits l.bucket.slots ≡ true
+    (d : ℕ) → l.bucket.depth ≤ d → d < l.depth → is_crowded (g.P.Pseudo.bits_of l.pseudo) l.active d l.bits l.bucket.slots ≡ true

@@ -3,7 +3,7 @@ use Rattle.mlt_types.specs.declared.mode.Mode.TheVariants.{Exclusive}
 use Rattle.std.proofs.Common.{◌≡◌, ℕ, ◌+◌, ◌*◌, ◌≤◌, ◌<◌, ◌^◌, Some, ap, sym, subst, refl, arith}
 use Rattle.mlt_page.specs.declared.page.Page.TheVariants as page
 use Rattle.mlt_hash_form.specs.Splits.{IsDoubled}
-use Rattle.mlt_hash_access.specs.Moments.{Moment, moment}
+use Rattle.mlt_hash_access.specs.LocalStates.{LocalState, local}
 use Rattle.mlt_hash_access.specs.PageSteps.{LocksPage}
 use Rattle.mlt_hash_split.proofs.HeldPages.{agrees_later, clean_now, file_is_there, header_as_read, reads_held}
 use Rattle.mlt_hash_split.specs.declared.phase.SplitPhase.TheVariants as at
@@ -14,7 +14,7 @@ use Rattle.mlt_page.specs.Bits.{first_bits}
 use Rattle.mlt_hash_split.specs.contracts.split.Split.{the_view}
 use Rattle.mlt_hash_access.proofs.Views.{reads_held_after, reads_seen}
 use Rattle.mlt_hash_access.proofs.Rebased.{rebased_reads_page, rebased_writes_page}
-use Rattle.mlt_hash_access.proofs.Leaving.{leaves_by_locking, leaves_by_rewriting, leaves_it, same_moment}
+use Rattle.mlt_hash_access.proofs.Leaving.{leaves_by_locking, leaves_by_rewriting, leaves_it, same_local}
 use Rattle.mlt_hash_split.proofs.Later.{locked_may_be_written}
 use Rattle.mlt_hash_split.proofs.Doubling.{IsRewrite, depth_of_double, few_at_double, goes_on_to_the_only_header, goes_on_to_the_second_half, next_is_read, next_is_there, place_of_double}
 use Rattle.mlt_hash_split.proofs.double.double_page.Given.{Over}
@@ -22,66 +22,66 @@ use Rattle.mlt_hash_split.proofs.double.double_page.Goals.{After-first_bits, Sta
 use Rattle.mlt_hash_split.proofs.double.double_page.Goals as goal
 
 place : (g : Over) (c : Start g) → c.args.place < 128
-place g c = place_of_double g.aim (moment c.args.subtx.now c.args.pages.now) c.args.split.now c.args.place c.requires.0 c.requires.1.1.may (clean_now g.aim (moment c.args.subtx.now c.args.pages.now) c.requires.1.1.may c.requires.1.1.file) c.requires.1.1.under_way
+place g c = place_of_double g.target (local c.args.subtx.now c.args.pages.now) c.args.split.now c.args.place c.requires.0 c.requires.1.1.may (clean_now g.target (local c.args.subtx.now c.args.pages.now) c.requires.1.1.may c.requires.1.1.file) c.requires.1.1.under_way
 
 few : (g : Over) (c : After-first_bits g) → 2 ^ c.split.inside.directory_depth ≤ 2 ^ 16
 few g c =
-    let old = moment c.args.subtx.now c.args.pages.now in
-    let depth = depth_of_double g.aim old c.args.split.now c.args.place c.requires.0 c.requires.1.1.may (clean_now g.aim old c.requires.1.1.may c.requires.1.1.file) c.requires.1.1.under_way in
+    let old = local c.args.subtx.now c.args.pages.now in
+    let depth = depth_of_double g.target old c.args.split.now c.args.place c.requires.0 c.requires.1.1.may (clean_now g.target old c.requires.1.1.may c.requires.1.1.file) c.requires.1.1.under_way in
     let same = ap (λ (s : SplitFields). s.directory_depth) c.split.view_is in
     let deep : c.split.inside.directory_depth ≤ 16 = omega (arith, same, depth.0) in
     pow-le-pow_right {n = 2} (omega arith) deep
 
 pub read_held_head-header-requires-clause-head : goal.read_held_head-header-requires-clause-head
 read_held_head-header-requires-clause-head g c =
-    let old = moment c.args.subtx.now c.args.pages.now in
+    let old = local c.args.subtx.now c.args.pages.now in
     let under = c.requires.1.1.under_way in
-    (under.header, reads_held g.aim.before old c.args.root g.aim.root (page.Head under.header) c.requires.1.0 c.requires.1.1.written under.head_held under.head)
+    (under.header, reads_held g.target.before old c.args.root g.target.root (page.Head under.header) c.requires.1.0 c.requires.1.1.written under.head_held under.head)
 
 pub dir-number-requires : goal.dir-number-requires
 dir-number-requires g c = let place = place g (goal.at.dir-number-requires g c).Start in omega (arith, place)
 
 pub lock-requires-clause-few : goal.lock-requires-clause-few
 lock-requires-clause-few g c =
-    let old = moment c.args.subtx.now c.args.pages.now in
-    few_at_double g.aim old c.args.split.now c.args.place c.requires.0 c.requires.1.1.may (clean_now g.aim old c.requires.1.1.may c.requires.1.1.file) c.requires.1.1.under_way
+    let old = local c.args.subtx.now c.args.pages.now in
+    few_at_double g.target old c.args.split.now c.args.place c.requires.0 c.requires.1.1.may (clean_now g.target old c.requires.1.1.may c.requires.1.1.file) c.requires.1.1.under_way
 
 pub lock-requires-clause-there : goal.lock-requires-clause-there
 lock-requires-clause-there g c =
-    let old = moment c.args.subtx.now c.args.pages.now in
-    let read = header_as_read g.aim.before old c.args.root g.aim.root c.read_held_head-header.result.now c.requires.1.0 c.requires.1.1.written c.read_held_head-header.ensures.reads in
-    next_is_there g.aim old c.args.split.now c.args.place c.dir-number.result c.read_held_head-header.result.now c.requires.0 c.requires.1.1.may (clean_now g.aim old c.requires.1.1.may c.requires.1.1.file) c.requires.1.1.under_way read c.dir-number.ensures (file_is_there g.aim old c.requires.1.1.may c.requires.1.1.written c.requires.1.1.file)
+    let old = local c.args.subtx.now c.args.pages.now in
+    let read = header_as_read g.target.before old c.args.root g.target.root c.read_held_head-header.result.now c.requires.1.0 c.requires.1.1.written c.read_held_head-header.ensures.reads in
+    next_is_there g.target old c.args.split.now c.args.place c.dir-number.result c.read_held_head-header.result.now c.requires.0 c.requires.1.1.may (clean_now g.target old c.requires.1.1.may c.requires.1.1.file) c.requires.1.1.under_way read c.dir-number.ensures (file_is_there g.target old c.requires.1.1.may c.requires.1.1.written c.requires.1.1.file)
 
 pub read_held_dir-dir-requires-clause-dir : goal.read_held_dir-dir-requires-clause-dir
 read_held_dir-dir-requires-clause-dir g c =
-    let old = moment c.args.subtx.now c.args.pages.now in
-    let mid = moment c.args.subtx.now c.lock.new.pages in
-    let read = header_as_read g.aim.before old c.args.root g.aim.root c.read_held_head-header.result.now c.requires.1.0 c.requires.1.1.written c.read_held_head-header.ensures.reads in
+    let old = local c.args.subtx.now c.args.pages.now in
+    let mid = local c.args.subtx.now c.lock.new.pages in
+    let read = header_as_read g.target.before old c.args.root g.target.root c.read_held_head-header.result.now c.requires.1.0 c.requires.1.1.written c.read_held_head-header.ensures.reads in
     let sees = c.in_default.ensures.view in
-    let agreed = agrees_later g.aim old mid c.requires.1.1.may c.lock.ensures.leaves.may c.requires.1.1.file (c.lock.ensures.leaves.clean c.requires.1.1.file.clean c.requires.1.1.file.is_clean) in
-    let next = next_is_read g.aim old c.args.split.now c.args.place c.dir-number.result c.read_held_head-header.result.now c.requires.0 c.requires.1.1.may (clean_now g.aim old c.requires.1.1.may c.requires.1.1.file) c.requires.1.1.under_way read c.dir-number.ensures mid sees.0 agreed (rebased_reads_page g.aim.before (view_of old) (view_of mid) c.requires.1.1.written c.dir-number.result Exclusive sees.0 sees.1) in
+    let agreed = agrees_later g.target old mid c.requires.1.1.may c.lock.ensures.leaves.may c.requires.1.1.file (c.lock.ensures.leaves.clean c.requires.1.1.file.clean c.requires.1.1.file.is_clean) in
+    let next = next_is_read g.target old c.args.split.now c.args.place c.dir-number.result c.read_held_head-header.result.now c.requires.0 c.requires.1.1.may (clean_now g.target old c.requires.1.1.may c.requires.1.1.file) c.requires.1.1.under_way read c.dir-number.ensures mid sees.0 agreed (rebased_reads_page g.target.before (view_of old) (view_of mid) c.requires.1.1.written c.dir-number.result Exclusive sees.0 sees.1) in
     (next.0, reads_held_after (view_of old) (view_of mid) c.dir-number.result Exclusive (page.Dir next.0) sees next.1)
 
 pub returns-in-Err-clause-leaves : goal.returns-in-Err-clause-leaves
 returns-in-Err-clause-leaves g c =
-    let old = moment c.args.subtx.now c.args.pages.now in
-    leaves_it old (moment c.args.subtx.now c.lock.new.pages) c.requires.1.1.may (same_moment _ _ _ _ refl c.in-Err.ensures.waits.1)
+    let old = local c.args.subtx.now c.args.pages.now in
+    leaves_it old (local c.args.subtx.now c.lock.new.pages) c.requires.1.1.may (same_local _ _ _ _ refl c.in-Err.ensures.waits.1)
 
 pub returns-in-Err-clause-steps : goal.returns-in-Err-clause-steps
 returns-in-Err-clause-steps g c =
-    let old = moment c.args.subtx.now c.args.pages.now in
-    same_moment _ _ _ _ refl c.in-Err.ensures.waits.1
+    let old = local c.args.subtx.now c.args.pages.now in
+    same_local _ _ _ _ refl c.in-Err.ensures.waits.1
 
 pub returns-in-Err-clause-tells : goal.returns-in-Err-clause-tells
 returns-in-Err-clause-tells g c =
-    let old = moment c.args.subtx.now c.args.pages.now in
-    let read = header_as_read g.aim.before old c.args.root g.aim.root c.read_held_head-header.result.now c.requires.1.0 c.requires.1.1.written c.read_held_head-header.ensures.reads in
-    (next_page_at g.aim old old c.args.split.now (at.Double c.args.place) c.requires.0 c.dir-number.result (c.read_held_head-header.result.now, read, c.dir-number.ensures), c.in-Err.ensures.waits.0, same_moment _ _ _ _ refl c.in-Err.ensures.waits.1, refl)
+    let old = local c.args.subtx.now c.args.pages.now in
+    let read = header_as_read g.target.before old c.args.root g.target.root c.read_held_head-header.result.now c.requires.1.0 c.requires.1.1.written c.read_held_head-header.ensures.reads in
+    (next_page_at g.target old old c.args.split.now (at.Double c.args.place) c.requires.0 c.dir-number.result (c.read_held_head-header.result.now, read, c.dir-number.ensures), c.in-Err.ensures.waits.0, same_local _ _ _ _ refl c.in-Err.ensures.waits.1, refl)
 
 pub first_bits-requires : goal.first_bits-requires
 first_bits-requires g c =
-    let old = moment c.args.subtx.now c.args.pages.now in
-    let depth = depth_of_double g.aim old c.args.split.now c.args.place c.requires.0 c.requires.1.1.may (clean_now g.aim old c.requires.1.1.may c.requires.1.1.file) c.requires.1.1.under_way in
+    let old = local c.args.subtx.now c.args.pages.now in
+    let depth = depth_of_double g.target old c.args.split.now c.args.place c.requires.0 c.requires.1.1.may (clean_now g.target old c.requires.1.1.may c.requires.1.1.file) c.requires.1.1.under_way in
     let same = ap (λ (s : SplitFields). s.directory_depth) c.split.view_is in
     omega (arith, same, depth.0)
 
@@ -114,60 +114,60 @@ name_page-requires g c = let place = place g (goal.at.name_page-requires g c).St
 
 pub write_held-requires-clause-held : goal.write_held-requires-clause-held
 write_held-requires-clause-held g c =
-    let old = moment c.args.subtx.now c.args.pages.now in
-    locked_may_be_written old (moment c.args.subtx.now c.lock.new.pages) c.dir-number.result _ c.in_default.ensures.view.1
+    let old = local c.args.subtx.now c.args.pages.now in
+    locked_may_be_written old (local c.args.subtx.now c.lock.new.pages) c.dir-number.result _ c.in_default.ensures.view.1
 
 pub returns-in-Err-write_held-clause-leaves : goal.returns-in-Err-write_held-clause-leaves
 returns-in-Err-write_held-clause-leaves g c =
-    let old = moment c.args.subtx.now c.args.pages.now in
-    let mid = moment c.args.subtx.now c.lock.new.pages in
-    leaves_by_locking old mid (moment c.write_held.new.subtx c.write_held.new.pages) c.dir-number.result Exclusive c.requires.1.1.may c.in_default.ensures.locks (same_moment _ _ _ _ c.in-Err-write_held.ensures.err.0 c.in-Err-write_held.ensures.err.1)
+    let old = local c.args.subtx.now c.args.pages.now in
+    let mid = local c.args.subtx.now c.lock.new.pages in
+    leaves_by_locking old mid (local c.write_held.new.subtx c.write_held.new.pages) c.dir-number.result Exclusive c.requires.1.1.may c.in_default.ensures.locks (same_local _ _ _ _ c.in-Err-write_held.ensures.err.0 c.in-Err-write_held.ensures.err.1)
 
 pub returns-in-Err-write_held-clause-steps : goal.returns-in-Err-write_held-clause-steps
 returns-in-Err-write_held-clause-steps g c =
-    let old = moment c.args.subtx.now c.args.pages.now in
-    let mid = moment c.args.subtx.now c.lock.new.pages in
-    let new = moment c.write_held.new.subtx c.write_held.new.pages in
-    let read = header_as_read g.aim.before old c.args.root g.aim.root c.read_held_head-header.result.now c.requires.1.0 c.requires.1.1.written c.read_held_head-header.ensures.reads in
-    let same : new ≡ mid = same_moment _ _ _ _ c.in-Err-write_held.ensures.err.0 c.in-Err-write_held.ensures.err.1 in
-    left_at g.aim old new c.args.split.now (at.Double c.args.place) c.requires.0 (c.dir-number.result, (c.read_held_head-header.result.now, read, c.dir-number.ensures), subst (λ (n : Moment). LocksPage old n c.dir-number.result Exclusive) (sym same) c.in_default.ensures.locks)
+    let old = local c.args.subtx.now c.args.pages.now in
+    let mid = local c.args.subtx.now c.lock.new.pages in
+    let new = local c.write_held.new.subtx c.write_held.new.pages in
+    let read = header_as_read g.target.before old c.args.root g.target.root c.read_held_head-header.result.now c.requires.1.0 c.requires.1.1.written c.read_held_head-header.ensures.reads in
+    let same : new ≡ mid = same_local _ _ _ _ c.in-Err-write_held.ensures.err.0 c.in-Err-write_held.ensures.err.1 in
+    left_at g.target old new c.args.split.now (at.Double c.args.place) c.requires.0 (c.dir-number.result, (c.read_held_head-header.result.now, read, c.dir-number.ensures), subst (λ (n : LocalState). LocksPage old n c.dir-number.result Exclusive) (sym same) c.in_default.ensures.locks)
 
 pub returns-clause-steps : goal.returns-clause-steps
 returns-clause-steps g c =
-    let old = moment c.args.subtx.now c.args.pages.now in
-    let mid = moment c.args.subtx.now c.lock.new.pages in
-    let new = moment c.write_held.new.subtx c.write_held.new.pages in
-    let read = header_as_read g.aim.before old c.args.root g.aim.root c.read_held_head-header.result.now c.requires.1.0 c.requires.1.1.written c.read_held_head-header.ensures.reads in
-    done_at g.aim old new c.args.split.now (at.Double c.args.place) c.requires.0 (c.dir-number.result, (c.read_held_head-header.result.now, read, c.dir-number.ensures), (mid, c.in_default.ensures.locks, (_, c.in_default-write_held.ensures.writes)))
+    let old = local c.args.subtx.now c.args.pages.now in
+    let mid = local c.args.subtx.now c.lock.new.pages in
+    let new = local c.write_held.new.subtx c.write_held.new.pages in
+    let read = header_as_read g.target.before old c.args.root g.target.root c.read_held_head-header.result.now c.requires.1.0 c.requires.1.1.written c.read_held_head-header.ensures.reads in
+    done_at g.target old new c.args.split.now (at.Double c.args.place) c.requires.0 (c.dir-number.result, (c.read_held_head-header.result.now, read, c.dir-number.ensures), (mid, c.in_default.ensures.locks, (_, c.in_default-write_held.ensures.writes)))
 
 pub returns-clause-leaves : goal.returns-clause-leaves
 returns-clause-leaves g c =
-    let old = moment c.args.subtx.now c.args.pages.now in
-    leaves_by_rewriting old (moment c.args.subtx.now c.lock.new.pages) (moment c.write_held.new.subtx c.write_held.new.pages) c.dir-number.result Exclusive _ c.requires.1.1.may c.in_default.ensures.locks c.in_default-write_held.ensures.writes
+    let old = local c.args.subtx.now c.args.pages.now in
+    leaves_by_rewriting old (local c.args.subtx.now c.lock.new.pages) (local c.write_held.new.subtx c.write_held.new.pages) c.dir-number.result Exclusive _ c.requires.1.1.may c.in_default.ensures.locks c.in_default-write_held.ensures.writes
 
 pub returns-clause-tells : goal.returns-clause-tells
 returns-clause-tells g c =
-    let old = moment c.args.subtx.now c.args.pages.now in
-    let mid = moment c.args.subtx.now c.lock.new.pages in
-    let new = moment c.write_held.new.subtx c.write_held.new.pages in
+    let old = local c.args.subtx.now c.args.pages.now in
+    let mid = local c.args.subtx.now c.lock.new.pages in
+    let new = local c.write_held.new.subtx c.write_held.new.pages in
     let split = the_view c.split.inside in
     let place : 2 * c.first_bits.result + 1 ≡ 2 * first_bits split.directory_depth split.seed + 1 = ap (λ n. 2 * n + 1) c.first_bits.ensures.value in
     let one = c.doubled_page-first.ensures in
     let two = c.doubled_page-second.ensures in
-    let step : IsRewrite g.aim old mid new split c.args.place c.dir-number.result c.read_held_head-header.result.now c.read_held_dir-dir.result.now c.doubled_page-first.result c.doubled_page-second.result = record {
-      read = header_as_read g.aim.before old c.args.root g.aim.root c.read_held_head-header.result.now c.requires.1.0 c.requires.1.1.written c.read_held_head-header.ensures.reads;
+    let step : IsRewrite g.target old mid new split c.args.place c.dir-number.result c.read_held_head-header.result.now c.read_held_dir-dir.result.now c.doubled_page-first.result c.doubled_page-second.result = record {
+      read = header_as_read g.target.before old c.args.root g.target.root c.read_held_head-header.result.now c.requires.1.0 c.requires.1.1.written c.read_held_head-header.ensures.reads;
       listed = c.dir-number.ensures;
-      reads = rebased_reads_page g.aim.before (view_of old) (view_of mid) c.requires.1.1.written c.dir-number.result Exclusive (Some (page.Dir c.read_held_dir-dir.result.now)) (reads_seen (view_of old) (view_of mid) c.dir-number.result Exclusive (page.Dir c.read_held_dir-dir.result.now) c.in_default.ensures.view c.read_held_dir-dir.ensures.reads);
-      writes = rebased_writes_page g.aim.before (view_of mid) (view_of new) c.dir-number.result (page.Dir c.doubled_page-first.result) c.in_default-write_held.ensures.view;
+      reads = rebased_reads_page g.target.before (view_of old) (view_of mid) c.requires.1.1.written c.dir-number.result Exclusive (Some (page.Dir c.read_held_dir-dir.result.now)) (reads_seen (view_of old) (view_of mid) c.dir-number.result Exclusive (page.Dir c.read_held_dir-dir.result.now) c.in_default.ensures.view c.read_held_dir-dir.ensures.reads);
+      writes = rebased_writes_page g.target.before (view_of mid) (view_of new) c.dir-number.result (page.Dir c.doubled_page-first.result) c.in_default-write_held.ensures.view;
       one = record { size = one.size; entries = subst (λ (k : ℕ). IsDoubled c.read_held_dir-dir.result.now c.doubled_page-first.result (2 * c.args.place) k split.new_page) place one.entries };
       two = record { size = two.size; entries = subst (λ (k : ℕ). IsDoubled c.read_held_dir-dir.result.now c.doubled_page-second.result (2 * c.args.place + 1) k split.new_page) place two.entries };
       sized = c.name_page.ensures.places;
     } in
     elim c.if-split-lt8.branch [
       | then-split-lt8 w ↦
-          goes_on_to_the_only_header g.aim old mid new split c.args.split.now c.args.place c.dir-number.result c.read_held_head-header.result.now c.name_page.new.made c.read_held_dir-dir.result.now c.doubled_page-first.result c.doubled_page-second.result c.if-split-lt8.split c.split.view_is c.requires.0 c.requires.1.1.may (clean_now g.aim old c.requires.1.1.may c.requires.1.1.file) c.requires.1.1.under_way
+          goes_on_to_the_only_header g.target old mid new split c.args.split.now c.args.place c.dir-number.result c.read_held_head-header.result.now c.name_page.new.made c.read_held_dir-dir.result.now c.doubled_page-first.result c.doubled_page-second.result c.if-split-lt8.split c.split.view_is c.requires.0 c.requires.1.1.may (clean_now g.target old c.requires.1.1.may c.requires.1.1.file) c.requires.1.1.under_way
           step w.if-split-lt8.true c.name_page.ensures.named w.split-is
       | else-split-lt8 w ↦
-          goes_on_to_the_second_half g.aim old mid new split c.args.split.now c.args.place c.dir-number.result c.read_held_head-header.result.now c.name_page.new.made c.read_held_dir-dir.result.now c.doubled_page-first.result c.doubled_page-second.result c.if-split-lt8.split c.split.view_is c.requires.0 c.requires.1.1.may (clean_now g.aim old c.requires.1.1.may c.requires.1.1.file) c.requires.1.1.under_way
+          goes_on_to_the_second_half g.target old mid new split c.args.split.now c.args.place c.dir-number.result c.read_held_head-header.result.now c.name_page.new.made c.read_held_dir-dir.result.now c.doubled_page-first.result c.doubled_page-second.result c.if-split-lt8.split c.split.view_is c.requires.0 c.requires.1.1.may (clean_now g.target old c.requires.1.1.may c.requires.1.1.file) c.requires.1.1.under_way
           step w.if-split-lt8.false c.name_page.ensures.named w.split-is
     ]

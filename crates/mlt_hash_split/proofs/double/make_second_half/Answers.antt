@@ -1,6 +1,6 @@
 use Rattle.std.proofs.Common.{◌≡◌, ◌<◌, ◌-◌, ◌*◌, ◌%◌, ◌^◌, ap, arith}
 use Rattle.std.proofs.lemmas.Nat.{one_shl}
-use Rattle.mlt_hash_access.specs.Moments.{moment}
+use Rattle.mlt_hash_access.specs.LocalStates.{local}
 use Rattle.mlt_hash_split.proofs.HeldPages.{clean_now}
 use Rattle.mlt_hash_split.specs.Splits.{SplitFields}
 use Rattle.mlt_hash_split.specs.declared.phase.SplitPhase.TheVariants as at
@@ -9,7 +9,7 @@ use Rattle.mlt_hash_split.specs.contracts.split.Split.{the_view}
 use Rattle.mlt_page.specs.declared.page.Page.TheVariants as page
 use Rattle.mlt_hash_access.specs.Views.{view_of}
 use Rattle.mlt_hash_access.proofs.Rebased.{rebased_makes_page}
-use Rattle.mlt_hash_access.proofs.Leaving.{leaves_by_making, leaves_it, same_moment}
+use Rattle.mlt_hash_access.proofs.Leaving.{leaves_by_making, leaves_it, same_local}
 use Rattle.mlt_hash_split.proofs.Later.{refused_to_make}
 use Rattle.mlt_hash_split.proofs.SecondHalf.{depth_of_second_half, few_at_second_half, place_of_second_half, goes_on_to_another_page, goes_on_to_the_header}
 use Rattle.mlt_hash_split.proofs.double.make_second_half.Given.{Over}
@@ -17,46 +17,46 @@ use Rattle.mlt_hash_split.proofs.double.make_second_half.Goals.{Start, then-plac
 use Rattle.mlt_hash_split.proofs.double.make_second_half.Goals as goal
 
 place : (g : Over) (c : Start g) → c.args.place < 128
-place g c = place_of_second_half g.aim (moment c.args.subtx.now c.args.pages.now) c.args.split.now c.args.place c.requires.0 c.requires.1.may (clean_now g.aim (moment c.args.subtx.now c.args.pages.now) c.requires.1.may c.requires.1.file) c.requires.1.under_way
+place g c = place_of_second_half g.target (local c.args.subtx.now c.args.pages.now) c.args.split.now c.args.place c.requires.0 c.requires.1.may (clean_now g.target (local c.args.subtx.now c.args.pages.now) c.requires.1.may c.requires.1.file) c.requires.1.under_way
 
 pub make_page-requires-clause-few : goal.make_page-requires-clause-few
 make_page-requires-clause-few g c =
-    let old = moment c.args.subtx.now c.args.pages.now in
-    few_at_second_half g.aim old c.args.split.now c.args.place c.requires.0 c.requires.1.may (clean_now g.aim old c.requires.1.may c.requires.1.file) c.requires.1.under_way
+    let old = local c.args.subtx.now c.args.pages.now in
+    few_at_second_half g.target old c.args.split.now c.args.place c.requires.0 c.requires.1.may (clean_now g.target old c.requires.1.may c.requires.1.file) c.requires.1.under_way
 
 pub returns-in-Err-clause-leaves : goal.returns-in-Err-clause-leaves
 returns-in-Err-clause-leaves g c =
-    let old = moment c.args.subtx.now c.args.pages.now in
+    let old = local c.args.subtx.now c.args.pages.now in
     let err = c.in-Err.ensures.err in
-    leaves_it old (moment c.make_page.new.subtx c.make_page.new.pages) c.requires.1.may
-    (same_moment _ _ _ _ err.0 err.1)
+    leaves_it old (local c.make_page.new.subtx c.make_page.new.pages) c.requires.1.may
+    (same_local _ _ _ _ err.0 err.1)
 
 pub returns-in-Err-clause-steps : goal.returns-in-Err-clause-steps
 returns-in-Err-clause-steps g c =
-    let old = moment c.args.subtx.now c.args.pages.now in
-    let new = moment c.make_page.new.subtx c.make_page.new.pages in
-    left_at g.aim old new c.args.split.now (at.SecondHalf c.args.place) c.requires.0 (same_moment _ _ _ _ c.in-Err.ensures.err.0 c.in-Err.ensures.err.1)
+    let old = local c.args.subtx.now c.args.pages.now in
+    let new = local c.make_page.new.subtx c.make_page.new.pages in
+    left_at g.target old new c.args.split.now (at.SecondHalf c.args.place) c.requires.0 (same_local _ _ _ _ c.in-Err.ensures.err.0 c.in-Err.ensures.err.1)
 
 pub returns-in-Err-clause-tells : goal.returns-in-Err-clause-tells
 returns-in-Err-clause-tells g c =
-    let old = moment c.args.subtx.now c.args.pages.now in
-    let new = moment c.make_page.new.subtx c.make_page.new.pages in
-    refused_to_make g.aim old new c.args.split.now c.args.split.now c.make_page.result c.in-Err.refusal (makes_second_half c.args.split.now.phase c.args.place c.requires.0) c.in-Err.is c.make_page.ensures.no_room c.in-Err.ensures.refusal
+    let old = local c.args.subtx.now c.args.pages.now in
+    let new = local c.make_page.new.subtx c.make_page.new.pages in
+    refused_to_make g.target old new c.args.split.now c.args.split.now c.make_page.result c.in-Err.refusal (makes_second_half c.args.split.now.phase c.args.place c.requires.0) c.in-Err.is c.make_page.ensures.no_room c.in-Err.ensures.refusal
 
 pub name_page-requires : goal.name_page-requires
 name_page-requires g c = let place = place g (goal.at.name_page-requires g c).Start in omega (arith, place)
 
 pub overflow_sub-split-inside : goal.overflow_sub-split-inside
 overflow_sub-split-inside g c =
-    let old = moment c.args.subtx.now c.args.pages.now in
-    let depth = depth_of_second_half g.aim old c.args.split.now c.args.place c.requires.0 c.requires.1.may (clean_now g.aim old c.requires.1.may c.requires.1.file) c.requires.1.under_way in
+    let old = local c.args.subtx.now c.args.pages.now in
+    let depth = depth_of_second_half g.target old c.args.split.now c.args.place c.requires.0 c.requires.1.may (clean_now g.target old c.requires.1.may c.requires.1.file) c.requires.1.under_way in
     let same = ap (λ (s : SplitFields). s.directory_depth) c.split.view_is in
     omega (arith, same, depth.0)
 
 pub overflow_shl-split-inside : goal.overflow_shl-split-inside
 overflow_shl-split-inside g c =
-    let old = moment c.args.subtx.now c.args.pages.now in
-    let depth = depth_of_second_half g.aim old c.args.split.now c.args.place c.requires.0 c.requires.1.may (clean_now g.aim old c.requires.1.may c.requires.1.file) c.requires.1.under_way in
+    let old = local c.args.subtx.now c.args.pages.now in
+    let depth = depth_of_second_half g.target old c.args.split.now c.args.place c.requires.0 c.requires.1.may (clean_now g.target old c.requires.1.may c.requires.1.file) c.requires.1.under_way in
     let same = ap (λ (s : SplitFields). s.directory_depth) c.split.view_is in
     omega (arith, same, depth.1)
 
@@ -71,29 +71,29 @@ overflow_add-place-2 g c = let place = place g (goal.at.overflow_add-place-2 g c
 
 pub returns-clause-leaves : goal.returns-clause-leaves
 returns-clause-leaves g c =
-    let old = moment c.args.subtx.now c.args.pages.now in
-    leaves_by_making old (moment c.make_page.new.subtx c.make_page.new.pages) c.in-Ok.number _ c.requires.1.may c.in-Ok.ensures.makes
+    let old = local c.args.subtx.now c.args.pages.now in
+    leaves_by_making old (local c.make_page.new.subtx c.make_page.new.pages) c.in-Ok.number _ c.requires.1.may c.in-Ok.ensures.makes
 
 pub returns-clause-steps : goal.returns-clause-steps
 returns-clause-steps g c =
-    let old = moment c.args.subtx.now c.args.pages.now in
-    let new = moment c.make_page.new.subtx c.make_page.new.pages in
-    done_at g.aim old new c.args.split.now (at.SecondHalf c.args.place) c.requires.0 (c.in-Ok.number, _, c.in-Ok.ensures.makes)
+    let old = local c.args.subtx.now c.args.pages.now in
+    let new = local c.make_page.new.subtx c.make_page.new.pages in
+    done_at g.target old new c.args.split.now (at.SecondHalf c.args.place) c.requires.0 (c.in-Ok.number, _, c.in-Ok.ensures.makes)
 
 pub returns-clause-tells : goal.returns-clause-tells
 returns-clause-tells g c =
-    let old = moment c.args.subtx.now c.args.pages.now in
-    let new = moment c.make_page.new.subtx c.make_page.new.pages in
+    let old = local c.args.subtx.now c.args.pages.now in
+    let new = local c.make_page.new.subtx c.make_page.new.pages in
     let split = the_view c.split.inside in
     let sized = c.name_page.ensures.places in
-    let depth = depth_of_second_half g.aim old c.args.split.now c.args.place c.requires.0 c.requires.1.may (clean_now g.aim old c.requires.1.may c.requires.1.file) c.requires.1.under_way in
+    let depth = depth_of_second_half g.target old c.args.split.now c.args.place c.requires.0 c.requires.1.may (clean_now g.target old c.requires.1.may c.requires.1.file) c.requires.1.under_way in
     let same = ap (λ (s : SplitFields). s.directory_depth) c.split.view_is in
     let pages : (1 * 2 ^ (c.split.inside.directory_depth - 8)) % 2 ^ 64 ≡ 2 ^ (c.split.inside.directory_depth - 8) = one_shl (c.split.inside.directory_depth - 8) 64 (omega (arith, same, depth.1)) in
     elim c.if-place-split.branch [
       | then-place-split w ↦
-          goes_on_to_another_page g.aim old new split c.args.split.now c.args.place c.in-Ok.number c.name_page.new.made c.if-place-split.split c.split.view_is c.requires.0 c.requires.1.may (clean_now g.aim old c.requires.1.may c.requires.1.file) c.requires.1.under_way
-          (rebased_makes_page g.aim.before (view_of old) (view_of new) c.requires.1.written c.in-Ok.number (page.Dir c.split.inside.second) c.in-Ok.ensures.view) sized (omega (arith, pages, w.if-place-split.true)) c.name_page.ensures.named w.split-is
+          goes_on_to_another_page g.target old new split c.args.split.now c.args.place c.in-Ok.number c.name_page.new.made c.if-place-split.split c.split.view_is c.requires.0 c.requires.1.may (clean_now g.target old c.requires.1.may c.requires.1.file) c.requires.1.under_way
+          (rebased_makes_page g.target.before (view_of old) (view_of new) c.requires.1.written c.in-Ok.number (page.Dir c.split.inside.second) c.in-Ok.ensures.view) sized (omega (arith, pages, w.if-place-split.true)) c.name_page.ensures.named w.split-is
       | else-place-split w ↦
-          goes_on_to_the_header g.aim old new split c.args.split.now c.args.place c.in-Ok.number c.name_page.new.made c.if-place-split.split c.split.view_is c.requires.0 c.requires.1.may (clean_now g.aim old c.requires.1.may c.requires.1.file) c.requires.1.under_way
-          (rebased_makes_page g.aim.before (view_of old) (view_of new) c.requires.1.written c.in-Ok.number (page.Dir c.split.inside.second) c.in-Ok.ensures.view) sized (omega (arith, pages, w.if-place-split.false)) c.name_page.ensures.named w.split-is
+          goes_on_to_the_header g.target old new split c.args.split.now c.args.place c.in-Ok.number c.name_page.new.made c.if-place-split.split c.split.view_is c.requires.0 c.requires.1.may (clean_now g.target old c.requires.1.may c.requires.1.file) c.requires.1.under_way
+          (rebased_makes_page g.target.before (view_of old) (view_of new) c.requires.1.written c.in-Ok.number (page.Dir c.split.inside.second) c.in-Ok.ensures.view) sized (omega (arith, pages, w.if-place-split.false)) c.name_page.ensures.named w.split-is
     ]

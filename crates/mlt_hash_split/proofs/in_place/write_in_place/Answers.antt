@@ -2,7 +2,7 @@ use Rattle.std.proofs.Common.{◌≡◌, ◌≤◌, ◌<◌, ◌+◌, ◌^◌, S
 use Rattle.std.proofs.Math.Nat.{pow-le-pow_right}
 use Rattle.mlt_types.specs.declared.mode.Mode.TheVariants.{Exclusive}
 use Rattle.mlt_page.specs.declared.page.Page.TheVariants as page
-use Rattle.mlt_hash_access.specs.Moments.{Moment, moment}
+use Rattle.mlt_hash_access.specs.LocalStates.{LocalState, local}
 use Rattle.mlt_hash_access.specs.PageSteps.{LocksPage}
 use Rattle.mlt_hash_access.specs.Views.{view_over, ReadsPage, view_of}
 use Rattle.mlt_hash_split.specs.Splits.{SplitFields}
@@ -11,7 +11,7 @@ use Rattle.mlt_hash_split.specs.declared.phase.SplitPhase.TheVariants as at
 use Rattle.mlt_hash_split.proofs.HeldPages.{agrees_later, clean_later, clean_now, file_is_there, header_as_read, reads_held}
 use Rattle.mlt_hash_split.proofs.Closing.{HasClean}
 use Rattle.mlt_hash_access.proofs.Rebased.{rebased_reads_page, rebased_writes_page}
-use Rattle.mlt_hash_access.proofs.Leaving.{leaves_by_locking, leaves_by_rewriting, leaves_it, same_moment}
+use Rattle.mlt_hash_access.proofs.Leaving.{leaves_by_locking, leaves_by_rewriting, leaves_it, same_local}
 use Rattle.mlt_hash_split.proofs.Later.{locked_may_be_written}
 use Rattle.mlt_hash_split.proofs.InPlace.{AreNewPlaces, IsMadeInPlace, depths_here, end_is_small, few_are_held_here, in_place_goes_on, in_place_rests, next_is_dir, next_is_there, place_before_end, place_is_small}
 use Rattle.mlt_hash_split.proofs.Steps.{done_at, left_at, next_page_at}
@@ -20,168 +20,168 @@ use Rattle.mlt_hash_split.proofs.in_place.write_in_place.Goals as goal
 
 pub read_held_head-header-requires-clause-head : goal.read_held_head-header-requires-clause-head
 read_held_head-header-requires-clause-head g c =
-    let m = moment c.args.subtx.now c.args.pages.now in
+    let m = local c.args.subtx.now c.args.pages.now in
     let under = c.requires.1.1.under_way in
-    (under.header, reads_held g.aim.before m c.args.root g.aim.root (page.Head under.header) c.requires.1.0 c.requires.1.1.written under.head_held under.head)
+    (under.header, reads_held g.target.before m c.args.root g.target.root (page.Head under.header) c.requires.1.0 c.requires.1.1.written under.head_held under.head)
 
 pub dir-number-requires : goal.dir-number-requires
 dir-number-requires g c =
-    let m = moment c.args.subtx.now c.args.pages.now in
-    place_is_small g.aim m c.args.split.now c.args.place c.args.end c.requires.1.1.may (clean_now g.aim m c.requires.1.1.may c.requires.1.1.file) c.requires.1.1.under_way c.requires.0
+    let m = local c.args.subtx.now c.args.pages.now in
+    place_is_small g.target m c.args.split.now c.args.place c.args.end c.requires.1.1.may (clean_now g.target m c.requires.1.1.may c.requires.1.1.file) c.requires.1.1.under_way c.requires.0
 
 pub lock-requires-clause-few : goal.lock-requires-clause-few
 lock-requires-clause-few g c =
-    let m = moment c.args.subtx.now c.args.pages.now in
-    few_are_held_here g.aim m c.args.split.now c.args.place c.args.end c.requires.1.1.may (clean_now g.aim m c.requires.1.1.may c.requires.1.1.file) c.requires.1.1.under_way c.requires.0
+    let m = local c.args.subtx.now c.args.pages.now in
+    few_are_held_here g.target m c.args.split.now c.args.place c.args.end c.requires.1.1.may (clean_now g.target m c.requires.1.1.may c.requires.1.1.file) c.requires.1.1.under_way c.requires.0
 
 pub lock-requires-clause-there : goal.lock-requires-clause-there
 lock-requires-clause-there g c =
-    let m = moment c.args.subtx.now c.args.pages.now in
-    let head = header_as_read g.aim.before m c.args.root g.aim.root c.read_held_head-header.result.now c.requires.1.0 c.requires.1.1.written c.read_held_head-header.ensures.reads in
-    next_is_there g.aim m c.args.split.now c.args.place c.args.end c.requires.1.1.may (clean_now g.aim m c.requires.1.1.may c.requires.1.1.file) c.requires.1.1.under_way c.requires.0 c.read_held_head-header.result.now head c.dir-number.result c.dir-number.ensures (file_is_there g.aim m c.requires.1.1.may c.requires.1.1.written c.requires.1.1.file)
+    let m = local c.args.subtx.now c.args.pages.now in
+    let head = header_as_read g.target.before m c.args.root g.target.root c.read_held_head-header.result.now c.requires.1.0 c.requires.1.1.written c.read_held_head-header.ensures.reads in
+    next_is_there g.target m c.args.split.now c.args.place c.args.end c.requires.1.1.may (clean_now g.target m c.requires.1.1.may c.requires.1.1.file) c.requires.1.1.under_way c.requires.0 c.read_held_head-header.result.now head c.dir-number.result c.dir-number.ensures (file_is_there g.target m c.requires.1.1.may c.requires.1.1.written c.requires.1.1.file)
 
 pub read_held_dir-dir-requires-clause-dir : goal.read_held_dir-dir-requires-clause-dir
 read_held_dir-dir-requires-clause-dir g c =
-    let m = moment c.args.subtx.now c.args.pages.now in
-    let mid = moment c.args.subtx.now c.lock.new.pages in
-    let head = header_as_read g.aim.before m c.args.root g.aim.root c.read_held_head-header.result.now c.requires.1.0 c.requires.1.1.written c.read_held_head-header.ensures.reads in
+    let m = local c.args.subtx.now c.args.pages.now in
+    let mid = local c.args.subtx.now c.lock.new.pages in
+    let head = header_as_read g.target.before m c.args.root g.target.root c.read_held_head-header.result.now c.requires.1.0 c.requires.1.1.written c.read_held_head-header.ensures.reads in
     let sees = c.in_default.ensures.view in
-    let agreed = agrees_later g.aim m mid c.requires.1.1.may c.lock.ensures.leaves.may c.requires.1.1.file (c.lock.ensures.leaves.clean c.requires.1.1.file.clean c.requires.1.1.file.is_clean) in
-    let next = next_is_dir g.aim m c.args.split.now c.args.place c.args.end c.requires.1.1.may (clean_now g.aim m c.requires.1.1.may c.requires.1.1.file) c.requires.1.1.under_way c.requires.0 c.read_held_head-header.result.now head c.dir-number.result c.dir-number.ensures (view_over g.aim.before mid) sees.0 (rebased_reads_page g.aim.before (view_of m) (view_of mid) c.requires.1.1.written c.dir-number.result Exclusive sees.0 sees.1) agreed in
+    let agreed = agrees_later g.target m mid c.requires.1.1.may c.lock.ensures.leaves.may c.requires.1.1.file (c.lock.ensures.leaves.clean c.requires.1.1.file.clean c.requires.1.1.file.is_clean) in
+    let next = next_is_dir g.target m c.args.split.now c.args.place c.args.end c.requires.1.1.may (clean_now g.target m c.requires.1.1.may c.requires.1.1.file) c.requires.1.1.under_way c.requires.0 c.read_held_head-header.result.now head c.dir-number.result c.dir-number.ensures (view_over g.target.before mid) sees.0 (rebased_reads_page g.target.before (view_of m) (view_of mid) c.requires.1.1.written c.dir-number.result Exclusive sees.0 sees.1) agreed in
     (next.0, reads_held_after (view_of m) (view_of mid) c.dir-number.result Exclusive (page.Dir next.0) sees next.1)
 
 pub returns-in-Err-clause-leaves : goal.returns-in-Err-clause-leaves
 returns-in-Err-clause-leaves g c =
-    let m = moment c.args.subtx.now c.args.pages.now in
-    leaves_it m _ c.requires.1.1.may (same_moment _ _ _ _ refl c.in-Err.ensures.waits.1)
+    let m = local c.args.subtx.now c.args.pages.now in
+    leaves_it m _ c.requires.1.1.may (same_local _ _ _ _ refl c.in-Err.ensures.waits.1)
 
 pub returns-in-Err-clause-steps : goal.returns-in-Err-clause-steps
 returns-in-Err-clause-steps g c =
-    same_moment _ _ _ _ refl c.in-Err.ensures.waits.1
+    same_local _ _ _ _ refl c.in-Err.ensures.waits.1
 
 pub returns-in-Err-clause-tells : goal.returns-in-Err-clause-tells
 returns-in-Err-clause-tells g c =
-    let m = moment c.args.subtx.now c.args.pages.now in
-    let head = header_as_read g.aim.before m c.args.root g.aim.root c.read_held_head-header.result.now c.requires.1.0 c.requires.1.1.written c.read_held_head-header.ensures.reads in
-    (next_page_at g.aim m m c.args.split.now (at.InPlace c.args.place c.args.end) c.requires.0 c.dir-number.result (c.read_held_head-header.result.now, head, c.dir-number.ensures), c.in-Err.ensures.waits.0, same_moment _ _ _ _ refl c.in-Err.ensures.waits.1, refl)
+    let m = local c.args.subtx.now c.args.pages.now in
+    let head = header_as_read g.target.before m c.args.root g.target.root c.read_held_head-header.result.now c.requires.1.0 c.requires.1.1.written c.read_held_head-header.ensures.reads in
+    (next_page_at g.target m m c.args.split.now (at.InPlace c.args.place c.args.end) c.requires.0 c.dir-number.result (c.read_held_head-header.result.now, head, c.dir-number.ensures), c.in-Err.ensures.waits.0, same_local _ _ _ _ refl c.in-Err.ensures.waits.1, refl)
 
 pub of-places-requires : goal.of-places-requires
 of-places-requires g c =
-    let m = moment c.args.subtx.now c.args.pages.now in
+    let m = local c.args.subtx.now c.args.pages.now in
     let same : c.split.inside.depth ≡ c.args.split.now.depth = ap (λ (s : SplitFields). s.depth) c.split.view_is in
     let same2 : c.split.inside.directory_depth ≡ c.args.split.now.directory_depth = ap (λ (s : SplitFields). s.directory_depth) c.split.view_is in
-    let depths = depths_here g.aim m c.args.split.now c.args.place c.args.end c.requires.1.1.may (clean_now g.aim m c.requires.1.1.may c.requires.1.1.file) c.requires.1.1.under_way c.requires.0 in
+    let depths = depths_here g.target m c.args.split.now c.args.place c.args.end c.requires.1.1.may (clean_now g.target m c.requires.1.1.may c.requires.1.1.file) c.requires.1.1.under_way c.requires.0 in
     (omega (arith, same, same2, depths.0), omega (arith, same2, depths.1))
 
 pub page_with_new_places-page-requires-clause-at : goal.page_with_new_places-page-requires-clause-at
 page_with_new_places-page-requires-clause-at g c =
-    let m = moment c.args.subtx.now c.args.pages.now in
-    place_is_small g.aim m c.args.split.now c.args.place c.args.end c.requires.1.1.may (clean_now g.aim m c.requires.1.1.may c.requires.1.1.file) c.requires.1.1.under_way c.requires.0
+    let m = local c.args.subtx.now c.args.pages.now in
+    place_is_small g.target m c.args.split.now c.args.place c.args.end c.requires.1.1.may (clean_now g.target m c.requires.1.1.may c.requires.1.1.file) c.requires.1.1.under_way c.requires.0
 
 pub page_with_new_places-page-requires-clause-places : goal.page_with_new_places-page-requires-clause-places
 page_with_new_places-page-requires-clause-places g c =
-    let m = moment c.args.subtx.now c.args.pages.now in
+    let m = local c.args.subtx.now c.args.pages.now in
     let same : c.split.inside.depth ≡ c.args.split.now.depth = ap (λ (s : SplitFields). s.depth) c.split.view_is in
     let same2 : c.split.inside.directory_depth ≡ c.args.split.now.directory_depth = ap (λ (s : SplitFields). s.directory_depth) c.split.view_is in
-    let depths = depths_here g.aim m c.args.split.now c.args.place c.args.end c.requires.1.1.may (clean_now g.aim m c.requires.1.1.may c.requires.1.1.file) c.requires.1.1.under_way c.requires.0 in
+    let depths = depths_here g.target m c.args.split.now c.args.place c.args.end c.requires.1.1.may (clean_now g.target m c.requires.1.1.may c.requires.1.1.file) c.requires.1.1.under_way c.requires.0 in
     let deep : c.split.inside.directory_depth ≤ 16 = omega (arith, same2, depths.1) in
     let most : 2 ^ c.split.inside.directory_depth ≤ 2 ^ 16 = pow-le-pow_right {n = 2} (omega arith) deep in
     omega (arith, most, c.of-places.ensures.within)
 
 pub write_held-requires-clause-held : goal.write_held-requires-clause-held
 write_held-requires-clause-held g c =
-    let m = moment c.args.subtx.now c.args.pages.now in
-    let mid = moment c.args.subtx.now c.lock.new.pages in
+    let m = local c.args.subtx.now c.args.pages.now in
+    let mid = local c.args.subtx.now c.lock.new.pages in
     locked_may_be_written m mid c.dir-number.result _ c.in_default.ensures.view.1
 
 pub returns-in-Err-write_held-clause-leaves : goal.returns-in-Err-write_held-clause-leaves
 returns-in-Err-write_held-clause-leaves g c =
-    let m = moment c.args.subtx.now c.args.pages.now in
-    let mid = moment c.args.subtx.now c.lock.new.pages in
-    leaves_by_locking m mid _ c.dir-number.result Exclusive c.requires.1.1.may c.in_default.ensures.locks (same_moment _ _ _ _ c.in-Err-write_held.ensures.err.0 c.in-Err-write_held.ensures.err.1)
+    let m = local c.args.subtx.now c.args.pages.now in
+    let mid = local c.args.subtx.now c.lock.new.pages in
+    leaves_by_locking m mid _ c.dir-number.result Exclusive c.requires.1.1.may c.in_default.ensures.locks (same_local _ _ _ _ c.in-Err-write_held.ensures.err.0 c.in-Err-write_held.ensures.err.1)
 
 pub returns-in-Err-write_held-clause-steps : goal.returns-in-Err-write_held-clause-steps
 returns-in-Err-write_held-clause-steps g c =
-    let m = moment c.args.subtx.now c.args.pages.now in
-    let mid = moment c.args.subtx.now c.lock.new.pages in
-    let new = moment c.write_held.new.subtx c.write_held.new.pages in
-    let head = header_as_read g.aim.before m c.args.root g.aim.root c.read_held_head-header.result.now c.requires.1.0 c.requires.1.1.written c.read_held_head-header.ensures.reads in
-    let same : new ≡ mid = same_moment _ _ _ _ c.in-Err-write_held.ensures.err.0 c.in-Err-write_held.ensures.err.1 in
-    left_at g.aim m new c.args.split.now (at.InPlace c.args.place c.args.end) c.requires.0 (c.dir-number.result, (c.read_held_head-header.result.now, head, c.dir-number.ensures), subst (λ (n : Moment). LocksPage m n c.dir-number.result Exclusive) (sym same) c.in_default.ensures.locks)
+    let m = local c.args.subtx.now c.args.pages.now in
+    let mid = local c.args.subtx.now c.lock.new.pages in
+    let new = local c.write_held.new.subtx c.write_held.new.pages in
+    let head = header_as_read g.target.before m c.args.root g.target.root c.read_held_head-header.result.now c.requires.1.0 c.requires.1.1.written c.read_held_head-header.ensures.reads in
+    let same : new ≡ mid = same_local _ _ _ _ c.in-Err-write_held.ensures.err.0 c.in-Err-write_held.ensures.err.1 in
+    left_at g.target m new c.args.split.now (at.InPlace c.args.place c.args.end) c.requires.0 (c.dir-number.result, (c.read_held_head-header.result.now, head, c.dir-number.ensures), subst (λ (n : LocalState). LocksPage m n c.dir-number.result Exclusive) (sym same) c.in_default.ensures.locks)
 
 pub overflow_add-place : goal.overflow_add-place
 overflow_add-place g c =
-    let m = moment c.args.subtx.now c.args.pages.now in
-    let small = end_is_small g.aim m c.args.split.now c.args.place c.args.end c.requires.1.1.may (clean_now g.aim m c.requires.1.1.may c.requires.1.1.file) c.requires.1.1.under_way c.requires.0 in
-    let more = place_before_end g.aim m c.args.split.now c.args.place c.args.end c.requires.1.1.may (clean_now g.aim m c.requires.1.1.may c.requires.1.1.file) c.requires.1.1.under_way c.requires.0 in
+    let m = local c.args.subtx.now c.args.pages.now in
+    let small = end_is_small g.target m c.args.split.now c.args.place c.args.end c.requires.1.1.may (clean_now g.target m c.requires.1.1.may c.requires.1.1.file) c.requires.1.1.under_way c.requires.0 in
+    let more = place_before_end g.target m c.args.split.now c.args.place c.args.end c.requires.1.1.may (clean_now g.target m c.requires.1.1.may c.requires.1.1.file) c.requires.1.1.under_way c.requires.0 in
     omega (arith, small, more)
 
 pub key_bucket-requires : goal.key_bucket-requires
 key_bucket-requires g c =
-    let m = moment c.args.subtx.now c.args.pages.now in
-    let depths = depths_here g.aim m c.args.split.now c.args.place c.args.end c.requires.1.1.may (clean_now g.aim m c.requires.1.1.may c.requires.1.1.file) c.requires.1.1.under_way c.requires.0 in
+    let m = local c.args.subtx.now c.args.pages.now in
+    let depths = depths_here g.target m c.args.split.now c.args.place c.args.end c.requires.1.1.may (clean_now g.target m c.requires.1.1.may c.requires.1.1.file) c.requires.1.1.under_way c.requires.0 in
     omega (arith, depths.0, depths.1)
 
 pub returns-then-place-end-clause-leaves : goal.returns-then-place-end-clause-leaves
 returns-then-place-end-clause-leaves g c =
-    let m = moment c.args.subtx.now c.args.pages.now in
-    let mid = moment c.args.subtx.now c.lock.new.pages in
+    let m = local c.args.subtx.now c.args.pages.now in
+    let mid = local c.args.subtx.now c.lock.new.pages in
     leaves_by_rewriting m mid _ c.dir-number.result Exclusive _ c.requires.1.1.may c.in_default.ensures.locks c.in_default-write_held.ensures.writes
 
 pub returns-then-place-end-clause-steps : goal.returns-then-place-end-clause-steps
 returns-then-place-end-clause-steps g c =
-    let m = moment c.args.subtx.now c.args.pages.now in
-    let mid = moment c.args.subtx.now c.lock.new.pages in
-    let new = moment c.write_held.new.subtx c.write_held.new.pages in
-    let head = header_as_read g.aim.before m c.args.root g.aim.root c.read_held_head-header.result.now c.requires.1.0 c.requires.1.1.written c.read_held_head-header.ensures.reads in
-    done_at g.aim m new c.args.split.now (at.InPlace c.args.place c.args.end) c.requires.0 (c.dir-number.result, (c.read_held_head-header.result.now, head, c.dir-number.ensures), (mid, c.in_default.ensures.locks, (_, c.in_default-write_held.ensures.writes)))
+    let m = local c.args.subtx.now c.args.pages.now in
+    let mid = local c.args.subtx.now c.lock.new.pages in
+    let new = local c.write_held.new.subtx c.write_held.new.pages in
+    let head = header_as_read g.target.before m c.args.root g.target.root c.read_held_head-header.result.now c.requires.1.0 c.requires.1.1.written c.read_held_head-header.ensures.reads in
+    done_at g.target m new c.args.split.now (at.InPlace c.args.place c.args.end) c.requires.0 (c.dir-number.result, (c.read_held_head-header.result.now, head, c.dir-number.ensures), (mid, c.in_default.ensures.locks, (_, c.in_default-write_held.ensures.writes)))
 
 pub returns-then-place-end-clause-tells : goal.returns-then-place-end-clause-tells
 returns-then-place-end-clause-tells g c =
-    let m = moment c.args.subtx.now c.args.pages.now in
-    let mid = moment c.args.subtx.now c.lock.new.pages in
-    let new = moment c.write_held.new.subtx c.write_held.new.pages in
-    let head = header_as_read g.aim.before m c.args.root g.aim.root c.read_held_head-header.result.now c.requires.1.0 c.requires.1.1.written c.read_held_head-header.ensures.reads in
+    let m = local c.args.subtx.now c.args.pages.now in
+    let mid = local c.args.subtx.now c.lock.new.pages in
+    let new = local c.write_held.new.subtx c.write_held.new.pages in
+    let head = header_as_read g.target.before m c.args.root g.target.root c.read_held_head-header.result.now c.requires.1.0 c.requires.1.1.written c.read_held_head-header.ensures.reads in
     let places : AreNewPlaces c.args.split.now c.of-places.result.first c.of-places.result.count = subst (λ (s : SplitFields). AreNewPlaces s c.of-places.result.first c.of-places.result.count) c.split.view_is (record { first_is = c.of-places.ensures.first; count_is = c.of-places.ensures.count }) in
     let has : IsMadeInPlace c.read_held_dir-dir.result.now c.page_with_new_places-page.result c.args.place c.of-places.result.first c.of-places.result.count c.args.split.now.new_page = subst (λ (s : SplitFields). IsMadeInPlace c.read_held_dir-dir.result.now c.page_with_new_places-page.result c.args.place c.of-places.result.first c.of-places.result.count s.new_page) c.split.view_is (record { size = c.page_with_new_places-page.ensures.size; entries = c.page_with_new_places-page.ensures.entries }) in
-    let reads : ReadsPage (view_over g.aim.before m) (view_over g.aim.before mid) c.dir-number.result Exclusive (Some (page.Dir c.read_held_dir-dir.result.now)) = rebased_reads_page g.aim.before (view_of m) (view_of mid) c.requires.1.1.written c.dir-number.result Exclusive (Some (page.Dir c.read_held_dir-dir.result.now)) (reads_seen (view_of m) (view_of mid) c.dir-number.result Exclusive (page.Dir c.read_held_dir-dir.result.now) c.in_default.ensures.view c.read_held_dir-dir.ensures.reads) in
-    let writes = rebased_writes_page g.aim.before (view_of mid) (view_of new) c.dir-number.result (page.Dir c.page_with_new_places-page.result) c.in_default-write_held.ensures.view in
+    let reads : ReadsPage (view_over g.target.before m) (view_over g.target.before mid) c.dir-number.result Exclusive (Some (page.Dir c.read_held_dir-dir.result.now)) = rebased_reads_page g.target.before (view_of m) (view_of mid) c.requires.1.1.written c.dir-number.result Exclusive (Some (page.Dir c.read_held_dir-dir.result.now)) (reads_seen (view_of m) (view_of mid) c.dir-number.result Exclusive (page.Dir c.read_held_dir-dir.result.now) c.in_default.ensures.view c.read_held_dir-dir.ensures.reads) in
+    let writes = rebased_writes_page g.target.before (view_of mid) (view_of new) c.dir-number.result (page.Dir c.page_with_new_places-page.result) c.in_default-write_held.ensures.view in
     let file = c.requires.1.1.file in
-    let clean : HasClean g.aim (view_over g.aim.before new) = clean_later g.aim m new c.write_held.ensures.leaves.may file (c.write_held.ensures.leaves.clean file.clean (c.lock.ensures.leaves.clean file.clean file.is_clean)) in
-    in_place_rests g.aim m c.args.split.now c.args.place c.args.end c.requires.1.1.may (clean_now g.aim m c.requires.1.1.may c.requires.1.1.file) c.requires.1.1.under_way c.requires.0 c.read_held_head-header.result.now head c.dir-number.result c.dir-number.ensures new (view_over g.aim.before mid) c.read_held_dir-dir.result.now c.page_with_new_places-page.result c.of-places.result.first c.of-places.result.count places has reads writes c.key_bucket.result c.if-place-end.true clean c.key_bucket.ensures
+    let clean : HasClean g.target (view_over g.target.before new) = clean_later g.target m new c.write_held.ensures.leaves.may file (c.write_held.ensures.leaves.clean file.clean (c.lock.ensures.leaves.clean file.clean file.is_clean)) in
+    in_place_rests g.target m c.args.split.now c.args.place c.args.end c.requires.1.1.may (clean_now g.target m c.requires.1.1.may c.requires.1.1.file) c.requires.1.1.under_way c.requires.0 c.read_held_head-header.result.now head c.dir-number.result c.dir-number.ensures new (view_over g.target.before mid) c.read_held_dir-dir.result.now c.page_with_new_places-page.result c.of-places.result.first c.of-places.result.count places has reads writes c.key_bucket.result c.if-place-end.true clean c.key_bucket.ensures
 
 pub overflow_add-split : goal.overflow_add-split
 overflow_add-split g c =
-    let m = moment c.args.subtx.now c.args.pages.now in
-    let small = end_is_small g.aim m c.args.split.now c.args.place c.args.end c.requires.1.1.may (clean_now g.aim m c.requires.1.1.may c.requires.1.1.file) c.requires.1.1.under_way c.requires.0 in
-    let more = place_before_end g.aim m c.args.split.now c.args.place c.args.end c.requires.1.1.may (clean_now g.aim m c.requires.1.1.may c.requires.1.1.file) c.requires.1.1.under_way c.requires.0 in
+    let m = local c.args.subtx.now c.args.pages.now in
+    let small = end_is_small g.target m c.args.split.now c.args.place c.args.end c.requires.1.1.may (clean_now g.target m c.requires.1.1.may c.requires.1.1.file) c.requires.1.1.under_way c.requires.0 in
+    let more = place_before_end g.target m c.args.split.now c.args.place c.args.end c.requires.1.1.may (clean_now g.target m c.requires.1.1.may c.requires.1.1.file) c.requires.1.1.under_way c.requires.0 in
     omega (arith, small, more)
 
 pub returns-clause-leaves : goal.returns-clause-leaves
 returns-clause-leaves g c =
-    let m = moment c.args.subtx.now c.args.pages.now in
-    let mid = moment c.args.subtx.now c.lock.new.pages in
+    let m = local c.args.subtx.now c.args.pages.now in
+    let mid = local c.args.subtx.now c.lock.new.pages in
     leaves_by_rewriting m mid _ c.dir-number.result Exclusive _ c.requires.1.1.may c.in_default.ensures.locks c.in_default-write_held.ensures.writes
 
 pub returns-clause-steps : goal.returns-clause-steps
 returns-clause-steps g c =
-    let m = moment c.args.subtx.now c.args.pages.now in
-    let mid = moment c.args.subtx.now c.lock.new.pages in
-    let new = moment c.write_held.new.subtx c.write_held.new.pages in
-    let head = header_as_read g.aim.before m c.args.root g.aim.root c.read_held_head-header.result.now c.requires.1.0 c.requires.1.1.written c.read_held_head-header.ensures.reads in
-    done_at g.aim m new c.args.split.now (at.InPlace c.args.place c.args.end) c.requires.0 (c.dir-number.result, (c.read_held_head-header.result.now, head, c.dir-number.ensures), (mid, c.in_default.ensures.locks, (_, c.in_default-write_held.ensures.writes)))
+    let m = local c.args.subtx.now c.args.pages.now in
+    let mid = local c.args.subtx.now c.lock.new.pages in
+    let new = local c.write_held.new.subtx c.write_held.new.pages in
+    let head = header_as_read g.target.before m c.args.root g.target.root c.read_held_head-header.result.now c.requires.1.0 c.requires.1.1.written c.read_held_head-header.ensures.reads in
+    done_at g.target m new c.args.split.now (at.InPlace c.args.place c.args.end) c.requires.0 (c.dir-number.result, (c.read_held_head-header.result.now, head, c.dir-number.ensures), (mid, c.in_default.ensures.locks, (_, c.in_default-write_held.ensures.writes)))
 
 pub returns-clause-tells : goal.returns-clause-tells
 returns-clause-tells g c =
-    let m = moment c.args.subtx.now c.args.pages.now in
-    let mid = moment c.args.subtx.now c.lock.new.pages in
-    let new = moment c.write_held.new.subtx c.write_held.new.pages in
-    let head = header_as_read g.aim.before m c.args.root g.aim.root c.read_held_head-header.result.now c.requires.1.0 c.requires.1.1.written c.read_held_head-header.ensures.reads in
+    let m = local c.args.subtx.now c.args.pages.now in
+    let mid = local c.args.subtx.now c.lock.new.pages in
+    let new = local c.write_held.new.subtx c.write_held.new.pages in
+    let head = header_as_read g.target.before m c.args.root g.target.root c.read_held_head-header.result.now c.requires.1.0 c.requires.1.1.written c.read_held_head-header.ensures.reads in
     let places : AreNewPlaces c.args.split.now c.of-places.result.first c.of-places.result.count = subst (λ (s : SplitFields). AreNewPlaces s c.of-places.result.first c.of-places.result.count) c.split.view_is (record { first_is = c.of-places.ensures.first; count_is = c.of-places.ensures.count }) in
     let has : IsMadeInPlace c.read_held_dir-dir.result.now c.page_with_new_places-page.result c.args.place c.of-places.result.first c.of-places.result.count c.args.split.now.new_page = subst (λ (s : SplitFields). IsMadeInPlace c.read_held_dir-dir.result.now c.page_with_new_places-page.result c.args.place c.of-places.result.first c.of-places.result.count s.new_page) c.split.view_is (record { size = c.page_with_new_places-page.ensures.size; entries = c.page_with_new_places-page.ensures.entries }) in
-    let reads : ReadsPage (view_over g.aim.before m) (view_over g.aim.before mid) c.dir-number.result Exclusive (Some (page.Dir c.read_held_dir-dir.result.now)) = rebased_reads_page g.aim.before (view_of m) (view_of mid) c.requires.1.1.written c.dir-number.result Exclusive (Some (page.Dir c.read_held_dir-dir.result.now)) (reads_seen (view_of m) (view_of mid) c.dir-number.result Exclusive (page.Dir c.read_held_dir-dir.result.now) c.in_default.ensures.view c.read_held_dir-dir.ensures.reads) in
-    let writes = rebased_writes_page g.aim.before (view_of mid) (view_of new) c.dir-number.result (page.Dir c.page_with_new_places-page.result) c.in_default-write_held.ensures.view in
-    let before = place_before_end g.aim m c.args.split.now c.args.place c.args.end c.requires.1.1.may (clean_now g.aim m c.requires.1.1.may c.requires.1.1.file) c.requires.1.1.under_way c.requires.0 in
+    let reads : ReadsPage (view_over g.target.before m) (view_over g.target.before mid) c.dir-number.result Exclusive (Some (page.Dir c.read_held_dir-dir.result.now)) = rebased_reads_page g.target.before (view_of m) (view_of mid) c.requires.1.1.written c.dir-number.result Exclusive (Some (page.Dir c.read_held_dir-dir.result.now)) (reads_seen (view_of m) (view_of mid) c.dir-number.result Exclusive (page.Dir c.read_held_dir-dir.result.now) c.in_default.ensures.view c.read_held_dir-dir.ensures.reads) in
+    let writes = rebased_writes_page g.target.before (view_of mid) (view_of new) c.dir-number.result (page.Dir c.page_with_new_places-page.result) c.in_default-write_held.ensures.view in
+    let before = place_before_end g.target m c.args.split.now c.args.place c.args.end c.requires.1.1.may (clean_now g.target m c.requires.1.1.may c.requires.1.1.file) c.requires.1.1.under_way c.requires.0 in
     let more : c.args.place + 1 < c.args.end = omega (arith, before, c.if-place-end.false) in
-    let goes = in_place_goes_on g.aim m c.args.split.now c.args.place c.args.end c.requires.1.1.may (clean_now g.aim m c.requires.1.1.may c.requires.1.1.file) c.requires.1.1.under_way c.requires.0 c.read_held_head-header.result.now head c.dir-number.result c.dir-number.ensures new (view_over g.aim.before mid) c.read_held_dir-dir.result.now c.page_with_new_places-page.result c.of-places.result.first c.of-places.result.count places has reads writes more in
-    subst (λ (s : SplitFields). GoesOn g.aim new c.args.split.now (record s { phase = at.InPlace (c.args.place + 1) c.args.end })) (sym c.split.view_is) goes
+    let goes = in_place_goes_on g.target m c.args.split.now c.args.place c.args.end c.requires.1.1.may (clean_now g.target m c.requires.1.1.may c.requires.1.1.file) c.requires.1.1.under_way c.requires.0 c.read_held_head-header.result.now head c.dir-number.result c.dir-number.ensures new (view_over g.target.before mid) c.read_held_dir-dir.result.now c.page_with_new_places-page.result c.of-places.result.first c.of-places.result.count places has reads writes more in
+    subst (λ (s : SplitFields). GoesOn g.target new c.args.split.now (record s { phase = at.InPlace (c.args.place + 1) c.args.end })) (sym c.split.view_is) goes

@@ -3,13 +3,13 @@ use Rattle.mlt_page.specs.declared.page.Page.TheVariants as page
 use Rattle.mlt_hash_access.proofs.Rebased.{rebased_writes_page}
 use Rattle.mlt_hash_split.proofs.HeldPages.{clean_now}
 use Rattle.mlt_hash_split.specs.FirstPhases.{IsFirstPhase}
-use Rattle.mlt_hash_access.specs.Moments.{moment}
+use Rattle.mlt_hash_access.specs.LocalStates.{local}
 use Rattle.mlt_hash_access.specs.PageSteps.{WritesHeldPage}
 use Rattle.mlt_hash_access.specs.Views.{view_over, view_of}
 use Rattle.mlt_hash_split.specs.Splits.{IsUnderWay, SplitFields}
 use Rattle.mlt_hash_split.specs.Tells.{GoesOn}
 use Rattle.mlt_hash_split.specs.declared.phase.SplitPhase.TheVariants as at
-use Rattle.mlt_hash_access.proofs.Leaving.{leaves_by_writing, leaves_it, same_moment}
+use Rattle.mlt_hash_access.proofs.Leaving.{leaves_by_writing, leaves_it, same_local}
 use Rattle.mlt_hash_split.proofs.Later.{begins_now}
 use Rattle.mlt_hash_split.proofs.Steps.{done_at, left_at}
 use Rattle.mlt_hash_split.proofs.OldBucket.{depths_are_small, old_bucket_step}
@@ -17,38 +17,38 @@ use Rattle.mlt_hash_split.proofs.old_bucket.write_old_bucket.Goals as goal
 
 pub first_directory_step-split-inside-requires : goal.first_directory_step-split-inside-requires
 first_directory_step-split-inside-requires g c =
-    let m = moment c.args.subtx.now c.args.pages.now in
-    depths_are_small g.aim _ c.args.split.now _ (begins_now g.aim m c.args.split.now c.requires.1.may (clean_now g.aim m c.requires.1.may c.requires.1.file) c.requires.1.under_way)
+    let m = local c.args.subtx.now c.args.pages.now in
+    depths_are_small g.target _ c.args.split.now _ (begins_now g.target m c.args.split.now c.requires.1.may (clean_now g.target m c.requires.1.may c.requires.1.file) c.requires.1.under_way)
 
 pub returns-in-Err-clause-leaves : goal.returns-in-Err-clause-leaves
 returns-in-Err-clause-leaves g c =
-    let m = moment c.args.subtx.now c.args.pages.now in
-    leaves_it m _ c.requires.1.may (same_moment _ _ _ _ c.in-Err.ensures.err.0 c.in-Err.ensures.err.1)
+    let m = local c.args.subtx.now c.args.pages.now in
+    leaves_it m _ c.requires.1.may (same_local _ _ _ _ c.in-Err.ensures.err.0 c.in-Err.ensures.err.1)
 
 pub returns-in-Err-clause-steps : goal.returns-in-Err-clause-steps
 returns-in-Err-clause-steps g c =
-    let m = moment c.args.subtx.now c.args.pages.now in
-    let new = moment c.write_held.new.subtx c.write_held.new.pages in
-    left_at g.aim m new c.args.split.now at.OldBucket c.requires.0 (same_moment _ _ _ _ c.in-Err.ensures.err.0 c.in-Err.ensures.err.1)
+    let m = local c.args.subtx.now c.args.pages.now in
+    let new = local c.write_held.new.subtx c.write_held.new.pages in
+    left_at g.target m new c.args.split.now at.OldBucket c.requires.0 (same_local _ _ _ _ c.in-Err.ensures.err.0 c.in-Err.ensures.err.1)
 
 pub returns-clause-steps : goal.returns-clause-steps
 returns-clause-steps g c =
-    let m = moment c.args.subtx.now c.args.pages.now in
-    let new = moment c.write_held.new.subtx c.write_held.new.pages in
-    done_at g.aim m new c.args.split.now at.OldBucket c.requires.0 (page.Bucket c.split.inside.zeros, subst (λ (s : SplitFields). WritesHeldPage m new s.old_page (page.Bucket c.split.inside.zeros)) c.split.view_is c.in_default.ensures.writes)
+    let m = local c.args.subtx.now c.args.pages.now in
+    let new = local c.write_held.new.subtx c.write_held.new.pages in
+    done_at g.target m new c.args.split.now at.OldBucket c.requires.0 (page.Bucket c.split.inside.zeros, subst (λ (s : SplitFields). WritesHeldPage m new s.old_page (page.Bucket c.split.inside.zeros)) c.split.view_is c.in_default.ensures.writes)
 
 pub returns-clause-leaves : goal.returns-clause-leaves
 returns-clause-leaves g c = leaves_by_writing _ _ c.split.inside.old_page (page.Bucket c.split.inside.zeros) c.requires.1.may c.in_default.ensures.writes
 
 pub returns-clause-tells : goal.returns-clause-tells
 returns-clause-tells g c =
-    let m = moment c.args.subtx.now c.args.pages.now in
-    let new = moment c.write_held.new.subtx c.write_held.new.pages in
+    let m = local c.args.subtx.now c.args.pages.now in
+    let new = local c.write_held.new.subtx c.write_held.new.pages in
     let phase = c.first_directory_step-split-inside.result in
     let split : SplitFields = record { seed = c.split.inside.seed; old_page = c.split.inside.old_page; new_page = c.split.inside.new_page; depth = c.split.inside.depth; directory_depth = c.split.inside.directory_depth; zeros = c.split.inside.zeros; made = record { depth = c.split.inside.made.depth; dirs = c.split.inside.made.dirs }; second = c.split.inside.second; phase = c.split.inside.phase } in
     let is : split ≡ c.args.split.now = c.split.view_is in
-    let way : IsUnderWay g.aim (view_over g.aim.before m) split = subst (λ (s : SplitFields). IsUnderWay g.aim (view_over g.aim.before m) s) (sym is) c.requires.1.under_way in
+    let way : IsUnderWay g.target (view_over g.target.before m) split = subst (λ (s : SplitFields). IsUnderWay g.target (view_over g.target.before m) s) (sym is) c.requires.1.under_way in
     let first : IsFirstPhase split phase = subst (λ (s : SplitFields). IsFirstPhase s phase) (sym is) c.first_directory_step-split-inside.ensures in
     let at_old : split.phase ≡ at.OldBucket = ap (λ (s : SplitFields). s.phase) is ∙ c.requires.0 in
-    subst (λ (s : SplitFields). GoesOn g.aim new s (record split { phase = phase })) is
-    (old_bucket_step g.aim m new split phase c.requires.1.may (clean_now g.aim m c.requires.1.may c.requires.1.file) way at_old (rebased_writes_page g.aim.before (view_of m) (view_of new) split.old_page (page.Bucket split.zeros) c.in_default.ensures.view) first)
+    subst (λ (s : SplitFields). GoesOn g.target new s (record split { phase = phase })) is
+    (old_bucket_step g.target m new split phase c.requires.1.may (clean_now g.target m c.requires.1.may c.requires.1.file) way at_old (rebased_writes_page g.target.before (view_of m) (view_of new) split.old_page (page.Bucket split.zeros) c.in_default.ensures.view) first)

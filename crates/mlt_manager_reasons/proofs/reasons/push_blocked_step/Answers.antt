@@ -1,7 +1,7 @@
 use Rattle.std.proofs.Common.{◌≡◌, ◌++◌, List, Option, ℕ, append_assoc, refl, sym, subst}
 use Rattle.mlt_object_kinds.specs.declared.operation.ObjOp.{ObjOp}
-use Rattle.mlt_manager_reasons.specs.Circles.{circle_of}
-use Rattle.mlt_manager_reasons.specs.Reasons.{AreBlockLines, IsInTheWay, circle_line}
+use Rattle.mlt_manager_reasons.specs.Cycles.{cycle_of}
+use Rattle.mlt_manager_reasons.specs.Reasons.{AreBlockLines, IsInTheWay, cycle_line}
 use Rattle.mlt_manager_reasons.specs.Tables.{table_of}
 use Rattle.mlt_manager_reasons.proofs.reasons.push_blocked_step.Goals as goal
 
@@ -10,10 +10,10 @@ joined : (old one two a b : List ℕ) → one ≡ old ++ a → two ≡ one ++ b 
 joined old one two a b first next = rw (next, first) (append_assoc old a b)
 
 pub returns-clause-text : goal.returns-clause-text
-returns-clause-text c = λ items known way.
-    let block = c.in_ok-push_block.ensures.text items known (subst (IsInTheWay items c.args.by) (sym c.pending_op.ensures) way) in
-    let circle = circle_line (circle_of (table_of c.args.pending.now) c.args.tx) in (
-      block.0 ++ circle,
+returns-clause-text c = λ items replayed way.
+    let block = c.in_ok-push_block.ensures.text items replayed (subst (IsInTheWay items c.args.by) (sym c.pending_op.ensures) way) in
+    let cycle = cycle_line (cycle_of (table_of c.args.pending.now) c.args.tx) in (
+      block.0 ++ cycle,
       (block.0, subst (λ (op : Option ObjOp). AreBlockLines items c.args.by op block.0) c.pending_op.ensures block.1, refl),
-      joined _ _ _ block.0 circle block.2 c.in_ok-push_circle.ensures.text,
+      joined _ _ _ block.0 cycle block.2 c.in_ok-push_cycle.ensures.text,
     )

@@ -21,8 +21,8 @@ abbrev IsToldIn : Base → ObjOp → ObjReply → Type 0
 IsToldIn b o r = (next : Base) × Step b (o, r) next
 
 -- a step of the cell that the operation is on
-told_by : (b : Base) (o known : ObjOp) (r : ObjReply) (t : CellState) → o ≡ known → CellStep (state_at b (cell_of known)) (known, r) t → TellsSize b (known, r) → IsToldIn b o r
-told_by b o known r t is h told = subst (λ (y : ObjOp). IsToldIn b y r) (sym is) (with_state b (cell_of known) t, step_to b (known, r) t h told)
+told_by : (b : Base) (o replayed : ObjOp) (r : ObjReply) (t : CellState) → o ≡ replayed → CellStep (state_at b (cell_of replayed)) (replayed, r) t → TellsSize b (replayed, r) → IsToldIn b o r
+told_by b o replayed r t is h told = subst (λ (y : ObjOp). IsToldIn b y r) (sym is) (with_state b (cell_of replayed) t, step_to b (replayed, r) t h told)
 
 account_told : (b : Base) (o : ObjOp) (a : ℕ) (asked : AccountOp) (r : ObjReply) (s t : Option ℕ) → o ≡ op.Account a asked → s ≡ account_at b a → AccountStep s asked r t → IsToldIn b o r
 account_told b o a asked r s t is here h = told_by b o (op.Account a asked) r (AccountState t) is (subst (λ u. AccountStep u asked r t) here h) tt

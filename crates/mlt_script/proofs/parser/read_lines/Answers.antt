@@ -4,7 +4,7 @@ use Rattle.mlt_text_words.specs.Lines.{lines}
 use Rattle.mlt_script.specs.Parsers.{state_of}
 use Rattle.mlt_script.specs.Readings.{IsReading}
 use Rattle.mlt_script.specs.Scan.{scan, advance, Advances, Gives}
-use Rattle.mlt_script.specs.Scan.State.{Outside}
+use Rattle.mlt_script.specs.Scan.ScanState.{Outside}
 use Rattle.mlt_script.proofs.Forming.{readings}
 use Rattle.mlt_script.proofs.PlainForms.{asking_line}
 use Rattle.mlt_script.proofs.Scanning.{goes_on, exits, ends}

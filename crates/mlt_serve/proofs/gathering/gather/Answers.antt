@@ -25,7 +25,7 @@ loop-thread-preserved g c =
           (IsPermutation-append_right (all_outcomes rest) (got ++ outcomes_of w) after (c.take_in.ensures.outcomes f));
       clients = λ f. c.take_in.ensures.clients f (l.invariant.clients (c.take_in.ensures.short f).0);
       manager = c.take_in.ensures.manager ∙ l.invariant.manager;
-      told = λ f. subst (λ (m : _). TellsOutcomes m.commons.history.items got → TellsOutcomes m.commons.history.items after) l.invariant.manager (c.take_in.ensures.told f) (l.invariant.told (c.take_in.ensures.short f).0);
+      told = λ f. subst (λ (m : _). TellsOutcomes m.shared.history.items got → TellsOutcomes m.shared.history.items after) l.invariant.manager (c.take_in.ensures.told f) (l.invariant.told (c.take_in.ensures.short f).0);
       short = λ f have.
           let both = c.take_in.ensures.short f in
           l.invariant.short both.0 (subst AllHaveMemory (sym c.in-Some.ensures.items) (All-push HasMemory rest w have both.1));

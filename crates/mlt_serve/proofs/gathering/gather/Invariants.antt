@@ -12,7 +12,7 @@ invariant-loop-thread g l = record {
   outcomes : l.gathered.is_short ≡ false → IsPermutation (all_outcomes l.fn.threads.items) (all_outcomes l.rest.items ++ g.K.Receipts.receipts l.gathered.outcomes);
   clients : l.gathered.is_short ≡ false → AreOfClients l.gathered.last (g.K.Receipts.receipts l.gathered.outcomes);
   manager : l.desks.state.manager ≡ l.initial.desks.state.manager;
-  told : l.gathered.is_short ≡ false → TellsOutcomes l.initial.desks.state.manager.commons.history.items (g.K.Receipts.receipts l.gathered.outcomes);
+  told : l.gathered.is_short ≡ false → TellsOutcomes l.initial.desks.state.manager.shared.history.items (g.K.Receipts.receipts l.gathered.outcomes);
   short : l.gathered.is_short ≡ false → AllHaveMemory l.rest.items → AllHaveMemory l.fn.threads.items;
 }
 

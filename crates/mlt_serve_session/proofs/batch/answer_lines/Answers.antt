@@ -1,6 +1,6 @@
 use Rattle.std.proofs.Common.{arith}
 use Rattle.mlt_text.proofs.Pieces.{on_err_all}
-use Rattle.mlt_serve_session.specs.Turns.{place}
+use Rattle.mlt_serve_session.specs.Turns.{talk_state}
 use Rattle.mlt_event_text.proofs.Cutting.{empty}
 use Rattle.mlt_serve_session.proofs.Reaching.{reaches_more, reaches_none, broke_before, broke_after}
 use Rattle.mlt_serve_session.proofs.batch.answer_lines.Goals as goal
@@ -16,13 +16,13 @@ loop-notes-init g c =
 
 pub returns-in_err-said-clause-err : goal.returns-in_err-said-clause-err
 returns-in_err-said-clause-err g c =
-    on_err_all _ _ (broke_before g.D.Answering.moves c.args.client _ (place c.args.client c.loop-notes.notes c.loop-notes.desk)
-    (place c.args.client c.take_turn.new.notes c.take_turn.new.desk) c.args.text.now _ _ c.loop-notes.at c.loop-notes.invariant.reaches c.in_err-said.ensures.err)
+    on_err_all _ _ (broke_before g.D.Answering.moves c.args.client _ (talk_state c.args.client c.loop-notes.notes c.loop-notes.desk)
+    (talk_state c.args.client c.take_turn.new.notes c.take_turn.new.desk) c.args.text.now _ _ c.loop-notes.at c.loop-notes.invariant.reaches c.in_err-said.ensures.err)
 
 pub returns-in_err-push_said-clause-err : goal.returns-in_err-push_said-clause-err
 returns-in_err-push_said-clause-err g c =
-    on_err_all _ _ (broke_after g.D.Answering.moves c.args.client _ (place c.args.client c.loop-notes.notes c.loop-notes.desk)
-    (place c.args.client c.take_turn.new.notes c.take_turn.new.desk) c.args.text.now _ _ c.loop-notes.at c.in-Some.count c.in-Some.line c.in_ok-said.said
+    on_err_all _ _ (broke_after g.D.Answering.moves c.args.client _ (talk_state c.args.client c.loop-notes.notes c.loop-notes.desk)
+    (talk_state c.args.client c.take_turn.new.notes c.take_turn.new.desk) c.args.text.now _ _ c.loop-notes.at c.in-Some.count c.in-Some.line c.in_ok-said.said
     c.loop-notes.invariant.reaches c.loop-notes-test.true c.in-Some.ensures c.in_ok-said.ensures.ok)
 
 pub loop-notes-preserved : goal.loop-notes-preserved
@@ -31,8 +31,8 @@ loop-notes-preserved g c =
     let next = c.in-Some.ensures in
     let lines = c.loop-notes.invariant.lines in
     record {
-      reaches = reaches_more g.D.Answering.moves c.args.client _ (place c.args.client c.loop-notes.notes c.loop-notes.desk)
-          (place c.args.client c.take_turn.new.notes c.take_turn.new.desk) c.args.text.now _ _ _ c.loop-notes.at c.in-Some.count c.in-Some.line c.in_ok-said.said
+      reaches = reaches_more g.D.Answering.moves c.args.client _ (talk_state c.args.client c.loop-notes.notes c.loop-notes.desk)
+          (talk_state c.args.client c.take_turn.new.notes c.take_turn.new.desk) c.args.text.now _ _ _ c.loop-notes.at c.in-Some.count c.in-Some.line c.in_ok-said.said
           c.loop-notes.invariant.reaches c.loop-notes-test.true c.in-Some.ensures c.in_ok-said.ensures.ok c.in_ok-push_said.ensures;
       lines = (let b = next.0 in omega arith);
       commits = c.in_ok-said.ensures.commits;

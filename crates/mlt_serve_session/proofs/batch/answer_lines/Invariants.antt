@@ -1,12 +1,12 @@
 -- So far into the text, by some turns.
 use Rattle.std.proofs.Common.{◌≤◌, ◌+◌, ◌-◌, length}
 use Rattle.mlt_serve_session.specs.Batches.{Reaches, front}
-use Rattle.mlt_serve_session.specs.Turns.{place}
+use Rattle.mlt_serve_session.specs.Turns.{talk_state}
 use Rattle.mlt_serve_session.proofs.batch.answer_lines.Given as goal
 
 abbrev pub invariant-loop-notes : goal.invariant-loop-notes
 invariant-loop-notes g l = record {
-  reaches : Reaches g.D.Answering.moves l.client (place l.client l.initial.notes l.initial.desk) (front l.text l.at) l.initial.out.items l.out.items (place l.client l.notes l.desk);
+  reaches : Reaches g.D.Answering.moves l.client (talk_state l.client l.initial.notes l.initial.desk) (front l.text l.at) l.initial.out.items l.out.items (talk_state l.client l.notes l.desk);
   lines : l.notes.progress.lines ≤ l.initial.notes.progress.lines + l.at;
   commits : l.notes.progress.commits ≤ l.notes.progress.lines;
   begun : l.notes.progress.begun ≤ l.notes.progress.lines;

@@ -1,13 +1,13 @@
 -- The session goes on.
 use Rattle.std.proofs.Common.{◌≡◌, ◌≤◌, take, false}
 use Rattle.mlt_serve_session.specs.Rounds.{Listens, streams}
-use Rattle.mlt_serve_session.specs.Turns.{place}
+use Rattle.mlt_serve_session.specs.Turns.{talk_state}
 use Rattle.mlt_serve_session.proofs.sessions.listen.Given as goal
 
 abbrev pub invariant-rounds : goal.invariant-rounds
 invariant-rounds g l = record {
-  listens : Listens g.D.Answering.moves l.client (place l.client l.initial.notes l.initial.desk) (streams (g.R.Read.remaining l.initial.reader) (g.R.Read.remaining l.reader)
-      (g.W.Write.contents l.initial.writer) (g.W.Write.contents l.writer)) (take l.held l.buffer) l.total (place l.client l.notes l.desk);
+  listens : Listens g.D.Answering.moves l.client (talk_state l.client l.initial.notes l.initial.desk) (streams (g.R.Read.remaining l.initial.reader) (g.R.Read.remaining l.reader)
+      (g.W.Write.contents l.initial.writer) (g.W.Write.contents l.writer)) (take l.held l.buffer) l.total (talk_state l.client l.notes l.desk);
   held : l.held ≤ 200;
   total : l.total ≤ 16777216;
   commits : l.notes.progress.commits ≤ l.notes.progress.lines;

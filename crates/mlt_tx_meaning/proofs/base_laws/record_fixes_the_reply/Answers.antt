@@ -5,4 +5,4 @@ pub returns-clause-steps : goal.returns-clause-steps
 returns-clause-steps c = step_there
 
 pub returns-clause-alone : goal.returns-clause-alone
-returns-clause-alone c = λ world op reply after h range. step_fixes world op h range reply after
+returns-clause-alone c = λ state op reply after h range. step_fixes state op h range reply after

@@ -1,6 +1,6 @@
 use Rattle.std.proofs.Common.{ℕ, Option, None, ap}
 use Rattle.mlt_tx_operation.specs.MostSteps.{most_steps_by}
-use Rattle.mlt_tx_operation.specs.Operating.{course_for}
+use Rattle.mlt_tx_operation.specs.Operating.{access_path_for}
 use Rattle.mlt_tx_operation.proofs.MostSteps.{one_fewer_at_least}
 use Rattle.mlt_tx_operation.proofs.end_law.operations_come_to_an_end.Goals as goal
 
@@ -8,7 +8,7 @@ pub returns-clause-fewer : goal.returns-clause-fewer
 returns-clause-fewer c = one_fewer_at_least
 
 pub returns-clause-in_all : goal.returns-clause-in_all
-returns-clause-in_all c = λ root request view none. ap (λ (key : Option ℕ). most_steps_by (course_for request key) root None view) none
+returns-clause-in_all c = λ root request view none. ap (λ (key : Option ℕ). most_steps_by (access_path_for request key) root None view) none
 
 pub returns-clause-in_all_of_two : goal.returns-clause-in_all_of_two
-returns-clause-in_all_of_two c = λ root request view size some. ap (λ (key : Option ℕ). most_steps_by (course_for request key) root None view) some
+returns-clause-in_all_of_two c = λ root request view size some. ap (λ (key : Option ℕ). most_steps_by (access_path_for request key) root None view) some

@@ -2,8 +2,8 @@ use Rattle.std.proofs.Common.{◌≡◌, ℕ, None, Option, Some, refl, sym, sub
 use Rattle.mlt_object_base.specs.declared.record.RecChange.{RecChange}
 use Rattle.mlt_object_base.specs.declared.record.RecChange.TheVariants.{Add}
 use Rattle.mlt_object_base.specs.Records.{record_after}
-use Rattle.mlt_hash_access.specs.Moments.{Moment, moment}
-use Rattle.mlt_hash.specs.Walks.{Basis, basis_after, basis_in}
+use Rattle.mlt_hash_access.specs.LocalStates.{LocalState, local}
+use Rattle.mlt_hash.specs.Walks.{WalkContext, context_after, context_in}
 use Rattle.mlt_tx_two_records.specs.AtWideBuckets.{Raises, TellsOfRaise}
 use Rattle.mlt_tx_two_records.proofs.Performing.{leaves}
 use Rattle.mlt_tx_two_records.proofs.WideRaise.{addition_raises, can_raise, is_added, leaves_record, update_raises}
@@ -14,17 +14,17 @@ unreachable-requires g c = leaves_record c.args.found c.args.raise c.requires.1.
 
 pub returns-in-None-clause-tells : goal.returns-in-None-clause-tells
 returns-in-None-clause-tells g c =
-    let basis : Basis = basis_after g.since (basis_in g.P.Pseudo.bits_of c.args.setting.now c.args.subtx.now.tx) in
-    let new : Moment = moment c.insert.new.subtx c.insert.new.pages in
+    let context : WalkContext = context_after g.since (context_in g.P.Pseudo.bits_of c.args.environment.now c.args.subtx.now.tx) in
+    let new : LocalState = local c.insert.new.subtx c.insert.new.pages in
     let raise : RecChange = c.args.raise in
     let raises : Raises None raise = subst (λ (f : Option ℕ). Raises f raise) c.in-None.is c.requires.1.1.1.1 in
     let after : record_after (Some raise) None ≡ Some c.in-Some.value = subst (λ (f : Option ℕ). record_after (Some raise) f ≡ Some c.in-Some.value) c.in-None.is (sym c.value_after.ensures ∙ c.in-Some.is) in
-    subst (λ (r : RecChange). TellsOfRaise basis new c.args.walk.now c.insert.new.self r c.args.found c.insert.result) (sym (is_added raise c.in-Some.value raises after))
-    (addition_raises basis new c.args.walk.now c.insert.new.self c.in-Some.value c.args.found c.insert.result c.requires.1.1.0 c.insert.ensures.tells)
+    subst (λ (r : RecChange). TellsOfRaise context new c.args.walk.now c.insert.new.self r c.args.found c.insert.result) (sym (is_added raise c.in-Some.value raises after))
+    (addition_raises context new c.args.walk.now c.insert.new.self c.in-Some.value c.args.found c.insert.result c.requires.1.1.0 c.insert.ensures.tells)
 
 pub returns-in-Some-found-clause-tells : goal.returns-in-Some-found-clause-tells
 returns-in-Some-found-clause-tells g c =
-    let basis : Basis = basis_after g.since (basis_in g.P.Pseudo.bits_of c.args.setting.now c.args.subtx.now.tx) in
-    update_raises basis (moment c.update.new.subtx c.update.new.pages) c.args.walk.now c.update.new.self c.args.raise c.args.found c.in-Some.value c.update.result
+    let context : WalkContext = context_after g.since (context_in g.P.Pseudo.bits_of c.args.environment.now c.args.subtx.now.tx) in
+    update_raises context (local c.update.new.subtx c.update.new.pages) c.args.walk.now c.update.new.self c.args.raise c.args.found c.in-Some.value c.update.result
     (leaves c.args.raise c.args.found (Some c.in-Some.value) _ c.in-Some-found.is (can_raise c.args.found c.args.raise c.requires.1.1.1.1) (sym c.value_after.ensures ∙ c.in-Some.is))
-    (c.update.ensures.tells basis refl c.requires.1.0)
+    (c.update.ensures.tells context refl c.requires.1.0)

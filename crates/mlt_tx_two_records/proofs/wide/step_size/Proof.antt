@@ -22,8 +22,8 @@ use borrow.Fn.Run.{Over}
 use borrow.Fn.World.{World}
 use borrow.Fn.Written as written
 use Rattle.mlt_types.specs.declared.pseudo.Pseudo as pseudo
-use Rattle.mlt_hash_access.specs.Moments.{Moment, moment}
-use Rattle.mlt_hash.specs.Walks.{Basis, Before, basis_in}
+use Rattle.mlt_hash_access.specs.LocalStates.{LocalState, local}
+use Rattle.mlt_hash.specs.Walks.{WalkContext, Before, context_in}
 use Rattle.mlt_tx_two_records.specs.AtWideBuckets.{MayStepToSize}
 use Rattle.mlt_tx_two_records.proofs.WideSizeSteps.{may_step}
 use Rattle.mlt_tx_two_records.proofs.wide.step_size.Statement.{statement}
@@ -51,9 +51,9 @@ module _ (P : RattleType) (L : Laws P) (bits : pseudo.Ghosts P.Denot) (dict : Di
 
     walk_to_size-requires : lts.Need-walk_to_size-requires P L dict claims pre (reads.Post P L bits dict)
     walk_to_size-requires c κs within =
-        let basis : Basis = basis_in bits.bits_of c.args.setting.now c.args.subtx.now.tx in
-        let m : Moment = moment c.args.subtx.now c.args.pages.now in
-        (within, subst (λ (s : Before). MayStepToSize basis m c.args.request.now c.args.walk.now s) c.requires.1 (may_step basis m c.args.request.now c.args.walk.now c.requires.0.1))
+        let context : WalkContext = context_in bits.bits_of c.args.environment.now c.args.subtx.now.tx in
+        let m : LocalState = local c.args.subtx.now c.args.pages.now in
+        (within, subst (λ (s : Before). MayStepToSize context m c.args.request.now c.args.walk.now s) c.requires.1 (may_step context m c.args.request.now c.args.walk.now c.requires.0.1))
 
     returns : lts.Need-returns P L dict claims pre (reads.Post P L bits dict)
     returns c = c.walk_to_size.ensures

@@ -1,9 +1,9 @@
 use Rattle.std.proofs.Common.{◌≡◌, ℕ, None, Option, refl, sym, ap, subst}
 use Rattle.mlt_object_kinds.specs.declared.operation.ObjReply.{ObjReply}
 use Rattle.mlt_object_base.specs.declared.record.RecChange.{RecChange}
-use Rattle.mlt_hash_access.specs.Moments.{Moment, moment}
+use Rattle.mlt_hash_access.specs.LocalStates.{LocalState, local}
 use Rattle.mlt_hash_access.proofs.OwnSteps.{step_keeps_tx}
-use Rattle.mlt_hash.specs.Walks.{Basis, basis_after, basis_in}
+use Rattle.mlt_hash.specs.Walks.{WalkContext, context_after, context_in}
 use Rattle.mlt_tx_two_records.specs.AtWideBuckets.{MayActOnSize, TellsAtSize}
 use Rattle.mlt_tx_two_records.proofs.RollingBack.{rolls_back}
 use Rattle.mlt_tx_two_records.proofs.WideDeciding.{is_possible}
@@ -16,63 +16,63 @@ advance-requires g c κs within = (within, (refl, (c.requires.1.under_way, c.req
 
 pub act_on_size-requires : goal.act_on_size-requires
 act_on_size-requires g c κs within =
-    let basis : Basis = basis_in g.P.Pseudo.bits_of c.args.setting.now c.args.subtx.now.tx in
-    let old : Moment = moment c.args.subtx.now c.args.pages.now in
-    let mid : Moment = moment c.advance.new.subtx c.advance.new.pages in
+    let context : WalkContext = context_in g.P.Pseudo.bits_of c.args.environment.now c.args.subtx.now.tx in
+    let old : LocalState = local c.args.subtx.now c.args.pages.now in
+    let mid : LocalState = local c.advance.new.subtx c.advance.new.pages in
     let tx : mid.running.tx ≡ old.running.tx = step_keeps_tx old mid c.in-Found.ensures.leaves.touches in
-    let may = may_act basis old c.args.request.now c.args.walk.now g.since c.requires.1 mid c.advance.new.self c.in-Found.ensures.leaves c.in-Found.found c.in-Found.ensures.locks c.in-Found.ensures.tells in
-    (within, subst (λ (t : ℕ). MayActOnSize (basis_in g.P.Pseudo.bits_of c.args.setting.now t) mid c.args.request.now c.advance.new.self c.in-Found.found g.since) (sym tx) may)
+    let may = may_act context old c.args.request.now c.args.walk.now g.since c.requires.1 mid c.advance.new.self c.in-Found.ensures.leaves c.in-Found.found c.in-Found.ensures.locks c.in-Found.ensures.tells in
+    (within, subst (λ (t : ℕ). MayActOnSize (context_in g.P.Pseudo.bits_of c.args.environment.now t) mid c.args.request.now c.advance.new.self c.in-Found.found g.since) (sym tx) may)
 
 pub decide-requires : goal.decide-requires
 decide-requires g c = record { possible = is_possible c.args.request.now None c.requires.1.may.adds }
 
 pub unreachable-requires : goal.unreachable-requires
 unreachable-requires g c =
-    let on : Basis = basis_after g.since (basis_in g.P.Pseudo.bits_of c.args.setting.now c.args.subtx.now.tx) in
-    let old : Moment = moment c.args.subtx.now c.args.pages.now in
-    let mid : Moment = moment c.advance.new.subtx c.advance.new.pages in
+    let on : WalkContext = context_after g.since (context_in g.P.Pseudo.bits_of c.args.environment.now c.args.subtx.now.tx) in
+    let old : LocalState = local c.args.subtx.now c.args.pages.now in
+    let mid : LocalState = local c.advance.new.subtx c.advance.new.pages in
     never_needs on old mid c.args.walk.now c.advance.new.self c.advance.result c.advance.ensures.tells c.in-NeedSplit.is
 
 pub returns-in-Going : goal.returns-in-Going
 returns-in-Going g c =
-    let basis : Basis = basis_in g.P.Pseudo.bits_of c.args.setting.now c.args.subtx.now.tx in
-    let old : Moment = moment c.args.subtx.now c.args.pages.now in
-    let mid : Moment = moment c.advance.new.subtx c.advance.new.pages in
-    record { tells = goes_to_size basis old c.args.request.now c.args.walk.now g.since c.requires.1 mid c.advance.new.self c.in-Going.ensures.leaves c.in-Going.ensures.tells }
+    let context : WalkContext = context_in g.P.Pseudo.bits_of c.args.environment.now c.args.subtx.now.tx in
+    let old : LocalState = local c.args.subtx.now c.args.pages.now in
+    let mid : LocalState = local c.advance.new.subtx c.advance.new.pages in
+    record { tells = goes_to_size context old c.args.request.now c.args.walk.now g.since c.requires.1 mid c.advance.new.self c.in-Going.ensures.leaves c.in-Going.ensures.tells }
 
 pub returns-in-Waiting : goal.returns-in-Waiting
 returns-in-Waiting g c =
-    let basis : Basis = basis_in g.P.Pseudo.bits_of c.args.setting.now c.args.subtx.now.tx in
-    let old : Moment = moment c.args.subtx.now c.args.pages.now in
-    let mid : Moment = moment c.advance.new.subtx c.advance.new.pages in
-    record { tells = waits_there basis old c.args.request.now c.args.walk.now g.since c.requires.1 mid c.advance.new.self c.in-Waiting.page c.in-Waiting.by c.in-Waiting.ensures.tells }
+    let context : WalkContext = context_in g.P.Pseudo.bits_of c.args.environment.now c.args.subtx.now.tx in
+    let old : LocalState = local c.args.subtx.now c.args.pages.now in
+    let mid : LocalState = local c.advance.new.subtx c.advance.new.pages in
+    record { tells = waits_there context old c.args.request.now c.args.walk.now g.since c.requires.1 mid c.advance.new.self c.in-Waiting.page c.in-Waiting.by c.in-Waiting.ensures.tells }
 
 pub returns-in-Found : goal.returns-in-Found
 returns-in-Found g c =
-    let basis : Basis = basis_in g.P.Pseudo.bits_of c.args.setting.now c.args.subtx.now.tx in
-    let old : Moment = moment c.args.subtx.now c.args.pages.now in
-    let mid : Moment = moment c.advance.new.subtx c.advance.new.pages in
-    let new : Moment = moment c.act_on_size.new.subtx c.act_on_size.new.pages in
+    let context : WalkContext = context_in g.P.Pseudo.bits_of c.args.environment.now c.args.subtx.now.tx in
+    let old : LocalState = local c.args.subtx.now c.args.pages.now in
+    let mid : LocalState = local c.advance.new.subtx c.advance.new.pages in
+    let new : LocalState = local c.act_on_size.new.subtx c.act_on_size.new.pages in
     let tx : mid.running.tx ≡ old.running.tx = step_keeps_tx old mid c.in-Found.ensures.leaves.touches in
-    let there : TellsAtSize basis g.since mid new c.args.request.now c.advance.new.self c.act_on_size.new.walk c.act_on_size.result =
-    subst (λ (t : ℕ). TellsAtSize (basis_in g.P.Pseudo.bits_of c.args.setting.now t) g.since mid new c.args.request.now c.advance.new.self c.act_on_size.new.walk c.act_on_size.result) tx c.act_on_size.ensures.tells in
-    record { tells = tells_there basis old c.args.request.now c.args.walk.now g.since c.requires.1 mid c.advance.new.self c.in-Found.ensures.leaves c.in-Found.found c.in-Found.ensures.locks c.in-Found.ensures.tells new c.act_on_size.new.walk c.act_on_size.result there }
+    let there : TellsAtSize context g.since mid new c.args.request.now c.advance.new.self c.act_on_size.new.walk c.act_on_size.result =
+    subst (λ (t : ℕ). TellsAtSize (context_in g.P.Pseudo.bits_of c.args.environment.now t) g.since mid new c.args.request.now c.advance.new.self c.act_on_size.new.walk c.act_on_size.result) tx c.act_on_size.ensures.tells in
+    record { tells = tells_there context old c.args.request.now c.args.walk.now g.since c.requires.1 mid c.advance.new.self c.in-Found.ensures.leaves c.in-Found.found c.in-Found.ensures.locks c.in-Found.ensures.tells new c.act_on_size.new.walk c.act_on_size.result there }
 
 pub returns-in-Changed : goal.returns-in-Changed
 returns-in-Changed g c =
-    let basis : Basis = basis_in g.P.Pseudo.bits_of c.args.setting.now c.args.subtx.now.tx in
-    let old : Moment = moment c.args.subtx.now c.args.pages.now in
-    let mid : Moment = moment c.advance.new.subtx c.advance.new.pages in
+    let context : WalkContext = context_in g.P.Pseudo.bits_of c.args.environment.now c.args.subtx.now.tx in
+    let old : LocalState = local c.args.subtx.now c.args.pages.now in
+    let mid : LocalState = local c.advance.new.subtx c.advance.new.pages in
     let is = ap (λ (d : ObjReply × Option RecChange). d.0) c.decide.ensures.told in
-    record { tells = told_behind basis old c.args.request.now c.args.walk.now g.since c.requires.1 mid c.advance.new.self c.in-Changed.ensures.leaves c.decide.result.0 is c.in-Changed.ensures.tells }
+    record { tells = told_behind context old c.args.request.now c.args.walk.now g.since c.requires.1 mid c.advance.new.self c.in-Changed.ensures.leaves c.decide.result.0 is c.in-Changed.ensures.tells }
 
 pub returns-in-Refused : goal.returns-in-Refused
 returns-in-Refused g c =
-    let basis : Basis = basis_in g.P.Pseudo.bits_of c.args.setting.now c.args.subtx.now.tx in
-    let on : Basis = basis_after g.since basis in
-    let old : Moment = moment c.args.subtx.now c.args.pages.now in
-    let mid : Moment = moment c.advance.new.subtx c.advance.new.pages in
-    let new : Moment = moment c.roll_back.new.self (record { store = c.roll_back.new.store; locks = c.roll_back.new.locks }) in
+    let context : WalkContext = context_in g.P.Pseudo.bits_of c.args.environment.now c.args.subtx.now.tx in
+    let on : WalkContext = context_after g.since context in
+    let old : LocalState = local c.args.subtx.now c.args.pages.now in
+    let mid : LocalState = local c.advance.new.subtx c.advance.new.pages in
+    let new : LocalState = local c.roll_back.new.self (record { store = c.roll_back.new.store; locks = c.roll_back.new.locks }) in
     let why = refused on old mid c.args.walk.now c.advance.new.self c.in-Refused.reason c.in-Refused.ensures.tells c.in-Refused.ensures.no_room in
     let back = rolls_back mid mid new (refl {a = mid}) c.roll_back.ensures.store c.roll_back.ensures.locks c.roll_back.ensures.images in
-    record { tells = is_refused basis old c.args.request.now c.args.walk.now g.since c.requires.1 mid c.advance.new.self c.in-Refused.ensures.leaves new c.in-Refused.reason why back }
+    record { tells = is_refused context old c.args.request.now c.args.walk.now g.since c.requires.1 mid c.advance.new.self c.in-Refused.ensures.leaves new c.in-Refused.reason why back }

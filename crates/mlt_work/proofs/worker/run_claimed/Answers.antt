@@ -28,7 +28,7 @@ claims-preserved g c =
     let one : IsClientRun lists run = (omega arith, subst (λ (ss : List ScriptForm). AreClientOutcomes ss c.in-Ok.outcomes.items) (sym here) (c.in-Ok.ensures.outcomes, ends)) in
     rw (c.push_reserved.ensures.items, c.reserve.ensures.items) record {
       seat = c.draw-number.ensures.beside ∙ l.invariant.seat;
-      view = draws_client (view_of l.drawer) (view_of c.draw-number.new.drawer) (length clients) number (map place_of l.runs.items) l.invariant.view c.draw-number.ensures.drawn small
+      view = draws_client (view_of l.claim_handle) (view_of c.draw-number.new.claim_handle) (length clients) number (map place_of l.runs.items) l.invariant.view c.draw-number.ensures.drawn small
           ∙ ap (λ (ns : List ℕ). view 1 1 (length clients) ns) (sym (map-append place_of l.runs.items (run ∷ [])));
       each = All-push (IsClientRun lists) l.runs.items run l.invariant.each one;
     }

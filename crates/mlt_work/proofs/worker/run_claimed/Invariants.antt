@@ -7,7 +7,7 @@ use Rattle.mlt_work.proofs.worker.run_claimed.Given as goal
 
 abbrev pub invariant-claims : goal.invariant-claims
 invariant-claims g l = record {
-  seat : IsOf l.counter l.drawer;
-  view : view_of l.drawer ≡ view 1 1 (length l.clients) (map place_of l.runs.items);
+  seat : IsOf l.counter l.claim_handle;
+  view : view_of l.claim_handle ≡ view 1 1 (length l.clients) (map place_of l.runs.items);
   each : All (IsClientRun (scripts_of_clients l.clients)) l.runs.items;
 }

@@ -2,7 +2,7 @@ use Rattle.std.proofs.Common.{◌≡◌, ◌<◌, ◌+◌, ◌++◌, List, ℕ, 
 use Rattle.std.specs.Prelude.{Some, false}
 use Rattle.std.proofs.lemmas.List.{length-map}
 use Rattle.std.proofs.lemmas.List.Elements.{All-pop}
-use Rattle.mlt_work_clients.specs.declared.view.View.{View}
+use Rattle.mlt_work_clients.specs.declared.view.SeatView.{SeatView}
 use Rattle.mlt_work_clients.specs.Claims.{times}
 use Rattle.mlt_work_clients.specs.Seats.{view_of}
 use Rattle.mlt_script_tree.specs.declared.script.Script.{Script}
@@ -20,12 +20,12 @@ loop-worked-preserved g c =
     let lists : List (List ScriptForm) = map items clients in
     let long : length lists ≡ length clients = length-map clients items in
     let w = c.in-Some.worked in
-    let popped = All-pop (λ (w : _). HasWorked c.args.counter.now lists w.drawer w.runs.items w.failed) l.rest.items c.pop.new.self.items (Some w) c.in-Some.ensures.items l.invariant.each in
+    let popped = All-pop (λ (w : _). HasWorked c.args.counter.now lists w.claim_handle w.runs.items w.failed) l.rest.items c.pop.new.self.items (Some w) c.in-Some.ensures.items l.invariant.each in
     let mine = popped.1 in
     let both = c.join.ensures.both in
     let first = view_of l.first in
-    let parts : (view_of c.join.new.first).parts ≡ first.parts + 1 = ap (λ (v : View). v.parts) both ∙ ap (λ (k : ℕ). first.parts + k) mine.parts in
-    let drawn : (view_of c.join.new.first).drawn ≡ first.drawn ++ (view_of w.drawer).drawn = ap (λ (v : View). v.drawn) both in
+    let parts : (view_of c.join.new.first).parts ≡ first.parts + 1 = ap (λ (v : SeatView). v.parts) both ∙ ap (λ (k : ℕ). first.parts + k) mine.parts in
+    let drawn : (view_of c.join.new.first).drawn ≡ first.drawn ++ (view_of w.claim_handle).drawn = ap (λ (v : SeatView). v.drawn) both in
     let placed = c.place_all.ensures in
     let still = λ (f : c.either-failed.result ≡ false). c.either-failed.ensures f in
     record {
@@ -40,8 +40,8 @@ loop-worked-preserved g c =
       filled = λ f.
           let d = mine.drew (still f).1 in
           subst (λ (ns : List ℕ). HaveRuns ns c.place_all.new.slots.items) (sym drawn)
-          (filled_join (length clients) d.0 l.slots.items c.place_all.new.slots.items first.drawn (view_of w.drawer).drawn (map place_of w.runs.items) l.invariant.len placed.len d.2 (omega (arith, d.1)) placed.kept (l.invariant.filled (still f).0) placed.filled);
+          (filled_join (length clients) d.0 l.slots.items c.place_all.new.slots.items first.drawn (view_of w.claim_handle).drawn (map place_of w.runs.items) l.invariant.len placed.len d.2 (omega (arith, d.1)) placed.kept (l.invariant.filled (still f).0) placed.filled);
       past = λ f.
           let d = mine.drew (still f).1 in
-          inr (d.0, omega (arith, d.1), subst (λ (ns : List ℕ). 0 < times d.0 ns) (sym drawn) (past_join d.0 first.drawn (view_of w.drawer).drawn (map place_of w.runs.items) d.2));
+          inr (d.0, omega (arith, d.1), subst (λ (ns : List ℕ). 0 < times d.0 ns) (sym drawn) (past_join d.0 first.drawn (view_of w.claim_handle).drawn (map place_of w.runs.items) d.2));
     }

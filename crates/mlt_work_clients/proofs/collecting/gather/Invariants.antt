@@ -12,7 +12,7 @@ invariant-loop-worked g l = record {
   parts : (view_of l.first).parts + vec_len l.rest ≡ 9;
   share : l.all.parts + vec_len l.rest ≡ 9;
   events : l.events ≡ min l.all.amount (2 ^ 64 - 1);
-  each : All (λ worked. HasWorked l.counter (scripts_of_clients l.clients) worked.drawer worked.runs.items worked.failed) l.rest.items;
+  each : All (λ worked. HasWorked l.counter (scripts_of_clients l.clients) worked.claim_handle worked.runs.items worked.failed) l.rest.items;
   len : length l.slots.items ≡ length l.clients;
   placed : AreInPlace (scripts_of_clients l.clients) l.slots.items;
   filled : l.failed ≡ false → HaveRuns (view_of l.first).drawn l.slots.items;

@@ -7,7 +7,7 @@ use Rattle.mlt_work_clients.proofs.jobs.jobs_for.Given as goal
 abbrev pub invariant-loop-i : goal.invariant-loop-i
 invariant-loop-i g l = record {
   len : vec_len l.jobs ≡ l.i;
-  fresh : All (λ job. IsFresh l.counter l.clients job.drawer) l.jobs.items;
+  fresh : All (λ job. IsFresh l.counter l.clients job.claim_handle) l.jobs.items;
   seat : IsOf l.counter l.first;
   view : view_of l.first ≡ view_after_splits l.i l.clients;
   parts : l.all.parts + l.i ≡ 9;

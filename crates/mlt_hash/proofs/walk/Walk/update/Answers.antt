@@ -1,27 +1,27 @@
 use Rattle.std.proofs.Common.{ap}
 use Rattle.mlt_page.specs.Slots.{is_live_of}
 use Rattle.mlt_page.specs.declared.slot.Slot.TheVariants.{Live}
-use Rattle.mlt_hash_access.specs.Moments.{Moment, moment}
-use Rattle.mlt_hash.specs.Walks.{Basis, WalkFields, view_for}
+use Rattle.mlt_hash_access.specs.LocalStates.{LocalState, local}
+use Rattle.mlt_hash.specs.Walks.{WalkContext, WalkFields, view_for}
 use Rattle.mlt_hash.specs.Changes.{MayChange, page_of}
 use Rattle.mlt_hash.proofs.InPlace.{at_bucket_with, holds_bucket, reads_bucket, ReadsBucket, plan_is_written, record_has_plan, record_may_write, record_plans, update_tells}
 use Rattle.mlt_hash.proofs.walk.Walk.update.Goals as goal
 
-abbrev before : goal.After-write_change-arg-3-1 → Moment
-before c = moment c.args.subtx.now c.args.pages.now
+abbrev before : goal.After-write_change-arg-3-1 → LocalState
+before c = local c.args.subtx.now c.args.pages.now
 
 pub held_bucket-number-requires-clause-at : goal.held_bucket-number-requires-clause-at
 held_bucket-number-requires-clause-at c = at_bucket_with c.args.self.now.phase c.requires.found
 
 pub held_bucket-number-requires-clause-held : goal.held_bucket-number-requires-clause-held
-held_bucket-number-requires-clause-held c = holds_bucket c.requires.ready.0 c.args.self.now (moment c.args.subtx.now c.args.pages.now) c.requires.ready.2.walks (at_bucket_with c.args.self.now.phase c.requires.found)
+held_bucket-number-requires-clause-held c = holds_bucket c.requires.ready.0 c.args.self.now (local c.args.subtx.now c.args.pages.now) c.requires.ready.2.walks (at_bucket_with c.args.self.now.phase c.requires.found)
 
 pub unreachable-requires : goal.unreachable-requires
 unreachable-requires c =
-    record_has_plan c.requires.ready.0 c.args.self.now (view_for c.requires.ready.0 (moment c.args.subtx.now c.args.pages.now)) c.self.inside.key c.held_bucket-number.result.1.now c.requires.found c.requires.ready.2.walks.stands (reads_bucket c.requires.ready.0 c.args.self.now (moment c.args.subtx.now c.args.pages.now) c.held_bucket-number.result.0 c.self.inside.key c.held_bucket-number.result.1.now c.requires.ready.2.walks (at_bucket_with c.args.self.now.phase c.requires.found) c.held_bucket-number.ensures.bucket c.held_bucket-number.ensures.number (ap (λ (w : WalkFields). w.key) c.self.view_is)).sees (ap (λ (w : WalkFields). w.key) c.self.view_is) c.in_default.ensures.plan
+    record_has_plan c.requires.ready.0 c.args.self.now (view_for c.requires.ready.0 (local c.args.subtx.now c.args.pages.now)) c.self.inside.key c.held_bucket-number.result.1.now c.requires.found c.requires.ready.2.walks.stands (reads_bucket c.requires.ready.0 c.args.self.now (local c.args.subtx.now c.args.pages.now) c.held_bucket-number.result.0 c.self.inside.key c.held_bucket-number.result.1.now c.requires.ready.2.walks (at_bucket_with c.args.self.now.phase c.requires.found) c.held_bucket-number.ensures.bucket c.held_bucket-number.ensures.number (ap (λ (w : WalkFields). w.key) c.self.view_is)).sees (ap (λ (w : WalkFields). w.key) c.self.view_is) c.in_default.ensures.plan
 
-reads : (c : goal.After-write_change-arg-3-1) (basis : Basis) → MayChange basis (before c) c.args.self.now → ReadsBucket basis c.args.self.now (before c) c.held_bucket-number.result.0 c.self.inside.key c.held_bucket-number.result.1.now
-reads c basis may = reads_bucket basis c.args.self.now (before c) c.held_bucket-number.result.0 c.self.inside.key c.held_bucket-number.result.1.now may.walks (at_bucket_with c.args.self.now.phase c.requires.found) c.held_bucket-number.ensures.bucket c.held_bucket-number.ensures.number (ap (λ (w : WalkFields). w.key) c.self.view_is)
+reads : (c : goal.After-write_change-arg-3-1) (context : WalkContext) → MayChange context (before c) c.args.self.now → ReadsBucket context c.args.self.now (before c) c.held_bucket-number.result.0 c.self.inside.key c.held_bucket-number.result.1.now
+reads c context may = reads_bucket context c.args.self.now (before c) c.held_bucket-number.result.0 c.self.inside.key c.held_bucket-number.result.1.now may.walks (at_bucket_with c.args.self.now.phase c.requires.found) c.held_bucket-number.ensures.bucket c.held_bucket-number.ensures.number (ap (λ (w : WalkFields). w.key) c.self.view_is)
 
 pub write_change-requires-clause-held : goal.write_change-requires-clause-held
 write_change-requires-clause-held c =
@@ -33,10 +33,10 @@ write_change-requires-clause-planned c =
 
 pub returns-clause-writes : goal.returns-clause-writes
 returns-clause-writes c =
-    let after : Moment = moment c.write_change.new.subtx c.write_change.new.pages in
+    let after : LocalState = local c.write_change.new.subtx c.write_change.new.pages in
     plan_is_written (before c.before) after (page_of c.args.self.now.phase) c.held_bucket-number.result.0 c.held_bucket-number.result.1.now (is_live_of c.self.inside.key) (Live c.self.inside.key c.args.value) c.in-Some.write c.write_change.result c.held_bucket-number.ensures.number c.in-Some.ensures.plan c.write_change.ensures.writes
 
 pub returns-clause-tells : goal.returns-clause-tells
-returns-clause-tells c = λ basis own may.
-    let after : Moment = moment c.write_change.new.subtx c.write_change.new.pages in
-    update_tells basis c.args.self.now c.write_change.new.walk (before c.before) after c.held_bucket-number.result.0 c.self.inside.key c.held_bucket-number.result.1.now c.in-Some.write c.write_change.result (reads c.before basis may) c.args.value c.requires.found c.in-Some.ensures.plan c.write_change.ensures.tells
+returns-clause-tells c = λ context own may.
+    let after : LocalState = local c.write_change.new.subtx c.write_change.new.pages in
+    update_tells context c.args.self.now c.write_change.new.walk (before c.before) after c.held_bucket-number.result.0 c.self.inside.key c.held_bucket-number.result.1.now c.in-Some.write c.write_change.result (reads c.before context may) c.args.value c.requires.found c.in-Some.ensures.plan c.write_change.ensures.tells

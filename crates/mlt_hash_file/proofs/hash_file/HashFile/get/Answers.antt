@@ -4,7 +4,7 @@ use Rattle.std.proofs.Common.{◌≡◌, ◌∙◌, sym, subst}
 use Rattle.std.specs.FinMap as map
 use Rattle.mlt_page_store.specs.Stores.{PageStore, page_at}
 use Rattle.mlt_hash_form.specs.Records.{live_records}
-use Rattle.mlt_hash_file.specs.Alone.{basis_of}
+use Rattle.mlt_hash_file.specs.Alone.{context_of}
 use Rattle.mlt_hash_file.specs.AloneWalks.{IsHashFile}
 use Rattle.mlt_hash_file.proofs.AloneEnds.{idle_starts}
 use Rattle.mlt_hash_file.proofs.HashFiles.{file_before, found_is_record, store_stays}
@@ -23,14 +23,14 @@ pub invariant_of-self : goal.invariant_of-self
 invariant_of-self g c =
     let bits = g.P.Pseudo.bits_of c.self.inside.root.pseudo in
     let stays : c.end.new.self.store ≡ c.self.inside.runner.store =
-    c.end.ensures.store ∙ store_stays (basis_of nothing_before bits c.self.inside.root.page c.self.inside.root.max_depth c.self.inside.runner) c.self.inside.runner c.find-found.new.self c.find-walk.result c.find-found.new.walk c.find-found.result c.self.invariant.0 c.find-found.ensures.keeps c.find-found.ensures.alone c.find-found.ensures.arrives in
+    c.end.ensures.store ∙ store_stays (context_of nothing_before bits c.self.inside.root.page c.self.inside.root.max_depth c.self.inside.runner) c.self.inside.runner c.find-found.new.self c.find-walk.result c.find-found.new.walk c.find-found.result c.self.invariant.0 c.find-found.ensures.keeps c.find-found.ensures.alone c.find-found.ensures.arrives in
     (c.end.ensures.idle, subst (λ (s : PageStore). IsHashFile bits (page_at s.pages) c.self.inside.root.page c.self.inside.root.max_depth) (sym stays) c.self.invariant.1)
 
 pub returns-clause-file : goal.returns-clause-file
 returns-clause-file g c =
     let bits = g.P.Pseudo.bits_of c.self.inside.root.pseudo in
     let stays : c.end.new.self.store ≡ c.self.inside.runner.store =
-    c.end.ensures.store ∙ store_stays (basis_of nothing_before bits c.self.inside.root.page c.self.inside.root.max_depth c.self.inside.runner) c.self.inside.runner c.find-found.new.self c.find-walk.result c.find-found.new.walk c.find-found.result c.self.invariant.0 c.find-found.ensures.keeps c.find-found.ensures.alone c.find-found.ensures.arrives in
+    c.end.ensures.store ∙ store_stays (context_of nothing_before bits c.self.inside.root.page c.self.inside.root.max_depth c.self.inside.runner) c.self.inside.runner c.find-found.new.self c.find-walk.result c.find-found.new.walk c.find-found.result c.self.invariant.0 c.find-found.ensures.keeps c.find-found.ensures.alone c.find-found.ensures.arrives in
     subst (λ (s : PageStore). IsHashFile bits (page_at s.pages) c.self.inside.root.page c.self.inside.root.max_depth) (sym stays) c.self.invariant.1
 
 pub returns-clause-value : goal.returns-clause-value
@@ -42,5 +42,5 @@ pub returns-clause-same : goal.returns-clause-same
 returns-clause-same g c =
     let bits = g.P.Pseudo.bits_of c.self.inside.root.pseudo in
     let stays : c.end.new.self.store ≡ c.self.inside.runner.store =
-    c.end.ensures.store ∙ store_stays (basis_of nothing_before bits c.self.inside.root.page c.self.inside.root.max_depth c.self.inside.runner) c.self.inside.runner c.find-found.new.self c.find-walk.result c.find-found.new.walk c.find-found.result c.self.invariant.0 c.find-found.ensures.keeps c.find-found.ensures.alone c.find-found.ensures.arrives in
+    c.end.ensures.store ∙ store_stays (context_of nothing_before bits c.self.inside.root.page c.self.inside.root.max_depth c.self.inside.runner) c.self.inside.runner c.find-found.new.self c.find-walk.result c.find-found.new.walk c.find-found.result c.self.invariant.0 c.find-found.ensures.keeps c.find-found.ensures.alone c.find-found.ensures.arrives in
     (λ i. record { pages = (stays i).pages; root = c.self.inside.root.page; max_depth = c.self.inside.root.max_depth; max_pages = (stays i).max_pages; pseudo = c.self.inside.root.pseudo }) ∙ c.self.view_is

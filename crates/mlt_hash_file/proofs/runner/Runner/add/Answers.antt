@@ -1,9 +1,9 @@
-use Rattle.mlt_hash_file.specs.Alone.{basis_of}
+use Rattle.mlt_hash_file.specs.Alone.{context_of}
 use Rattle.std.proofs.Common.{◌∙◌}
 use Rattle.mlt_hash.specs.Walks.{nothing_before}
 use Rattle.mlt_hash_file.proofs.Alone.{keeps_both}
 use Rattle.mlt_hash_file.proofs.AloneWalks.{more_from_start, ready_at_start}
-use Rattle.mlt_hash_file.proofs.AlonePasses.{absent_here, basis_before, ready_there, retell}
+use Rattle.mlt_hash_file.proofs.AlonePasses.{absent_here, context_before, ready_there, retell}
 use Rattle.mlt_hash_file.proofs.runner.Runner.add.Goals as goal
 
 pub find-requires : goal.find-requires
@@ -26,5 +26,5 @@ returns-clause-keeps g c = keeps_both c.args.self.now c.find.new.self c.put.new.
 
 pub returns-clause-tells : goal.returns-clause-tells
 returns-clause-tells g c =
-    retell (basis_of nothing_before (g.P.Pseudo.bits_of c.args.root.now.pseudo) c.args.root.now.page c.args.root.now.max_depth c.args.self.now) c.put.new.self c.args.walk.now c.find.new.walk c.put.new.walk c.args.value c.put.result c.find.ensures.arrives.same
-    (basis_before nothing_before (g.P.Pseudo.bits_of c.args.root.now.pseudo) c.args.root.now.page c.args.root.now.max_depth c.args.self.now c.find.new.self c.put.new.self c.find.new.walk c.put.new.walk c.args.value c.put.result c.find.ensures.keeps c.put.ensures.tells)
+    retell (context_of nothing_before (g.P.Pseudo.bits_of c.args.root.now.pseudo) c.args.root.now.page c.args.root.now.max_depth c.args.self.now) c.put.new.self c.args.walk.now c.find.new.walk c.put.new.walk c.args.value c.put.result c.find.ensures.arrives.same
+    (context_before nothing_before (g.P.Pseudo.bits_of c.args.root.now.pseudo) c.args.root.now.page c.args.root.now.max_depth c.args.self.now c.find.new.self c.put.new.self c.find.new.walk c.put.new.walk c.args.value c.put.result c.find.ensures.keeps c.put.ensures.tells)

@@ -1,10 +1,10 @@
 use Rattle.std.proofs.Common.{subst}
-use Rattle.mlt_hash_file.specs.Alone.{basis_of}
+use Rattle.mlt_hash_file.specs.Alone.{context_of}
 use Rattle.mlt_hash_file.specs.AloneWalks.{TellsOfPass}
-use Rattle.mlt_hash.specs.Walks.{Basis, nothing_before}
+use Rattle.mlt_hash.specs.Walks.{WalkContext, nothing_before}
 use Rattle.mlt_hash_file.proofs.AloneEnds.{idle_starts}
 use Rattle.mlt_hash_file.proofs.AlonePasses.{retell}
-use Rattle.mlt_hash_file.proofs.AloneWalks.{file_kept, same_basis}
+use Rattle.mlt_hash_file.proofs.AloneWalks.{file_kept, same_context}
 use Rattle.mlt_hash_file.proofs.runner.Runner.add_again.Goals as goal
 
 pub add-requires-clause-nothing : goal.add-requires-clause-nothing
@@ -16,7 +16,7 @@ add-requires-clause-file g c = file_kept nothing_before (g.P.Pseudo.bits_of c.ar
 pub returns-clause-tells : goal.returns-clause-tells
 returns-clause-tells g c =
     let bits = g.P.Pseudo.bits_of c.args.root.now.pseudo in
-    let basis : Basis = basis_of nothing_before bits c.args.root.now.page c.args.root.now.max_depth c.args.self.now in
-    let told : TellsOfPass basis c.add.new.self c.again.new.self c.add.new.walk c.args.value c.add.result =
-    subst (λ (basis : Basis). TellsOfPass basis c.add.new.self c.again.new.self c.add.new.walk c.args.value c.add.result) (same_basis nothing_before bits c.args.root.now.page c.args.root.now.max_depth c.args.self.now c.roll_back.new.self c.roll_back.ensures.keeps) c.add.ensures.tells in
-    retell basis c.add.new.self _ c.again.new.self c.add.new.walk c.args.value c.add.result (record { key = λ i. (c.again.ensures i).key; mode = λ i. (c.again.ensures i).mode; pass = λ i. (c.again.ensures i).pass }) told
+    let context : WalkContext = context_of nothing_before bits c.args.root.now.page c.args.root.now.max_depth c.args.self.now in
+    let told : TellsOfPass context c.add.new.self c.again.new.self c.add.new.walk c.args.value c.add.result =
+    subst (λ (context : WalkContext). TellsOfPass context c.add.new.self c.again.new.self c.add.new.walk c.args.value c.add.result) (same_context nothing_before bits c.args.root.now.page c.args.root.now.max_depth c.args.self.now c.roll_back.new.self c.roll_back.ensures.keeps) c.add.ensures.tells in
+    retell context c.add.new.self _ c.again.new.self c.add.new.walk c.args.value c.add.result (record { key = λ i. (c.again.ensures i).key; mode = λ i. (c.again.ensures i).mode; pass = λ i. (c.again.ensures i).pass }) told

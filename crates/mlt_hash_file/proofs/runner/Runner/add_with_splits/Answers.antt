@@ -1,4 +1,4 @@
-use Rattle.mlt_hash_file.specs.Alone.{basis_of}
+use Rattle.mlt_hash_file.specs.Alone.{context_of}
 use Rattle.mlt_hash_access.specs.Views.{view_of}
 use Rattle.mlt_hash_access.proofs.Since.{nothing_written}
 use Rattle.mlt_hash.specs.Walks.{nothing_before}
@@ -26,10 +26,10 @@ returns-in-NeedSplit-clause-keeps g c = keeps_both c.args.self.now c.add_again.n
 pub returns-in-NeedSplit-clause-tells : goal.returns-in-NeedSplit-clause-tells
 returns-in-NeedSplit-clause-tells g c =
     let tells = splits_before nothing_before (g.P.Pseudo.bits_of c.args.root.now.pseudo) c.args.root.now.page c.args.root.now.max_depth c.args.self.now c.add_again.new.self c.split.new.self c.add_again.new.walk c.split.new.walk _ _ c.split.result c.in-NeedSplit.ensures.keeps c.split.ensures.tells in
-    splits_are_later (basis_of nothing_before (g.P.Pseudo.bits_of c.args.root.now.pseudo) c.args.root.now.page c.args.root.now.max_depth c.args.self.now) c.add_again.new.self c.split.new.self _ c.add_again.new.walk c.split.new.walk c.args.value c.split.result c.split.ensures.keeps c.in-NeedSplit.ensures.tells c.requires.later tells
+    splits_are_later (context_of nothing_before (g.P.Pseudo.bits_of c.args.root.now.pseudo) c.args.root.now.page c.args.root.now.max_depth c.args.self.now) c.add_again.new.self c.split.new.self _ c.add_again.new.walk c.split.new.walk c.args.value c.split.result c.split.ensures.keeps c.in-NeedSplit.ensures.tells c.requires.later tells
 
 pub returns-in_default : goal.returns-in_default
 returns-in_default g c = record {
   keeps = c.add_again.ensures.keeps;
-  tells = pass_is_later (basis_of nothing_before (g.P.Pseudo.bits_of c.args.root.now.pseudo) c.args.root.now.page c.args.root.now.max_depth c.args.self.now) c.add_again.new.self _ c.add_again.new.walk c.args.value c.add_again.result c.in_default.not-NeedSplit c.add_again.ensures.tells;
+  tells = pass_is_later (context_of nothing_before (g.P.Pseudo.bits_of c.args.root.now.pseudo) c.args.root.now.page c.args.root.now.max_depth c.args.self.now) c.add_again.new.self _ c.add_again.new.walk c.args.value c.add_again.result c.in_default.not-NeedSplit c.add_again.ensures.tells;
 }

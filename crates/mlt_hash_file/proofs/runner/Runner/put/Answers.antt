@@ -1,8 +1,8 @@
-use Rattle.mlt_hash_access.specs.Moments.{moment}
+use Rattle.mlt_hash_access.specs.LocalStates.{local}
 use Rattle.std.proofs.Common.{refl, subst}
 use Rattle.mlt_hash_file.specs.Alone.{IsAlone}
 use Rattle.mlt_hash.specs.Changes.{MayChange, page_of}
-use Rattle.mlt_hash.specs.Walks.{basis_after, basis_by}
+use Rattle.mlt_hash.specs.Walks.{context_after, context_by}
 use Rattle.mlt_hash_file.proofs.Alone.{alone_after_write, write_keeps_before, written_after}
 use Rattle.mlt_hash_file.proofs.AloneChanges.{may_walk_alone, writes_at_most}
 use Rattle.mlt_hash_file.proofs.AlonePasses.{addition_tells}
@@ -10,29 +10,29 @@ use Rattle.mlt_hash_file.proofs.runner.Runner.put.Goals as goal
 
 pub insert-requires : goal.insert-requires
 insert-requires g c κs within =
-    let ready : MayChange (basis_after g.since (basis_by g.P.Pseudo.bits_of c.args.root.now c.self.inside.opens c.self.inside.subtx.tx)) (moment c.self.inside.subtx c.self.inside.pages) c.args.walk.now = record {
-      walks = may_walk_alone g.since (g.P.Pseudo.bits_of c.args.root.now.pseudo) c.self.inside.opens c.args.root.now.page c.args.root.now.max_depth (moment c.self.inside.subtx c.self.inside.pages) c.args.self.now c.args.walk.now c.self.invariant.1 c.self.view_is c.self.invariant.0 c.requires.1.1.1.written c.requires.1.1.1.file c.requires.1.1.1.stands;
+    let ready : MayChange (context_after g.since (context_by g.P.Pseudo.bits_of c.args.root.now c.self.inside.active c.self.inside.subtx.tx)) (local c.self.inside.subtx c.self.inside.pages) c.args.walk.now = record {
+      walks = may_walk_alone g.since (g.P.Pseudo.bits_of c.args.root.now.pseudo) c.self.inside.active c.args.root.now.page c.args.root.now.max_depth (local c.self.inside.subtx c.self.inside.pages) c.args.self.now c.args.walk.now c.self.invariant.1 c.self.view_is c.self.invariant.0 c.requires.1.1.1.written c.requires.1.1.1.file c.requires.1.1.1.stands;
       exclusive = c.requires.1.0;
     } in
     (within, (refl, (ready, c.requires.1.1.0)))
 
 pub invariant_of-self : goal.invariant_of-self
 invariant_of-self g c = (
-  alone_after_write (moment c.self.inside.subtx c.self.inside.pages) (moment c.insert.new.subtx c.insert.new.pages) (page_of c.args.walk.now.phase) c.self.invariant.0 c.insert.ensures.leaves.may (writes_at_most _ _ _ c.insert.result c.insert.ensures.writes),
+  alone_after_write (local c.self.inside.subtx c.self.inside.pages) (local c.insert.new.subtx c.insert.new.pages) (page_of c.args.walk.now.phase) c.self.invariant.0 c.insert.ensures.leaves.may (writes_at_most _ _ _ c.insert.result c.insert.ensures.writes),
   c.self.invariant.1,
 )
 
 pub returns-clause-keeps : goal.returns-clause-keeps
 returns-clause-keeps g c =
-    write_keeps_before (moment c.self.inside.subtx c.self.inside.pages) c.args.self.now (moment c.insert.new.subtx c.insert.new.pages) (page_of c.args.walk.now.phase) c.self.view_is c.self.invariant.0 c.insert.ensures.leaves.may c.insert.ensures.leaves.clean (writes_at_most _ _ _ c.insert.result c.insert.ensures.writes)
+    write_keeps_before (local c.self.inside.subtx c.self.inside.pages) c.args.self.now (local c.insert.new.subtx c.insert.new.pages) (page_of c.args.walk.now.phase) c.self.view_is c.self.invariant.0 c.insert.ensures.leaves.may c.insert.ensures.leaves.clean (writes_at_most _ _ _ c.insert.result c.insert.ensures.writes)
 
 pub returns-clause-written : goal.returns-clause-written
 returns-clause-written g c =
-    written_after g.since.written (moment c.self.inside.subtx c.self.inside.pages) c.args.self.now (moment c.insert.new.subtx c.insert.new.pages) c.self.view_is c.self.invariant.0.may c.insert.ensures.leaves.touches c.requires.1.1.1.written
+    written_after g.since.written (local c.self.inside.subtx c.self.inside.pages) c.args.self.now (local c.insert.new.subtx c.insert.new.pages) c.self.view_is c.self.invariant.0.may c.insert.ensures.leaves.touches c.requires.1.1.1.written
 
 pub returns-clause-tells : goal.returns-clause-tells
 returns-clause-tells g c =
-    addition_tells g.since (g.P.Pseudo.bits_of c.args.root.now.pseudo) c.self.inside.opens c.args.root.now.page c.args.root.now.max_depth c.args.self.now (moment c.self.inside.subtx c.self.inside.pages) (moment c.insert.new.subtx c.insert.new.pages) c.args.walk.now c.insert.new.self c.args.value c.insert.result
+    addition_tells g.since (g.P.Pseudo.bits_of c.args.root.now.pseudo) c.self.inside.active c.args.root.now.page c.args.root.now.max_depth c.args.self.now (local c.self.inside.subtx c.self.inside.pages) (local c.insert.new.subtx c.insert.new.pages) c.args.walk.now c.insert.new.self c.args.value c.insert.result
     c.self.invariant.1 c.self.view_is c.self.invariant.0 c.requires.1.1.1.written c.requires.1.1.1.file c.requires.1.1.1.stands c.requires.1.1.0
     c.insert.ensures.leaves.may c.insert.ensures.leaves.clean c.insert.ensures.leaves.touches c.insert.ensures.writes c.insert.ensures.tells
 

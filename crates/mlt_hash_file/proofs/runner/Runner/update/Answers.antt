@@ -1,7 +1,7 @@
-use Rattle.mlt_hash_access.specs.Moments.{moment}
+use Rattle.mlt_hash_access.specs.LocalStates.{local}
 use Rattle.std.proofs.Common.{refl}
 use Rattle.mlt_hash.specs.Changes.{MayChange, page_of}
-use Rattle.mlt_hash.specs.Walks.{basis_after, basis_by}
+use Rattle.mlt_hash.specs.Walks.{context_after, context_by}
 use Rattle.mlt_hash.specs.declared.pass.Change.TheVariants as change
 use Rattle.mlt_hash_file.proofs.Alone.{alone_after_write, write_keeps_before}
 use Rattle.mlt_hash_file.proofs.AloneChanges.{change_alone, may_walk_alone, writes_at_most}
@@ -9,9 +9,9 @@ use Rattle.mlt_hash_file.proofs.runner.Runner.update.Given.{Over}
 use Rattle.mlt_hash_file.proofs.runner.Runner.update.Goals.{After-update-arg-3-1}
 use Rattle.mlt_hash_file.proofs.runner.Runner.update.Goals as goal
 
-may : (g : Over) (c : After-update-arg-3-1 g) → MayChange (basis_after g.since (basis_by g.P.Pseudo.bits_of c.args.root.now c.self.inside.opens c.self.inside.subtx.tx)) (moment c.self.inside.subtx c.self.inside.pages) c.args.walk.now
+may : (g : Over) (c : After-update-arg-3-1 g) → MayChange (context_after g.since (context_by g.P.Pseudo.bits_of c.args.root.now c.self.inside.active c.self.inside.subtx.tx)) (local c.self.inside.subtx c.self.inside.pages) c.args.walk.now
 may g c = record {
-  walks = may_walk_alone g.since (g.P.Pseudo.bits_of c.args.root.now.pseudo) c.self.inside.opens c.args.root.now.page c.args.root.now.max_depth (moment c.self.inside.subtx c.self.inside.pages) c.args.self.now c.args.walk.now c.self.invariant.1 c.self.view_is c.self.invariant.0 c.requires.1.1.1.written c.requires.1.1.1.file c.requires.1.1.1.stands;
+  walks = may_walk_alone g.since (g.P.Pseudo.bits_of c.args.root.now.pseudo) c.self.inside.active c.args.root.now.page c.args.root.now.max_depth (local c.self.inside.subtx c.self.inside.pages) c.args.self.now c.args.walk.now c.self.invariant.1 c.self.view_is c.self.invariant.0 c.requires.1.1.1.written c.requires.1.1.1.file c.requires.1.1.1.stands;
   exclusive = c.requires.1.0;
 }
 
@@ -20,16 +20,16 @@ update-requires-clause-ready g c = (_, refl, may g c)
 
 pub invariant_of-self : goal.invariant_of-self
 invariant_of-self g c = (
-  alone_after_write (moment c.self.inside.subtx c.self.inside.pages) (moment c.update.new.subtx c.update.new.pages) (page_of c.args.walk.now.phase) c.self.invariant.0 c.update.ensures.leaves.may (writes_at_most _ _ _ c.update.result c.update.ensures.writes),
+  alone_after_write (local c.self.inside.subtx c.self.inside.pages) (local c.update.new.subtx c.update.new.pages) (page_of c.args.walk.now.phase) c.self.invariant.0 c.update.ensures.leaves.may (writes_at_most _ _ _ c.update.result c.update.ensures.writes),
   c.self.invariant.1,
 )
 
 pub returns-clause-keeps : goal.returns-clause-keeps
 returns-clause-keeps g c =
-    write_keeps_before (moment c.self.inside.subtx c.self.inside.pages) c.args.self.now (moment c.update.new.subtx c.update.new.pages) (page_of c.args.walk.now.phase) c.self.view_is c.self.invariant.0 c.update.ensures.leaves.may c.update.ensures.leaves.clean (writes_at_most _ _ _ c.update.result c.update.ensures.writes)
+    write_keeps_before (local c.self.inside.subtx c.self.inside.pages) c.args.self.now (local c.update.new.subtx c.update.new.pages) (page_of c.args.walk.now.phase) c.self.view_is c.self.invariant.0 c.update.ensures.leaves.may c.update.ensures.leaves.clean (writes_at_most _ _ _ c.update.result c.update.ensures.writes)
 
 pub returns-clause-tells : goal.returns-clause-tells
 returns-clause-tells g c =
-    change_alone g.since (g.P.Pseudo.bits_of c.args.root.now.pseudo) c.self.inside.opens c.args.root.now.page c.args.root.now.max_depth (moment c.self.inside.subtx c.self.inside.pages) c.args.self.now (moment c.update.new.subtx c.update.new.pages) c.args.walk.now c.update.new.self (change.Set c.args.value) c.update.result
+    change_alone g.since (g.P.Pseudo.bits_of c.args.root.now.pseudo) c.self.inside.active c.args.root.now.page c.args.root.now.max_depth (local c.self.inside.subtx c.self.inside.pages) c.args.self.now (local c.update.new.subtx c.update.new.pages) c.args.walk.now c.update.new.self (change.Set c.args.value) c.update.result
     c.self.invariant.1 c.self.view_is c.self.invariant.0 c.requires.1.1.0 c.requires.1.1.1.written c.requires.1.1.1.file c.requires.1.1.1.stands
     c.update.ensures.leaves.may c.update.ensures.leaves.clean c.update.ensures.leaves.touches (writes_at_most _ _ _ c.update.result c.update.ensures.writes) (c.update.ensures.tells _ refl (may g c.before))

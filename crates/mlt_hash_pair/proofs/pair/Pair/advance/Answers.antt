@@ -1,7 +1,7 @@
 use Rattle.std.proofs.Common.{◌≡◌, ℕ, sym, ap, subst, ◌∙◌}
-use Rattle.mlt_hash_access.specs.Moments.{Moment, moment}
+use Rattle.mlt_hash_access.specs.LocalStates.{LocalState, local}
 use Rattle.mlt_hash_pair.specs.Pairs.{IsUnderWay, MayFind, PairFields, mode_next, page_next}
-use Rattle.mlt_hash_pair.specs.Reading.{next_mode, next_page, way_after}
+use Rattle.mlt_hash_pair.specs.Reading.{next_mode, next_page, descent_after}
 use Rattle.mlt_hash_pair.specs.Steps.{TellsOfStep}
 use Rattle.mlt_hash_pair.proofs.Finding.{pair_next_there, reads_small, tells}
 use Rattle.mlt_hash_pair.proofs.pair.Pair.advance.Given.{Over}
@@ -10,13 +10,13 @@ use Rattle.mlt_hash_pair.proofs.pair.Pair.advance.Goals as goal
 
 -- the pair, its page and its mode
 abbrev pair : (g : Over) → After-next_mode g → PairFields
-pair g c = record { left = c.self.inside.left; right = c.self.inside.right; left_way = c.self.inside.left_way; right_way = c.self.inside.right_way; owed = c.self.inside.owed }
+pair g c = record { left = c.self.inside.left; right = c.self.inside.right; left_descent = c.self.inside.left_descent; right_descent = c.self.inside.right_descent; owed = c.self.inside.owed }
 
 abbrev bits : (g : Over) → After-next_mode g → ℕ → ℕ
 bits g c = g.P.Pseudo.bits_of c.args.root.now.pseudo
 
-abbrev before : (g : Over) → After-next_mode g → Moment
-before g c = moment c.args.subtx.now c.args.pages.now
+abbrev before : (g : Over) → After-next_mode g → LocalState
+before g c = local c.args.subtx.now c.args.pages.now
 
 ready : (g : Over) (c : After-next_mode g) → MayFind (bits g c) c.args.root.now.page (before g c) (pair g c)
 ready g c = subst (MayFind (bits g c) c.args.root.now.page (before g c)) (sym c.self.view_is) c.requires.ready
@@ -36,20 +36,20 @@ lock-requires-clause-there g c = pair_next_there (bits g c) c.args.root.now.page
 pub after-self-inside-requires-clause-small : goal.after-self-inside-requires-clause-small
 after-self-inside-requires-clause-small g c =
     let s = (goal.at.after-self-inside-requires-clause-small g c).After-next_mode in
-    reads_small (bits g s) s.args.root.now.page (before g s) (pair g s) (ready g s) (under g s) (moment c.args.subtx.now c.lock.new.pages) s.next_page-number.result s.next_mode.result (number_is g s) (mode_is g s) c.read_held-page.result.now c.in_default.ensures.locks c.lock.ensures.leaves c.in_default.ensures.view c.read_held-page.ensures.reads
+    reads_small (bits g s) s.args.root.now.page (before g s) (pair g s) (ready g s) (under g s) (local c.args.subtx.now c.lock.new.pages) s.next_page-number.result s.next_mode.result (number_is g s) (mode_is g s) c.read_held-page.result.now c.in_default.ensures.locks c.lock.ensures.leaves c.in_default.ensures.view c.read_held-page.ensures.reads
 
 pub after-self-inside-requires-2-clause-small : goal.after-self-inside-requires-2-clause-small
 after-self-inside-requires-2-clause-small g c =
     let s = (goal.at.after-self-inside-requires-2-clause-small g c).After-next_mode in
-    reads_small (bits g s) s.args.root.now.page (before g s) (pair g s) (ready g s) (under g s) (moment c.args.subtx.now c.lock.new.pages) s.next_page-number.result s.next_mode.result (number_is g s) (mode_is g s) c.read_held-page.result.now c.in_default.ensures.locks c.lock.ensures.leaves c.in_default.ensures.view c.read_held-page.ensures.reads
+    reads_small (bits g s) s.args.root.now.page (before g s) (pair g s) (ready g s) (under g s) (local c.args.subtx.now c.lock.new.pages) s.next_page-number.result s.next_mode.result (number_is g s) (mode_is g s) c.read_held-page.result.now c.in_default.ensures.locks c.lock.ensures.leaves c.in_default.ensures.view c.read_held-page.ensures.reads
 
 pub returns-clause-tells : goal.returns-clause-tells
 returns-clause-tells g c =
     let s = (goal.at.returns-clause-tells g c).After-next_mode in
-    let after : Moment = moment c.args.subtx.now c.lock.new.pages in
+    let after : LocalState = local c.args.subtx.now c.lock.new.pages in
     let read = c.read_held-page.result.now in
-    let left : c.after-self-inside.result ≡ way_after (bits g s) s.args.root.now.page (pair g s).left (pair g s).left_way (page_next s.args.root.now.page (pair g s)) read = c.after-self-inside.ensures ∙ ap (λ n. way_after (bits g s) s.args.root.now.page (pair g s).left (pair g s).left_way n read) (number_is g s) in
-    let right : c.after-self-inside-2.result ≡ way_after (bits g s) s.args.root.now.page (pair g s).right (pair g s).right_way (page_next s.args.root.now.page (pair g s)) read = c.after-self-inside-2.ensures ∙ ap (λ n. way_after (bits g s) s.args.root.now.page (pair g s).right (pair g s).right_way n read) (number_is g s) in
-    subst (λ b. TellsOfStep (bits g s) s.args.root.now.page (before g s) after b (record (pair g s) { left_way = c.after-self-inside.result; right_way = c.after-self-inside-2.result }) c.found.result) c.self.view_is
+    let left : c.after-self-inside.result ≡ descent_after (bits g s) s.args.root.now.page (pair g s).left (pair g s).left_descent (page_next s.args.root.now.page (pair g s)) read = c.after-self-inside.ensures ∙ ap (λ n. descent_after (bits g s) s.args.root.now.page (pair g s).left (pair g s).left_descent n read) (number_is g s) in
+    let right : c.after-self-inside-2.result ≡ descent_after (bits g s) s.args.root.now.page (pair g s).right (pair g s).right_descent (page_next s.args.root.now.page (pair g s)) read = c.after-self-inside-2.ensures ∙ ap (λ n. descent_after (bits g s) s.args.root.now.page (pair g s).right (pair g s).right_descent n read) (number_is g s) in
+    subst (λ b. TellsOfStep (bits g s) s.args.root.now.page (before g s) after b (record (pair g s) { left_descent = c.after-self-inside.result; right_descent = c.after-self-inside-2.result }) c.found.result) c.self.view_is
     (tells (bits g s) s.args.root.now.page (before g s) (pair g s) (ready g s) (under g s) after s.next_page-number.result s.next_mode.result (number_is g s) (mode_is g s) read c.in_default.ensures.locks c.lock.ensures.leaves c.in_default.ensures.view c.read_held-page.ensures.reads
-    (record (pair g s) { left_way = c.after-self-inside.result; right_way = c.after-self-inside-2.result }) c.found.result (λ i. record (pair g s) { left_way = left i; right_way = right i }) c.found.ensures)
+    (record (pair g s) { left_descent = c.after-self-inside.result; right_descent = c.after-self-inside-2.result }) c.found.result (λ i. record (pair g s) { left_descent = left i; right_descent = right i }) c.found.ensures)

@@ -8,4 +8,4 @@ pub returns : goal.returns
 returns g c =
     let m = fields_of c.self.inside.parts in
     subst PassesTheChecker c.self.view_is
-    (checker_passed g.P.Pseudo.bits_of m c.self.invariant m.commons.history.items refl c.items_fit.ensures c.placed_items_are_writable.ensures c.history_passes_the_checker.ensures.committed)
+    (checker_passed g.P.Pseudo.bits_of m c.self.invariant m.shared.history.items refl c.items_fit.ensures c.placed_items_are_writable.ensures c.history_passes_the_checker.ensures.committed)

@@ -4,4 +4,4 @@ use Rattle.mlt_manager.proofs.manager.Manager.play.Given as goal
 
 abbrev pub invariant-loop-event : goal.invariant-loop-event
 invariant-loop-event g l = HasPlayed g.P.Pseudo.bits_of l.fn.limits l.fn.pseudo (take l.event-index l.events) l.tolds.items l.manager
-    × (l.manager.commons.history.handed ≡ [])
+    × (l.manager.shared.history.handed ≡ [])

@@ -14,7 +14,7 @@ returns-in_err-count-clause-answers g c =
 pub close-requires-clause-room : goal.close-requires-clause-room
 close-requires-clause-room g c =
     let zero_left : c.in_ok-count.count ≡ 0 = c.if-count-eq0.true in
-    subst (λ (n : ℕ). 1 + n ≤ c.args.self.now.commons.history.room) zero_left (room_to_end g.P.Pseudo.bits_of (fields_of c.args.self.now) c.args.tx c.in_ok-count.count c.requires.sound c.in_ok-count.ensures.idle)
+    subst (λ (n : ℕ). 1 + n ≤ c.args.self.now.shared.history.room) zero_left (room_to_end g.P.Pseudo.bits_of (fields_of c.args.self.now) c.args.tx c.in_ok-count.count c.requires.sound c.in_ok-count.ensures.idle)
 
 pub returns-then-count-eq0-clause-answers : goal.returns-then-count-eq0-clause-answers
 returns-then-count-eq0-clause-answers g c = record {

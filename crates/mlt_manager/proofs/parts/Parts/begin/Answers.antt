@@ -19,9 +19,9 @@ returns-clause-answers g c = let begins = told_ok c.begin.result c.in_default.no
   items = c.push.ensures.items ∙ ap (λ (l : List TraceItem). l ++ trace.Begin (c.args.self.now.begun + 1) ∷ []) c.reserve.ensures.items;
   room = omega (arith, c.push.ensures.room, c.in_ok-reserve.ensures.room);
   rest = λ i. record (fields_of c.args.self.now) {
-    commons = record c.args.self.now.commons { history = c.push.new.self };
+    shared = record c.args.self.now.shared { history = c.push.new.self };
     txs = begins.is i;
-    opens = c.insert.ensures i;
+    active = c.insert.ensures i;
     begun = c.args.self.now.begun + 1;
   };
 }

@@ -13,5 +13,5 @@ returns-clause-ends g c = record {
   items = c.release.ensures.items ∙ c.push.ensures.items;
   room = omega (arith, c.requires.idle.counts, c.release.ensures.room, c.push.ensures.room);
   txs = c.remove.ensures;
-  opens = c.remove-2.ensures;
+  active = c.remove-2.ensures;
 }

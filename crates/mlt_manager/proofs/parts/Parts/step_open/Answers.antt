@@ -7,4 +7,4 @@ step-answer-requires g c = record { is_open = may_step_here g.P.Pseudo.bits_of (
 
 pub returns-clause-steps : goal.returns-clause-steps
 returns-clause-steps g c =
-    stepped g.P.Pseudo.bits_of (fields_of c.args.self.now) c.args.tx c.step-answer.new.commons c.step-answer.new.self c.leave_if_aborted.new.txs c.leave_if_aborted.new.opens c.step-answer.result c.step-answer.ensures.steps c.leave_if_aborted.ensures.txs c.leave_if_aborted.ensures.opens
+    stepped g.P.Pseudo.bits_of (fields_of c.args.self.now) c.args.tx c.step-answer.new.shared c.step-answer.new.self c.leave_if_aborted.new.txs c.leave_if_aborted.new.active c.step-answer.result c.step-answer.ensures.steps c.leave_if_aborted.ensures.txs c.leave_if_aborted.ensures.active

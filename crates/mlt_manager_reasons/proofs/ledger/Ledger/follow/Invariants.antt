@@ -5,4 +5,4 @@ use Rattle.mlt_manager_reasons.specs.Tables.{Knows}
 use Rattle.mlt_manager_reasons.proofs.ledger.Ledger.follow.Given as goal
 
 abbrev pub invariant-loop-place : goal.invariant-loop-place
-invariant-loop-place l = (state : Base) → LeadsTo l.items state → Knows l.initial.self (take l.known l.items) → Knows l.self (take l.place l.items)
+invariant-loop-place l = (state : Base) → LeadsTo l.items state → Knows l.initial.self (take l.replayed l.items) → Knows l.self (take l.place l.items)

@@ -5,7 +5,7 @@ use Rattle.mlt_page.proofs.bucket.Bucket.part.Given as goal
 
 abbrev pub invariant-loop-at : goal.invariant-loop-at
 invariant-loop-at g l =
-    let f = half (g.P.Pseudo.bits_of l.pseudo) l.opens l.place in
+    let f = half (g.P.Pseudo.bits_of l.pseudo) l.active l.place in
     record {
       zeros_size : length l.zeros ≡ 8;
       ones_size : length l.ones ≡ 8;

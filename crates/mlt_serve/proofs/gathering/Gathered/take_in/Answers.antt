@@ -6,7 +6,7 @@ use Rattle.mlt_serve.proofs.gathering.Gathered.take_in.Goals as goal
 
 pub returns-clause-told : goal.returns-clause-told
 returns-clause-told g c =
-    let items = c.args.desks.now.state.manager.commons.history.items in
+    let items = c.args.desks.now.state.manager.shared.history.items in
     let old = g.K.Receipts.receipts c.args.self.now.outcomes in
     let more = g.K.Receipts.receipts c.args.thread.outcomes in
     let new = g.K.Receipts.receipts c.take_in.new.self in

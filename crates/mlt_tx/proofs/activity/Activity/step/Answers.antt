@@ -1,10 +1,10 @@
 use Rattle.std.proofs.Common.{◌≡◌, Option, refl, sym, ap, subst, ◌∙◌}
-use Rattle.mlt_hash.specs.Walks.{Basis, basis_in}
+use Rattle.mlt_hash.specs.Walks.{WalkContext, context_in}
 use Rattle.mlt_tx_operation.specs.Operating.{OperationFields}
 use Rattle.mlt_event.specs.declared.answer.Answer.{Answer}
-use Rattle.mlt_tx.specs.declared.activity.State.{State}
-use Rattle.mlt_tx.specs.declared.activity.State.TheVariants as state
-use Rattle.mlt_tx.specs.declared.commons.Commons.{Commons}
+use Rattle.mlt_tx.specs.declared.activity.ActivityState.{ActivityState}
+use Rattle.mlt_tx.specs.declared.activity.ActivityState.TheVariants as state
+use Rattle.mlt_tx.specs.declared.shared.SharedState.{SharedState}
 use Rattle.mlt_tx.specs.declared.transaction.At.{At}
 use Rattle.mlt_tx.specs.declared.transaction.At.TheVariants as at
 use Rattle.mlt_tx.specs.declared.transaction.Transaction.{Transaction}
@@ -13,20 +13,20 @@ use Rattle.mlt_tx.specs.Transactions.{LeavesRoom, TellsAt, pending_after, transa
 use Rattle.mlt_tx.proofs.Pending.{keeps_room, still_pending}
 use Rattle.mlt_tx.proofs.activity.Activity.step.Goals as goal
 
-pending_is : (s : State) (o : OperationFields) (i : Option OperationFields) → s ≡ state.Pending → at_of s o i ≡ at.Pending o
-pending_is s o i is = ap (λ (s : State). at_of s o i) is
+pending_is : (s : ActivityState) (o : OperationFields) (i : Option OperationFields) → s ≡ state.Pending → at_of s o i ≡ at.Pending o
+pending_is s o i is = ap (λ (s : ActivityState). at_of s o i) is
 
-was_pending : (s : State) (o : OperationFields) (i : Option OperationFields) (whole : At) → at_of s o i ≡ whole → s ≡ state.Pending → at.Pending o ≡ whole
+was_pending : (s : ActivityState) (o : OperationFields) (i : Option OperationFields) (whole : At) → at_of s o i ≡ whole → s ≡ state.Pending → at.Pending o ≡ whole
 was_pending s o i whole view is = sym (pending_is s o i is) ∙ view
 
 pub returns-in-Done-clause-tells : goal.returns-in-Done-clause-tells
 returns-in-Done-clause-tells g c =
-    let basis : Basis = basis_in g.P.Pseudo.bits_of c.args.setting.now c.args.subtx.now.tx in
+    let context : WalkContext = context_in g.P.Pseudo.bits_of c.args.environment.now c.args.subtx.now.tx in
     let told : Answer = c.step_on-answer.result in
     let o : OperationFields = c.self.inside.operation in
     let after : Transaction = transaction_at c.step_on-answer.new.subtx c.step_on-answer.new.undo at.Idle in
-    let new : Commons = c.step_on-answer.new.commons in
-    subst (λ (a : At). TellsAt a basis (transaction_at c.args.subtx.now c.args.undo.now a) after c.args.commons.now new told) (was_pending c.self.inside.state o c.self.inside.inverting c.args.self.now c.self.view_is c.in-Pending.is) (record {
+    let new : SharedState = c.step_on-answer.new.shared in
+    subst (λ (a : At). TellsAt a context (transaction_at c.args.subtx.now c.args.undo.now a) after c.args.shared.now new told) (was_pending c.self.inside.state o c.self.inside.inverting c.args.self.now c.self.view_is c.in-Pending.is) (record {
       next = c.step_on-answer.new.operation;
       between = new;
       tells = c.step_on-answer.ensures.tells;
@@ -36,13 +36,13 @@ returns-in-Done-clause-tells g c =
 
 pub returns-in-Refused-clause-tells : goal.returns-in-Refused-clause-tells
 returns-in-Refused-clause-tells g c =
-    let basis : Basis = basis_in g.P.Pseudo.bits_of c.args.setting.now c.args.subtx.now.tx in
+    let context : WalkContext = context_in g.P.Pseudo.bits_of c.args.environment.now c.args.subtx.now.tx in
     let told : Answer = c.step_on-answer.result in
     let o : OperationFields = c.self.inside.operation in
     let after : Transaction = transaction_at c.step_on-answer.new.subtx c.step_on-answer.new.undo at.Idle in
-    let between : Commons = c.step_on-answer.new.commons in
-    let new : Commons = record { alloc = between.alloc; pages = between.pages; objects = between.objects; history = c.release.new.self } in
-    subst (λ (a : At). TellsAt a basis (transaction_at c.args.subtx.now c.args.undo.now a) after c.args.commons.now new told) (was_pending c.self.inside.state o c.self.inside.inverting c.args.self.now c.self.view_is c.in-Pending.is) (record {
+    let between : SharedState = c.step_on-answer.new.shared in
+    let new : SharedState = record { alloc = between.alloc; pages = between.pages; objects = between.objects; history = c.release.new.self } in
+    subst (λ (a : At). TellsAt a context (transaction_at c.args.subtx.now c.args.undo.now a) after c.args.shared.now new told) (was_pending c.self.inside.state o c.self.inside.inverting c.args.self.now c.self.view_is c.in-Pending.is) (record {
       next = c.step_on-answer.new.operation;
       between = between;
       tells = c.step_on-answer.ensures.tells;
@@ -52,16 +52,16 @@ returns-in-Refused-clause-tells g c =
 
 pub returns-in_default : goal.returns-in_default
 returns-in_default g c =
-    let basis : Basis = basis_in g.P.Pseudo.bits_of c.args.setting.now c.args.subtx.now.tx in
+    let context : WalkContext = context_in g.P.Pseudo.bits_of c.args.environment.now c.args.subtx.now.tx in
     let told : Answer = c.step_on-answer.result in
     let o : OperationFields = c.self.inside.operation in
     let next : OperationFields = c.step_on-answer.new.operation in
     let inverting : Option OperationFields = c.self.inside.inverting in
     let now : At = at_of c.self.inside.state next inverting in
     let after : Transaction = transaction_at c.step_on-answer.new.subtx c.step_on-answer.new.undo now in
-    let new : Commons = c.step_on-answer.new.commons in
+    let new : SharedState = c.step_on-answer.new.shared in
     record {
-      tells = subst (λ (a : At). TellsAt a basis (transaction_at c.args.subtx.now c.args.undo.now a) after c.args.commons.now new told) (was_pending c.self.inside.state o inverting c.args.self.now c.self.view_is c.in-Pending.is) (record {
+      tells = subst (λ (a : At). TellsAt a context (transaction_at c.args.subtx.now c.args.undo.now a) after c.args.shared.now new told) (was_pending c.self.inside.state o inverting c.args.self.now c.self.view_is c.in-Pending.is) (record {
         next = next;
         between = new;
         tells = c.step_on-answer.ensures.tells;

@@ -4,10 +4,10 @@ use Rattle.mlt_tx.proofs.transaction.Transaction.cancel.Goals as goal
 pub returns-clause-tells : goal.returns-clause-tells
 returns-clause-tells c = record {
   between = record {
-    alloc = c.args.commons.now.alloc;
+    alloc = c.args.shared.now.alloc;
     pages = record { store = c.roll_back.new.store; locks = c.roll_back.new.locks };
-    objects = c.args.commons.now.objects;
-    history = c.args.commons.now.history;
+    objects = c.args.shared.now.objects;
+    history = c.args.shared.now.history;
   };
   back = record { running = c.roll_back.ensures.images; locks = c.roll_back.ensures.locks; store = c.roll_back.ensures.store };
   objects = refl;

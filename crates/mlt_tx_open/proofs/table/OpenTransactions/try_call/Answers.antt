@@ -26,5 +26,5 @@ invariant_of-self c = (transaction_changed c.self.inside.slots.items c.deref.res
 pub returns-clause-tries : goal.returns-clause-tries
 returns-clause-tries c =
     let changes = one_changes c.self.inside.slots.items c.deref.result.now c.args.self.now c.self.inside.taken c.args.tx c.in-Some.place c.index_mut.result.now c.call.new.self c.self.invariant c.self.view_is c.deref.ensures.value c.in-Some.ensures c.index_mut.ensures.value c.deref_mut.result.now c.deref_mut.ensures.value in
-    call_tried c.args.tx c.args.op c.args.max_ops c.args.self.now _ c.args.commons.now c.call.new.commons c.call.result (c.len.result, found_idle c.self.inside.slots.items c.deref.result.now c.args.self.now c.args.tx c.in-Some.place c.index.result.now c.deref-2.result.now c.self.view_is c.deref.ensures.value c.in-Some.ensures c.index.ensures c.deref-2.ensures c.deref-3.result.now c.len.result c.deref-3.ensures (c.state.ensures.idle c.in-Idle.is) c.len.ensures, c.if-len-max_ops.false)
+    call_tried c.args.tx c.args.op c.args.max_ops c.args.self.now _ c.args.shared.now c.call.new.shared c.call.result (c.len.result, found_idle c.self.inside.slots.items c.deref.result.now c.args.self.now c.args.tx c.in-Some.place c.index.result.now c.deref-2.result.now c.self.view_is c.deref.ensures.value c.in-Some.ensures c.index.ensures c.deref-2.ensures c.deref-3.result.now c.len.result c.deref-3.ensures (c.state.ensures.idle c.in-Idle.is) c.len.ensures, c.if-len-max_ops.false)
     (on_ok_weaker c.call.result (λ tells. record { changes = changes; tells = tells }) c.call.ensures.calls) (on_err_weaker c.call.result (λ tells. record { changes = changes; tells = tells }) c.call.ensures.err) c.call.ensures.refusal

@@ -20,13 +20,13 @@ returns-in-Called g c =
     let tries = c.steps.new.self.tries in
     let view = desk_view c.steps.new.self.snapshot tries in
     let same : asking ≡ before = search rules in
-    let is_tx : c.hold-told.new.self.sleeper.tx ≡ c.args.tx = search rules in
-    let is_op : c.hold-told.new.self.sleeper.op ≡ c.args.op = search rules in
+    let is_tx : c.hold-told.new.self.thread.tx ≡ c.args.tx = search rules in
+    let is_op : c.hold-told.new.self.thread.op ≡ c.args.op = search rules in
     let had : c.hold-told.new.self.tries ≡ tries_called c.args.self.now.tries = search rules in
     let more = subst (StartsWith called) same (sees_more asking _ _ called c.hold-told.ensures.sees) in
     let steps = c.steps.ensures in
-    let of_op = subst (λ o. MayAnswerOperation bits_of c.hold-told.new.self.sleeper.tx o given view) is_op steps.told in
-    let sees_op = subst (λ o. SeesAnswer bits_of called (call.Operation c.hold-told.new.self.sleeper.tx o) given after) is_op steps.sees in
+    let of_op = subst (λ o. MayAnswerOperation bits_of c.hold-told.new.self.thread.tx o given view) is_op steps.told in
+    let sees_op = subst (λ o. SeesAnswer bits_of called (call.Operation c.hold-told.new.self.thread.tx o) given after) is_op steps.sees in
     record {
       may = subst (λ x. MayAnswerOperation bits_of x c.args.op given view) is_tx of_op;
       sees = sees_later bits_of before called (call.Operation c.args.tx c.args.op) given after more (subst (λ x. SeesAnswer bits_of called (call.Operation x c.args.op) given after) is_tx sees_op);

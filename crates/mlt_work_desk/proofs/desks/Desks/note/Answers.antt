@@ -6,8 +6,8 @@ use Rattle.mlt_work_desk.proofs.desks.Desks.note.Goals as goal
 pub invariant_of-self : goal.invariant_of-self
 invariant_of-self c =
     let before = c.args.self.now in
-    let sleeper = c.args.sleeper.now in
+    let thread = c.args.thread.now in
     record {
       awake = before.awake;
-      turns = same_turns before.waits.objects _ (with_blocked sleeper.tx sleeper.op before.queue) _ refl c.push.ensures (turns_with before.waits.objects sleeper.tx sleeper.op before.queue before.turns);
+      turns = same_turns before.waits.objects _ (with_blocked thread.tx thread.op before.queue) _ refl c.push.ensures (turns_with before.waits.objects thread.tx thread.op before.queue before.turns);
     }

@@ -20,11 +20,11 @@ invariant_of-self c =
     }
 
 -- it can't sleep among those that are left, who stay
-abbrev TriesAtOnce : goal.Else-join → Desks → Type 0
-TriesAtOnce c desks = CantSleep desks.count awaited.Objects c.args.wait desks.waits × (c.join.new.self.waits ≡ desks.waits)
+abbrev TriesFast : goal.Else-join → Desks → Type 0
+TriesFast c desks = CantSleep desks.count awaited.Objects c.args.wait desks.waits × (c.join.new.self.waits ≡ desks.waits)
 
-tries_at_once : (c : goal.Else-join) → TriesAtOnce c c.match-youngest.self
-tries_at_once c = (c.join.ensures.cant c.if-join.false, c.join.ensures.stays c.if-join.false)
+tries_fast : (c : goal.Else-join) → TriesFast c c.match-youngest.self
+tries_fast c = (c.join.ensures.cant c.if-join.false, c.join.ensures.stays c.if-join.false)
 
 pub returns-else-join-clause-turns : goal.returns-else-join-clause-turns
 returns-else-join-clause-turns c = elim c.match-youngest.branch [
@@ -39,12 +39,12 @@ returns-else-join-clause-turns c = elim c.match-youngest.branch [
       },
       refl,
       subst (λ waits. CantSleep c.args.self.now.count awaited.Objects c.args.wait waits × (c.join.new.self.waits ≡ waits)) w.release.ensures.releases
-          (subst (TriesAtOnce c) w.self-is (tries_at_once c)),
+          (subst (TriesFast c) w.self-is (tries_fast c)),
     ),
   )
   | in_default w ↦ (
     [],
     search rules,
-    (None, w.in_default.ensures.free, refl, subst (TriesAtOnce c) w.self-is (tries_at_once c)),
+    (None, w.in_default.ensures.free, refl, subst (TriesFast c) w.self-is (tries_fast c)),
   )
 ]

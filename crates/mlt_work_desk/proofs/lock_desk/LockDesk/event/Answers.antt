@@ -1,15 +1,15 @@
 use Rattle.std.proofs.Common.{rules, ◌≡◌, ◌≢◌, false}
 use Rattle.mlt_work_log.specs.Seats.{first_items}
 use Rattle.mlt_work_desk.specs.Holds.{EndsWithOp, is_done}
-use Rattle.mlt_work_desk.proofs.Circles.{youngest_of_circle}
+use Rattle.mlt_work_desk.proofs.Cycles.{youngest_of_cycle}
 use Rattle.mlt_work_desk.proofs.Replying.{reply_not_done, reply_then}
 use Rattle.mlt_work_desk.proofs.lock_desk.LockDesk.event.Goals as goal
 use Rattle.mlt_work_desk.proofs.lock_desk.LockDesk.event.Goals.{then-is_done, else-is_done}
 
 pub returns-clause-another : goal.returns-clause-another
 returns-clause-another g c = λ no_reply.
-    let history = c.act-told.new.self.manager.commons.history in
-    let op = c.args.self.now.sleeper.op in
+    let history = c.act-told.new.self.manager.shared.history in
+    let op = c.args.self.now.thread.op in
     let items = first_items c.act-told.new.snapshot in
     elim c.if-is_done.branch [
       | then-is_done w ↦
@@ -25,4 +25,4 @@ returns-clause-another g c = λ no_reply.
 pub returns-clause-youngest : goal.returns-clause-youngest
 returns-clause-youngest g c = λ gives.
     let turns = c.act-told.ensures.turns in
-    youngest_of_circle c.args.may_sleep c.act-told.result.0 c.args.self.now.sleeper _ _ _ c.act-told.result.1 turns.0 turns.2 gives
+    youngest_of_cycle c.args.may_sleep c.act-told.result.0 c.args.self.now.thread _ _ _ c.act-told.result.1 turns.0 turns.2 gives

@@ -8,7 +8,7 @@ use Rattle.mlt_work_log.specs.Seats.{first_items}
 use Rattle.mlt_work_desk.specs.Holds.{EndsWithOp, IfReply, IsToldTo, SeesEvent}
 use Rattle.mlt_work_desk.specs.Tries.{GivesUp}
 use Rattle.mlt_work_desk.specs.Waits.{is_to_wait}
-use Rattle.mlt_work_desk.specs.declared.turn.Sleeper.{Sleeper}
+use Rattle.mlt_work_desk.specs.declared.turn.SleepingThread.{SleepingThread}
 use Rattle.mlt_work_desk.proofs.Seeing.{more_than, sees_more, sees_refused, sees_replied}
 use Rattle.mlt_work_desk.proofs.lock_desk.LockDesk.step.Goals as goal
 
@@ -16,22 +16,22 @@ pub returns-in-Answered-Done-clause-sees : goal.returns-in-Answered-Done-clause-
 returns-in-Answered-Done-clause-sees g c =
     let before = first_items c.args.self.now.snapshot in
     let after = first_items c.hold-told.new.self.snapshot in
-    let tx = c.args.self.now.sleeper.tx in
+    let tx = c.args.self.now.thread.tx in
     let reply = c.in-Answered-Done.reply in
     let held = c.hold-told.ensures in
     let is_reply : c.hold-told.new.self.is_reply ≡ true = search rules in
     let was_told : c.hold-told.result.0 ≡ told.Answered (answer.Done reply) = search rules in
-    sees_replied g.P.Pseudo.bits_of before tx c.args.self.now.sleeper.op reply after (held.reply is_reply)
+    sees_replied g.P.Pseudo.bits_of before tx c.args.self.now.thread.op reply after (held.reply is_reply)
     (subst (λ said. SeesEvent before (event.Step tx) said after) was_told held.sees)
 
 pub returns-in-Answered-Done-2-clause-told : goal.returns-in-Answered-Done-2-clause-told
 returns-in-Answered-Done-2-clause-told g c =
-    let step = event.Step c.args.self.now.sleeper.tx in
+    let step = event.Step c.args.self.now.thread.tx in
     let done = told.Answered (answer.Done c.in-Answered-Done.reply) in
     let held = c.hold-told.ensures in
     let is_other : c.hold-told.new.self.is_reply ≡ false = search rules in
     let was_told : c.hold-told.result.0 ≡ done = search rules in
-    let ends = EndsWithOp (first_items c.hold-told.new.self.snapshot) c.args.self.now.sleeper.op in (
+    let ends = EndsWithOp (first_items c.hold-told.new.self.snapshot) c.args.self.now.thread.op in (
       tt,
       inr (inr (inl (
         refl,
@@ -59,8 +59,8 @@ returns-then-gives_up-clause-told g c =
           cancelled = cancel.0;
           to_wait = waits;
           stepped = held.told;
-          cancels = subst (λ (s : Sleeper). IsToldTo g.P.Pseudo.bits_of (event.Cancel s.tx) cancel.0) held.sleeper cancel.1;
-          reason = subst (λ (s : Sleeper). GivesUp s.tx c.gives_up.new.self.tries) held.sleeper (c.gives_up.ensures.reason gave);
+          cancels = subst (λ (s : SleepingThread). IsToldTo g.P.Pseudo.bits_of (event.Cancel s.tx) cancel.0) held.thread cancel.1;
+          reason = subst (λ (s : SleepingThread). GivesUp s.tx c.gives_up.new.self.tries) held.thread (c.gives_up.ensures.reason gave);
         },
       ))),
     )
@@ -76,6 +76,6 @@ returns-then-gives_up-clause-sees g c =
     let before = first_items c.args.self.now.snapshot in
     let mid = first_items c.hold-told.new.self.snapshot in
     let after = first_items c.gives_up.new.self.snapshot in
-    let sleeper = c.args.self.now.sleeper in
-    sees_refused g.P.Pseudo.bits_of before (call.Operation sleeper.tx sleeper.op) GaveUp after
+    let thread = c.args.self.now.thread in
+    sees_refused g.P.Pseudo.bits_of before (call.Operation thread.tx thread.op) GaveUp after
     (more_than before mid after c.gives_up.ensures.more (sees_more before _ _ mid c.hold-told.ensures.sees))

@@ -7,5 +7,5 @@ use Rattle.mlt_work_desk.proofs.lock_desk.LockDesk.steps.Given as goal
 -- it has seen what it had seen, is in the same operation, and has spent its tries by waits
 abbrev pub invariant-loop : goal.invariant-loop
 invariant-loop g l = StartsWith (first_items l.self.snapshot) (first_items l.initial.self.snapshot)
-    × (l.self.sleeper.tx ≡ l.initial.self.sleeper.tx) × (l.self.sleeper.op ≡ l.initial.self.sleeper.op)
+    × (l.self.thread.tx ≡ l.initial.self.thread.tx) × (l.self.thread.op ≡ l.initial.self.thread.op)
     × SpendsByWaits l.initial.self.tries l.self.tries

@@ -6,4 +6,4 @@ use Rattle.mlt_work_desk.proofs.lock_desk.LockDesk.undo.Given as goal
 -- it has seen what it had seen, takes back the same transaction, and has its tries
 abbrev pub invariant-loop : goal.invariant-loop
 invariant-loop g l = StartsWith (first_items l.self.snapshot) (first_items l.initial.self.snapshot)
-    × (l.self.sleeper.tx ≡ l.initial.self.sleeper.tx) × (l.self.tries ≡ l.initial.self.tries)
+    × (l.self.thread.tx ≡ l.initial.self.thread.tx) × (l.self.tries ≡ l.initial.self.tries)

@@ -58,5 +58,5 @@ returns-clause-keeps g c =
 pub returns-then-goes_on-clause-keeps : goal.returns-then-goes_on-clause-keeps
 returns-then-goes_on-clause-keeps g c =
     let on : goes_on c.act-told.result ≡ true = search rules in
-    let history = c.act-told.new.self.commons.history in
+    let history = c.act-told.new.self.shared.history in
     reply_goes_on (history.items ≢ history.handed) c.args.event c.act-told.result on

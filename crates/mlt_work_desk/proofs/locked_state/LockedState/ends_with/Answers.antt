@@ -4,7 +4,7 @@ use Rattle.mlt_work_desk.proofs.locked_state.LockedState.ends_with.Goals as goal
 
 pub returns-clause-is : goal.returns-clause-is
 returns-clause-is g c = λ is.
-    let handed = c.args.self.now.manager.commons.history.handed in
+    let handed = c.args.self.now.manager.shared.history.handed in
     let last = c.in-Some.last.now in
     let rest = c.in-Some.field-0-1.now in
     record {

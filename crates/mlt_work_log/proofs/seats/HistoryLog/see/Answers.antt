@@ -1,5 +1,5 @@
 use Rattle.std.proofs.Common.{rules, ◌∙◌, ap, subst, sym}
-use Rattle.mlt_work_log.specs.declared.view.View.{View}
+use Rattle.mlt_work_log.specs.declared.view.LogView.{LogView}
 use Rattle.mlt_work_log.specs.Prefixes.{StartsWith}
 use Rattle.mlt_work_log.proofs.Moves.{grows, joins}
 use Rattle.mlt_work_log.proofs.seats.HistoryLog.see.Goals as goal
@@ -10,7 +10,7 @@ join_seat-requires g c = (search rules, search rules, search rules, search rules
 pub load-requires : goal.load-requires
 load-requires g c =
     let joined = c.join_seat.ensures.2 in
-    let writes = ap (λ m. m.0.writes) joined ∙ ap (λ (v : View). v.writes) c.snapshot-fresh.new.writer.knows_all in
+    let writes = ap (λ m. m.0.writes) joined ∙ ap (λ (v : LogView). v.writes) c.snapshot-fresh.new.writer.knows_all in
     let items = ap (λ m. m.0.items) joined ∙ c.snapshot-fresh.ensures.same in (
       search rules,
       search rules,

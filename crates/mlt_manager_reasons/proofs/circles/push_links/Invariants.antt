@@ -1,8 +1,0 @@
-use Rattle.std.proofs.Common.{◌≡◌, ◌++◌, take}
-use Rattle.std.specs.List.{flat_map}
-use Rattle.std.specs.String.{string_bytes}
-use Rattle.mlt_manager_reasons.specs.Reasons.{next_link}
-use Rattle.mlt_manager_reasons.proofs.circles.push_links.Given as goal
-
-abbrev pub invariant-loop-link : goal.invariant-loop-link
-invariant-loop-link l = string_bytes l.text ≡ string_bytes l.initial.text ++ flat_map next_link (take l.link-index l.links)

@@ -1,0 +1,38 @@
+-- What stands at which path.
+use Rattle.std.specs.Prelude.{◌≡◌, ◌≢◌, ◌<◌, ◌^◌, ℕ, List, ◌++◌, codes, Bool, true, false, if◌then◌else◌, Some}
+use Rattle.mlt_text_words.specs.Numbers.{number_of}
+use Rattle.mlt_serve_admin.specs.declared.resources.Resource.{Resource}
+use Rattle.mlt_serve_admin.specs.declared.resources.Resource.TheVariants.{Page, Status, Metrics, Waits, Sessions, Stop, SessionEnd}
+
+-- the resource stands at this path; a client's number may have zeros before it
+abbrev pub IsAt : List ℕ → Resource → Type 0
+IsAt path Page = path ≡ codes "/"
+IsAt path Status = path ≡ codes "/status"
+IsAt path Metrics = path ≡ codes "/metrics"
+IsAt path Waits = path ≡ codes "/waits"
+IsAt path Sessions = path ≡ codes "/sessions"
+IsAt path Stop = path ≡ codes "/stop"
+IsAt path (SessionEnd client) =
+    (digits : List ℕ)
+    × (path ≡ codes "/sessions/" ++ (digits ++ codes "/end"))
+    × (number_of digits ≡ Some client)
+    × (client < 2 ^ 32)
+
+-- no resource without a number stands at this path
+pub record IsAtNoFixedPath (path : List ℕ) : Type 0 where
+  pub page : path ≢ codes "/"
+  pub status : path ≢ codes "/status"
+  pub metrics : path ≢ codes "/metrics"
+  pub waits : path ≢ codes "/waits"
+  pub sessions : path ≢ codes "/sessions"
+  pub stop : path ≢ codes "/stop"
+
+-- whether to ask for it changes the server
+abbrev pub changes : Resource → Bool
+changes Stop = true
+changes (SessionEnd client) = true
+changes _ = false
+
+-- by which method it is asked for
+abbrev pub method_of : Resource → List ℕ
+method_of resource = if changes resource then codes "POST" else codes "GET"

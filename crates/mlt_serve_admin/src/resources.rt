@@ -1,0 +1,96 @@
+//! What stands at which path.
+
+ghost use Rattle.std.specs.Prelude.{◌≡◌, ◌≢◌, ◌++◌, ℕ, List, IfNone, IfSome};
+ghost use Rattle.mlt_serve_admin.specs.declared.resources.Resource.{Resource};
+ghost use Rattle.mlt_serve_admin.specs.declared.resources.Resource.TheVariants.{SessionEnd};
+ghost use Rattle.mlt_serve_admin.specs.Resources.{changes, IsAt, IsAtNoFixedPath, method_of};
+
+use mlt_text_words::{after, read_number};
+
+/// What stands at a path.
+#[derive(Clone, Copy)]
+pub(crate) enum Resource {
+    /// The page for a browser.
+    Page,
+    /// The numbers, in JSON.
+    Status,
+    /// The numbers, for Prometheus.
+    Metrics,
+    /// Who waits for whom.
+    Waits,
+    /// The sessions that are served.
+    Sessions,
+    /// The end of the server.
+    Stop,
+    /// The end of the session of this client.
+    SessionEnd(u32),
+}
+
+impl Resource {
+    /// The method by which it is asked for.
+    pub(crate) fn method(self) -> &'static str
+        ensures { result.now ≡ method_of self }
+    {
+        if self.changes() { "POST" } else { "GET" }
+    }
+
+    /// Whether to ask for it changes the server.
+    pub(crate) fn changes(self) -> bool
+        ensures { result ≡ changes self }
+    {
+        matches!(self, Resource::Stop | Resource::SessionEnd(_))
+    }
+}
+
+/// What stands at this path, if anything does.
+pub(crate) fn resource_at(path: &str) -> Option<Resource>
+    ensures some { IfSome result (IsAt path.now) }
+    ensures none { IfNone result ((resource : Resource) → ¬ (IsAt path.now resource)) }
+{
+    if let Some(resource) = fixed_resource(path) {
+        return Some(resource);
+    }
+    let client = ended_client(path.as_bytes())?;
+    Some(Resource::SessionEnd(client))
+}
+
+// The resource at this path that has no number in it.
+fn fixed_resource(path: &str) -> Option<Resource>
+    ensures some { IfSome result (IsAt path.now) }
+    ensures none { IfNone result (IsAtNoFixedPath path.now) }
+{
+    if path == "/" {
+        Some(Resource::Page)
+    } else if path == "/status" {
+        Some(Resource::Status)
+    } else if path == "/metrics" {
+        Some(Resource::Metrics)
+    } else if path == "/waits" {
+        Some(Resource::Waits)
+    } else if path == "/sessions" {
+        Some(Resource::Sessions)
+    } else if path == "/stop" {
+        Some(Resource::Stop)
+    } else {
+        None
+    }
+}
+
+// The client whose session's end stands at this path.
+fn ended_client(path: &[u8]) -> Option<u32>
+    ensures some { IfSome result (λ client. IsAt path.now (SessionEnd client)) }
+    ensures none { IfNone result ((client : ℕ) → ¬ (IsAt path.now (SessionEnd client))) }
+{
+    let rest = after(path, b"/sessions/")?;
+    let digits = before(rest, b"/end")?;
+    let number = read_number(digits)?;
+    u32::try_from(number).ok()
+}
+
+// The text before these bytes, where it ends with them.
+fn before<'a>(text: &'a [u8], bytes: &[u8]) -> Option<&'a [u8]>
+    ensures some { IfSome result (λ front. text.now ≡ front.now ++ bytes.now) }
+    ensures none { IfNone result ((front : List ℕ) → text.now ≢ front ++ bytes.now) }
+{
+    text.strip_suffix(bytes)
+}
