@@ -61,8 +61,8 @@ NOTATION: list[tuple[str, str]] = [
      "a value with named fields. Where a field is a statement, it holds of the fields before it: so the record says that there "
      "are such values. `record { f = v; }` is one, and `record r { f = v; }` is `r` with another `f`"),
     ("`data`, `enum`",
-     "one of several cases, a line each: its name, and the values that it has. A case is written alone, as `Call`, or behind a "
-     "short name of its type, as `event.Call`; one of `TraceItem` as `trace.Begin`"),
+     "one of several cases, a line each: its name, and the values that it has. A case is written alone, as `Call`, or behind its "
+     "type, as `Event.Call`"),
     ("`ensures name { P }`", "of a call: `P` holds when it returns. A clause may have no name"),
     ("`self.now`", "the value of what `self`, or any other reference, leads to"),
     ("`{X : Type 0}`", "for any kind `X` of values. A call leaves it out; on the left of a `=`, `{X}` only gives it a name"),

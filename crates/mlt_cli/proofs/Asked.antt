@@ -1,15 +1,14 @@
 -- The words that `clap` reads, and the job that it finds.
-use Rattle.std.proofs.Common.{◌≡◌, ◌≢◌, ℕ, Bool, true, List, [], ◌∷◌, Option, None, Some, refl, sym, ap, ap₂, ◌∙◌, subst, codes, map, length, option_map, inl, inr}
-use Rattle.std.specs.Prelude.{◌||◌, nat_eq, false, option_map}
-use Rattle.clap.specs.Words.{AddsArg, App, HasKind, IsAmong, kind_of, Row, Rule, Text, app_of, fault_of, first_of, matches_of, is_simple, is_simple_and_free, rule_of, subcommand_of, with_rule}
+use Rattle.std.proofs.Common.{◌≡◌, ◌≢◌, ℕ, Bool, true, List, [], ◌∷◌, Option, None, Some, refl, sym, ap, ap₂, ◌∙◌, subst, codes, map, length, option_map, inl, inr, ◌||◌, nat_eq, false}
+use Rattle.mlt_cli.proofs.Names.{App, Text, app_of, is_simple, is_simple_and_free, rule_of, subcommand_of, with_rule, out-Command, AreNames, asked_in, hash_named, is_verbose_in, kind_of_want, mltx_app}
+use Rattle.clap.specs.Words.{AddsArg, HasKind, IsAmong, kind_of, Row, Rule, fault_of, first_of, matches_of}
 use Rattle.clap.specs.declared.builder.arg.Arg.{Arg}
 use Rattle.clap.specs.declared.builder.command.Command.{Command}
-use Rattle.clap.specs.declared.builder.command.Command.TheViews.{out-Command}
 use Rattle.clap.specs.declared.builder.value_parser.ValueParser.{ValueParser}
 use Rattle.clap.proofs.OnLiterals.{clap_on_literals}
 use Rattle.clap.specs.declared.error.Error.{Error}
 use Rattle.clap.specs.declared.error.kind.ErrorKind.TheVariants.{OutOfMemory}
-use Rattle.mlt_cli.specs.CommandLine.{AreNames, AskFor, Asked, FailsAt, IsFileWord, NameLists, SaysVerbose, Subcommand, asked_by, asked_in, begins_with_hyphen, hash_named, is_verbose_in, kind_of_want, mltx_app, run_in, run_of, subcommand_name, with_input}
+use Rattle.mlt_cli.specs.CommandLine.{AskFor, Asked, FailsAt, IsFileWord, NameLists, SaysVerbose, Subcommand, asked_by, begins_with_hyphen, run_in, run_of, subcommand_name, with_input}
 use Rattle.mlt_cli.specs.declared.words.Hash.{Hash}
 use Rattle.mlt_cli.specs.CommandLine.Subcommand.{solo, steps, run, check, serve}
 

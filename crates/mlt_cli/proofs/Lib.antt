@@ -1,2 +1,3 @@
+mod Names
 pub mod Asked
 pub mod Numbers

@@ -1,8 +1,7 @@
 -- The numbers that words write.
-use Rattle.std.proofs.Common.{◌≡◌, ◌≤◌, ◌<◌, ℕ, Bool, true, false, List, [], ◌∷◌, Some, None, refl, ap, arith, length, lt-ltb, ltb-true, le-leb, leb-true}
+use Rattle.std.proofs.Common.{◌≡◌, ◌≤◌, ◌<◌, ℕ, Bool, true, false, List, [], ◌∷◌, Some, None, refl, ap, arith, length, lt-ltb, ltb-true, le-leb, leb-true, ◌&&◌, nat_le, nat_lt}
 use Rattle.std.specs.Char.{digit_value}
 use Rattle.std.specs.List.{list_all}
-use Rattle.std.specs.Prelude.{◌&&◌, nat_le, nat_lt}
 use Rattle.std.specs.Str.Parse.{AllDigits, IsNumeral, digits_value}
 use Rattle.clap.proofs.WalkLemmas.{both}
 use Rattle.mlt_cli.specs.CommandLine.{is_numeral, number_of_digits}

@@ -1,11 +1,9 @@
 -- What the words of a command line ask for.
-use Rattle.std.specs.Prelude.{◌≡◌, ◌==◌, ◌⊎◌, ◌≤◌, ◌<◌, ◌&&◌, ◌||◌, ℕ, Bool, true, false, List, [], ◌∷◌, map, length, nat_lt, nat_le, Option, Some, None, is_some, option_map, codes, if◌then◌else◌}
+use Rattle.std.specs.Prelude.{◌≡◌, ◌==◌, ◌⊎◌, ◌≤◌, ◌<◌, ◌&&◌, ◌||◌, ℕ, Bool, true, false, List, [], ◌∷◌, map, length, nat_lt, nat_le, Option, Some, None, is_some, option_map, codes, if◌then◌else◌, string_bytes, bytes_eq}
 use Rattle.std.specs.Borrow.{Bor}
 use Rattle.std.specs.Char.{digit_value}
 use Rattle.std.specs.List.{list_all}
 use Rattle.std.specs.Option.{option_map_or}
-use Rattle.std.specs.String.{string_bytes}
-use Rattle.std.specs.Str.{bytes_eq}
 use Rattle.std.specs.Str.Parse.{digits_value, without_leading_plus}
 use Rattle.clap.specs.Words.{App, IsAmong, Row, Rule, Text, fault_of, first_of, kind_of, matches_of, new_app, new_rule, subcommand_of, with_rule, with_subcommand}
 use Rattle.clap.specs.declared.builder.value_parser.ValueParser.TheVariants.{Names, Unsigned}
@@ -14,7 +12,6 @@ use Rattle.clap.specs.declared.error.kind.ErrorKind.{ErrorKind}
 use Rattle.clap.specs.declared.error.kind.ErrorKind.TheVariants.{ArgumentConflict, DisplayHelp, DisplayVersion, MissingRequiredArgument, OutOfMemory}
 use Rattle.clap.specs.declared.error.Error.{Error}
 use Rattle.mlt_object_tables.specs.declared.tables.TableName.{TableName}
-use Rattle.mlt_object_tables.specs.declared.tables.TableName.TheVariants as table
 use Rattle.mlt_cli.specs.declared.words.Hash.{Hash}
 use Rattle.mlt_cli.specs.declared.words.Hash.TheVariants.{Mult, Low}
 use Rattle.mlt_cli.specs.declared.words.Connections.{Connections}
@@ -29,7 +26,6 @@ use Rattle.mlt_cli.specs.declared.words.Work.{Work}
 use Rattle.mlt_cli.specs.declared.words.Serve.{Serve}
 use Rattle.mlt_cli.specs.declared.words.Times.{Times}
 use Rattle.mlt_cli.specs.declared.words.Job.{Job}
-use Rattle.mlt_cli.specs.declared.words.Job.TheVariants as job
 
 -- ---- what `clap` reads the words by
 
@@ -272,12 +268,12 @@ form_of_serve serve = record {
 
 -- what a job asks for
 abbrev pub asked_of : Job → Asked
-asked_of (job.Solo run) = to_solo (form_of_run run)
-asked_of (job.Steps schedule) = to_steps (form_of_schedule schedule)
-asked_of (job.Work work) = to_work (form_of_work work)
-asked_of (job.Check check) = to_check (form_of_check check)
-asked_of (job.Serve serve) = to_serve (form_of_serve serve)
-asked_of (job.Tables name) = to_tables name
+asked_of (Job.Solo run) = to_solo (form_of_run run)
+asked_of (Job.Steps schedule) = to_steps (form_of_schedule schedule)
+asked_of (Job.Work work) = to_work (form_of_work work)
+asked_of (Job.Check check) = to_check (form_of_check check)
+asked_of (Job.Serve serve) = to_serve (form_of_serve serve)
+asked_of (Job.Tables name) = to_tables name
 
 -- each is at most a day, in seconds
 abbrev pub AreWithinDay : Times → Type 0
@@ -290,9 +286,9 @@ IsWithinLimit Endless = Unit {0}
 
 -- the numbers of a job are within their bounds
 abbrev pub IsWithinBounds : Job → Type 0
-IsWithinBounds (job.Work work) = (0 < work.workers) × (work.workers ≤ 8)
+IsWithinBounds (Job.Work work) = (0 < work.workers) × (work.workers ≤ 8)
     × (0 < work.tries) × (work.tries ≤ 1000000)
-IsWithinBounds (job.Serve serve) = (0 < serve.sessions) × (serve.sessions ≤ 64)
+IsWithinBounds (Job.Serve serve) = (0 < serve.sessions) × (serve.sessions ≤ 64)
     × IsWithinLimit serve.connections × (0 < serve.tries) × (serve.tries ≤ 1000000)
     × AreWithinDay serve.times
 IsWithinBounds other = Unit {0}
@@ -458,9 +454,9 @@ serve_in rows = serve_of (run_in rows) (counts_in rows) (times_in rows) (full_in
 
 -- the conflict table of a name
 abbrev pub table_named : Text → Option TableName
-table_named name = if bytes_eq name (codes "account") then Some table.Account
-    else (if bytes_eq name (codes "set") then Some table.Set
-    else (if bytes_eq name (codes "counter") then Some table.Counter else None))
+table_named name = if bytes_eq name (codes "account") then Some TableName.Account
+    else (if bytes_eq name (codes "set") then Some TableName.Set
+    else (if bytes_eq name (codes "counter") then Some TableName.Counter else None))
 
 abbrev pub table_of : Option Text → Option (Option TableName)
 table_of None = Some None

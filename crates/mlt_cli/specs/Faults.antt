@@ -1,6 +1,5 @@
 -- The line that tells of a fault, and the status that the program ends with.
-use Rattle.std.specs.Prelude.{ℕ, List, [], ◌∷◌, ◌++◌, codes, Result, Ok, Err}
-use Rattle.std.specs.Fmt.{decimal}
+use Rattle.std.specs.Prelude.{ℕ, List, [], ◌∷◌, ◌++◌, codes, Result, Ok, Err, decimal}
 use Rattle.mlt_types.specs.declared.refusal.Refusal.{Refusal}
 use Rattle.mlt_types.specs.declared.refusal.Refusal.TheVariants.{ScriptFault, TraceFault}
 use Rattle.mlt_types.specs.Refusals.{number_of, name_of, script_cause_name, trace_cause_name}

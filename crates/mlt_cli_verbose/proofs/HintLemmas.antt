@@ -1,6 +1,5 @@
 -- What is noticed of a line, by its first word.
-use Rattle.std.proofs.Common.{◌≡◌, ℕ, List, [], ◌∷◌, Option, Some, None, is_some, sym, ap, ◌∙◌}
-use Rattle.std.specs.Prelude.{unwrap_or}
+use Rattle.std.proofs.Common.{◌≡◌, ℕ, List, [], ◌∷◌, Option, Some, None, is_some, sym, ap, ◌∙◌, unwrap_or}
 use Rattle.mlt_text_words.specs.Words.{first_word, raw_words}
 use Rattle.mlt_cli_verbose.specs.declared.kind.TextKind.{TextKind}
 use Rattle.mlt_cli_verbose.specs.Hints.{first_hint, first_oddity, hint_of_words, hint_text, oddity_text}

@@ -1,7 +1,5 @@
 -- The lines of a text.
-use Rattle.std.proofs.Common.{◌≡◌, ◌<◌, ◌≤◌, ℕ, ◌+◌, ◌-◌, List, [], ◌∷◌, length, take, drop, Some, None, refl, sym, ap, ◌∙◌, arith}
-use Rattle.std.specs.List.{position}
-use Rattle.std.proofs.lemmas.List.{drop-drop}
+use Rattle.std.proofs.Common.{◌≡◌, ◌<◌, ◌≤◌, ℕ, ◌+◌, ◌-◌, List, [], ◌∷◌, length, take, drop, Some, None, refl, sym, ap, ◌∙◌, arith, position, drop-drop}
 use Rattle.mlt_text_words.specs.Lines.{Raw, lines, is_lf}
 use Rattle.mlt_text_words.proofs.Cutting.{found, not_found, no_lines}
 use Rattle.mlt_cli_verbose.specs.Verbose.{first_bytes}

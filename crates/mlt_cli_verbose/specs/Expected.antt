@@ -1,13 +1,9 @@
 -- What was expected in place of a faulty line.
-use Rattle.std.specs.Prelude.{◌==◌, ◌&&◌, ◌||◌, ℕ, Bool, List, [], ◌∷◌, ◌++◌, codes, length, nat_le, nat_lt, slice_index, unwrap_or, if◌then◌else◌}
-use Rattle.std.specs.Str.{bytes_eq}
+use Rattle.std.specs.Prelude.{◌==◌, ◌&&◌, ◌||◌, ℕ, Bool, List, [], ◌∷◌, ◌++◌, codes, length, nat_le, nat_lt, slice_index, unwrap_or, if◌then◌else◌, bytes_eq}
 use Rattle.mlt_text_words.specs.Words.{raw_words}
 use Rattle.mlt_types.specs.declared.refusal.ScriptCause.{ScriptCause}
-use Rattle.mlt_types.specs.declared.refusal.ScriptCause.TheVariants as script
 use Rattle.mlt_types.specs.declared.refusal.TraceCause.{TraceCause}
-use Rattle.mlt_types.specs.declared.refusal.TraceCause.TheVariants as trace
 use Rattle.mlt_cli_verbose.specs.declared.kind.TextFault.{TextFault}
-use Rattle.mlt_cli_verbose.specs.declared.kind.TextFault.TheVariants as fault
 use Rattle.mlt_cli_verbose.specs.declared.kind.TextKind.{TextKind}
 use Rattle.mlt_cli_verbose.specs.declared.kind.TextKind.TheVariants.{Scripts, Schedule, Trace}
 use Rattle.mlt_cli_verbose.specs.Forms.{form_of}
@@ -78,22 +74,22 @@ trace_place_text word = if bytes_eq word (codes "begin")
 -- ---- causes
 
 abbrev pub script_text : TextKind → ScriptCause → List ℕ → List ℕ
-script_text kind script.Line line = line_text kind line
-script_text kind script.Words line = words_text kind line
-script_text kind script.Place line = script_place_text (first_of (raw_words line))
-script_text kind script.Deep line = codes "expected: at most 16 `if` in one another"
-script_text kind script.Long line = codes "expected: at most 256 operations on each path from `begin` up to here"
-script_text kind script.Unfinished line = codes "the text ends inside a script; expected: a `commit` or an `abort`"
+script_text kind ScriptCause.Line line = line_text kind line
+script_text kind ScriptCause.Words line = words_text kind line
+script_text kind ScriptCause.Place line = script_place_text (first_of (raw_words line))
+script_text kind ScriptCause.Deep line = codes "expected: at most 16 `if` in one another"
+script_text kind ScriptCause.Long line = codes "expected: at most 256 operations on each path from `begin` up to here"
+script_text kind ScriptCause.Unfinished line = codes "the text ends inside a script; expected: a `commit` or an `abort`"
 
 abbrev pub trace_text : TraceCause → List ℕ → List ℕ
-trace_text trace.Line line = line_text Trace line
-trace_text trace.Cut line = codes "the text ends inside this line; expected: a line feed at its end"
-trace_text trace.Words line = words_text Trace line
-trace_text trace.Place line = trace_place_text (first_of (raw_words line))
-trace_text trace.Reply line = codes "expected: what the operation is told where the transactions run one after another, as they commit"
+trace_text TraceCause.Line line = line_text Trace line
+trace_text TraceCause.Cut line = codes "the text ends inside this line; expected: a line feed at its end"
+trace_text TraceCause.Words line = words_text Trace line
+trace_text TraceCause.Place line = trace_place_text (first_of (raw_words line))
+trace_text TraceCause.Reply line = codes "expected: what the operation is told where the transactions run one after another, as they commit"
 
 -- what was expected of a line with this fault
 abbrev pub expected_text : TextFault → List ℕ → List ℕ
-expected_text (fault.Scripts cause) line = script_text Scripts cause line
-expected_text (fault.Schedule cause) line = script_text Schedule cause line
-expected_text (fault.Trace cause) line = trace_text cause line
+expected_text (TextFault.Scripts cause) line = script_text Scripts cause line
+expected_text (TextFault.Schedule cause) line = script_text Schedule cause line
+expected_text (TextFault.Trace cause) line = trace_text cause line

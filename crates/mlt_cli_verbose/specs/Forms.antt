@@ -1,6 +1,5 @@
 -- The forms of lines, by their first words.
-use Rattle.std.specs.Prelude.{ℕ, List, [], ◌∷◌, Option, Some, None, codes, if◌then◌else◌}
-use Rattle.std.specs.Str.{bytes_eq}
+use Rattle.std.specs.Prelude.{ℕ, List, [], ◌∷◌, Option, Some, None, codes, if◌then◌else◌, bytes_eq}
 use Rattle.mlt_cli_verbose.specs.declared.kind.TextKind.{TextKind}
 use Rattle.mlt_cli_verbose.specs.declared.kind.TextKind.TheVariants.{Scripts, Schedule, Trace}
 

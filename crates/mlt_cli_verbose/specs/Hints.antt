@@ -1,7 +1,6 @@
 -- What is noticed of a line that has none of its forms.
-use Rattle.std.specs.Prelude.{◌==◌, ◌&&◌, ◌||◌, ℕ, Bool, true, false, List, [], ◌∷◌, Option, Some, None, codes, is_some, length, nat_lt, not, unwrap_or, if◌then◌else◌}
+use Rattle.std.specs.Prelude.{◌==◌, ◌&&◌, ◌||◌, ℕ, Bool, true, false, List, [], ◌∷◌, Option, Some, None, codes, is_some, length, nat_lt, not, unwrap_or, if◌then◌else◌, bytes_eq}
 use Rattle.std.specs.List.{list_all}
-use Rattle.std.specs.Str.{bytes_eq}
 use Rattle.mlt_text_words.specs.Numbers.{is_digit, number_of}
 use Rattle.mlt_text_words.specs.Words.{first_word, raw_words}
 use Rattle.mlt_cli_verbose.specs.declared.hint.Oddity.{Oddity}

@@ -1,6 +1,5 @@
 -- How bytes are shown within one line.
-use Rattle.std.specs.Prelude.{ℕ, ◌+◌, ◌/◌, ◌%◌, ◌==◌, ◌&&◌, List, [], ◌∷◌, ◌++◌, codes, length, nat_le, nat_lt, take, if◌then◌else◌}
-use Rattle.std.specs.List.{flat_map}
+use Rattle.std.specs.Prelude.{ℕ, ◌+◌, ◌/◌, ◌%◌, ◌==◌, ◌&&◌, List, [], ◌∷◌, ◌++◌, codes, length, nat_le, nat_lt, take, if◌then◌else◌, flat_map}
 
 -- a hexadecimal digit, of 0 to 15
 abbrev pub hex_digit : ℕ → ℕ

@@ -1,11 +1,9 @@
 -- The second line that is said of a fault.
-use Rattle.std.specs.Prelude.{◌-◌, ℕ, List, [], ◌∷◌, ◌++◌, codes, drop}
-use Rattle.std.specs.Fmt.{decimal}
+use Rattle.std.specs.Prelude.{◌-◌, ℕ, List, [], ◌∷◌, ◌++◌, codes, drop, decimal}
 use Rattle.mlt_text_words.specs.Lines.{Raw, lines, without_cr}
-use Rattle.mlt_types.specs.declared.refusal.ScriptCause.TheVariants as script
-use Rattle.mlt_types.specs.declared.refusal.TraceCause.TheVariants as trace
+use Rattle.mlt_types.specs.declared.refusal.ScriptCause.{ScriptCause}
+use Rattle.mlt_types.specs.declared.refusal.TraceCause.{TraceCause}
 use Rattle.mlt_cli_verbose.specs.declared.kind.TextFault.{TextFault}
-use Rattle.mlt_cli_verbose.specs.declared.kind.TextFault.TheVariants as fault
 use Rattle.mlt_cli_verbose.specs.declared.verbose.Detail.{Detail}
 use Rattle.mlt_cli_verbose.specs.declared.verbose.Detail.TheVariants.{Said, Faulty}
 use Rattle.mlt_cli_verbose.specs.Expected.{expected_text}
@@ -22,9 +20,9 @@ numbered_line text number = first_bytes (drop (number - 1) (lines text))
 
 -- the line as the fault sees it: a CR before its LF counts where a byte or the length is wrong
 abbrev pub faulty_line : TextFault → List ℕ → List ℕ
-faulty_line (fault.Scripts script.Line) line = line
-faulty_line (fault.Schedule script.Line) line = line
-faulty_line (fault.Trace trace.Line) line = line
+faulty_line (TextFault.Scripts ScriptCause.Line) line = line
+faulty_line (TextFault.Schedule ScriptCause.Line) line = line
+faulty_line (TextFault.Trace TraceCause.Line) line = line
 faulty_line _ line = without_cr line
 
 -- what is said of the faulty line: how it begins, and what was expected

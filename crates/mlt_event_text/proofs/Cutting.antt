@@ -1,10 +1,9 @@
 -- The next line of a text.
-use Rattle.std.proofs.Common.{◌≡◌, ℕ, suc, zero, ◌+◌, ◌-◌, ◌<◌, ◌≤◌, List, [], ◌∷◌, ◌++◌, length, take, drop, get_or, true, false, Some, None, refl, sym, ap, ◌∙◌, arith, append-nil, length-take, length-append, append_assoc, take-append-drop, add-one}
-use Rattle.std.specs.List.{list_all, position, flat_map}
+use Rattle.std.proofs.Common.{◌≡◌, ℕ, suc, zero, ◌+◌, ◌-◌, ◌<◌, ◌≤◌, List, [], ◌∷◌, ◌++◌, length, take, drop, get_or, true, false, Some, None, refl, sym, ap, ◌∙◌, arith, append-nil, length-take, length-append, append_assoc, take-append-drop, add-one, position, flat_map, lt-ltb, le-ltb}
+use Rattle.std.specs.List.{list_all}
 use Rattle.std.proofs.lemmas.List.Concat.{flat_map-cons}
 use Rattle.std.proofs.lemmas.List.Quantifiers.{position-Some}
 use Rattle.std.proofs.Math.Seq.{take-append_seam}
-use Rattle.std.proofs.lemmas.Bool.{lt-ltb, le-ltb}
 use Rattle.mlt_event_text.specs.Inputs.{IsNext, NextLine, Splits, heard, lines_of}
 use Rattle.mlt_event_text.specs.Commands.{command_of}
 use Rattle.mlt_event_text.specs.declared.session_line.SessionLine.{SessionLine}

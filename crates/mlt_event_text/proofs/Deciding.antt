@@ -1,11 +1,9 @@
 -- Each text is events or has a first fault, and just one of these.
-use Rattle.std.proofs.Common.{◌≡◌, ℕ, ◌+◌, List, [], ◌∷◌, ◌++◌, length, ◌⊎◌, inl, inr, Result, Ok, Err, refl, sym, ap, subst, ◌∙◌, arith}
+use Rattle.std.proofs.Common.{◌≡◌, ℕ, ◌+◌, List, [], ◌∷◌, ◌++◌, length, ◌⊎◌, inl, inr, Result, Ok, Err, refl, sym, ap, subst, ◌∙◌, arith, IsErrAnd, MatchResult}
 use Rattle.std.proofs.lemmas.List.Elements.{All-cons, All-head, All-nil, All-tail}
-use Rattle.std.specs.Prelude.{IsErrAnd, MatchResult}
 use Rattle.mlt_types.specs.declared.refusal.Refusal.{Refusal}
 use Rattle.mlt_types.specs.declared.refusal.Refusal.TheVariants.{OutOfMemory, ScriptFault}
 use Rattle.mlt_types.specs.declared.refusal.ScriptCause.{ScriptCause}
-use Rattle.mlt_types.specs.declared.refusal.ScriptCause.TheVariants as cause
 use Rattle.mlt_event.specs.declared.event.Event.{Event}
 use Rattle.mlt_event_text.specs.declared.line.EventReading.{EventReading}
 use Rattle.mlt_event_text.specs.declared.line.EventReading.TheVariants.{Bad, Skip, Asks}
@@ -35,8 +33,8 @@ decided_lines (raw ∷ raws) = decided_by raw raws (reading raw) refl (decided_l
 
 -- a faulty line is not lawful
 not_lawful : (raw : Raw) (fault : ScriptCause) → IsFault raw fault → IsLawful raw → ⊥
-not_lawful raw cause.Line is lawful = subst IsNoFault is lawful
-not_lawful raw cause.Words is lawful = subst IsNoFault is lawful
+not_lawful raw ScriptCause.Line is lawful = subst IsNoFault is lawful
+not_lawful raw ScriptCause.Words is lawful = subst IsNoFault is lawful
 not_lawful raw other is lawful = is
 
 fault_inside : (before after : List Raw) (raw : Raw) (fault : ScriptCause) → IsFault raw fault → AreLawful (before ++ raw ∷ after) → ⊥
@@ -51,12 +49,12 @@ one_list raws events others h k = h.appended ∙ sym k.appended
 
 -- a line has one fault at most
 same_fault : (raw : Raw) (fault another : ScriptCause) → IsFault raw fault → IsFault raw another → fault ≡ another
-same_fault raw cause.Line cause.Line h k = refl
-same_fault raw cause.Words cause.Words h k = refl
-same_fault raw cause.Line cause.Words h k = let e : Bad cause.Line ≡ Bad cause.Words = sym h ∙ k in cc e
-same_fault raw cause.Words cause.Line h k = let e : Bad cause.Words ≡ Bad cause.Line = sym h ∙ k in cc e
-same_fault raw cause.Line other h k = absurd k
-same_fault raw cause.Words other h k = absurd k
+same_fault raw ScriptCause.Line ScriptCause.Line h k = refl
+same_fault raw ScriptCause.Words ScriptCause.Words h k = refl
+same_fault raw ScriptCause.Line ScriptCause.Words h k = let e : Bad ScriptCause.Line ≡ Bad ScriptCause.Words = sym h ∙ k in cc e
+same_fault raw ScriptCause.Words ScriptCause.Line h k = let e : Bad ScriptCause.Words ≡ Bad ScriptCause.Line = sym h ∙ k in cc e
+same_fault raw ScriptCause.Line other h k = absurd k
+same_fault raw ScriptCause.Words other h k = absurd k
 same_fault raw other another h k = absurd h
 
 -- two cuts of the same lines at a faulty one, with lawful ones before it

@@ -1,10 +1,9 @@
 -- A text that is gone over line by line.
-use Rattle.std.proofs.Common.{◌≡◌, ℕ, ◌+◌, Bool, true, false, cond, List, [], ◌∷◌, ◌++◌, length, Option, Some, None, nat_lt, sym, ap, subst, ◌∙◌, append_assoc, length-append}
-use Rattle.std.proofs.lemmas.List.{append-nil, flat_map_more}
+use Rattle.std.proofs.Common.{◌≡◌, ℕ, ◌+◌, Bool, true, false, cond, List, [], ◌∷◌, ◌++◌, length, Option, Some, None, nat_lt, sym, ap, subst, ◌∙◌, append_assoc, length-append, append-nil}
+use Rattle.std.proofs.lemmas.List.{flat_map_more}
 use Rattle.std.proofs.lemmas.List.Elements.{All-push}
 use Rattle.std.specs.List.{list_all}
 use Rattle.mlt_types.specs.declared.refusal.ScriptCause.{ScriptCause}
-use Rattle.mlt_types.specs.declared.refusal.ScriptCause.TheVariants as cause
 use Rattle.mlt_event.specs.declared.event.Event.{Event}
 use Rattle.mlt_event_text.specs.declared.forms.Asked.{Asked}
 use Rattle.mlt_event_text.specs.declared.line.EventReading.{EventReading}
@@ -21,8 +20,8 @@ use Rattle.mlt_text_words.proofs.Cutting.{no_lines}
 
 -- a fault that a line can have
 abbrev IsOwn : EventReading → Type 0
-IsOwn (Bad cause.Line) = Unit {0}
-IsOwn (Bad cause.Words) = Unit {0}
+IsOwn (Bad ScriptCause.Line) = Unit {0}
+IsOwn (Bad ScriptCause.Words) = Unit {0}
 IsOwn (Bad other) = ⊥
 IsOwn Skip = Unit {0}
 IsOwn (Asks asked) = Unit {0}
@@ -46,8 +45,8 @@ own_reading raw =
     (own_either (is_comment (content raw)) _ _ tt (own_either (list_all is_allowed (content raw)) _ _ (own_said (raw_words (content raw))) tt))
 
 own_fault : (raw : Raw) (fault : ScriptCause) → IsOwn (Bad fault) → reading raw ≡ Bad fault → IsFault raw fault
-own_fault raw cause.Line own is = is
-own_fault raw cause.Words own is = is
+own_fault raw ScriptCause.Line own is = is
+own_fault raw ScriptCause.Words own is = is
 own_fault raw other own is = absurd own
 
 -- what is bad is faulty

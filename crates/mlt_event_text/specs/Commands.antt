@@ -1,23 +1,21 @@
 -- What a line of a session asks.
-use Rattle.std.specs.Prelude.{ℕ, List, [], ◌∷◌, Option, Some, None, if◌then◌else◌, codes}
-use Rattle.std.specs.Str.{bytes_eq}
+use Rattle.std.specs.Prelude.{ℕ, List, [], ◌∷◌, Option, Some, None, if◌then◌else◌, codes, bytes_eq}
 use Rattle.mlt_event_text.specs.Forms.{only_op}
 use Rattle.mlt_object_kinds.specs.declared.operation.ObjOp.{ObjOp}
 use Rattle.mlt_event_text.specs.declared.command.Command.{Command}
-use Rattle.mlt_event_text.specs.declared.command.Command.TheVariants as command
 use Rattle.mlt_text_words.specs.Words.{raw_words, words_of}
 
 -- what a word asks that is alone on its line
 abbrev pub command_word : List ℕ → Option Command
 command_word word =
-    if bytes_eq word (codes "begin") then Some command.Begin
-    else (if bytes_eq word (codes "commit") then Some command.Commit
-    else (if bytes_eq word (codes "abort") then Some command.Abort
-    else (if bytes_eq word (codes "quit") then Some command.Quit else None)))
+    if bytes_eq word (codes "begin") then Some Command.Begin
+    else (if bytes_eq word (codes "commit") then Some Command.Commit
+    else (if bytes_eq word (codes "abort") then Some Command.Abort
+    else (if bytes_eq word (codes "quit") then Some Command.Quit else None)))
 
 abbrev pub op_command : Option ObjOp → Command
-op_command (Some op) = command.Op op
-op_command None = command.Other
+op_command (Some op) = Command.Op op
+op_command None = Command.Other
 
 abbrev pub command_or : Option Command → Command → Command
 command_or (Some r) otherwise = r
@@ -25,7 +23,7 @@ command_or None otherwise = otherwise
 
 -- what these words ask, where this is what they ask as an operation
 abbrev pub asked : List (List ℕ) → Command → Command
-asked [] op = command.Blank
+asked [] op = Command.Blank
 asked (word ∷ []) op = command_or (command_word word) op
 asked (word ∷ other ∷ words) op = op
 

@@ -1,6 +1,5 @@
 -- The forms of a line of an event text, over its words as their bytes.
-use Rattle.std.specs.Prelude.{ℕ, List, [], ◌∷◌, map, Option, Some, None, nat_le, ◌&&◌, if◌then◌else◌, codes}
-use Rattle.std.specs.Str.{bytes_eq}
+use Rattle.std.specs.Prelude.{ℕ, List, [], ◌∷◌, map, Option, Some, None, nat_le, ◌&&◌, if◌then◌else◌, codes, bytes_eq}
 use Rattle.mlt_event.specs.declared.event.Event.{Event}
 use Rattle.mlt_event.specs.declared.event.Event.TheVariants.{Begin, Call, Step, Cancel, Commit, Abort, Whole, WholeUndo}
 use Rattle.mlt_event_text.specs.declared.forms.Asked.{Asked}

@@ -1,8 +1,6 @@
 -- Which events a text is, and where its first fault stands.
-use Rattle.std.specs.Prelude.{◌≡◌, ℕ, ◌+◌, List, [], ◌∷◌, ◌++◌, length, replicate, All, ◌⊎◌}
-use Rattle.std.specs.List.{flat_map}
+use Rattle.std.specs.Prelude.{◌≡◌, ℕ, ◌+◌, List, [], ◌∷◌, ◌++◌, length, replicate, All, ◌⊎◌, flat_map}
 use Rattle.mlt_types.specs.declared.refusal.ScriptCause.{ScriptCause}
-use Rattle.mlt_types.specs.declared.refusal.ScriptCause.TheVariants as cause
 use Rattle.mlt_event.specs.declared.event.Event.{Event}
 use Rattle.mlt_event_text.specs.declared.line.EventReading.{EventReading}
 use Rattle.mlt_event_text.specs.declared.line.EventReading.TheVariants.{Bad, Skip, Asks}
@@ -42,8 +40,8 @@ Spells text events = AreEvents (lines text) events
 
 -- the line has this fault: Line or Words, and Line where it has both
 abbrev pub IsFault : Raw → ScriptCause → Type 0
-IsFault raw cause.Line = reading raw ≡ Bad cause.Line
-IsFault raw cause.Words = reading raw ≡ Bad cause.Words
+IsFault raw ScriptCause.Line = reading raw ≡ Bad ScriptCause.Line
+IsFault raw ScriptCause.Words = reading raw ≡ Bad ScriptCause.Words
 IsFault raw other = ⊥
 
 -- the first of the lines that is faulty, counted from 1, and its fault

@@ -1,27 +1,11 @@
 -- An addition in place: in the slot of the transaction's own ghost, or in one with room
-use Rattle.std.proofs.Common.{◌≡◌, ℕ, Bool, true, false, List, Option, Some, None, refl, sym, ap, subst, ◌∙◌, inl, inr}
-use Rattle.std.specs.Prelude.{position, slice_index_or}
-use Rattle.std.proofs.lemmas.Bool.{false≢true, not-false, not-true}
+use Rattle.std.proofs.Common.{◌≡◌, ℕ, Bool, true, false, List, Option, Some, None, refl, sym, ap, subst, ◌∙◌, inl, inr, position, slice_index_or}
+use Rattle.mlt_hash.proofs.Names.{false≢true, Exclusive, is_ghost_of, is_kept, is_live_of, Slot, Free, Live, BucketFields, can_write, value_in, LocalState, ReadsHeldBucket, View, WritesPage, view_of, IsNowhere, SetsFirst, WriteFields, has_room, planned_page, slot_after, WalkContext, FoundBefore, Stands, StoodBefore, WalkFields, nothing_before, view_for, IsAtAbsent, IsAtBucketPhase, IsFull, Makes, PlansSlot, RevivesFirst, SeesBucket, TellsOfChange, TellsOfWrite, directory_depth_of, page_of, Change, WalkAnswer}
+use Rattle.std.proofs.lemmas.Bool.{not-false, not-true}
 use Rattle.std.proofs.lemmas.List.Elements.{All-from_get_or}
 use Rattle.std.proofs.lemmas.List.Sums.{list_all-from_AllPass}
 use Rattle.std.proofs.lemmas.List.Quantifiers.{position-Some}
-use Rattle.mlt_types.specs.declared.mode.Mode.TheVariants.{Exclusive}
-use Rattle.mlt_page.specs.Slots.{is_ghost_of, is_kept, is_live_of}
-use Rattle.mlt_page.specs.declared.slot.Slot.{Slot}
-use Rattle.mlt_page.specs.declared.slot.Slot.TheVariants.{Free, Live}
-use Rattle.mlt_page.specs.Values.{BucketFields}
-use Rattle.mlt_page_locks.specs.LockTables.{can_write}
-use Rattle.mlt_hash_form.specs.Form.{value_in}
-use Rattle.mlt_hash_access.specs.LocalStates.{LocalState}
-use Rattle.mlt_hash_access.specs.Views.{ReadsHeldBucket, View, WritesPage, view_of}
-use Rattle.mlt_hash_record.specs.Plans.{IsNowhere, SetsFirst, WriteFields, has_room, planned_page}
-use Rattle.mlt_hash.specs.Passes.{slot_after}
-use Rattle.mlt_hash.specs.Walks.{WalkContext, FoundBefore, Stands, StoodBefore, WalkFields, nothing_before, view_for}
-use Rattle.mlt_hash.specs.Changes.{FillsFirst, HasOwnGhost, IsAtAbsent, IsAtBucketPhase, IsFull, Makes, PlansSlot, RevivesFirst, SeesBucket, TakesSlot, TellsOfAddition, TellsOfChange, TellsOfWrite, directory_depth_of, page_of}
-use Rattle.mlt_hash.specs.declared.pass.Change.{Change}
-use Rattle.mlt_hash.specs.declared.pass.Change.TheVariants as change
-use Rattle.mlt_hash.specs.declared.answer.WalkAnswer.{WalkAnswer}
-use Rattle.mlt_hash.specs.declared.answer.WalkAnswer.TheVariants as answer
+use Rattle.mlt_hash.specs.Changes.{FillsFirst, HasOwnGhost, TakesSlot, TellsOfAddition}
 use Rattle.mlt_hash.proofs.InPlace.{ReadsBucket, WritesPlan, absent_at, at_bucket_without, found_there, makes_change, may_write_bucket, no_live_slot, plan_reads, plans_slot, same_bucket, write_cases}
 
 -- where a search ends that finds nothing
@@ -88,29 +72,29 @@ module _ (context : WalkContext) (walk after : WalkFields) (old new : LocalState
       let of_walk : SetsFirst number fields (is_ghost_of walk.key owner) (Live walk.key value) write = subst (λ k. SetsFirst number fields (is_ghost_of k owner) (Live k value) write) reads.key_is plan in
       subst (λ tx. SetsFirst number fields (is_ghost_of walk.key tx) (Live walk.key value) write) own of_walk
 
-  revive_makes : (value owner : ℕ) → owner ≡ context.tx → SetsFirst number fields (is_ghost_of key owner) (Live key value) write → WritesPlan context walk after old new write (change.Revive value) → Makes context new walk after (change.Revive value)
+  revive_makes : (value owner : ℕ) → owner ≡ context.tx → SetsFirst number fields (is_ghost_of key owner) (Live key value) write → WritesPlan context walk after old new write (Change.Revive value) → Makes context new walk after (Change.Revive value)
   revive_makes value owner own plan wrote =
       let mine = own_plan value owner own plan in
-      absent_makes (change.Revive value) (is_ghost_of walk.key context.tx) refl mine (no_value, mine.was) wrote
+      absent_makes (Change.Revive value) (is_ghost_of walk.key context.tx) refl mine (no_value, mine.was) wrote
 
   -- **A revival,**
-  pub revive_tells : (value owner : ℕ) → owner ≡ context.tx → SetsFirst number fields (is_ghost_of key owner) (Live key value) write → TellsOfWrite old new walk after write (change.Revive value) result → TellsOfChange context new walk after (change.Revive value) result
+  pub revive_tells : (value owner : ℕ) → owner ≡ context.tx → SetsFirst number fields (is_ghost_of key owner) (Live key value) write → TellsOfWrite old new walk after write (Change.Revive value) result → TellsOfChange context new walk after (Change.Revive value) result
   revive_tells value owner own plan told =
-      write_cases context walk after old new write (change.Revive value) reads.ready at_bucket (λ r. TellsOfChange context new walk after (change.Revive value) r) result told (λ wrote. revive_makes value owner own plan wrote) (λ lacks. lacks)
+      write_cases context walk after old new write (Change.Revive value) reads.ready at_bucket (λ r. TellsOfChange context new walk after (Change.Revive value) r) result told (λ wrote. revive_makes value owner own plan wrote) (λ lacks. lacks)
 
   -- **an addition in the place of the transaction's own ghost,**
-  pub revival_tells : (value owner : ℕ) → owner ≡ context.tx → SetsFirst number fields (is_ghost_of key owner) (Live key value) write → TellsOfWrite old new walk after write (change.Revive value) result → TellsOfAddition context new walk after value result
+  pub revival_tells : (value owner : ℕ) → owner ≡ context.tx → SetsFirst number fields (is_ghost_of key owner) (Live key value) write → TellsOfWrite old new walk after write (Change.Revive value) result → TellsOfAddition context new walk after value result
   revival_tells value owner own plan told =
-      write_cases context walk after old new write (change.Revive value) reads.ready at_bucket (λ r. TellsOfAddition context new walk after value r) result told (λ wrote. inl (revive_makes value owner own plan wrote)) (λ lacks. lacks)
+      write_cases context walk after old new write (Change.Revive value) reads.ready at_bucket (λ r. TellsOfAddition context new walk after value r) result told (λ wrote. inl (revive_makes value owner own plan wrote)) (λ lacks. lacks)
 
   -- **and one in a slot with room.**
-  pub put_tells : (value owner : ℕ) → owner ≡ context.tx → IsNowhere (is_ghost_of key owner) fields.slots → SetsFirst number fields (has_room context.active) (Live key value) write → TellsOfWrite old new walk after write (change.Put value) result → TellsOfAddition context new walk after value result
+  pub put_tells : (value owner : ℕ) → owner ≡ context.tx → IsNowhere (is_ghost_of key owner) fields.slots → SetsFirst number fields (has_room context.active) (Live key value) write → TellsOfWrite old new walk after write (Change.Put value) result → TellsOfAddition context new walk after value result
   put_tells value owner own nowhere plan told =
       let of_walk : SetsFirst number fields (has_room context.active) (Live walk.key value) write = subst (λ k. SetsFirst number fields (has_room context.active) (Live k value) write) reads.key_is plan in
       let no_ghost : position (is_ghost_of walk.key context.tx) fields.slots ≡ None = own_ghost_nowhere context walk key owner fields reads.key_is own nowhere in
       let free : is_kept context.active (slice_index_or fields.slots of_walk.slot Free) ≡ false = not-true (is_kept context.active (slice_index_or fields.slots of_walk.slot Free)) of_walk.was in
-      write_cases context walk after old new write (change.Put value) reads.ready at_bucket (λ r. TellsOfAddition context new walk after value r) result told
-      (λ wrote. inr (absent_makes (change.Put value) (has_room context.active) refl of_walk (no_value, no_ghost, free) wrote)) (λ lacks. lacks)
+      write_cases context walk after old new write (Change.Put value) reads.ready at_bucket (λ r. TellsOfAddition context new walk after value r) result told
+      (λ wrote. inr (absent_makes (Change.Put value) (has_room context.active) refl of_walk (no_value, no_ghost, free) wrote)) (λ lacks. lacks)
 
   -- The slot that its plan names is the first one with the property.
   fills : (has : Slot → Bool) (s : Slot) (done : Change) → (plan : SetsFirst number fields has s write) → WritesPlan context walk after old new write done → FillsFirst (view_for context old) (view_for context new) (page_of walk.phase) has s
@@ -126,33 +110,33 @@ module _ (context : WalkContext) (walk after : WalkFields) (old new : LocalState
       }
 
   -- **A revival takes the first ghost,**
-  revival_takes_first : (value owner : ℕ) → owner ≡ context.tx → SetsFirst number fields (is_ghost_of key owner) (Live key value) write → WritesPlan context walk after old new write (change.Revive value) → RevivesFirst context.tx (view_for context old) (view_for context new) walk (page_of walk.phase) value
-  revival_takes_first value owner own plan wrote = fills (is_ghost_of walk.key context.tx) (Live walk.key value) (change.Revive value) (own_plan value owner own plan) wrote
+  revival_takes_first : (value owner : ℕ) → owner ≡ context.tx → SetsFirst number fields (is_ghost_of key owner) (Live key value) write → WritesPlan context walk after old new write (Change.Revive value) → RevivesFirst context.tx (view_for context old) (view_for context new) walk (page_of walk.phase) value
+  revival_takes_first value owner own plan wrote = fills (is_ghost_of walk.key context.tx) (Live walk.key value) (Change.Revive value) (own_plan value owner own plan) wrote
 
   -- **as it does where the key is the walk's first,**
-  pub first_revival : (value owner : ℕ) → owner ≡ context.tx → SetsFirst number fields (is_ghost_of key owner) (Live key value) write → context.before ≡ nothing_before → TellsOfWrite old new walk after write (change.Revive value) result → RevivesFirst context.tx (view_for context old) (view_for context new) walk (page_of walk.phase) value
+  pub first_revival : (value owner : ℕ) → owner ≡ context.tx → SetsFirst number fields (is_ghost_of key owner) (Live key value) write → context.before ≡ nothing_before → TellsOfWrite old new walk after write (Change.Revive value) result → RevivesFirst context.tx (view_for context old) (view_for context new) walk (page_of walk.phase) value
   first_revival value owner own plan anew told =
-      write_cases context walk after old new write (change.Revive value) reads.ready at_bucket (λ r. RevivesFirst context.tx (view_for context old) (view_for context new) walk (page_of walk.phase) value) result told (λ wrote. revival_takes_first value owner own plan wrote) (λ lacks. absurd (lacks.1 anew))
+      write_cases context walk after old new write (Change.Revive value) reads.ready at_bucket (λ r. RevivesFirst context.tx (view_for context old) (view_for context new) walk (page_of walk.phase) value) result told (λ wrote. revival_takes_first value owner own plan wrote) (λ lacks. absurd (lacks.1 anew))
 
   -- **an addition too,**
-  pub revival_takes : (value owner : ℕ) → owner ≡ context.tx → SetsFirst number fields (is_ghost_of key owner) (Live key value) write → TellsOfWrite old new walk after write (change.Revive value) result → TakesSlot result context (view_for context old) (view_for context new) walk value
+  pub revival_takes : (value owner : ℕ) → owner ≡ context.tx → SetsFirst number fields (is_ghost_of key owner) (Live key value) write → TellsOfWrite old new walk after write (Change.Revive value) result → TakesSlot result context (view_for context old) (view_for context new) walk value
   revival_takes value owner own plan told =
-      write_cases context walk after old new write (change.Revive value) reads.ready at_bucket (λ r. TakesSlot r context (view_for context old) (view_for context new) walk value) result told (λ wrote. inl (revival_takes_first value owner own plan wrote)) (λ lacks. tt)
+      write_cases context walk after old new write (Change.Revive value) reads.ready at_bucket (λ r. TakesSlot r context (view_for context old) (view_for context new) walk value) result told (λ wrote. inl (revival_takes_first value owner own plan wrote)) (λ lacks. tt)
 
   -- **and where there is none, the lowest slot with room.**
-  pub put_takes : (value owner : ℕ) → owner ≡ context.tx → IsNowhere (is_ghost_of key owner) fields.slots → SetsFirst number fields (has_room context.active) (Live key value) write → TellsOfWrite old new walk after write (change.Put value) result → TakesSlot result context (view_for context old) (view_for context new) walk value
+  pub put_takes : (value owner : ℕ) → owner ≡ context.tx → IsNowhere (is_ghost_of key owner) fields.slots → SetsFirst number fields (has_room context.active) (Live key value) write → TellsOfWrite old new walk after write (Change.Put value) result → TakesSlot result context (view_for context old) (view_for context new) walk value
   put_takes value owner own nowhere plan told =
       let of_walk : SetsFirst number fields (has_room context.active) (Live walk.key value) write = subst (λ k. SetsFirst number fields (has_room context.active) (Live k value) write) reads.key_is plan in
       let no_ghost : HasOwnGhost context.tx walk (view_for context old) → ⊥ = λ ghost. ghost_has_plan context walk (view_for context old) key owner fields ghost reads.sees reads.key_is own nowhere in
-      write_cases context walk after old new write (change.Put value) reads.ready at_bucket (λ r. TakesSlot r context (view_for context old) (view_for context new) walk value) result told
-      (λ wrote. inr (no_ghost, fills (has_room context.active) (Live walk.key value) (change.Put value) of_walk wrote)) (λ lacks. tt)
+      write_cases context walk after old new write (Change.Put value) reads.ready at_bucket (λ r. TakesSlot r context (view_for context old) (view_for context new) walk value) result told
+      (λ wrote. inr (no_ghost, fills (has_room context.active) (Live walk.key value) (Change.Put value) of_walk wrote)) (λ lacks. tt)
 
 -- what is not made takes no slot
-pub unmade_takes : (told : WalkAnswer) (context : WalkContext) (old new : View) (walk : WalkFields) (value : ℕ) → (told ≡ answer.Changed → ⊥) → TakesSlot told context old new walk value
-unmade_takes answer.Changed context old new walk value unchanged = absurd (unchanged refl)
-unmade_takes answer.Going context old new walk value unchanged = tt
-unmade_takes (answer.Waiting page by) context old new walk value unchanged = tt
-unmade_takes (answer.Found found) context old new walk value unchanged = tt
-unmade_takes answer.NeedSplit context old new walk value unchanged = tt
-unmade_takes answer.Widen context old new walk value unchanged = tt
-unmade_takes (answer.Refused reason) context old new walk value unchanged = tt
+pub unmade_takes : (told : WalkAnswer) (context : WalkContext) (old new : View) (walk : WalkFields) (value : ℕ) → (told ≡ WalkAnswer.Changed → ⊥) → TakesSlot told context old new walk value
+unmade_takes WalkAnswer.Changed context old new walk value unchanged = absurd (unchanged refl)
+unmade_takes WalkAnswer.Going context old new walk value unchanged = tt
+unmade_takes (WalkAnswer.Waiting page by) context old new walk value unchanged = tt
+unmade_takes (WalkAnswer.Found found) context old new walk value unchanged = tt
+unmade_takes WalkAnswer.NeedSplit context old new walk value unchanged = tt
+unmade_takes WalkAnswer.Widen context old new walk value unchanged = tt
+unmade_takes (WalkAnswer.Refused reason) context old new walk value unchanged = tt

@@ -1,26 +1,13 @@
 -- The pages that a walk holds on its way stand in a list with those of the directory
-use Rattle.std.proofs.Common.{◌≡◌, ℕ, zero, suc, ◌<◌, ◌≤◌, ◌+◌, ◌-◌, ◌/◌, ◌^◌, true, eqb, ◌||◌, List, [], ◌∷◌, length, is_some, refl, sym, ap, subst, ◌∙◌, inl, inr, arith}
-use Rattle.std.specs.Prelude.{◌≢◌, slice_index}
+use Rattle.std.proofs.Common.{◌≡◌, ℕ, zero, suc, ◌<◌, ◌≤◌, ◌+◌, ◌-◌, ◌/◌, ◌^◌, true, eqb, ◌||◌, List, [], ◌∷◌, length, is_some, refl, sym, ap, subst, ◌∙◌, inl, inr, arith, ◌≢◌, slice_index, nat_cmp, eq-eqb}
 use Rattle.std.specs.List.{list_any}
-use Rattle.std.specs.Ordering.{nat_cmp}
 use Rattle.std.specs.FinMap as map
-use Rattle.std.proofs.lemmas.Bool.{cases_eq, cases_lt, eq-eqb, false≢true}
+use Rattle.mlt_hash.proofs.Names.{cases_eq, cases_lt, false≢true, Mode, first_bits, HeadFields, Modes, with_page, dir_of, View, mode_of_others, Before, GoesAfter, HoldsBeside, nothing_before, Pass}
 use Rattle.std.proofs.Math.Bool.{or-true}
-use Rattle.mlt_types.specs.declared.mode.Mode.{Mode}
-use Rattle.mlt_page.specs.Bits.{first_bits}
-use Rattle.mlt_page.specs.Values.{HeadFields}
-use Rattle.mlt_page_locks.specs.LockTables.{Modes}
-use Rattle.mlt_page_locks.specs.Requests.{with_page}
-use Rattle.mlt_hash_form.specs.File.{dir_of}
 use Rattle.mlt_hash_form.proofs.Bits.{first_bits_below}
 use Rattle.mlt_hash_form.proofs.FillEnds.{page_listed}
-use Rattle.mlt_hash_access.specs.Views.{View}
-use Rattle.mlt_hash_access.proofs.Views.{mode_of_others}
 use Rattle.mlt_hash_split.specs.Rests.{HoldsAmong, IsIn}
 use Rattle.mlt_hash_split.proofs.Among.{among_after_lock, among_after_make, among_still, few_are_held, few_pages}
-use Rattle.mlt_hash.specs.Walks.{Before, GoesAfter, HoldsBeside, nothing_before}
-use Rattle.mlt_hash.specs.declared.pass.Pass.{Pass}
-use Rattle.mlt_hash.specs.declared.pass.Pass.TheVariants as pass
 
 -- the first n pages of a directory
 dirs_below : List ℕ → ℕ → List ℕ
@@ -109,18 +96,18 @@ few_beside view header others few small among =
 
 -- what a walk did before holds 17 buckets at most
 pub few_before : (on : Pass) (before : Before) → GoesAfter on before → before.buckets ≤ 17
-few_before pass.First before anew = omega (arith, ap (λ (b : Before). b.buckets) anew)
-few_before pass.Narrow before anew = omega (arith, ap (λ (b : Before). b.buckets) anew)
-few_before pass.Wide before few = few
+few_before Pass.First before anew = omega (arith, ap (λ (b : Before). b.buckets) anew)
+few_before Pass.Narrow before anew = omega (arith, ap (λ (b : Before). b.buckets) anew)
+few_before Pass.Wide before few = few
 
 -- each pass may be the first one to a key
 pub goes_after_nothing : (on : Pass) → GoesAfter on nothing_before
-goes_after_nothing pass.First = refl
-goes_after_nothing pass.Narrow = refl
-goes_after_nothing pass.Wide = omega arith
+goes_after_nothing Pass.First = refl
+goes_after_nothing Pass.Narrow = refl
+goes_after_nothing Pass.Wide = omega arith
 
 -- and one that is not wide is
-pub anew_unless_wide : (on : Pass) (before : Before) → GoesAfter on before → (on ≡ pass.Wide → ⊥) → before ≡ nothing_before
-anew_unless_wide pass.First before anew narrow = anew
-anew_unless_wide pass.Narrow before anew narrow = anew
-anew_unless_wide pass.Wide before few narrow = absurd (narrow refl)
+pub anew_unless_wide : (on : Pass) (before : Before) → GoesAfter on before → (on ≡ Pass.Wide → ⊥) → before ≡ nothing_before
+anew_unless_wide Pass.First before anew narrow = anew
+anew_unless_wide Pass.Narrow before anew narrow = anew
+anew_unless_wide Pass.Wide before few narrow = absurd (narrow refl)

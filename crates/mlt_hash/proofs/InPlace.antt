@@ -1,81 +1,54 @@
 -- What a change in place makes of the file
-use Rattle.std.proofs.Common.{◌≡◌, ℕ, ◌<◌, ◌≤◌, ◌+◌, ◌^◌, Bool, true, List, Option, Some, None, is_some, refl, sym, ap, subst, ◌∙◌, arith}
-use Rattle.std.specs.Prelude.{IsSome, position, slice_index_or, unwrap_or}
+use Rattle.std.proofs.Common.{◌≡◌, ℕ, ◌<◌, ◌≤◌, ◌+◌, ◌^◌, Bool, true, List, Option, Some, None, is_some, refl, sym, ap, subst, ◌∙◌, arith, IsSome, position, slice_index_or, unwrap_or, option_map}
 use Rattle.std.specs.FinMap as map
-use Rattle.std.specs.Option.{option_map}
-use Rattle.std.proofs.lemmas.Bool.{false≢true}
-use Rattle.mlt_types.specs.declared.refusal.Refusal.TheVariants as refusal
-use Rattle.mlt_types.specs.declared.mode.Mode.TheVariants.{Exclusive}
-use Rattle.mlt_page.specs.Slots.{is_live_of}
-use Rattle.mlt_page.specs.declared.slot.Slot.{Slot}
-use Rattle.mlt_page.specs.declared.slot.Slot.TheVariants.{Free, Ghost, Live}
-use Rattle.mlt_page.specs.declared.page.Page.{Page}
-use Rattle.mlt_page.specs.declared.page.Page.TheVariants as page
-use Rattle.mlt_page.specs.Pages.{page_with_slot}
-use Rattle.mlt_page.specs.Values.{BucketFields}
-use Rattle.mlt_page_locks.specs.LockTables.{Modes, can_write}
-use Rattle.mlt_page_locks.specs.Requests.{with_page}
-use Rattle.mlt_page_locks.proofs.LockLaws.{stronger_exclusive}
-use Rattle.mlt_hash_form.specs.Changes.{ChangesRecord, IsHome, slot_change}
-use Rattle.mlt_hash_form.specs.File.{HasForm, IsPath, Writes, dir_of}
-use Rattle.mlt_hash_form.specs.Form.{value_in, slot_value}
-use Rattle.mlt_hash_form.specs.Held.{Agrees, ChangesFile, RearrangesSlots, over, own_or_clean}
-use Rattle.mlt_hash_form.proofs.HeldPages.{keeps_none}
+use Rattle.mlt_hash.proofs.Names.{false≢true, Refusal, Exclusive, is_live_of, Slot, Free, Ghost, Live, Page, page_with_slot, BucketFields, Modes, can_write, with_page, stronger_exclusive, IsHome, HasForm, IsPath, dir_of, value_in, Agrees, RearrangesSlots, over, own_or_clean, keeps_none, LocalState, HasWritten, ReadsHeldBucket, View, WritesPage, view_of, over_since, reads_over_writes, reads_since, may_write, mode_of_page, write_writes, writes_over_clean, IsNowhere, SetsFirst, WriteFields, bucket_mode, directory_held, slot_after, WalkContext, Before, FoundBefore, HoldsBeside, IsAtBucket, IsChanged, MayWalk, Stands, StoodBefore, WalkFields, nothing_before, view_for, IsAtAbsent, IsAtBucketPhase, Makes, PlansSlot, SeesBucket, TellsOfChange, TellsOfWrite, directory_depth_of, page_of, Pass, Phase, Change, WalkAnswer}
+use Rattle.mlt_hash_form.specs.Changes.{ChangesRecord, slot_change}
+use Rattle.mlt_hash_form.specs.File.{Writes}
+use Rattle.mlt_hash_form.specs.Form.{slot_value}
+use Rattle.mlt_hash_form.specs.Held.{ChangesFile}
 use Rattle.mlt_hash_form.proofs.Lookup.{live_from_value, live_passes, within_from_live}
 use Rattle.mlt_hash_form.proofs.Paths.{path_home}
 use Rattle.mlt_hash_form.proofs.SingleChanges.{put_changes, revive_changes, set_value_changes, to_ghost_changes}
-use Rattle.mlt_hash_access.specs.LocalStates.{LocalState}
-use Rattle.mlt_hash_access.specs.Views.{HasWritten, ReadsHeldBucket, View, WritesPage, WritesSlot, view_of}
-use Rattle.mlt_hash_access.proofs.Since.{over_since, reads_below_writes, reads_over_writes, reads_since, rebased_writes_slot}
+use Rattle.mlt_hash_access.specs.Views.{WritesSlot}
+use Rattle.mlt_hash_access.proofs.Since.{reads_below_writes, rebased_writes_slot}
 use Rattle.mlt_hash_access.proofs.Unwritten.{first_write_is_not_third}
-use Rattle.mlt_hash_access.proofs.Views.{may_write, mode_of_page, write_writes, writes_over_clean}
-use Rattle.mlt_hash_record.specs.Plans.{IsNowhere, SetsFirst, WriteFields}
-use Rattle.mlt_hash.specs.Passes.{bucket_mode, directory_held, slot_after, value_after}
-use Rattle.mlt_hash.specs.Walks.{WalkContext, Before, FoundBefore, HoldsBeside, IsAtBucket, IsChanged, MayWalk, Stands, StoodBefore, WalkFields, nothing_before, view_for}
-use Rattle.mlt_hash.specs.Changes.{IsAtAbsent, IsAtBucketPhase, IsAtRecord, LacksMemory, Makes, PlansSlot, SeesBucket, TellsOfChange, TellsOfWrite, WritesIfChanged, directory_depth_of, page_of}
-use Rattle.mlt_hash.specs.declared.pass.Pass.{Pass}
-use Rattle.mlt_hash.specs.declared.pass.Pass.TheVariants as pass
-use Rattle.mlt_hash.specs.declared.pass.Phase.{Phase}
-use Rattle.mlt_hash.specs.declared.pass.Phase.TheVariants as at
-use Rattle.mlt_hash.specs.declared.pass.Change.{Change}
-use Rattle.mlt_hash.specs.declared.pass.Change.TheVariants as change
-use Rattle.mlt_hash.specs.declared.answer.WalkAnswer.{WalkAnswer}
-use Rattle.mlt_hash.specs.declared.answer.WalkAnswer.TheVariants as answer
+use Rattle.mlt_hash.specs.Passes.{value_after}
+use Rattle.mlt_hash.specs.Changes.{IsAtRecord, LacksMemory, WritesIfChanged}
 use Rattle.mlt_hash.proofs.Passed.{StepsOn, holds_at_bucket, holds_on, read_at_bucket, reads_on, steps_by_write}
 use Rattle.mlt_hash.proofs.Beside.{few_before, few_beside, more_beside, still_beside}
 
 -- a walk that found a record stands at its bucket,
 pub record_at : (context : WalkContext) (walk : WalkFields) (view : View) (phase : Phase) → IsAtRecord phase → Stands phase context walk view → (found : Option ℕ) × IsAtBucket context walk view (page_of phase) (directory_depth_of phase) found × IsSome found
-record_at context walk view (at.AtBucket bucket depth found) has stands = (found, stands, has)
-record_at context walk view at.Start has stands = absurd has
-record_at context walk view (at.Headed dir row depth) has stands = absurd has
-record_at context walk view (at.Placed bucket depth) has stands = absurd has
-record_at context walk view (at.Full next) has stands = absurd has
-record_at context walk view (at.Adding value bucket room_depth unsplit) has stands = absurd has
-record_at context walk view (at.Splitting value room_depth) has stands = absurd has
-record_at context walk view (at.Changed bucket done) has stands = absurd has
+record_at context walk view (Phase.AtBucket bucket depth found) has stands = (found, stands, has)
+record_at context walk view Phase.Start has stands = absurd has
+record_at context walk view (Phase.Headed dir row depth) has stands = absurd has
+record_at context walk view (Phase.Placed bucket depth) has stands = absurd has
+record_at context walk view (Phase.Full next) has stands = absurd has
+record_at context walk view (Phase.Adding value bucket room_depth unsplit) has stands = absurd has
+record_at context walk view (Phase.Splitting value room_depth) has stands = absurd has
+record_at context walk view (Phase.Changed bucket done) has stands = absurd has
 
 -- and so does one that found none
 pub absent_at : (context : WalkContext) (walk : WalkFields) (view : View) (phase : Phase) → IsAtAbsent phase → Stands phase context walk view → IsAtBucket context walk view (page_of phase) (directory_depth_of phase) None
-absent_at context walk view (at.AtBucket bucket depth found) none stands = subst (λ found. IsAtBucket context walk view bucket depth found) none stands
-absent_at context walk view at.Start none stands = absurd none
-absent_at context walk view (at.Headed dir row depth) none stands = absurd none
-absent_at context walk view (at.Placed bucket depth) none stands = absurd none
-absent_at context walk view (at.Full next) none stands = absurd none
-absent_at context walk view (at.Adding value bucket room_depth unsplit) none stands = absurd none
-absent_at context walk view (at.Splitting value room_depth) none stands = absurd none
-absent_at context walk view (at.Changed bucket done) none stands = absurd none
+absent_at context walk view (Phase.AtBucket bucket depth found) none stands = subst (λ found. IsAtBucket context walk view bucket depth found) none stands
+absent_at context walk view Phase.Start none stands = absurd none
+absent_at context walk view (Phase.Headed dir row depth) none stands = absurd none
+absent_at context walk view (Phase.Placed bucket depth) none stands = absurd none
+absent_at context walk view (Phase.Full next) none stands = absurd none
+absent_at context walk view (Phase.Adding value bucket room_depth unsplit) none stands = absurd none
+absent_at context walk view (Phase.Splitting value room_depth) none stands = absurd none
+absent_at context walk view (Phase.Changed bucket done) none stands = absurd none
 
 -- a bucket is seen in one way
-pub same_bucket : (seen : Option (Option Page)) (a b : BucketFields) → seen ≡ Some (Some (page.Bucket a)) → seen ≡ Some (Some (page.Bucket b)) → a ≡ b
+pub same_bucket : (seen : Option (Option Page)) (a b : BucketFields) → seen ≡ Some (Some (Page.Bucket a)) → seen ≡ Some (Some (Page.Bucket b)) → a ≡ b
 same_bucket seen a b first second =
-    let both : Some (Some (page.Bucket a)) ≡ Some (Some (page.Bucket b)) = sym first ∙ second in
+    let both : Some (Some (Page.Bucket a)) ≡ Some (Some (Page.Bucket b)) = sym first ∙ second in
     cc
 
 bucket_mode_exclusive : (pass : Pass) → bucket_mode pass Exclusive ≡ Exclusive
-bucket_mode_exclusive pass.First = refl
-bucket_mode_exclusive pass.Narrow = refl
-bucket_mode_exclusive pass.Wide = refl
+bucket_mode_exclusive Pass.First = refl
+bucket_mode_exclusive Pass.Narrow = refl
+bucket_mode_exclusive Pass.Wide = refl
 
 -- **A walk whose own mode is exclusive holds its bucket so.**
 pub bucket_is_exclusive : (context : WalkContext) (walk : WalkFields) (view : View) (bucket depth : ℕ) (found : Option ℕ) → IsAtBucket context walk view bucket depth found → walk.mode ≡ Exclusive → map.get view.modes bucket ≡ Some Exclusive
@@ -89,23 +62,23 @@ bucket_is_exclusive context walk view bucket depth found stands exclusive =
 -- what a change of one slot of the key's bucket does to clean pages, by what stood in the slot
 pub changes_by : (context : WalkContext) (pages pages' : ℕ → Option Page) (key n i : ℕ) (fields : BucketFields) (done : Change) → IsHome context.bits pages context.root key n fields → i < 8 → StoodBefore done context key fields.slots (slice_index_or fields.slots i Free)
     → Writes pages pages' n (page_with_slot fields i (slot_after done key context.tx)) → ChangesRecord context.bits pages pages' context.root (slot_change key (value_after done) n i (slot_after done key context.tx))
-changes_by context pages pages' key n i fields (change.Put value) home within was writes = put_changes context.bits context.active pages pages' context.root key value n i fields home was.0 within was.2 writes
-changes_by context pages pages' key n i fields (change.Revive value) home within was writes = revive_changes context.bits pages pages' context.root key context.tx value n i fields home was.0 within was.1 writes
-changes_by context pages pages' key n i fields (change.Set value) home within was writes = set_value_changes context.bits pages pages' context.root key value n i fields home within was writes
-changes_by context pages pages' key n i fields change.Remove home within was writes = to_ghost_changes context.bits pages pages' context.root key context.tx n i fields home within was writes
+changes_by context pages pages' key n i fields (Change.Put value) home within was writes = put_changes context.bits context.active pages pages' context.root key value n i fields home was.0 within was.2 writes
+changes_by context pages pages' key n i fields (Change.Revive value) home within was writes = revive_changes context.bits pages pages' context.root key context.tx value n i fields home was.0 within was.1 writes
+changes_by context pages pages' key n i fields (Change.Set value) home within was writes = set_value_changes context.bits pages pages' context.root key value n i fields home within was writes
+changes_by context pages pages' key n i fields Change.Remove home within was writes = to_ghost_changes context.bits pages pages' context.root key context.tx n i fields home within was writes
 
 -- what was found of the key stands in the bucket
-pub found_there : (context : WalkContext) (walk : WalkFields) (view : View) (n depth : ℕ) (found : Option ℕ) (fields : BucketFields) → IsAtBucket context walk view n depth found → view.seen n ≡ Some (Some (page.Bucket fields)) → value_in walk.key fields.slots ≡ found
+pub found_there : (context : WalkContext) (walk : WalkFields) (view : View) (n depth : ℕ) (found : Option ℕ) (fields : BucketFields) → IsAtBucket context walk view n depth found → view.seen n ≡ Some (Some (Page.Bucket fields)) → value_in walk.key fields.slots ≡ found
 found_there context walk view n depth found fields stands sees = ap (λ (b : BucketFields). value_in walk.key b.slots) (same_bucket (view.seen n) fields stands.fields sees stands.at) ∙ sym stands.found_is
 
-module _ (context : WalkContext) (walk : WalkFields) (view : View) (n depth : ℕ) (found : Option ℕ) (fields : BucketFields) (bounded : (k : ℕ) → context.bits k < 2 ^ 64) (stands : IsAtBucket context walk view n depth found) (sees : view.seen n ≡ Some (Some (page.Bucket fields))) where
+module _ (context : WalkContext) (walk : WalkFields) (view : View) (n depth : ℕ) (found : Option ℕ) (fields : BucketFields) (bounded : (k : ℕ) → context.bits k < 2 ^ 64) (stands : IsAtBucket context walk view n depth found) (sees : view.seen n ≡ Some (Some (Page.Bucket fields))) where
   -- the way of the key on all clean pages that agree with what is seen
   pub seen_path : (clean : ℕ → Option Page) → Agrees view.seen clean → IsPath clean context.root (context.bits walk.key) stands.header stands.dir n fields
   seen_path clean agree = record {
-    head = agree context.root (Some (page.Head stands.header)) stands.head;
-    listed = agree (dir_of stands.header (context.bits walk.key)) (Some (page.Dir stands.dir)) stands.listed;
+    head = agree context.root (Some (Page.Head stands.header)) stands.head;
+    listed = agree (dir_of stands.header (context.bits walk.key)) (Some (Page.Dir stands.dir)) stands.listed;
     at = sym stands.bucket_is;
-    found = agree n (Some (page.Bucket fields)) sees;
+    found = agree n (Some (Page.Bucket fields)) sees;
   }
 
   pub seen_home : (clean : ℕ → Option Page) → Agrees view.seen clean → HasForm context.bits clean context.root → IsHome context.bits clean context.root walk.key n fields
@@ -130,7 +103,7 @@ module _ (context : WalkContext) (walk : WalkFields) (view : View) (n depth : �
     }
 
     not_header : context.root ≡ n → ⊥
-    not_header same = let both : Some (Some (page.Head stands.header)) ≡ Some (Some (page.Bucket fields)) = sym stands.head ∙ ap view.seen same ∙ sees in cc
+    not_header same = let both : Some (Some (Page.Head stands.header)) ≡ Some (Some (Page.Bucket fields)) = sym stands.head ∙ ap view.seen same ∙ sees in cc
 
     step : StepsOn walk view new
     step = steps_by_write walk view new n (page_with_slot fields i (slot_after done walk.key context.tx)) writes
@@ -138,14 +111,14 @@ module _ (context : WalkContext) (walk : WalkFields) (view : View) (n depth : �
     beside : HoldsBeside new stands.header (context.before.buckets + 2)
     beside = still_beside view new stands.header (context.before.buckets + 2) writes.modes stands.among
 
-    pub is_changed : context.max_depth ≤ 16 → IsChanged context (record walk { phase = at.Changed n done }) new n done
+    pub is_changed : context.max_depth ≤ 16 → IsChanged context (record walk { phase = Phase.Changed n done }) new n done
     is_changed small = record {
       found = found;
       fits = fits;
       read = reads_on context walk view new step found (read_at_bucket context walk view n depth found stands);
       holds = holds_on context walk view new step found (read_at_bucket context walk view n depth found stands) (holds_at_bucket context walk view n depth found stands);
       header = stands.header;
-      head = (λ k. own_or_clean (writes.others context.root not_header k) (unwrap_or ((writes.seen context.root ∙ stands.head) k) None)) ∙ reads_since context.before.written view stands.unwritten context.root (Some (page.Head stands.header)) stands.head;
+      head = (λ k. own_or_clean (writes.others context.root not_header k) (unwrap_or ((writes.seen context.root ∙ stands.head) k) None)) ∙ reads_since context.before.written view stands.unwritten context.root (Some (Page.Head stands.header)) stands.head;
       shallow = stands.shallow;
       few = few_beside new stands.header (context.before.buckets + 2) (omega (arith, few_before walk.pass context.before stands.goes_after)) (let most = stands.shallow in omega (arith, most, small)) beside;
       among = more_beside new stands.header (context.before.buckets + 2) (context.before.buckets + 18) (omega arith) beside;
@@ -164,7 +137,7 @@ pub sees_as_read : (context : WalkContext) (walk : WalkFields) (view : View) (de
 sees_as_read context walk view depth found fields stands reads = record { at = reads.1 ∙ ap Some (sym (reads_since context.before.written view stands.unwritten (page_of walk.phase) reads.0 reads.1) ∙ reads.2) }
 
 pub reads_as_seen : (context : WalkContext) (walk : WalkFields) (view : View) (depth : ℕ) (found : Option ℕ) (fields : BucketFields) → IsAtBucket context walk view (page_of walk.phase) depth found → SeesBucket walk view fields → ReadsHeldBucket view (page_of walk.phase) fields
-reads_as_seen context walk view depth found fields stands sees = (Some (page.Bucket fields), sees.at, reads_since context.before.written view stands.unwritten (page_of walk.phase) (Some (page.Bucket fields)) sees.at)
+reads_as_seen context walk view depth found fields stands sees = (Some (Page.Bucket fields), sees.at, reads_since context.before.written view stands.unwritten (page_of walk.phase) (Some (Page.Bucket fields)) sees.at)
 
 -- the plan of a walk at its bucket is one of the bucket that it reads
 pub plan_reads : (context : WalkContext) (walk : WalkFields) (view : View) (number depth : ℕ) (found : Option ℕ) (fields : BucketFields) (has : Slot → Bool) (s : Slot) (write : WriteFields) → IsAtBucket context walk view (page_of walk.phase) depth found → SeesBucket walk view fields → number ≡ page_of walk.phase
@@ -177,7 +150,7 @@ pub plans_slot : (context : WalkContext) (walk : WalkFields) (m : LocalState) (n
     → number ≡ page_of walk.phase → SetsFirst number fields has s write → PlansSlot (view_of m) write
 plans_slot context walk m number depth found fields has s write written stands sees here plan = record {
   bucket = fields;
-  reads = reads_below_writes context.before.written m written write.number (page.Bucket fields) (plan_reads context walk (view_for context m) number depth found fields has s write stands sees here plan);
+  reads = reads_below_writes context.before.written m written write.number (Page.Bucket fields) (plan_reads context walk (view_for context m) number depth found fields has s write stands sees here plan);
   within = subst (λ i. i < 8) (sym (ap (λ (w : WriteFields). w.at) plan.written)) plan.within;
 }
 
@@ -187,7 +160,7 @@ pub makes_change : (context : WalkContext) (walk after : WalkFields) (old new : 
     → number ≡ page_of walk.phase → (plan : SetsFirst number fields has (slot_after done walk.key context.tx) write)
     → FoundBefore done found → StoodBefore done context walk.key fields.slots (slice_index_or fields.slots plan.slot Free)
     → WritesSlot (view_for context old) (view_for context new) write.number write.at write.slot
-    → after ≡ record walk { phase = at.Changed write.number done }
+    → after ≡ record walk { phase = Phase.Changed write.number done }
     → Makes context new walk after done
 makes_change context walk after old new number depth found fields done has write bounded small stands sees here plan fits was writes is =
     let n = page_of walk.phase in
@@ -195,7 +168,7 @@ makes_change context walk after old new number depth found fields done has write
     let on : write.number ≡ n = ap (λ (w : WriteFields). w.number) plan.written ∙ here in
     let what : page_with_slot fields write.at write.slot ≡ page = ap (λ (w : WriteFields). page_with_slot fields w.at w.slot) plan.written in
     let reads : ReadsHeldBucket (view_for context old) write.number fields = plan_reads context walk (view_for context old) number depth found fields has (slot_after done walk.key context.tx) write stands sees here plan in
-    let now : after ≡ record walk { phase = at.Changed n done } = is ∙ ap (λ q. record walk { phase = at.Changed q done }) on in
+    let now : after ≡ record walk { phase = Phase.Changed n done } = is ∙ ap (λ q. record walk { phase = Phase.Changed q done }) on in
     let writes_here : WritesPage (view_for context old) (view_for context new) n page = subst (λ q. WritesPage (view_for context old) (view_for context new) q page) on (subst (λ p. WritesPage (view_for context old) (view_for context new) write.number p) what (writes fields reads)) in
     let changed = is_changed context walk (view_for context old) n depth found fields bounded stands sees.at (view_for context new) done fits plan.slot plan.within was writes_here small in
     record {
@@ -213,41 +186,41 @@ pub record ReadsBucket (context : WalkContext) (walk : WalkFields) (old : LocalS
 
 -- where a walk at its bucket stands
 pub bucket_at : (context : WalkContext) (walk : WalkFields) (view : View) (phase : Phase) → IsAtBucketPhase phase → Stands phase context walk view → (found : Option ℕ) × IsAtBucket context walk view (page_of phase) (directory_depth_of phase) found
-bucket_at context walk view (at.AtBucket bucket depth found) here stands = (found, stands)
-bucket_at context walk view at.Start here stands = absurd here
-bucket_at context walk view (at.Headed dir row depth) here stands = absurd here
-bucket_at context walk view (at.Placed bucket depth) here stands = absurd here
-bucket_at context walk view (at.Full next) here stands = absurd here
-bucket_at context walk view (at.Adding value bucket room_depth unsplit) here stands = absurd here
-bucket_at context walk view (at.Splitting value room_depth) here stands = absurd here
-bucket_at context walk view (at.Changed bucket done) here stands = absurd here
+bucket_at context walk view (Phase.AtBucket bucket depth found) here stands = (found, stands)
+bucket_at context walk view Phase.Start here stands = absurd here
+bucket_at context walk view (Phase.Headed dir row depth) here stands = absurd here
+bucket_at context walk view (Phase.Placed bucket depth) here stands = absurd here
+bucket_at context walk view (Phase.Full next) here stands = absurd here
+bucket_at context walk view (Phase.Adding value bucket room_depth unsplit) here stands = absurd here
+bucket_at context walk view (Phase.Splitting value room_depth) here stands = absurd here
+bucket_at context walk view (Phase.Changed bucket done) here stands = absurd here
 
 -- so does one that found a record, or none
 pub at_bucket_with : (phase : Phase) → IsAtRecord phase → IsAtBucketPhase phase
-at_bucket_with (at.AtBucket bucket depth found) has = tt
-at_bucket_with at.Start has = has
-at_bucket_with (at.Headed dir row depth) has = has
-at_bucket_with (at.Placed bucket depth) has = has
-at_bucket_with (at.Full next) has = has
-at_bucket_with (at.Adding value bucket room_depth unsplit) has = has
-at_bucket_with (at.Splitting value room_depth) has = has
-at_bucket_with (at.Changed bucket done) has = has
+at_bucket_with (Phase.AtBucket bucket depth found) has = tt
+at_bucket_with Phase.Start has = has
+at_bucket_with (Phase.Headed dir row depth) has = has
+at_bucket_with (Phase.Placed bucket depth) has = has
+at_bucket_with (Phase.Full next) has = has
+at_bucket_with (Phase.Adding value bucket room_depth unsplit) has = has
+at_bucket_with (Phase.Splitting value room_depth) has = has
+at_bucket_with (Phase.Changed bucket done) has = has
 
 pub at_bucket_without : (phase : Phase) → IsAtAbsent phase → IsAtBucketPhase phase
-at_bucket_without (at.AtBucket bucket depth found) none = tt
-at_bucket_without at.Start none = none
-at_bucket_without (at.Headed dir row depth) none = none
-at_bucket_without (at.Placed bucket depth) none = none
-at_bucket_without (at.Full next) none = none
-at_bucket_without (at.Adding value bucket room_depth unsplit) none = none
-at_bucket_without (at.Splitting value room_depth) none = none
-at_bucket_without (at.Changed bucket done) none = none
+at_bucket_without (Phase.AtBucket bucket depth found) none = tt
+at_bucket_without Phase.Start none = none
+at_bucket_without (Phase.Headed dir row depth) none = none
+at_bucket_without (Phase.Placed bucket depth) none = none
+at_bucket_without (Phase.Full next) none = none
+at_bucket_without (Phase.Adding value bucket room_depth unsplit) none = none
+at_bucket_without (Phase.Splitting value room_depth) none = none
+at_bucket_without (Phase.Changed bucket done) none = none
 
 -- it holds its bucket,
 pub holds_bucket : (context : WalkContext) (walk : WalkFields) (m : LocalState) → MayWalk context m walk → IsAtBucketPhase walk.phase → (fields : BucketFields) × ReadsHeldBucket (view_of m) (page_of walk.phase) fields
 holds_bucket context walk m ready here =
     let bucket = bucket_at context walk (view_for context m) walk.phase here ready.stands in
-    (bucket.1.fields, reads_below_writes context.before.written m ready.written (page_of walk.phase) (page.Bucket bucket.1.fields) (reads_as_seen context walk (view_for context m) (directory_depth_of walk.phase) bucket.0 bucket.1.fields bucket.1 (record { at = bucket.1.at })))
+    (bucket.1.fields, reads_below_writes context.before.written m ready.written (page_of walk.phase) (Page.Bucket bucket.1.fields) (reads_as_seen context walk (view_for context m) (directory_depth_of walk.phase) bucket.0 bucket.1.fields bucket.1 (record { at = bucket.1.at })))
 
 -- and what it reads of it is what it sees
 pub reads_bucket : (context : WalkContext) (walk : WalkFields) (m : LocalState) (number key : ℕ) (fields : BucketFields) → MayWalk context m walk → IsAtBucketPhase walk.phase → ReadsHeldBucket (view_of m) (page_of walk.phase) fields → number ≡ page_of walk.phase → key ≡ walk.key → ReadsBucket context walk m number key fields
@@ -255,7 +228,7 @@ reads_bucket context walk m number key fields ready here reads number_is key_is 
     let bucket = bucket_at context walk (view_for context m) walk.phase here ready.stands in
     record {
       ready = ready;
-      sees = sees_as_read context walk (view_for context m) (directory_depth_of walk.phase) bucket.0 fields bucket.1 (reads_over_writes context.before.written m ready.written (page_of walk.phase) (page.Bucket fields) reads);
+      sees = sees_as_read context walk (view_for context m) (directory_depth_of walk.phase) bucket.0 fields bucket.1 (reads_over_writes context.before.written m ready.written (page_of walk.phase) (Page.Bucket fields) reads);
       here = number_is;
       key_is = key_is;
     }
@@ -263,7 +236,7 @@ reads_bucket context walk m number key fields ready here reads number_is key_is 
 -- and that it has written its plan
 pub record WritesPlan (context : WalkContext) (walk after : WalkFields) (old new : LocalState) (write : WriteFields) (done : Change) : Type 0 where
   pub writes : WritesSlot (view_for context old) (view_for context new) write.number write.at write.slot
-  pub walk_is : after ≡ record walk { phase = at.Changed write.number done }
+  pub walk_is : after ≡ record walk { phase = Phase.Changed write.number done }
 
 -- the first change of a walk needs no memory
 needs_memory : (context : WalkContext) (walk : WalkFields) (old : LocalState) → MayWalk context old walk → IsAtBucketPhase walk.phase → 2 ≤ map.len old.running.images → context.before ≡ nothing_before → ⊥
@@ -273,19 +246,19 @@ needs_memory context walk old ready here third anew =
 
 -- **What is told of a write: the plan is written, or memory was refused.**
 pub write_cases : (context : WalkContext) (walk after : WalkFields) (old new : LocalState) (write : WriteFields) (done : Change) → MayWalk context old walk → IsAtBucketPhase walk.phase → (P : WalkAnswer → Type 0) (told : WalkAnswer) → TellsOfWrite old new walk after write done told
-    → (WritesPlan context walk after old new write done → P answer.Changed) → (LacksMemory context walk after refusal.OutOfMemory → P (answer.Refused refusal.OutOfMemory)) → P told
-write_cases context walk after old new write done ready here P answer.Changed tells changed lacks =
+    → (WritesPlan context walk after old new write done → P WalkAnswer.Changed) → (LacksMemory context walk after Refusal.OutOfMemory → P (WalkAnswer.Refused Refusal.OutOfMemory)) → P told
+write_cases context walk after old new write done ready here P WalkAnswer.Changed tells changed lacks =
     changed (record {
       writes = rebased_writes_slot context.before.written (view_of old) (view_of new) write.number write.at write.slot ready.written (λ bucket reads. write_writes old new write.number (page_with_slot bucket write.at write.slot) (tells.0 bucket reads));
       walk_is = tells.1;
     })
-write_cases context walk after old new write done ready here P (answer.Refused reason) tells changed lacks =
-    subst (λ r. P (answer.Refused r)) (sym tells.0) (lacks (refl, needs_memory context walk old ready here tells.1, tells.3))
-write_cases context walk after old new write done ready here P answer.Going tells changed lacks = absurd tells
-write_cases context walk after old new write done ready here P (answer.Waiting page by) tells changed lacks = absurd tells
-write_cases context walk after old new write done ready here P (answer.Found found) tells changed lacks = absurd tells
-write_cases context walk after old new write done ready here P answer.NeedSplit tells changed lacks = absurd tells
-write_cases context walk after old new write done ready here P answer.Widen tells changed lacks = absurd tells
+write_cases context walk after old new write done ready here P (WalkAnswer.Refused reason) tells changed lacks =
+    subst (λ r. P (WalkAnswer.Refused r)) (sym tells.0) (lacks (refl, needs_memory context walk old ready here tells.1, tells.3))
+write_cases context walk after old new write done ready here P WalkAnswer.Going tells changed lacks = absurd tells
+write_cases context walk after old new write done ready here P (WalkAnswer.Waiting page by) tells changed lacks = absurd tells
+write_cases context walk after old new write done ready here P (WalkAnswer.Found found) tells changed lacks = absurd tells
+write_cases context walk after old new write done ready here P WalkAnswer.NeedSplit tells changed lacks = absurd tells
+write_cases context walk after old new write done ready here P WalkAnswer.Widen tells changed lacks = absurd tells
 
 some_value : (found : Option ℕ) → IsSome found → (value : ℕ) × (found ≡ Some value)
 some_value None has = absurd (false≢true has)
@@ -352,12 +325,12 @@ module _ (context : WalkContext) (walk after : WalkFields) (old new : LocalState
       (λ lacks. lacks)
 
   -- **An update,**
-  pub update_tells : (value : ℕ) → IsAtRecord walk.phase → SetsFirst number fields (is_live_of key) (Live key value) write → TellsOfWrite old new walk after write (change.Set value) result → TellsOfChange context new walk after (change.Set value) result
+  pub update_tells : (value : ℕ) → IsAtRecord walk.phase → SetsFirst number fields (is_live_of key) (Live key value) write → TellsOfWrite old new walk after write (Change.Set value) result → TellsOfChange context new walk after (Change.Set value) result
   update_tells value has plan told =
-      record_changes (change.Set value) (λ found some. some) has (subst (λ k. SetsFirst number fields (is_live_of k) (Live k value) write) reads.key_is plan) (λ live. live) told
+      record_changes (Change.Set value) (λ found some. some) has (subst (λ k. SetsFirst number fields (is_live_of k) (Live k value) write) reads.key_is plan) (λ live. live) told
 
   -- **a removal,**
-  pub remove_tells : (owner : ℕ) → owner ≡ context.tx → IsAtRecord walk.phase → SetsFirst number fields (is_live_of key) (Ghost key 0 owner) write → TellsOfWrite old new walk after write change.Remove result → TellsOfChange context new walk after change.Remove result
+  pub remove_tells : (owner : ℕ) → owner ≡ context.tx → IsAtRecord walk.phase → SetsFirst number fields (is_live_of key) (Ghost key 0 owner) write → TellsOfWrite old new walk after write Change.Remove result → TellsOfChange context new walk after Change.Remove result
   remove_tells owner own has plan told =
       let of_walk : SetsFirst number fields (is_live_of walk.key) (Ghost walk.key 0 owner) write = subst (λ k. SetsFirst number fields (is_live_of k) (Ghost k 0 owner) write) reads.key_is plan in
-      record_changes change.Remove (λ found some. some) has (subst (λ tx. SetsFirst number fields (is_live_of walk.key) (Ghost walk.key 0 tx) write) own of_walk) (λ live. live) told
+      record_changes Change.Remove (λ found some. some) has (subst (λ tx. SetsFirst number fields (is_live_of walk.key) (Ghost walk.key 0 tx) write) own of_walk) (λ live. live) told

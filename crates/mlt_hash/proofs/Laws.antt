@@ -1,17 +1,10 @@
 -- What a walk knows by its view alone
-use Rattle.std.proofs.Common.{◌≡◌, ℕ, false, Option, is_some, sym, ap, ◌∙◌}
-use Rattle.std.specs.Ordering.{nat_cmp}
+use Rattle.std.proofs.Common.{◌≡◌, ℕ, false, Option, is_some, sym, ap, ◌∙◌, nat_cmp}
 use Rattle.std.specs.FinMap as map
-use Rattle.mlt_types.specs.declared.mode.Mode.{Mode}
-use Rattle.mlt_page.specs.declared.page.Page.{Page}
-use Rattle.mlt_page_locks.specs.LockTables.{Modes, can_read, pages_of}
-use Rattle.mlt_hash_form.specs.File.{IsPath, look_up}
-use Rattle.mlt_hash_form.specs.Held.{Agrees}
-use Rattle.mlt_hash_access.specs.LocalStates.{LocalState}
-use Rattle.mlt_hash_access.specs.Views.{View, view_of}
-use Rattle.mlt_hash_access.proofs.Reading.{path_read, read_is_there}
+use Rattle.mlt_hash.proofs.Names.{Mode, Page, Modes, can_read, IsPath, look_up, Agrees, LocalState, View, view_of, read_is_there, WalkContext, IsAtBucket, IsAtStart, WalkFields}
+use Rattle.mlt_page_locks.specs.LockTables.{pages_of}
+use Rattle.mlt_hash_access.proofs.Reading.{path_read}
 use Rattle.mlt_hash_access.proofs.Views.{own_free, seen_free}
-use Rattle.mlt_hash.specs.Walks.{WalkContext, IsAtBucket, IsAtStart, WalkFields}
 use Rattle.mlt_hash.proofs.Passed.{read_at_bucket}
 
 -- who holds no page reads none

@@ -1,3 +1,4 @@
+mod Names
 pub mod Additions
 pub mod Beside
 pub mod InPlace

@@ -1,24 +1,8 @@
 -- A narrow pass that splits never waits
 use Rattle.std.proofs.Common.{◌≡◌, ℕ, true, false, Option, Some, None, is_some, refl, sym, ◌∙◌, subst, inl, inr, arith}
 use Rattle.std.specs.FinMap as map
-use Rattle.std.proofs.lemmas.Bool.{cases_eq, false≢true}
-use Rattle.std.proofs.lemmas.Bool.Decides.{nat_tests}
-use Rattle.mlt_types.specs.declared.mode.Mode.{Mode}
-use Rattle.mlt_types.specs.declared.mode.Mode.TheVariants.{Exclusive}
-use Rattle.mlt_page.specs.declared.page.Page.{Page}
-use Rattle.mlt_page_locks.specs.LockTables.{mode_held}
+use Rattle.mlt_hash.proofs.Names.{cases_eq, false≢true, nat_tests, Mode, Exclusive, Page, mode_held, HasForm, Agrees, MayStep, LocalState, view_of, may_write, SplitFields, IsNextPage, TellsOfSplitting, WalkStep, WalkContext, IsSplitting, split_target, view_for, WalkAnswer, Pass}
 use Rattle.mlt_page_locks.specs.Requests.{conflicts, is_against}
-use Rattle.mlt_hash_form.specs.File.{HasForm}
-use Rattle.mlt_hash_form.specs.Held.{Agrees}
-use Rattle.mlt_hash_access.specs.LocalStates.{MayStep, LocalState}
-use Rattle.mlt_hash_access.specs.Views.{view_of}
-use Rattle.mlt_hash_access.proofs.Views.{may_write}
-use Rattle.mlt_hash_split.specs.Splits.{SplitFields}
-use Rattle.mlt_hash_split.specs.Steps.{IsNextPage}
-use Rattle.mlt_hash.specs.Splitting.{TellsOfSplitting, WalkStep}
-use Rattle.mlt_hash.specs.Walks.{WalkContext, IsSplitting, split_target, view_for}
-use Rattle.mlt_hash.specs.declared.answer.WalkAnswer.TheVariants as answer
-use Rattle.mlt_hash.specs.declared.pass.Pass.TheVariants as pass
 use Rattle.mlt_hash.proofs.Passed.{narrow_holds_next}
 use Rattle.mlt_hash.proofs.StepsLeft.{some_is_one}
 
@@ -37,8 +21,8 @@ nobody_against m q by may held against =
     ]
 
 -- **A narrow pass that splits never waits.**
-pub narrow_never_waits : (context : WalkContext) (step : WalkStep) (value room_depth page by : ℕ) (clean : ℕ → Option Page) → MayStep step.old → IsSplitting context step.before (view_for context step.old) room_depth → step.before.pass ≡ pass.Narrow
-    → Agrees (view_for context step.old).seen clean → HasForm context.bits clean context.root → TellsOfSplitting context step value room_depth (answer.Waiting page by) → ⊥
+pub narrow_never_waits : (context : WalkContext) (step : WalkStep) (value room_depth page by : ℕ) (clean : ℕ → Option Page) → MayStep step.old → IsSplitting context step.before (view_for context step.old) room_depth → step.before.pass ≡ Pass.Narrow
+    → Agrees (view_for context step.old).seen clean → HasForm context.bits clean context.root → TellsOfSplitting context step value room_depth (WalkAnswer.Waiting page by) → ⊥
 narrow_never_waits context step value room_depth page by clean may splits narrow agree form tells =
     let same : tells.0.0 ≡ splits.split = some_is_one tells.0.0 splits.split step.before.split tells.0.1 splits.split_is in
     let next : IsNextPage splits.split.phase (split_target context step.before room_depth) (view_for context step.old) page = subst (λ (s : SplitFields). IsNextPage s.phase (split_target context step.before room_depth) (view_for context step.old) page) same tells.0.2 in

@@ -1,16 +1,8 @@
 -- The pages of a file as it is opened, one made after another
-use Rattle.std.proofs.Common.{◌≡◌, ℕ, ◌<◌, ◌+◌, ◌⊎◌, None, Some, Result, Ok, Err, IfErr, replicate, sym, ap, ◌∙◌, inl, inr, arith}
-use Rattle.std.specs.Ordering.{nat_cmp}
-use Rattle.std.specs.Cmp.{nat_cmp_total}
-use Rattle.std.specs.Result.{IsErrAnd}
+use Rattle.std.proofs.Common.{◌≡◌, ℕ, ◌<◌, ◌+◌, ◌⊎◌, None, Some, Result, Ok, Err, IfErr, replicate, sym, ap, ◌∙◌, inl, inr, arith, nat_cmp, IsErrAnd}
+use Rattle.mlt_hash.proofs.Names.{nat_cmp_total, nat_tests, Refusal, Page, Free, page_at}
 use Rattle.std.specs.FinMap as map
-use Rattle.std.proofs.lemmas.Bool.Decides.{nat_tests}
-use Rattle.mlt_types.specs.declared.refusal.Refusal.{Refusal}
-use Rattle.mlt_types.specs.declared.refusal.Refusal.TheVariants as refusal
-use Rattle.mlt_page.specs.declared.page.Page.{Page}
-use Rattle.mlt_page.specs.declared.page.Page.TheVariants as page
-use Rattle.mlt_page.specs.declared.slot.Slot.TheVariants.{Free}
-use Rattle.mlt_page_store.specs.Stores.{PageStore, Pages, page_at}
+use Rattle.mlt_page_store.specs.Stores.{PageStore, Pages}
 use Rattle.mlt_page_locks.proofs.Maps.{get_inserted}
 use Rattle.mlt_hash_form.specs.Changes.{IsOpening}
 
@@ -52,7 +44,7 @@ module _ (empty one two three : PageStore) (b d r : ℕ) (bucket dir head : Page
   nothing_else q no_r no_d no_b =
       elsewhere two three r head third q no_r ∙ elsewhere one two d dir second q no_d ∙ elsewhere empty one b bucket first q no_b ∙ ap (λ (pages : Pages). page_at pages q) none ∙ map.get-empty {X = Page} nat_cmp q
 
-  pub active : head ≡ page.Head (record { depth = 0; dirs = replicate 256 d }) → dir ≡ page.Dir (replicate 256 b) → bucket ≡ page.Bucket (record { depth = 0; slots = replicate 8 Free }) → IsOpening (page_at three.pages) r d b
+  pub active : head ≡ Page.Head (record { depth = 0; dirs = replicate 256 d }) → dir ≡ Page.Dir (replicate 256 b) → bucket ≡ Page.Bucket (record { depth = 0; slots = replicate 8 Free }) → IsOpening (page_at three.pages) r d b
   active head_is dir_is bucket_is = record {
     head = here two three r head third ∙ ap Some head_is;
     listed = stays two three r head third d dir (here one two d dir second) ∙ ap Some dir_is;
@@ -65,7 +57,7 @@ pub no_pages : (empty : PageStore) → empty.pages ≡ map.empty → map.len emp
 no_pages empty none = ap map.len none ∙ map.len-empty nat_cmp Page
 
 -- where there may be more pages, only memory is refused
-pub only_memory : {T : Type 0} (result : Result T Refusal) (reason : Refusal) (len max : ℕ) → IsErrAnd result (λ e. e ≡ reason) → (reason ≡ refusal.NoRoom) ⊎ (reason ≡ refusal.OutOfMemory) → (reason ≡ refusal.NoRoom → len ≡ max) → len < max → IfErr result (λ e. e ≡ refusal.OutOfMemory)
+pub only_memory : {T : Type 0} (result : Result T Refusal) (reason : Refusal) (len max : ℕ) → IsErrAnd result (λ e. e ≡ reason) → (reason ≡ Refusal.NoRoom) ⊎ (reason ≡ Refusal.OutOfMemory) → (reason ≡ Refusal.NoRoom → len ≡ max) → len < max → IfErr result (λ e. e ≡ Refusal.OutOfMemory)
 only_memory (Ok x) reason len max is which full fewer = tt
 only_memory (Err e) reason len max is (inr memory) full fewer = is ∙ memory
 only_memory (Err e) reason len max is (inl room) full fewer = absurd (let same = full room in omega (arith, same, fewer))

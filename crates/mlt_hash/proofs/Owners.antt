@@ -1,28 +1,10 @@
 -- Owners of ghosts close: what is known of slots whose room is kept
-use Rattle.std.proofs.Common.{◌≡◌, ℕ, Bool, true, slice_index_or, List, Option, None, Some, is_some, sym, ap, ◌∙◌, inl, inr}
-use Rattle.std.specs.Ordering.{nat_cmp}
+use Rattle.std.proofs.Common.{◌≡◌, ℕ, Bool, true, slice_index_or, List, Option, None, Some, is_some, sym, ap, ◌∙◌, inl, inr, nat_cmp}
 use Rattle.std.specs.FinSet as set
-use Rattle.std.proofs.lemmas.Bool.{false≢true}
-use Rattle.mlt_page.specs.Slots.{is_kept}
-use Rattle.mlt_page.specs.declared.slot.Slot.{Slot}
-use Rattle.mlt_page.specs.declared.slot.Slot.TheVariants.{Free}
-use Rattle.mlt_page.specs.declared.page.Page.{Page}
-use Rattle.mlt_page.specs.declared.page.Page.TheVariants as page
-use Rattle.mlt_page.specs.Values.{BucketFields, HeadFields}
+use Rattle.mlt_hash.proofs.Names.{false≢true, is_kept, Slot, Free, Page, BucketFields, HeadFields, HasForm, bucket_of, buckets_of, slot_at, Agrees, KeepsFile, over, seen_as, used_from_kept, View, IsAtRest, KeepsNoMore, WalkContext, IsAdding, IsChanged, IsSplitting, IsStanding, Stands, StoodBefore, WalkFields, split_target, Change, Phase}
 use Rattle.mlt_page_subtx.proofs.ImageLaws.{not_true}
-use Rattle.mlt_hash_form.specs.File.{HasForm, bucket_of, buckets_of}
-use Rattle.mlt_hash_form.specs.Form.{slot_at}
-use Rattle.mlt_hash_form.specs.Held.{Agrees, KeepsFile, over}
-use Rattle.mlt_hash_form.proofs.HeldPages.{keeps_fewer, seen_as}
-use Rattle.mlt_hash_form.proofs.Splitting.{used_from_kept}
-use Rattle.mlt_hash_access.specs.Views.{View}
-use Rattle.mlt_hash_split.specs.Rests.{IsAtRest, KeepsNoMore}
+use Rattle.mlt_hash_form.proofs.HeldPages.{keeps_fewer}
 use Rattle.mlt_hash_split.proofs.Laws.{rest_with_fewer, under_way_with_fewer}
-use Rattle.mlt_hash.specs.Walks.{WalkContext, IsAdding, IsChanged, IsSplitting, IsStanding, Stands, StoodBefore, WalkFields, split_target}
-use Rattle.mlt_hash.specs.declared.pass.Change.{Change}
-use Rattle.mlt_hash.specs.declared.pass.Change.TheVariants as change
-use Rattle.mlt_hash.specs.declared.pass.Phase.{Phase}
-use Rattle.mlt_hash.specs.declared.pass.Phase.TheVariants as at
 use Rattle.mlt_hash.proofs.Passed.{read_as}
 use Rattle.mlt_hash.proofs.Standing.{at_bucket_for, headed_for, placed_for}
 
@@ -39,7 +21,7 @@ module _ (context : WalkContext) (fewer : set.FinSet nat_cmp) (walk : WalkFields
       ap (is_kept context.active) same ∙ no_more stood.0 p.0 p.1 i (ap (is_kept fewer) (sym same) ∙ kept)
 
   -- so was one of a bucket that is written
-  kept_in_bucket : (own : ℕ → Option Page) (n i : ℕ) (bucket : BucketFields) → KeepsFile context.bits context.active context.root view.seen own → is_some (view.seen n) ≡ true → over clean own n ≡ Some (page.Bucket bucket)
+  kept_in_bucket : (own : ℕ → Option Page) (n i : ℕ) (bucket : BucketFields) → KeepsFile context.bits context.active context.root view.seen own → is_some (view.seen n) ≡ true → over clean own n ≡ Some (Page.Bucket bucket)
       → is_kept fewer (slice_index_or bucket.slots i Free) ≡ true → is_kept context.active (slice_index_or bucket.slots i Free) ≡ true
   kept_in_bucket own n i bucket keeps held found kept =
       let same : slot_at (buckets_of (over clean own)) n i ≡ slice_index_or bucket.slots i Free = ap (λ p. slice_index_or (bucket_of p).slots i Free) found in
@@ -78,10 +60,10 @@ module _ (context : WalkContext) (fewer : set.FinSet nat_cmp) (walk : WalkFields
   }
 
   still_stood : (done : Change) (slots : List Slot) (slot : Slot) → (is_kept fewer slot ≡ true → is_kept context.active slot ≡ true) → StoodBefore done context walk.key slots slot → StoodBefore done (record context { active = fewer }) walk.key slots slot
-  still_stood (change.Put value) slots slot kept was = (was.0, was.1, not_true (is_kept fewer slot) (λ is. false≢true (sym was.2 ∙ kept is)))
-  still_stood (change.Revive value) slots slot kept was = was
-  still_stood (change.Set value) slots slot kept was = was
-  still_stood change.Remove slots slot kept was = was
+  still_stood (Change.Put value) slots slot kept was = (was.0, was.1, not_true (is_kept fewer slot) (λ is. false≢true (sym was.2 ∙ kept is)))
+  still_stood (Change.Revive value) slots slot kept was = was
+  still_stood (Change.Set value) slots slot kept was = was
+  still_stood Change.Remove slots slot kept was = was
 
   still_changed : (n : ℕ) (done : Change) → IsChanged context walk view n done → IsChanged (record context { active = fewer }) walk view n done
   still_changed n done changed = record {
@@ -105,14 +87,14 @@ module _ (context : WalkContext) (fewer : set.FinSet nat_cmp) (walk : WalkFields
   }
 
   still_stands : (phase : Phase) → Stands phase context walk view → Stands phase (record context { active = fewer }) walk view
-  still_stands at.Start stands = stands
-  still_stands (at.Headed dir row depth) stands = headed_for context fewer walk view dir row depth stands
-  still_stands (at.Placed bucket depth) stands = placed_for context fewer walk view bucket depth stands
-  still_stands (at.AtBucket bucket depth found) stands = at_bucket_for context fewer walk view bucket depth found stands
-  still_stands (at.Full next) stands = stands
-  still_stands (at.Adding value bucket room_depth unsplit) stands = still_adds bucket room_depth unsplit stands
-  still_stands (at.Splitting value room_depth) stands = still_splits room_depth stands
-  still_stands (at.Changed bucket done) stands = still_changed bucket done stands
+  still_stands Phase.Start stands = stands
+  still_stands (Phase.Headed dir row depth) stands = headed_for context fewer walk view dir row depth stands
+  still_stands (Phase.Placed bucket depth) stands = placed_for context fewer walk view bucket depth stands
+  still_stands (Phase.AtBucket bucket depth found) stands = at_bucket_for context fewer walk view bucket depth found stands
+  still_stands (Phase.Full next) stands = stands
+  still_stands (Phase.Adding value bucket room_depth unsplit) stands = still_adds bucket room_depth unsplit stands
+  still_stands (Phase.Splitting value room_depth) stands = still_splits room_depth stands
+  still_stands (Phase.Changed bucket done) stands = still_changed bucket done stands
 
   -- **A walk stands where it stood.**
   pub stands_still : IsStanding context walk view → IsStanding (record context { active = fewer }) walk view

@@ -1,37 +1,17 @@
 -- What a walk has read on its way to its bucket, and the modes of its pages, up to its end
-use Rattle.std.proofs.Common.{◌≡◌, ◌≢◌, ℕ, ◌<◌, ◌⊎◌, true, false, List, Option, None, Some, is_some, unwrap_or, refl, sym, ap, subst, ◌∙◌, inl, inr, arith}
-use Rattle.std.specs.Ordering.{nat_cmp}
+use Rattle.std.proofs.Common.{◌≡◌, ◌≢◌, ℕ, ◌<◌, ◌⊎◌, true, false, List, Option, None, Some, is_some, unwrap_or, refl, sym, ap, subst, ◌∙◌, inl, inr, arith, nat_cmp}
 use Rattle.std.specs.FinMap as map
 use Rattle.std.specs.FinSet as set
-use Rattle.std.proofs.lemmas.Bool.{cases_eq, false≢true}
-use Rattle.mlt_types.specs.declared.mode.Mode.{Mode}
-use Rattle.mlt_types.specs.declared.mode.Mode.TheVariants.{Exclusive}
-use Rattle.mlt_page.specs.declared.page.Page.{Page}
-use Rattle.mlt_page.specs.declared.page.Page.TheVariants as page
-use Rattle.mlt_page.specs.Values.{BucketFields, HeadFields}
-use Rattle.mlt_page_locks.specs.LockTables.{Modes, mode_held}
-use Rattle.mlt_page_locks.specs.Requests.{stronger, with_page}
-use Rattle.mlt_page_locks.proofs.LockLaws.{stronger_exclusive}
-use Rattle.mlt_hash_form.specs.File.{HasForm, dir_of}
-use Rattle.mlt_hash_form.specs.Held.{Agrees, own_or_clean}
-use Rattle.mlt_hash_access.specs.LocalStates.{MayStep, LocalState}
-use Rattle.mlt_hash_access.specs.PageSteps.{TouchesOnePage}
-use Rattle.mlt_hash_access.specs.Views.{MakesPage, View, WritesPage}
+use Rattle.mlt_hash.proofs.Names.{cases_eq, false≢true, Mode, Exclusive, Page, BucketFields, HeadFields, Modes, mode_held, stronger, with_page, stronger_exclusive, HasForm, dir_of, Agrees, own_or_clean, MayStep, LocalState, TouchesOnePage, MakesPage, View, WritesPage, step_keeps_tx, mode_of_others, mode_of_page, SplitTarget, IsUnderWay, SplitFields, IsDone, IsMaking, IsNextPage, SplitAnswer, bucket_held, bucket_mode, directory_held, directory_mode, header_held, header_mode, WalkContext, Before, GoesAfter, HasRead, HoldsByPass, IsAtBucket, IsSplitting, StaysNarrow, WalkFields, split_target, view_for, Pass}
 use Rattle.mlt_hash_access.proofs.Reading.{bucket_still}
-use Rattle.mlt_hash_access.proofs.OwnSteps.{own_step_writes_more, step_keeps_tx}
+use Rattle.mlt_hash_access.proofs.OwnSteps.{own_step_writes_more}
 use Rattle.mlt_hash_access.proofs.Since.{over_sees_more}
-use Rattle.mlt_hash_access.proofs.Views.{exclusive_stays, mode_of_others, mode_of_page}
-use Rattle.mlt_hash_split.specs.Rests.{SplitTarget}
-use Rattle.mlt_hash_split.specs.Splits.{IsUnderWay, SplitFields}
-use Rattle.mlt_hash_split.specs.Steps.{IsDone, IsKeysPage, IsMaking, IsNextPage}
-use Rattle.mlt_hash_split.specs.declared.split.SplitAnswer.TheVariants as split_answer
+use Rattle.mlt_hash_access.proofs.Views.{exclusive_stays}
+use Rattle.mlt_hash_split.specs.Steps.{IsKeysPage}
 use Rattle.mlt_hash_split.proofs.HeldPages.{exclusive_after_make, grows_by_make}
 use Rattle.mlt_hash_split.proofs.Locks.{done_writes_what_it_locks, locks_its_page_alone}
 use Rattle.mlt_hash_split.proofs.Narrow.{narrow_leaves_header, narrow_makes_none, narrow_next_page}
-use Rattle.mlt_hash.specs.Passes.{MayHoldMore, bucket_held, bucket_mode, directory_held, directory_mode, header_held, header_mode}
-use Rattle.mlt_hash.specs.Walks.{WalkContext, Before, GoesAfter, HasRead, HoldsByPass, IsAtBucket, IsSplitting, StaysNarrow, WalkFields, split_target, view_for}
-use Rattle.mlt_hash.specs.declared.pass.Pass.{Pass}
-use Rattle.mlt_hash.specs.declared.pass.Pass.TheVariants as pass
+use Rattle.mlt_hash.specs.Passes.{MayHoldMore}
 
 -- what was read is so whoever is open,
 abbrev pub read_as : (context : WalkContext) (active : set.FinSet nat_cmp) (key : ℕ) (view : View) (found : Option ℕ) → HasRead context key view found → HasRead (record context { active = active }) key view found
@@ -47,20 +27,20 @@ read_of context key view found other same read = record {
 }
 
 -- pages of different kinds are different pages
-head_is_no_dir : (view : View) (p q : ℕ) (header : HeadFields) (dir : List ℕ) → view.seen p ≡ Some (Some (page.Head header)) → view.seen q ≡ Some (Some (page.Dir dir)) → p ≡ q → ⊥
-head_is_no_dir view p q header dir head listed same = let both : Some (Some (page.Head header)) ≡ Some (Some (page.Dir dir)) = sym head ∙ ap view.seen same ∙ listed in cc
+head_is_no_dir : (view : View) (p q : ℕ) (header : HeadFields) (dir : List ℕ) → view.seen p ≡ Some (Some (Page.Head header)) → view.seen q ≡ Some (Some (Page.Dir dir)) → p ≡ q → ⊥
+head_is_no_dir view p q header dir head listed same = let both : Some (Some (Page.Head header)) ≡ Some (Some (Page.Dir dir)) = sym head ∙ ap view.seen same ∙ listed in cc
 
-pub head_is_no_bucket : (view : View) (p q : ℕ) (header : HeadFields) (fields : BucketFields) → view.seen p ≡ Some (Some (page.Head header)) → view.seen q ≡ Some (Some (page.Bucket fields)) → p ≡ q → ⊥
-head_is_no_bucket view p q header fields head at same = let both : Some (Some (page.Head header)) ≡ Some (Some (page.Bucket fields)) = sym head ∙ ap view.seen same ∙ at in cc
+pub head_is_no_bucket : (view : View) (p q : ℕ) (header : HeadFields) (fields : BucketFields) → view.seen p ≡ Some (Some (Page.Head header)) → view.seen q ≡ Some (Some (Page.Bucket fields)) → p ≡ q → ⊥
+head_is_no_bucket view p q header fields head at same = let both : Some (Some (Page.Head header)) ≡ Some (Some (Page.Bucket fields)) = sym head ∙ ap view.seen same ∙ at in cc
 
-dir_is_no_bucket : (view : View) (p q : ℕ) (dir : List ℕ) (fields : BucketFields) → view.seen p ≡ Some (Some (page.Dir dir)) → view.seen q ≡ Some (Some (page.Bucket fields)) → p ≡ q → ⊥
-dir_is_no_bucket view p q dir fields listed at same = let both : Some (Some (page.Dir dir)) ≡ Some (Some (page.Bucket fields)) = sym listed ∙ ap view.seen same ∙ at in cc
+dir_is_no_bucket : (view : View) (p q : ℕ) (dir : List ℕ) (fields : BucketFields) → view.seen p ≡ Some (Some (Page.Dir dir)) → view.seen q ≡ Some (Some (Page.Bucket fields)) → p ≡ q → ⊥
+dir_is_no_bucket view p q dir fields listed at same = let both : Some (Some (Page.Dir dir)) ≡ Some (Some (Page.Bucket fields)) = sym listed ∙ ap view.seen same ∙ at in cc
 
 -- a page that is locked on the way has the mode of the pass
-takes_mode : (on : Pass) (before : Before) → GoesAfter on before → (q : ℕ) (mode : Mode) → (on ≡ pass.Wide → mode ≡ Exclusive) → stronger (map.get before.held q) mode ≡ mode
-takes_mode pass.First before anew q mode wide = ap (λ (b : Before). stronger (map.get b.held q) mode) anew ∙ ap (λ o. stronger o mode) (map.get-empty {X = Mode} nat_cmp q)
-takes_mode pass.Narrow before anew q mode wide = ap (λ (b : Before). stronger (map.get b.held q) mode) anew ∙ ap (λ o. stronger o mode) (map.get-empty {X = Mode} nat_cmp q)
-takes_mode pass.Wide before few q mode wide = ap (stronger (map.get before.held q)) (wide refl) ∙ stronger_exclusive (map.get before.held q) ∙ sym (wide refl)
+takes_mode : (on : Pass) (before : Before) → GoesAfter on before → (q : ℕ) (mode : Mode) → (on ≡ Pass.Wide → mode ≡ Exclusive) → stronger (map.get before.held q) mode ≡ mode
+takes_mode Pass.First before anew q mode wide = ap (λ (b : Before). stronger (map.get b.held q) mode) anew ∙ ap (λ o. stronger o mode) (map.get-empty {X = Mode} nat_cmp q)
+takes_mode Pass.Narrow before anew q mode wide = ap (λ (b : Before). stronger (map.get b.held q) mode) anew ∙ ap (λ o. stronger o mode) (map.get-empty {X = Mode} nat_cmp q)
+takes_mode Pass.Wide before few q mode wide = ap (stronger (map.get before.held q)) (wide refl) ∙ stronger_exclusive (map.get before.held q) ∙ sym (wide refl)
 
 -- a page that is held stays so
 held_still : (modes : Modes) (q : ℕ) (mode : Mode) (p : ℕ) → is_some (map.get modes p) ≡ true → is_some (map.get (with_page modes q mode) p) ≡ true
@@ -131,7 +111,7 @@ pub record StepsOn (walk : WalkFields) (old new : View) : Type 0 where
       ⊎ ((map.get new.modes q ≡ Some Exclusive) × ((map.get old.modes q ≡ Some Exclusive) ⊎ IsMore walk new q))
 
 module _ (context : WalkContext) (walk : WalkFields) (old new : View) (step : StepsOn walk old new) where
-  keeps_mode : (q : ℕ) (mode : Mode) (p : Page) → old.seen q ≡ Some (Some p) → (walk.pass ≡ pass.Wide → mode ≡ Exclusive) → map.get old.modes q ≡ Some mode → map.get new.modes q ≡ Some mode
+  keeps_mode : (q : ℕ) (mode : Mode) (p : Page) → old.seen q ≡ Some (Some p) → (walk.pass ≡ Pass.Wide → mode ≡ Exclusive) → map.get old.modes q ≡ Some mode → map.get new.modes q ≡ Some mode
   keeps_mode q mode p sees wide held =
       elim (step.modes q) [
         | inl same ↦ same ∙ held
@@ -142,9 +122,9 @@ module _ (context : WalkContext) (walk : WalkFields) (old new : View) (step : St
       ]
     where
       by : (at : Pass) → walk.pass ≡ at → MayHoldMore at (new.seen q) (is_some (new.own q)) → map.get new.modes q ≡ Some mode
-      by pass.First is none = absurd none
-      by pass.Narrow is made = let none : Some None ≡ Some (Some p) = sym made.0 ∙ step.before q (Some p) sees in cc
-      by pass.Wide is written =
+      by Pass.First is none = absurd none
+      by Pass.Narrow is made = let none : Some None ≡ Some (Some p) = sym made.0 ∙ step.before q (Some p) sees in cc
+      by Pass.Wide is written =
           elim (step.modes q) [
             | inl same ↦ same ∙ held
             | inr locked ↦ locked.0 ∙ ap Some (sym (wide is))
@@ -160,9 +140,9 @@ module _ (context : WalkContext) (walk : WalkFields) (old new : View) (step : St
 
   -- what a pass held beside its way it may still hold
   holds_more : (q : ℕ) (at : Pass) → MayHoldMore at (old.seen q) (is_some (old.own q)) → MayHoldMore at (new.seen q) (is_some (new.own q))
-  holds_more q pass.First none = none
-  holds_more q pass.Narrow made = (step.before q None made.0, step.written q made.1)
-  holds_more q pass.Wide written = step.written q written
+  holds_more q Pass.First none = none
+  holds_more q Pass.Narrow made = (step.before q None made.0, step.written q made.1)
+  holds_more q Pass.Wide written = step.written q written
 
   keeps_others : (root dir bucket : ℕ) → HoldsByPass context.before.held walk.pass walk.mode root dir bucket old → (q : ℕ) → q ≢ root → q ≢ dir → q ≢ bucket → is_some (map.get context.before.held q) ≡ false → is_some (map.get new.modes q) ≡ true
       → (map.get new.modes q ≡ Some Exclusive) × IsMore walk new q
@@ -187,9 +167,9 @@ module _ (context : WalkContext) (walk : WalkFields) (old new : View) (step : St
   -- **and so do the modes.**
   pub holds_on : (found : Option ℕ) → (read : HasRead context walk.key old found) → HoldsByPass context.before.held walk.pass walk.mode context.root read.dir read.bucket old → HoldsByPass context.before.held walk.pass walk.mode context.root read.dir read.bucket new
   holds_on found read holds = record {
-    on_header = keeps_mode context.root (header_mode walk.pass) (page.Head read.way.placed.header) read.way.placed.head (λ wide. ap header_mode wide) holds.on_header;
-    on_dir = keeps_mode read.dir (directory_mode walk.pass) (page.Dir read.way.placed.entries) read.way.placed.listed (λ wide. ap directory_mode wide) holds.on_dir;
-    on_bucket = keeps_mode read.bucket (bucket_mode walk.pass walk.mode) (page.Bucket read.way.fields) read.way.at (λ wide. ap (λ pass. bucket_mode pass walk.mode) wide) holds.on_bucket;
+    on_header = keeps_mode context.root (header_mode walk.pass) (Page.Head read.way.placed.header) read.way.placed.head (λ wide. ap header_mode wide) holds.on_header;
+    on_dir = keeps_mode read.dir (directory_mode walk.pass) (Page.Dir read.way.placed.entries) read.way.placed.listed (λ wide. ap directory_mode wide) holds.on_dir;
+    on_bucket = keeps_mode read.bucket (bucket_mode walk.pass walk.mode) (Page.Bucket read.way.fields) read.way.at (λ wide. ap (λ pass. bucket_mode pass walk.mode) wide) holds.on_bucket;
     kept = λ q some. keeps_held q (holds.kept q some);
     exclusive = λ q was. keeps_exclusive q (holds.exclusive q was);
     others = keeps_others context.root read.dir read.bucket holds;
@@ -207,7 +187,7 @@ steps_by_write walk old new q p writes = record {
 }
 
 -- and so is one that makes a page, in a later pass
-pub steps_by_making : (walk : WalkFields) (old new : View) (q : ℕ) (p : Page) → (walk.pass ≡ pass.First → ⊥) → MakesPage old new q p → StepsOn walk old new
+pub steps_by_making : (walk : WalkFields) (old new : View) (q : ℕ) (p : Page) → (walk.pass ≡ Pass.First → ⊥) → MakesPage old new q p → StepsOn walk old new
 steps_by_making walk old new q p later makes = record {
   before = grows_by_make old new q p makes;
   written = λ r own. elim (cases_eq r q) [
@@ -223,12 +203,12 @@ steps_by_making walk old new q p later makes = record {
     made_here : is_some (new.own q) ≡ true
     made_here = ap is_some makes.own_here
 
-    made_more : (at : Pass) → (at ≡ pass.First → ⊥) → MayHoldMore at (new.seen q) (is_some (new.own q))
-    made_more pass.First not_first = absurd (not_first refl)
-    made_more pass.Narrow not_first = (makes.seen_here, made_here)
-    made_more pass.Wide not_first = made_here
+    made_more : (at : Pass) → (at ≡ Pass.First → ⊥) → MayHoldMore at (new.seen q) (is_some (new.own q))
+    made_more Pass.First not_first = absurd (not_first refl)
+    made_more Pass.Narrow not_first = (makes.seen_here, made_here)
+    made_more Pass.Wide not_first = made_here
 
-same_head : (a b : HeadFields) → Some (page.Head a) ≡ Some (page.Head b) → a ≡ b
+same_head : (a b : HeadFields) → Some (Page.Head a) ≡ Some (Page.Head b) → a ≡ b
 same_head a b same = cc
 
 -- where the splits of a narrow pass stand
@@ -243,14 +223,14 @@ module _ (context : WalkContext) (walk : WalkFields) (view : View) (room_depth :
   next_is_dir n next =
       let own : IsKeysPage (split_target context walk room_depth) view n = narrow_next_page (split_target context walk room_depth) view split n clean agree form way in_place narrow.one_page next in
       let header = read.way.placed.header in
-      let reads : Some (page.Head header) ≡ Some (page.Head own.0) = sym (ap (λ o. own_or_clean o (Some (page.Head header))) narrow.unwritten) ∙ ap (λ (o : Option (Option Page)). own_or_clean (view.own context.root) (unwrap_or o None)) (sym read.way.placed.head) ∙ own.1 in
+      let reads : Some (Page.Head header) ≡ Some (Page.Head own.0) = sym (ap (λ o. own_or_clean o (Some (Page.Head header))) narrow.unwritten) ∙ ap (λ (o : Option (Option Page)). own_or_clean (view.own context.root) (unwrap_or o None)) (sym read.way.placed.head) ∙ own.1 in
       own.2 ∙ ap (λ (h : HeadFields). dir_of h (context.bits walk.key)) (sym (same_head header own.0 reads)) ∙ sym read.way.placed.dir_is
 
-  pub narrow_holds : HoldsByPass context.before.held walk.pass walk.mode context.root read.dir read.bucket view → walk.pass ≡ pass.Narrow → (n : ℕ) → IsNextPage split.phase (split_target context walk room_depth) view n → map.get view.modes n ≡ Some Exclusive
+  pub narrow_holds : HoldsByPass context.before.held walk.pass walk.mode context.root read.dir read.bucket view → walk.pass ≡ Pass.Narrow → (n : ℕ) → IsNextPage split.phase (split_target context walk room_depth) view n → map.get view.modes n ≡ Some Exclusive
   narrow_holds holds is n next = ap (map.get view.modes) (next_is_dir n next) ∙ holds.on_dir ∙ ap (λ p. Some (directory_mode p)) is
 
 -- **The page that a narrow pass is to lock next it holds exclusively.**
-pub narrow_holds_next : (context : WalkContext) (walk : WalkFields) (view : View) (room_depth n : ℕ) (clean : ℕ → Option Page) → (splits : IsSplitting context walk view room_depth) → walk.pass ≡ pass.Narrow → Agrees view.seen clean → HasForm context.bits clean context.root
+pub narrow_holds_next : (context : WalkContext) (walk : WalkFields) (view : View) (room_depth n : ℕ) (clean : ℕ → Option Page) → (splits : IsSplitting context walk view room_depth) → walk.pass ≡ Pass.Narrow → Agrees view.seen clean → HasForm context.bits clean context.root
     → IsNextPage splits.split.phase (split_target context walk room_depth) view n → map.get view.modes n ≡ Some Exclusive
 narrow_holds_next context walk view room_depth n clean splits is agree form next = narrow_holds context walk view room_depth splits.split clean agree form splits.under_way None splits.read (splits.narrow is) splits.holds is n next
 
@@ -267,12 +247,12 @@ module _ (context : WalkContext) (walk : WalkFields) (old new : LocalState) (roo
       (λ n next same. head_is_no_dir (view_for context old) context.root read.dir read.way.placed.header read.way.placed.entries read.way.placed.head read.way.placed.listed (same ∙ next_is_dir context walk (view_for context old) room_depth split clean agree form way found read narrow n next)) done
       ∙ narrow.unwritten
 
-  module _ (holds : HoldsByPass context.before.held walk.pass walk.mode context.root read.dir read.bucket (view_for context old)) (later : walk.pass ≡ pass.First → ⊥) (narrow : walk.pass ≡ pass.Narrow → StaysNarrow context.root (view_for context old) room_depth split.depth split.directory_depth) (touches : TouchesOnePage old new) (done : IsDone split.phase target old new split) where
+  module _ (holds : HoldsByPass context.before.held walk.pass walk.mode context.root read.dir read.bucket (view_for context old)) (later : walk.pass ≡ Pass.First → ⊥) (narrow : walk.pass ≡ Pass.Narrow → StaysNarrow context.root (view_for context old) room_depth split.depth split.directory_depth) (touches : TouchesOnePage old new) (done : IsDone split.phase target old new split) where
     why : (p : Pass) → walk.pass ≡ p → (q : ℕ) → mode_held new.locks old.running.tx q ≡ Some Exclusive → IsNextPage split.phase target (view_for context old) q ⊎ IsMaking split.phase → (map.get (view_for context old).modes q ≡ Some Exclusive) ⊎ MayHoldMore p ((view_for context new).seen q) (is_some ((view_for context new).own q))
-    why pass.First is q exclusive locked = absurd (later is)
-    why pass.Narrow is q exclusive (inl next) = inl (narrow_holds context walk (view_for context old) room_depth split clean agree form way found read (narrow is) holds is q next)
-    why pass.Narrow is q exclusive (inr making) = absurd (narrow_makes_none target (view_for context old) split clean agree form way (in_place context walk (view_for context old) room_depth split clean agree form way found read (narrow is)) making)
-    why pass.Wide is q exclusive locked =
+    why Pass.First is q exclusive locked = absurd (later is)
+    why Pass.Narrow is q exclusive (inl next) = inl (narrow_holds context walk (view_for context old) room_depth split clean agree form way found read (narrow is) holds is q next)
+    why Pass.Narrow is q exclusive (inr making) = absurd (narrow_makes_none target (view_for context old) split clean agree form way (in_place context walk (view_for context old) room_depth split clean agree form way found read (narrow is)) making)
+    why Pass.Wide is q exclusive locked =
         elim (done_writes_what_it_locks split.phase target old new split q may done) [
           | inl same ↦ inl (sym same ∙ exclusive)
           | inr written ↦ inr written.1
@@ -286,7 +266,7 @@ module _ (context : WalkContext) (walk : WalkFields) (old new : LocalState) (roo
       modes = λ q.
           let tx = step_keeps_tx old new touches in
           let now : map.get (view_for context new).modes q ≡ mode_held new.locks old.running.tx q = ap (λ t. mode_held new.locks t q) tx in
-          elim (locks_its_page_alone split_answer.Going target old new split q done) [
+          elim (locks_its_page_alone SplitAnswer.Going target old new split q done) [
             | inl same ↦ inl (now ∙ same)
             | inr locked ↦ inr (now ∙ locked.0, elim locked.1 [ inl next ↦ why walk.pass refl q locked.0 (inl next) | inr making ↦ why walk.pass refl q locked.0 (inr making.0) ])
           ];

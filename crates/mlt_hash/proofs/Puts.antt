@@ -1,53 +1,22 @@
 -- Additions whose bucket had no room: what a walk at rest knows of its file, and the record that it puts at last
-use Rattle.std.proofs.Common.{ℕ, suc, ◌≡◌, ◌<◌, ◌≤◌, ◌+◌, Bool, true, false, not, List, [], ◌∷◌, length, Option, Some, None, is_some, refl, sym, ◌∙◌, ap, subst, inl, inr, ◌⊎◌, arith, unwrap_or}
-use Rattle.std.specs.Prelude.{◌↔◌, slice_index_or, position, unwrap_or, Err, Result}
-use Rattle.std.specs.List.{list_all}
-use Rattle.std.specs.Ordering.{nat_cmp}
+use Rattle.std.proofs.Common.{ℕ, suc, ◌≡◌, ◌<◌, ◌≤◌, ◌+◌, Bool, true, false, not, List, [], ◌∷◌, length, Option, Some, None, is_some, refl, sym, ◌∙◌, ap, subst, inl, inr, ◌⊎◌, arith, unwrap_or, ◌↔◌, slice_index_or, position, Err, Result, nat_cmp}
+use Rattle.mlt_hash.proofs.Names.{list_all, cases_lt, false≢true, Exclusive, Refusal, is_ghost_of, is_kept, is_live_of, Slot, Free, Live, page_with_slot, BucketFields, HeadFields, Page, IsHome, HasForm, bucket_of, buckets_of, header_of, lead_of, value_in, Agrees, over, own_or_clean, crowds, is_crowded, crowded_at_own_depth, HasFileOver, MayStep, LocalState, WritesHeldSlot, HasWritten, MakesPage, ReadsHeldBucket, ReadsHeldPage, View, WritesPage, view_of, reads_over_writes, can_write, can_read, may_write, write_writes, writes_over_clean, may_read, seen_held, IsNowhere, SetsFirst, WriteFields, has_room, planned_page, SplitTarget, IsAtRest, held_page, HasHalves, IsUnderWay, MayBegin, SplitFields, directory_steps, steps_left, HasClean, rest_holds_few, WalkContext, HasRead, HoldsByPass, IsAdding, IsChanged, IsSplitting, IsStanding, Stands, WalkFields, split_target, one_key, view_for, Makes, PlansSlot, TellsOfWrite, page_of, BeginsSplit, TellsOfAdding, walk_step, WalkAnswer, Pass, Phase, Change}
 use Rattle.std.specs.FinMap as map
 use Rattle.std.specs.FinSet as set
-use Rattle.std.proofs.lemmas.Bool.{cases_lt, false≢true}
 use Rattle.std.proofs.lemmas.List.Folds.{list_all_at}
-use Rattle.mlt_types.specs.declared.mode.Mode.TheVariants.{Exclusive}
-use Rattle.mlt_types.specs.declared.refusal.Refusal.{Refusal}
-use Rattle.mlt_types.specs.declared.refusal.Refusal.TheVariants as refusal
-use Rattle.mlt_page.specs.Slots.{is_ghost_of, is_kept, is_live_of}
-use Rattle.mlt_page.specs.declared.slot.Slot.{Slot}
-use Rattle.mlt_page.specs.declared.slot.Slot.TheVariants.{Free, Live}
-use Rattle.mlt_page.specs.Pages.{page_with_slot}
-use Rattle.mlt_page.specs.Values.{BucketFields, HeadFields}
-use Rattle.mlt_page.specs.declared.page.Page.{Page}
-use Rattle.mlt_page.specs.declared.page.Page.TheVariants as page
-use Rattle.mlt_hash_form.specs.Changes.{IsHome}
-use Rattle.mlt_hash_form.specs.File.{HasForm, bucket_of, buckets_of, header_of, lead_of}
-use Rattle.mlt_hash_form.specs.Form.{value_in}
-use Rattle.mlt_hash_form.specs.Held.{Agrees, over, own_or_clean}
-use Rattle.mlt_hash_form.specs.Room.{crowds, is_crowded}
-use Rattle.mlt_hash_form.proofs.Crowd.{crowded_at_own_depth, crowded_in_fewer}
+use Rattle.mlt_hash_form.proofs.Crowd.{crowded_in_fewer}
 use Rattle.mlt_hash_form.proofs.HeldPages.{keeps_more}
-use Rattle.mlt_hash_access.specs.LocalStates.{HasFileOver, MayStep, LocalState, page_before}
-use Rattle.mlt_hash_access.specs.PageSteps.{MakesLockedPage, WritesHeldPage, WritesHeldSlot}
-use Rattle.mlt_hash_access.specs.Views.{HasWritten, MakesPage, ReadsHeldBucket, ReadsHeldPage, View, WritesPage, own_at, view_of}
+use Rattle.mlt_hash_access.specs.LocalStates.{page_before}
+use Rattle.mlt_hash_access.specs.PageSteps.{MakesLockedPage, WritesHeldPage}
+use Rattle.mlt_hash_access.specs.Views.{own_at}
 use Rattle.mlt_hash_access.proofs.Rebased.{rebased_makes_page, rebased_writes_page}
-use Rattle.mlt_hash_access.proofs.Since.{read_over_writes, reads_over_writes}
-use Rattle.mlt_page_locks.specs.LockTables.{can_write, can_read}
-use Rattle.mlt_hash_access.proofs.Views.{make_makes, may_write, write_writes, writes_over_clean, may_read, seen_held}
-use Rattle.mlt_hash_record.specs.Plans.{IsNowhere, SetsFirst, WriteFields, has_room, planned_page}
-use Rattle.mlt_hash_split.specs.Rests.{SplitTarget, IsAtRest, held_page, seed_of}
-use Rattle.mlt_hash_split.specs.Splits.{HasHalves, IsUnderWay, MayBegin, SplitFields, directory_steps, steps_left}
+use Rattle.mlt_hash_access.proofs.Since.{read_over_writes}
+use Rattle.mlt_hash_access.proofs.Views.{make_makes}
+use Rattle.mlt_hash_split.specs.Rests.{seed_of}
 use Rattle.mlt_hash_split.proofs.Beginning.{rest_bucket, rest_is_shallow, rest_is_small}
-use Rattle.mlt_hash_split.proofs.Closing.{HasClean}
-use Rattle.mlt_hash_split.proofs.Few.{rest_holds_few}
 use Rattle.mlt_hash_split.proofs.HeldPages.{not_made}
-use Rattle.mlt_hash.specs.Walks.{WalkContext, HasRead, HoldsByPass, IsAdding, IsChanged, IsSplitting, IsStanding, Stands, WalkFields, split_target, one_key, view_for}
-use Rattle.mlt_hash.specs.Changes.{Makes, PlansSlot, PutsLowest, TellsOfWrite, page_of}
-use Rattle.mlt_hash.specs.Splitting.{BeginsSplit, HasToSplit, TellsOfAdding, walk_step}
-use Rattle.mlt_hash.specs.declared.answer.WalkAnswer.{WalkAnswer}
-use Rattle.mlt_hash.specs.declared.answer.WalkAnswer.TheVariants as answer
-use Rattle.mlt_hash.specs.declared.pass.Pass.{Pass}
-use Rattle.mlt_hash.specs.declared.pass.Pass.TheVariants as pass
-use Rattle.mlt_hash.specs.declared.pass.Phase.{Phase}
-use Rattle.mlt_hash.specs.declared.pass.Phase.TheVariants as at
-use Rattle.mlt_hash.specs.declared.pass.Change.TheVariants as change
+use Rattle.mlt_hash.specs.Changes.{PutsLowest}
+use Rattle.mlt_hash.specs.Splitting.{HasToSplit}
 use Rattle.mlt_hash.proofs.Additions.{nowhere_found}
 use Rattle.mlt_hash.proofs.Beside.{more_beside, still_beside}
 use Rattle.mlt_hash.proofs.InPlace.{changes_by}
@@ -70,14 +39,14 @@ rest_home target view n header bucket rest clean agree form = record {
 
 -- **The record that is put into a bucket at rest changes the file at its key alone.**
 pub put_is_changed : (context : WalkContext) (walk : WalkFields) (old new : View) (room_depth n : ℕ) (header : HeadFields) (fields : BucketFields) (value i : ℕ) → (read : HasRead context walk.key old None) → HoldsByPass context.before.held walk.pass walk.mode context.root read.dir read.bucket old → header.depth ≤ context.max_depth → map.len old.modes < 300 → fields.depth ≤ 16 → IsAtRest (split_target context walk room_depth) old n header fields → i < 8
-    → is_kept context.active (slice_index_or fields.slots i Free) ≡ false → WritesPage old new n (page_with_slot fields i (Live walk.key value)) → IsChanged context (record walk { phase = at.Changed n (change.Put value) }) new n (change.Put value)
+    → is_kept context.active (slice_index_or fields.slots i Free) ≡ false → WritesPage old new n (page_with_slot fields i (Live walk.key value)) → IsChanged context (record walk { phase = Phase.Changed n (Change.Put value) }) new n (Change.Put value)
 put_is_changed context walk old new room_depth n header fields value i read holds shallow few low rest within room writes =
     let target = split_target context walk room_depth in
     let absent = nowhere (is_live_of walk.key) fields.slots rest.absent in
     let none : value_in walk.key fields.slots ≡ None = rw absent refl in
     let no_ghost = nowhere (is_ghost_of walk.key context.tx) fields.slots rest.no_ghost in
     let before : (clean : ℕ → Option Page) → Agrees new.seen clean → Agrees old.seen clean = λ clean agree q first is. agree q first (writes.seen q ∙ is) in
-    let not_header : context.root ≡ n → ⊥ = λ same. (let both : Some (page.Head header) ≡ Some (page.Bucket fields) = sym rest.head ∙ ap (held_page old) same ∙ rest.found in cc) in
+    let not_header : context.root ≡ n → ⊥ = λ same. (let both : Some (Page.Head header) ≡ Some (Page.Bucket fields) = sym rest.head ∙ ap (held_page old) same ∙ rest.found in cc) in
     let step : StepsOn walk old new = steps_by_write walk old new n (page_with_slot fields i (Live walk.key value)) writes in
     record {
       found = None;
@@ -98,7 +67,7 @@ put_is_changed context walk old new room_depth n header fields value i read hold
       was = (none, no_ghost, room);
       changes = record {
         keeps = keeps_more context.bits context.active context.root old.seen new.seen old.own (λ q first is. writes.seen q ∙ is) rest.keeps;
-        changes = λ clean agree form. changes_by context (over clean old.own) (over clean new.own) walk.key n i fields (change.Put value) (rest_home target old n header fields rest clean (before clean agree) form) within (none, no_ghost, room) (writes_over_clean old new n (page_with_slot fields i (Live walk.key value)) clean writes);
+        changes = λ clean agree form. changes_by context (over clean old.own) (over clean new.own) walk.key n i fields (Change.Put value) (rest_home target old n header fields rest clean (before clean agree) form) within (none, no_ghost, room) (writes_over_clean old new n (page_with_slot fields i (Live walk.key value)) clean writes);
       };
     }
 
@@ -109,7 +78,7 @@ target_is own context same walk key depth room_depth key_is depth_is =
     λ i. record { bits = (same i).bits; active = (same i).active; root = (same i).root; key = key_is i; owner = (same i).tx; room_depth = depth_is i; before = context.before.written; held_before = context.before.buckets }
 
 -- where a walk that adds stands
-pub adding_at : (context : WalkContext) (walk : WalkFields) (old : LocalState) (value n room_depth : ℕ) (unsplit : Bool) → walk.phase ≡ at.Adding value n room_depth unsplit → IsStanding context walk (view_for context old) → IsAdding context walk (view_for context old) n room_depth unsplit
+pub adding_at : (context : WalkContext) (walk : WalkFields) (old : LocalState) (value n room_depth : ℕ) (unsplit : Bool) → walk.phase ≡ Phase.Adding value n room_depth unsplit → IsStanding context walk (view_for context old) → IsAdding context walk (view_for context old) n room_depth unsplit
 adding_at context walk old value n room_depth unsplit phase stands = subst (λ p. Stands p context walk (view_for context old)) phase stands
 
 -- a bucket at rest without room is less deep than is needed
@@ -156,21 +125,21 @@ module _ (target : SplitTarget) (view : View) (n : ℕ) (header : HeadFields) (b
       let free : is_kept target.active (slice_index_or bucket.slots i Free) ≡ false = grind (arith, room) in
       false≢true (sym (list_all_at (is_kept target.active) bucket.slots i Free (omega (arith, within, eight_slots)) free) ∙ full)
 
-same_bucket : (p : Option Page) (one other : BucketFields) → p ≡ Some (page.Bucket one) → p ≡ Some (page.Bucket other) → one ≡ other
+same_bucket : (p : Option Page) (one other : BucketFields) → p ≡ Some (Page.Bucket one) → p ≡ Some (Page.Bucket other) → one ≡ other
 same_bucket p one other is_one is_other = ap bucket_of (sym is_one ∙ is_other)
 
-true_unless : (p : Phase) (value n room_depth : ℕ) → p ≡ at.Adding value n room_depth true → p ≡ at.Adding value n room_depth false → ⊥
-true_unless p value n room_depth one other = let both : at.Adding value n room_depth true ≡ at.Adding value n room_depth false = sym one ∙ other in cc
+true_unless : (p : Phase) (value n room_depth : ℕ) → p ≡ Phase.Adding value n room_depth true → p ≡ Phase.Adding value n room_depth false → ⊥
+true_unless p value n room_depth one other = let both : Phase.Adding value n room_depth true ≡ Phase.Adding value n room_depth false = sym one ∙ other in cc
 
-module _ (context : WalkContext) (walk : WalkFields) (old : LocalState) (value n room_depth : ℕ) (unsplit : Bool) (phase : walk.phase ≡ at.Adding value n room_depth unsplit) (adds : IsAdding context walk (view_for context old) n room_depth unsplit) where
+module _ (context : WalkContext) (walk : WalkFields) (old : LocalState) (value n room_depth : ℕ) (unsplit : Bool) (phase : walk.phase ≡ Phase.Adding value n room_depth unsplit) (adds : IsAdding context walk (view_for context old) n room_depth unsplit) where
   -- a walk that finds no room has to split,
   pub has_to_split : (unsplit ≡ true) ⊎ IsNowhere (has_room context.active) adds.fields.slots → HasToSplit context old walk value n room_depth
-  has_to_split (inl first) = inl (phase ∙ ap (at.Adding value n room_depth) first)
+  has_to_split (inl first) = inl (phase ∙ ap (Phase.Adding value n room_depth) first)
   has_to_split (inr full) = inr (adds.fields, adds.rest.found, kept_everywhere context.active adds.fields.slots full)
 
   -- and one that finds room has not
   pub need_not_split : (s : Slot) (write : WriteFields) → HasClean (split_target context walk room_depth) (view_for context old) → unsplit ≡ false → SetsFirst n adds.fields (has_room context.active) s write → HasToSplit context old walk value n room_depth → ⊥
-  need_not_split s write clean split plan (inl first) = true_unless walk.phase value n room_depth first (phase ∙ ap (at.Adding value n room_depth) split)
+  need_not_split s write clean split plan (inl first) = true_unless walk.phase value n room_depth first (phase ∙ ap (Phase.Adding value n room_depth) split)
   need_not_split s write clean split plan (inr (bucket, found, full)) =
       let same : bucket ≡ adds.fields = same_bucket (held_page (view_for context old) n) bucket adds.fields found adds.rest.found in
       room_is_seen (split_target context walk room_depth) (view_for context old) n adds.header adds.fields adds.rest clean plan.slot plan.within plan.was (subst (λ (b : BucketFields). list_all (is_kept context.active) b.slots ≡ true) same full)
@@ -187,9 +156,9 @@ may_begin context walk old n room_depth unsplit may file adds shallow = record {
 }
   where
     exclusive_header : (p : Pass) → walk.pass ≡ p → adds.fields.depth ≡ adds.header.depth → map.get (view_for context old).modes context.root ≡ Some Exclusive
-    exclusive_header pass.First is deep = absurd (adds.later is)
-    exclusive_header pass.Narrow is deep = (let fits = (adds.narrow is).enough in absurd (omega (arith, fits, shallow, deep)))
-    exclusive_header pass.Wide is deep = adds.wide is
+    exclusive_header Pass.First is deep = absurd (adds.later is)
+    exclusive_header Pass.Narrow is deep = (let fits = (adds.narrow is).enough in absurd (omega (arith, fits, shallow, deep)))
+    exclusive_header Pass.Wide is deep = adds.wide is
 
 -- what a page that is held has is read there
 held_reads : (m : LocalState) (q : ℕ) (p : Page) → can_read m.locks m.running.tx q ≡ true → held_page (view_of m) q ≡ Some p → ReadsHeldPage (view_of m) q p
@@ -203,7 +172,7 @@ found_below context m q p written is = sym (read_over_writes (context.before.wri
 adding_reads : (context : WalkContext) (walk : WalkFields) (old : LocalState) (n room_depth : ℕ) (unsplit : Bool) → HasWritten context.before.written (view_of old) → (adds : IsAdding context walk (view_for context old) n room_depth unsplit) (has : Slot → Bool) (s : Slot) (write : WriteFields) → SetsFirst n adds.fields has s write → ReadsHeldBucket (view_of old) write.number adds.fields
 adding_reads context walk old n room_depth unsplit written adds has s write plan =
     let held = may_read old n Exclusive adds.rest.exclusive in
-    subst (λ q. ReadsHeldBucket (view_of old) q adds.fields) (sym (ap (λ (w : WriteFields). w.number) plan.written)) (held_reads old n (page.Bucket adds.fields) held (found_below context old n (Some (page.Bucket adds.fields)) written adds.rest.found))
+    subst (λ q. ReadsHeldBucket (view_of old) q adds.fields) (sym (ap (λ (w : WriteFields). w.number) plan.written)) (held_reads old n (Page.Bucket adds.fields) held (found_below context old n (Some (Page.Bucket adds.fields)) written adds.rest.found))
 
 pub adding_plans : (context : WalkContext) (walk : WalkFields) (old : LocalState) (n room_depth : ℕ) (unsplit : Bool) → HasWritten context.before.written (view_of old) → (adds : IsAdding context walk (view_for context old) n room_depth unsplit) (has : Slot → Bool) (s : Slot) (write : WriteFields) → SetsFirst n adds.fields has s write → PlansSlot (view_of old) write
 adding_plans context walk old n room_depth unsplit written adds has s write plan = record {
@@ -212,14 +181,14 @@ adding_plans context walk old n room_depth unsplit written adds has s write plan
   within = subst (λ i. i < 8) (sym (ap (λ (w : WriteFields). w.at) plan.written)) plan.within;
 }
 
-module _ (context : WalkContext) (walk after : WalkFields) (old new : LocalState) (value n room_depth : ℕ) (phase : walk.phase ≡ at.Adding value n room_depth false) (adds : IsAdding context walk (view_for context old) n room_depth false) (write : WriteFields) (plan : SetsFirst n adds.fields (has_room context.active) (Live walk.key value) write) (clean : HasClean (split_target context walk room_depth) (view_for context old)) (written : HasWritten context.before.written (view_of old)) where
+module _ (context : WalkContext) (walk after : WalkFields) (old new : LocalState) (value n room_depth : ℕ) (phase : walk.phase ≡ Phase.Adding value n room_depth false) (adds : IsAdding context walk (view_for context old) n room_depth false) (write : WriteFields) (plan : SetsFirst n adds.fields (has_room context.active) (Live walk.key value) write) (clean : HasClean (split_target context walk room_depth) (view_for context old)) (written : HasWritten context.before.written (view_of old)) where
   reads : ReadsHeldBucket (view_of old) write.number adds.fields
   reads = adding_reads context walk old n room_depth false written adds (has_room context.active) (Live walk.key value) write plan
 
   writes_planned : WritesHeldSlot old new write.number write.at write.slot → WritesPage (view_for context old) (view_for context new) write.number (page_with_slot adds.fields write.at write.slot)
   writes_planned writes = rebased_writes_page context.before.written (view_of old) (view_of new) write.number (page_with_slot adds.fields write.at write.slot) (write_writes old new write.number (page_with_slot adds.fields write.at write.slot) (writes adds.fields reads))
 
-  put_makes : WritesHeldSlot old new write.number write.at write.slot → after ≡ record walk { phase = at.Changed write.number (change.Put value) } → Makes context new walk after (change.Put value)
+  put_makes : WritesHeldSlot old new write.number write.at write.slot → after ≡ record walk { phase = Phase.Changed write.number (Change.Put value) } → Makes context new walk after (Change.Put value)
   put_makes writes after_is =
       let on : write.number ≡ n = ap (λ (w : WriteFields). w.number) plan.written in
       let page = page_with_slot adds.fields write.at write.slot in
@@ -229,10 +198,10 @@ module _ (context : WalkContext) (walk after : WalkFields) (old new : LocalState
       let free : is_kept context.active (slice_index_or adds.fields.slots plan.slot Free) ≡ false = grind (arith, plan.was) in
       let low : adds.fields.depth ≤ 16 = (let shallow = rest_is_shallow (split_target context walk room_depth) (view_for context old) n adds.header adds.fields adds.rest clean in let small = rest_is_small (split_target context walk room_depth) (view_for context old) n adds.header adds.fields adds.rest clean in omega (arith, shallow, small)) in
       let changed = put_is_changed context walk (view_for context old) (view_for context new) room_depth n adds.header adds.fields value plan.slot adds.read adds.holds adds.shallow (rest_holds_few (split_target context walk room_depth) (view_for context old) n adds.header adds.fields clean adds.rest) low adds.rest plan.within free here in
-      let now : after ≡ record walk { phase = at.Changed n (change.Put value) } = after_is ∙ ap (λ q. record walk { phase = at.Changed q (change.Put value) }) on in
+      let now : after ≡ record walk { phase = Phase.Changed n (Change.Put value) } = after_is ∙ ap (λ q. record walk { phase = Phase.Changed q (Change.Put value) }) on in
       record {
         same = record { key = ap (λ (w : WalkFields). w.key) now; mode = ap (λ (w : WalkFields). w.mode) now; pass = ap (λ (w : WalkFields). w.pass) now };
-        phase = ap (λ (w : WalkFields). w.phase) now ∙ ap (λ p. at.Changed (page_of p) (change.Put value)) (sym phase);
+        phase = ap (λ (w : WalkFields). w.phase) now ∙ ap (λ p. Phase.Changed (page_of p) (Change.Put value)) (sym phase);
         stands = subst (λ (w : WalkFields). Stands w.phase context w (view_for context new)) (sym now) changed;
       }
 
@@ -242,47 +211,47 @@ module _ (context : WalkContext) (walk after : WalkFields) (old new : LocalState
       let planned = planned_page adds.fields write in
       record {
         bucket = adds.fields;
-        reads = subst (λ q. ReadsHeldBucket (view_for context old) q adds.fields) on (reads_over_writes context.before.written old written write.number (page.Bucket adds.fields) reads);
+        reads = subst (λ q. ReadsHeldBucket (view_for context old) q adds.fields) on (reads_over_writes context.before.written old written write.number (Page.Bucket adds.fields) reads);
         write = write;
         first = plan;
         writes = subst (λ q. WritesPage (view_for context old) (view_for context new) q planned) on (writes_planned writes);
       }
 
   -- **What the record that is put tells.**
-  pub put_tells : (told : WalkAnswer) → TellsOfWrite old new walk after write (change.Put value) told → TellsOfAdding context (walk_step old new walk after) value n room_depth told
-  put_tells answer.Changed tells = (
+  pub put_tells : (told : WalkAnswer) → TellsOfWrite old new walk after write (Change.Put value) told → TellsOfAdding context (walk_step old new walk after) value n room_depth told
+  put_tells WalkAnswer.Changed tells = (
     phase,
     put_makes tells.0 tells.1,
     inr (page_with_slot adds.fields write.at write.slot, subst (λ q. WritesHeldPage old new q (page_with_slot adds.fields write.at write.slot)) (ap (λ (w : WriteFields). w.number) plan.written) (tells.0 adds.fields reads)),
     puts_lowest tells.0,
   )
-  put_tells (answer.Refused reason) tells = subst (λ r. TellsOfAdding context (walk_step old new walk after) value n room_depth (answer.Refused r)) (sym tells.0) refl
-  put_tells answer.Going tells = absurd tells
-  put_tells (answer.Waiting page by) tells = absurd tells
-  put_tells (answer.Found found) tells = absurd tells
-  put_tells answer.NeedSplit tells = absurd tells
-  put_tells answer.Widen tells = absurd tells
+  put_tells (WalkAnswer.Refused reason) tells = subst (λ r. TellsOfAdding context (walk_step old new walk after) value n room_depth (WalkAnswer.Refused r)) (sym tells.0) refl
+  put_tells WalkAnswer.Going tells = absurd tells
+  put_tells (WalkAnswer.Waiting page by) tells = absurd tells
+  put_tells (WalkAnswer.Found found) tells = absurd tells
+  put_tells WalkAnswer.NeedSplit tells = absurd tells
+  put_tells WalkAnswer.Widen tells = absurd tells
 
 -- a put is never refused for want of room
-pub put_has_room : (old new : LocalState) (before after : WalkFields) (write : WriteFields) (value : ℕ) (told : WalkAnswer) → TellsOfWrite old new before after write (change.Put value) told → told ≡ answer.Refused refusal.NoRoom → ⊥
+pub put_has_room : (old new : LocalState) (before after : WalkFields) (write : WriteFields) (value : ℕ) (told : WalkAnswer) → TellsOfWrite old new before after write (Change.Put value) told → told ≡ WalkAnswer.Refused Refusal.NoRoom → ⊥
 put_has_room old new before after write value told tells is =
-    let memory : refusal.NoRoom ≡ refusal.OutOfMemory = (subst (λ (r : WalkAnswer). TellsOfWrite old new before after write (change.Put value) r) is tells).0 in
+    let memory : Refusal.NoRoom ≡ Refusal.OutOfMemory = (subst (λ (r : WalkAnswer). TellsOfWrite old new before after write (Change.Put value) r) is tells).0 in
     cc
 
 -- **A split that could not begin.**
-pub begin_is_refused : (context : WalkContext) (walk after : WalkFields) (old new : LocalState) (value n room_depth : ℕ) (why : Refusal) → after ≡ walk → HasToSplit context old walk value n room_depth → (why ≡ refusal.NoRoom → map.len old.store.pages ≡ old.store.max_pages)
-    → (why ≡ refusal.NoRoom) ⊎ (why ≡ refusal.OutOfMemory) → TellsOfAdding context (walk_step old new walk after) value n room_depth (answer.Refused why)
+pub begin_is_refused : (context : WalkContext) (walk after : WalkFields) (old new : LocalState) (value n room_depth : ℕ) (why : Refusal) → after ≡ walk → HasToSplit context old walk value n room_depth → (why ≡ Refusal.NoRoom → map.len old.store.pages ≡ old.store.max_pages)
+    → (why ≡ Refusal.NoRoom) ⊎ (why ≡ Refusal.OutOfMemory) → TellsOfAdding context (walk_step old new walk after) value n room_depth (WalkAnswer.Refused why)
 begin_is_refused context walk after old new value n room_depth why same needed full either =
     elim either [
-      | inl room ↦ subst (λ w. TellsOfAdding context (walk_step old new walk after) value n room_depth (answer.Refused w)) (sym room) (needed, full room)
-      | inr memory ↦ subst (λ w. TellsOfAdding context (walk_step old new walk after) value n room_depth (answer.Refused w)) (sym memory) refl
+      | inl room ↦ subst (λ w. TellsOfAdding context (walk_step old new walk after) value n room_depth (WalkAnswer.Refused w)) (sym room) (needed, full room)
+      | inr memory ↦ subst (λ w. TellsOfAdding context (walk_step old new walk after) value n room_depth (WalkAnswer.Refused w)) (sym memory) refl
     ]
 
 -- a walk is refused for the reason for which its split was not begun
-pub begun_alike : {A : Type 0} (result : Result A Refusal) (why : Refusal) → result ≡ Err why → (result ≡ Err refusal.NoRoom) ↔ (answer.Refused why ≡ answer.Refused refusal.NoRoom)
+pub begun_alike : {A : Type 0} (result : Result A Refusal) (why : Refusal) → result ≡ Err why → (result ≡ Err Refusal.NoRoom) ↔ (WalkAnswer.Refused why ≡ WalkAnswer.Refused Refusal.NoRoom)
 begun_alike {A} result why is = (
-  λ room. ap answer.Refused (reason_of why refusal.NoRoom (sym is ∙ room)),
-  λ room. is ∙ ap err (told_reason why refusal.NoRoom room),
+  λ room. ap WalkAnswer.Refused (reason_of why Refusal.NoRoom (sym is ∙ room)),
+  λ room. is ∙ ap err (told_reason why Refusal.NoRoom room),
 )
   where
     err : Refusal → Result A Refusal
@@ -291,17 +260,17 @@ begun_alike {A} result why is = (
     reason_of : (one other : Refusal) → err one ≡ err other → one ≡ other
     reason_of one other same = cc
 
-    told_reason : (one other : Refusal) → answer.Refused one ≡ answer.Refused other → one ≡ other
+    told_reason : (one other : Refusal) → WalkAnswer.Refused one ≡ WalkAnswer.Refused other → one ≡ other
     told_reason one other same = cc
 
 -- **A split that has begun.**
 pub begins_split : (context : WalkContext) (walk after : WalkFields) (old new : LocalState) (value n room_depth : ℕ) (unsplit : Bool) (split : SplitFields) (made : Page) → MayStep old → HasWritten context.before.written (view_of old) → MakesLockedPage old new split.new_page made → (adds : IsAdding context walk (view_for context old) n room_depth unsplit) → HasToSplit context old walk value n room_depth
     → IsUnderWay (split_target context walk room_depth) (view_for context new) split → steps_left split ≡ 1 + directory_steps split.depth split.directory_depth → split.depth ≡ adds.fields.depth → split.directory_depth ≡ adds.header.depth → HasHalves (split_target context walk room_depth) new.store.pages adds.fields split
-    → after ≡ record walk { phase = at.Splitting value room_depth; split = Some split } → BeginsSplit context (walk_step old new walk after) value n room_depth
+    → after ≡ record walk { phase = Phase.Splitting value room_depth; split = Some split } → BeginsSplit context (walk_step old new walk after) value n room_depth
 begins_split context walk after old new value n room_depth unsplit split made may written makes adds needed under_way steps bucket_depth depth halves after_is =
     let made_there : MakesPage (view_for context old) (view_for context new) split.new_page made = rebased_makes_page context.before.written (view_of old) (view_of new) written split.new_page made (make_makes old new split.new_page made may makes) in
     let step : StepsOn walk (view_for context old) (view_for context new) = steps_by_making walk (view_for context old) (view_for context new) split.new_page made adds.later made_there in
-    let here : IsSplitting context (record walk { phase = at.Splitting value room_depth; split = Some split }) (view_for context new) room_depth = record {
+    let here : IsSplitting context (record walk { phase = Phase.Splitting value room_depth; split = Some split }) (view_for context new) room_depth = record {
       split = split;
       split_is = refl;
       read = reads_on context walk (view_for context old) (view_for context new) step None adds.read;

@@ -1,21 +1,11 @@
 -- What a walk that has written nothing reads of the clean pages, and how many it holds
-use Rattle.std.proofs.Common.{◌≡◌, ℕ, ◌<◌, ◌≤◌, ◌+◌, true, Option, None, Some, is_some, refl, ap, ◌∙◌, arith}
-use Rattle.std.specs.Cmp.{nat_cmp_total}
-use Rattle.std.specs.Ordering.{nat_cmp}
+use Rattle.std.proofs.Common.{◌≡◌, ℕ, ◌<◌, ◌≤◌, ◌+◌, true, Option, None, Some, is_some, refl, ap, ◌∙◌, arith, nat_cmp}
+use Rattle.mlt_hash.proofs.Names.{nat_cmp_total, Mode, Page, page_at, Modes, stronger, with_page, IsCleanFor, MayStep, LocalState, FilePages, over, own_or_clean, HasWritten, ReadsPage, view_of, view_over, agrees_over, sees_page_since, bucket_held, bucket_mode, directory_held, directory_mode, header_held, header_mode, Pass}
 use Rattle.std.specs.FinMap as map
-use Rattle.mlt_types.specs.declared.mode.Mode.{Mode}
-use Rattle.mlt_page.specs.declared.page.Page.{Page}
-use Rattle.mlt_page_store.specs.Stores.{page_at}
-use Rattle.mlt_page_locks.specs.LockTables.{Modes, page_count}
-use Rattle.mlt_page_locks.specs.Requests.{stronger, with_page}
-use Rattle.mlt_hash_access.specs.LocalStates.{IsCleanFor, MayStep, LocalState}
-use Rattle.mlt_hash_form.specs.File.{FilePages}
-use Rattle.mlt_hash_form.specs.Held.{over, own_or_clean}
-use Rattle.mlt_hash_access.specs.Views.{HasWritten, IsUnwrittenSince, ReadsPage, view_of, view_over}
-use Rattle.mlt_hash_access.proofs.Since.{agrees_over, sees_page_since, there_since}
+use Rattle.mlt_page_locks.specs.LockTables.{page_count}
+use Rattle.mlt_hash_access.specs.Views.{IsUnwrittenSince}
+use Rattle.mlt_hash_access.proofs.Since.{there_since}
 use Rattle.mlt_hash_access.proofs.Views.{page_count_of_view}
-use Rattle.mlt_hash.specs.Passes.{bucket_held, bucket_mode, directory_held, directory_mode, header_held, header_mode}
-use Rattle.mlt_hash.specs.declared.pass.Pass.{Pass}
 
 -- what was read is what the clean page is, with what was written before over it
 pub reads_clean : (before : FilePages) (old new : LocalState) (q : ℕ) (mode : Mode) (page : Option Page) (clean : ℕ → Option Page) → MayStep new → IsCleanFor new clean → IsUnwrittenSince before (view_over before old) → ReadsPage (view_over before old) (view_over before new) q mode page → over clean before q ≡ page

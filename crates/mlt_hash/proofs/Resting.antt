@@ -1,39 +1,16 @@
 -- Where a bucket has no room: what a walk tells of it, and that its file rests before the first split
-use Rattle.std.proofs.Common.{◌≡◌, ℕ, ◌<◌, ◌≤◌, ◌+◌, ◌^◌, Bool, true, false, List, length, Option, Some, None, is_some, refl, sym, ap, subst, ◌∙◌, inl, inr, arith}
-use Rattle.std.specs.Prelude.{MatchOption, position, slice_index_or, unwrap_or}
-use Rattle.std.specs.List.{list_all, position_or_len}
+use Rattle.std.proofs.Common.{◌≡◌, ℕ, ◌<◌, ◌≤◌, ◌+◌, ◌^◌, Bool, true, false, List, length, Option, Some, None, is_some, refl, sym, ap, subst, ◌∙◌, inl, inr, arith, MatchOption, position, slice_index_or, unwrap_or, lt-ltb}
+use Rattle.mlt_hash.proofs.Names.{list_all, cases_lt, cond-true, false≢true, Exclusive, is_ghost_of, is_kept, is_live_of, Slot, Free, Page, BucketFields, IsHome, HasForm, bucket_of, buckets_of, dir_of, header_of, lead_of, Agrees, KeepsFile, RearrangesSlots, over, own_or_clean, crowds, is_crowded, crowded_at_own_depth, keeps_none, HasFileOver, MayStep, LocalState, View, agrees_over, over_since, reads_since, bucket_held, header_mode, IsAtRest, held_page, WalkContext, Before, IsAdding, IsAtBucket, Stands, WalkFields, split_target, one_key, view_for, IsAtAbsent, IsFull, SeesBucket, directory_depth_of, page_of, Pass, Phase}
+use Rattle.std.specs.List.{position_or_len}
 use Rattle.std.specs.FinMap as map
-use Rattle.std.proofs.lemmas.Bool.{cases_lt, cond-true, false≢true, lt-ltb}
 use Rattle.std.proofs.lemmas.List.{get_or_past}
 use Rattle.std.proofs.lemmas.List.Sums.{fails_before_first}
 use Rattle.std.proofs.lemmas.Option.{none-some}
-use Rattle.mlt_types.specs.declared.mode.Mode.TheVariants.{Exclusive}
-use Rattle.mlt_page.specs.Slots.{is_ghost_of, is_kept, is_live_of}
-use Rattle.mlt_page.specs.declared.slot.Slot.{Slot}
-use Rattle.mlt_page.specs.declared.slot.Slot.TheVariants.{Free}
-use Rattle.mlt_page.specs.declared.page.Page.{Page}
-use Rattle.mlt_page.specs.declared.page.Page.TheVariants as page
-use Rattle.mlt_page.specs.Values.{BucketFields}
 use Rattle.mlt_page_subtx.proofs.ImageLaws.{not_there}
-use Rattle.mlt_hash_form.specs.Changes.{IsHome}
-use Rattle.mlt_hash_form.specs.File.{HasForm, bucket_of, buckets_of, dir_of, header_of, lead_of}
-use Rattle.mlt_hash_form.specs.Held.{Agrees, KeepsFile, RearrangesSlots, over, own_or_clean}
-use Rattle.mlt_hash_form.specs.Room.{crowds, is_crowded}
-use Rattle.mlt_hash_form.proofs.Crowd.{crowded_at_own_depth}
-use Rattle.mlt_hash_form.proofs.HeldPages.{keeps_none}
 use Rattle.mlt_hash_form.proofs.Paths.{path_depths}
-use Rattle.mlt_hash_access.specs.LocalStates.{HasFileOver, MayStep, LocalState}
-use Rattle.mlt_hash_access.specs.Views.{View}
-use Rattle.mlt_hash_access.proofs.Since.{agrees_over, over_since, reads_since}
-use Rattle.mlt_hash.specs.Passes.{HasRoomFrom, IsNextPass, NeverHasRoom, bucket_held, header_mode}
-use Rattle.mlt_hash_split.specs.Rests.{IsAtRest, held_page}
-use Rattle.mlt_hash.specs.Walks.{WalkContext, Before, IsAdding, IsAtBucket, Stands, WalkFields, split_target, one_key, view_for}
+use Rattle.mlt_hash.specs.Passes.{HasRoomFrom, IsNextPass, NeverHasRoom}
 use Rattle.mlt_hash.specs.Steps.{IsSameWalk}
-use Rattle.mlt_hash.specs.Changes.{HasNoRoom, IsAtAbsent, IsFull, IsNext, MustWiden, NeedsSplit, SeesBucket, crowded_at, directory_depth_of, page_of}
-use Rattle.mlt_hash.specs.declared.pass.Pass.{Pass}
-use Rattle.mlt_hash.specs.declared.pass.Pass.TheVariants as pass
-use Rattle.mlt_hash.specs.declared.pass.Phase.{Phase}
-use Rattle.mlt_hash.specs.declared.pass.Phase.TheVariants as at
+use Rattle.mlt_hash.specs.Changes.{HasNoRoom, IsNext, MustWiden, NeedsSplit, crowded_at}
 use Rattle.mlt_hash.proofs.Passed.{holds_at_bucket, read_at_bucket}
 use Rattle.mlt_hash.proofs.Beside.{anew_unless_wide, few_before, more_beside}
 use Rattle.mlt_hash.proofs.Readings.{three_held}
@@ -50,10 +27,10 @@ nowhere_at has slots free none i =
       | inr past ↦ ap has (get_or_past slots i Free past) ∙ free
     ]
 
-pub narrow_is_not_wide : pass.Narrow ≡ pass.Wide → ⊥
+pub narrow_is_not_wide : Pass.Narrow ≡ Pass.Wide → ⊥
 narrow_is_not_wide same = cc
 
-pub first_is_not_wide : pass.First ≡ pass.Wide → ⊥
+pub first_is_not_wide : Pass.First ≡ Pass.Wide → ⊥
 first_is_not_wide same = cc
 
 -- what is known where a bucket has no room, up to what the next pass is
@@ -120,9 +97,9 @@ module _ (context : WalkContext) (walk : WalkFields) (m : LocalState) (fields : 
     keeps = keeps;
     leads = λ clean agree form. ap (λ (pages : ℕ → Option Page). lead_of pages context.root seed) (clean_over clean agree) ∙ (home clean agree form).leads;
     head_held = ap is_some bucket.head;
-    head = held_is context.root (page.Head bucket.header) bucket.head;
+    head = held_is context.root (Page.Head bucket.header) bucket.head;
     bucket_held = ap is_some full.sees.at;
-    found = held_is n (page.Bucket fields) full.sees.at;
+    found = held_is n (Page.Bucket fields) full.sees.at;
     exclusive = bucket_is_exclusive context walk (view_for context m) n (directory_depth_of walk.phase) None bucket exclusive;
     absent = nowhere_at (is_live_of walk.key) fields.slots refl (no_live_slot walk.key fields.slots (found_there context walk (view_for context m) n (directory_depth_of walk.phase) None fields bucket full.sees.at));
     no_ghost = nowhere_at (is_ghost_of walk.key context.tx) fields.slots refl full.no_ghost;
@@ -133,7 +110,7 @@ module _ (context : WalkContext) (walk : WalkFields) (m : LocalState) (fields : 
   }
 
   -- and the walk may add once the bucket has room
-  adding : (d : ℕ) (phase : Phase) → walk.mode ≡ Exclusive → context.max_depth ≤ 16 → HasRoomFrom (crowded_at context walk fields) fields.depth context.max_depth d → (walk.pass ≡ pass.First → ⊥) → (walk.pass ≡ pass.Narrow → (d ≤ directory_depth_of walk.phase) × (directory_depth_of walk.phase ≤ fields.depth + 8))
+  adding : (d : ℕ) (phase : Phase) → walk.mode ≡ Exclusive → context.max_depth ≤ 16 → HasRoomFrom (crowded_at context walk fields) fields.depth context.max_depth d → (walk.pass ≡ Pass.First → ⊥) → (walk.pass ≡ Pass.Narrow → (d ≤ directory_depth_of walk.phase) × (directory_depth_of walk.phase ≤ fields.depth + 8))
       → IsAdding context (record walk { phase = phase }) (view_for context m) n d true
   adding d phase exclusive small has later narrow = record {
     header = bucket.header;
@@ -150,7 +127,7 @@ module _ (context : WalkContext) (walk : WalkFields) (m : LocalState) (fields : 
   }
 
 -- three pages are held there in a pass that is not wide
-pub few_at_bucket : (context : WalkContext) (walk : WalkFields) (view : View) → IsAtAbsent walk.phase → Stands walk.phase context walk view → (walk.pass ≡ pass.Wide → ⊥) → map.len view.modes ≤ 3
+pub few_at_bucket : (context : WalkContext) (walk : WalkFields) (view : View) → IsAtAbsent walk.phase → Stands walk.phase context walk view → (walk.pass ≡ Pass.Wide → ⊥) → map.len view.modes ≤ 3
 few_at_bucket context walk view none stands narrow =
     let here = absent_at context walk view walk.phase none stands in
     let dir = dir_of here.header (context.bits walk.key) in
@@ -165,7 +142,7 @@ full_bucket context walk view fields full sees = subst (λ b. IsFull context wal
 pub record TellsNext (context : WalkContext) (fields : BucketFields) (key depth : ℕ) (next : Pass) (least : Option ℕ) : Type 0 where
   pub follows : IsNextPass (λ d. is_crowded context.bits context.active d (context.bits key) fields.slots) fields.depth context.max_depth depth next
   pub room : MatchOption least (NeverHasRoom (λ d. is_crowded context.bits context.active d (context.bits key) fields.slots) fields.depth context.max_depth) (λ d. HasRoomFrom (λ d. is_crowded context.bits context.active d (context.bits key) fields.slots) fields.depth context.max_depth d)
-  pub narrow : next ≡ pass.Narrow → MatchOption least (fields.depth ≤ depth) (λ d. d ≤ depth)
+  pub narrow : next ≡ Pass.Narrow → MatchOption least (fields.depth ≤ depth) (λ d. d ≤ depth)
 
 -- the same of the walk's own key and depth
 pub tells_next : (context : WalkContext) (fields : BucketFields) (key key' depth depth' : ℕ) (next : Pass) (least : Option ℕ) → key ≡ key' → depth ≡ depth' → TellsNext context fields key depth next least → TellsNext context fields key' depth' next least
@@ -177,25 +154,25 @@ tells_next_by own context same fields key depth next least told =
     let here : TellsNext (one_key context) fields key depth next least = subst (λ (b : WalkContext). TellsNext b fields key depth next least) same told in
     record { follows = here.follows; room = here.room; narrow = here.narrow }
 
-first_is_not_narrow : pass.First ≡ pass.Narrow → ⊥
+first_is_not_narrow : Pass.First ≡ Pass.Narrow → ⊥
 first_is_not_narrow same = cc
 
 -- a pass that follows is narrow or wide
-stays_narrow : (crowded : ℕ → Bool) (l most g : ℕ) (next : Pass) → IsNextPass crowded l most g next → (next ≡ pass.Wide → ⊥) → next ≡ pass.Narrow
-stays_narrow crowded l most g pass.First follows narrow = absurd follows
-stays_narrow crowded l most g pass.Narrow follows narrow = refl
-stays_narrow crowded l most g pass.Wide follows narrow = absurd (narrow refl)
+stays_narrow : (crowded : ℕ → Bool) (l most g : ℕ) (next : Pass) → IsNextPass crowded l most g next → (next ≡ Pass.Wide → ⊥) → next ≡ Pass.Narrow
+stays_narrow crowded l most g Pass.First follows narrow = absurd follows
+stays_narrow crowded l most g Pass.Narrow follows narrow = refl
+stays_narrow crowded l most g Pass.Wide follows narrow = absurd (narrow refl)
 
 same_walk : (walk after : WalkFields) (phase : Phase) → after ≡ record walk { phase = phase } → IsSameWalk walk after
 same_walk walk after phase is = record { key = ap (λ (w : WalkFields). w.key) is; mode = ap (λ (w : WalkFields). w.mode) is; pass = ap (λ (w : WalkFields). w.pass) is }
 
 module _ (context : WalkContext) (walk after : WalkFields) (m : LocalState) (fields : BucketFields) (next : Pass) (least : Option ℕ) (value : ℕ) (full : IsFull context walk (view_for context m) fields) (told : TellsNext context fields walk.key (directory_depth_of walk.phase) next least) where
   -- **A first pass tells which one follows,**
-  pub first_tells : map.len (view_for context m).modes ≤ 3 → walk.pass ≡ pass.First → after ≡ record walk { phase = at.Full next } → NeedsSplit context m walk after value
+  pub first_tells : map.len (view_for context m).modes ≤ 3 → walk.pass ≡ Pass.First → after ≡ record walk { phase = Phase.Full next } → NeedsSplit context m walk after value
   first_tells few first is = record {
     fields = fields;
     full = full;
-    same = same_walk walk after (at.Full next) is;
+    same = same_walk walk after (Phase.Full next) is;
     stands = subst (λ (w : WalkFields). Stands w.phase context w (view_for context m)) (sym is) few;
     first = λ _. (next, ap (λ (w : WalkFields). w.phase) is, told.follows);
     later = λ ne. absurd (ne first);
@@ -203,19 +180,19 @@ module _ (context : WalkContext) (walk after : WalkFields) (m : LocalState) (fie
   }
 
   -- **a narrow one that it has to be wide,**
-  pub widen_tells : map.len (view_for context m).modes ≤ 3 → walk.pass ≡ pass.Narrow → next ≡ pass.Wide → after ≡ record walk { phase = at.Full pass.Wide } → MustWiden context m walk after
+  pub widen_tells : map.len (view_for context m).modes ≤ 3 → walk.pass ≡ Pass.Narrow → next ≡ Pass.Wide → after ≡ record walk { phase = Phase.Full Pass.Wide } → MustWiden context m walk after
   widen_tells few narrow wide is = record {
     fields = fields;
     full = full;
-    same = same_walk walk after (at.Full pass.Wide) is;
+    same = same_walk walk after (Phase.Full Pass.Wide) is;
     stands = subst (λ (w : WalkFields). Stands w.phase context w (view_for context m)) (sym is) few;
     narrow = narrow;
     wide = subst (λ p. IsNext context walk fields p) wide told.follows;
     phase = ap (λ (w : WalkFields). w.phase) is;
   }
 
-  module _ (later : walk.pass ≡ pass.First → ⊥) (fits : walk.pass ≡ pass.Narrow → next ≡ pass.Wide → ⊥) where
-    next_is_narrow : walk.pass ≡ pass.Narrow → next ≡ pass.Narrow
+  module _ (later : walk.pass ≡ Pass.First → ⊥) (fits : walk.pass ≡ Pass.Narrow → next ≡ Pass.Wide → ⊥) where
+    next_is_narrow : walk.pass ≡ Pass.Narrow → next ≡ Pass.Narrow
     next_is_narrow narrow = stays_narrow (crowded_at context walk fields) fields.depth context.max_depth (directory_depth_of walk.phase) next told.follows (fits narrow)
 
     -- **and else that there is no room at any depth,**
@@ -232,19 +209,19 @@ module _ (context : WalkContext) (walk after : WalkFields) (m : LocalState) (fie
 
     -- **or that the bucket is to be split.**
     pub adding_tells : (number : ℕ) → ((k : ℕ) → context.bits k < 2 ^ 64) → MayStep m → HasFileOver context.bits context.root context.before.written m → IsAtAbsent walk.phase → Stands walk.phase context walk (view_for context m) → walk.mode ≡ Exclusive → context.max_depth ≤ 16
-        → number ≡ page_of walk.phase → (d : ℕ) → least ≡ Some d → after ≡ record walk { phase = at.Adding value number d true } → NeedsSplit context m walk after value
+        → number ≡ page_of walk.phase → (d : ℕ) → least ≡ Some d → after ≡ record walk { phase = Phase.Adding value number d true } → NeedsSplit context m walk after value
     adding_tells number bounded may file none stands exclusive small here d some is =
         let has : HasRoomFrom (crowded_at context walk fields) fields.depth context.max_depth d = subst (λ o. MatchOption o (NeverHasRoom (crowded_at context walk fields) fields.depth context.max_depth) (λ d. HasRoomFrom (crowded_at context walk fields) fields.depth context.max_depth d)) some told.room in
-        let narrow : walk.pass ≡ pass.Narrow → (d ≤ directory_depth_of walk.phase) × (directory_depth_of walk.phase ≤ fields.depth + 8) = λ narrow. (
+        let narrow : walk.pass ≡ Pass.Narrow → (d ≤ directory_depth_of walk.phase) × (directory_depth_of walk.phase ≤ fields.depth + 8) = λ narrow. (
           subst (λ o. MatchOption o (fields.depth ≤ directory_depth_of walk.phase) (λ d. d ≤ directory_depth_of walk.phase)) some (told.narrow (next_is_narrow narrow)),
           (subst (λ p. IsNext context walk fields p) (next_is_narrow narrow) told.follows).3,
         ) in
-        let now : after ≡ record walk { phase = at.Adding value (page_of walk.phase) d true } = is ∙ ap (λ q. record walk { phase = at.Adding value q d true }) here in
-        let adds = adding context walk m fields bounded may file (absent_at context walk (view_for context m) walk.phase none stands) full d (at.Adding value (page_of walk.phase) d true) exclusive small has later narrow in
+        let now : after ≡ record walk { phase = Phase.Adding value (page_of walk.phase) d true } = is ∙ ap (λ q. record walk { phase = Phase.Adding value q d true }) here in
+        let adds = adding context walk m fields bounded may file (absent_at context walk (view_for context m) walk.phase none stands) full d (Phase.Adding value (page_of walk.phase) d true) exclusive small has later narrow in
         record {
           fields = fields;
           full = full;
-          same = same_walk walk after (at.Adding value (page_of walk.phase) d true) now;
+          same = same_walk walk after (Phase.Adding value (page_of walk.phase) d true) now;
           stands = subst (λ (w : WalkFields). Stands w.phase context w (view_for context m)) (sym now) adds;
           first = λ first. absurd (later first);
           later = λ _. (d, ap (λ (w : WalkFields). w.phase) now, has);

@@ -1,40 +1,18 @@
 -- Steps of a split, as steps of the walk whose bucket is split
-use Rattle.std.proofs.Common.{ℕ, ◌≡◌, ◌<◌, ◌≤◌, true, false, Option, None, Some, refl, sym, ◌∙◌, ap, subst, inl, inr, arith}
-use Rattle.std.specs.Prelude.{◌↔◌}
+use Rattle.std.proofs.Common.{ℕ, ◌≡◌, ◌<◌, ◌≤◌, true, false, Option, None, Some, refl, sym, ◌∙◌, ap, subst, inl, inr, arith, ◌↔◌}
 use Rattle.std.specs.FinMap as map
-use Rattle.std.proofs.lemmas.Bool.{cases_eq, false≢true}
-use Rattle.mlt_types.specs.declared.mode.Mode.{Mode}
-use Rattle.mlt_types.specs.declared.mode.Mode.TheVariants.{Exclusive}
-use Rattle.mlt_types.specs.declared.refusal.Refusal.{Refusal}
-use Rattle.mlt_types.specs.declared.refusal.Refusal.TheVariants as refusal
-use Rattle.mlt_hash_form.specs.Held.{Agrees, over}
-use Rattle.mlt_page_locks.specs.LockTables.{LockTable, can_write}
+use Rattle.mlt_hash.proofs.Names.{cases_eq, false≢true, Mode, Exclusive, Refusal, Agrees, over, can_write, HasFileOver, MayStep, LocalState, TouchesOnePage, view_of, step_keeps_tx, agrees_over, may_write, IsUnderWay, MayAdvance, SplitFields, steps_left, SplitTarget, IsDone, IsMaking, GoesOn, Rests, SplitAnswer, WalkContext, HasRead, HoldsByPass, IsAdding, IsSplitting, IsStanding, MayWalk, Stands, StaysNarrow, WalkFields, split_target, view_for, page_of, SplitCloses, SplitGoesOn, TellsOfAdding, TellsOfSplitting, WalkStep, walk_step, HasFound, steps_to_bucket, WalkAnswer, Pass, Phase}
+use Rattle.mlt_page_locks.specs.LockTables.{LockTable}
 use Rattle.mlt_page_locks.proofs.LockLaws.{can_write-granted}
 use Rattle.mlt_page_locks.specs.Requests.{granted}
-use Rattle.mlt_hash_access.specs.LocalStates.{HasFileOver, MayStep, LocalState}
-use Rattle.mlt_hash_access.specs.PageSteps.{LocksAtMost, TouchesOnePage, WritesAtMost}
-use Rattle.mlt_hash_access.specs.Views.{view_of}
-use Rattle.mlt_hash_access.proofs.OwnSteps.{step_keeps_tx}
-use Rattle.mlt_hash_access.proofs.Since.{agrees_over}
-use Rattle.mlt_hash_access.proofs.Views.{holds_exclusively, may_write}
-use Rattle.mlt_hash_split.specs.Splits.{IsUnderWay, MayAdvance, SplitFields, steps_left}
-use Rattle.mlt_hash_split.specs.Rests.{SplitTarget}
-use Rattle.mlt_hash_split.specs.Steps.{IsDone, IsLeft, IsMaking, Touches}
-use Rattle.mlt_hash_split.specs.Tells.{GoesOn, Rests, Tells}
+use Rattle.mlt_hash_access.specs.PageSteps.{LocksAtMost, WritesAtMost}
+use Rattle.mlt_hash_access.proofs.Views.{holds_exclusively}
+use Rattle.mlt_hash_split.specs.Steps.{IsLeft, Touches}
+use Rattle.mlt_hash_split.specs.Tells.{Tells}
 use Rattle.mlt_hash_split.specs.declared.phase.SplitPhase.{SplitPhase}
-use Rattle.mlt_hash_split.specs.declared.phase.SplitPhase.TheVariants as split_at
-use Rattle.mlt_hash_split.specs.declared.split.SplitAnswer.{SplitAnswer}
-use Rattle.mlt_hash_split.specs.declared.split.SplitAnswer.TheVariants as split_answer
-use Rattle.mlt_hash.specs.Walks.{WalkContext, HasRead, HoldsByPass, IsAdding, IsSplitting, IsStanding, MayWalk, Stands, StaysNarrow, WalkFields, split_target, view_for}
-use Rattle.mlt_hash.specs.Changes.{page_of}
-use Rattle.mlt_hash.specs.Splitting.{OfSplit, SplitCloses, SplitGoesOn, TellsOfAdding, TellsOfSplitting, WalkStep, walk_step}
-use Rattle.mlt_hash.specs.Steps.{HasFound, LocksIfFound, TellsOfPath, steps_to_bucket}
+use Rattle.mlt_hash.specs.Splitting.{OfSplit}
+use Rattle.mlt_hash.specs.Steps.{LocksIfFound, TellsOfPath}
 use Rattle.mlt_hash.proofs.Passed.{StepsOn, holds_on, narrow_keeps_header, reads_on, steps_by_split}
-use Rattle.mlt_hash.specs.declared.answer.WalkAnswer.{WalkAnswer}
-use Rattle.mlt_hash.specs.declared.answer.WalkAnswer.TheVariants as answer
-use Rattle.mlt_hash.specs.declared.pass.Pass.TheVariants as pass
-use Rattle.mlt_hash.specs.declared.pass.Phase.{Phase}
-use Rattle.mlt_hash.specs.declared.pass.Phase.TheVariants as at
 use Rattle.mlt_hash.proofs.StepsLeft.{some_is_one}
 
 -- a lock more takes no right away
@@ -61,11 +39,11 @@ stays_exclusive_in_step old new root may touches held =
     holds_exclusively new root (ap (λ tx. can_write new.locks tx root) (step_keeps_tx old new touches) ∙ right)
 
 -- where a walk that splits stands
-splitting_at : (context : WalkContext) (walk : WalkFields) (old : LocalState) (value room_depth : ℕ) → walk.phase ≡ at.Splitting value room_depth → IsStanding context walk (view_for context old) → IsSplitting context walk (view_for context old) room_depth
+splitting_at : (context : WalkContext) (walk : WalkFields) (old : LocalState) (value room_depth : ℕ) → walk.phase ≡ Phase.Splitting value room_depth → IsStanding context walk (view_for context old) → IsSplitting context walk (view_for context old) room_depth
 splitting_at context walk old value room_depth phase stands = subst (λ p. Stands p context walk (view_for context old)) phase stands
 
 -- a walk that splits may go on with its split
-pub may_advance : (context : WalkContext) (walk : WalkFields) (old : LocalState) (value room_depth : ℕ) (was : SplitFields) → walk.phase ≡ at.Splitting value room_depth → walk.split ≡ Some was → MayWalk context old walk → MayAdvance (split_target context walk room_depth) old was
+pub may_advance : (context : WalkContext) (walk : WalkFields) (old : LocalState) (value room_depth : ℕ) (was : SplitFields) → walk.phase ≡ Phase.Splitting value room_depth → walk.split ≡ Some was → MayWalk context old walk → MayAdvance (split_target context walk room_depth) old was
 may_advance context walk old value room_depth was phase was_is ready =
     let splits = splitting_at context walk old value room_depth phase ready.stands in
     record {
@@ -75,14 +53,14 @@ may_advance context walk old value room_depth was phase was_is ready =
       under_way = subst (λ (s : SplitFields). IsUnderWay (split_target context walk room_depth) (view_for context old) s) (some_is_one splits.split was walk.split splits.split_is was_is) splits.under_way;
     }
 
-module _ (context : WalkContext) (walk after : WalkFields) (old new : LocalState) (value room_depth : ℕ) (was : SplitFields) (phase : walk.phase ≡ at.Splitting value room_depth) (stands : IsStanding context walk (view_for context old)) (was_is : walk.split ≡ Some was) (may : MayStep old) (file : HasFileOver context.bits context.root context.before.written old) (touches : TouchesOnePage old new) (done : IsDone was.phase (split_target context walk room_depth) old new was) where
+module _ (context : WalkContext) (walk after : WalkFields) (old new : LocalState) (value room_depth : ℕ) (was : SplitFields) (phase : walk.phase ≡ Phase.Splitting value room_depth) (stands : IsStanding context walk (view_for context old)) (was_is : walk.split ≡ Some was) (may : MayStep old) (file : HasFileOver context.bits context.root context.before.written old) (touches : TouchesOnePage old new) (done : IsDone was.phase (split_target context walk room_depth) old new was) where
   splits : IsSplitting context walk (view_for context old) room_depth
   splits = splitting_at context walk old value room_depth phase stands
 
   same_split : splits.split ≡ was
   same_split = some_is_one splits.split was walk.split splits.split_is was_is
 
-  narrow_before : walk.pass ≡ pass.Narrow → StaysNarrow context.root (view_for context old) room_depth was.depth was.directory_depth
+  narrow_before : walk.pass ≡ Pass.Narrow → StaysNarrow context.root (view_for context old) room_depth was.depth was.directory_depth
   narrow_before narrow = subst (λ (s : SplitFields). StaysNarrow context.root (view_for context old) room_depth s.depth s.directory_depth) same_split (splits.narrow narrow)
 
   way : IsUnderWay (split_target context walk room_depth) (view_for context old) was
@@ -106,10 +84,10 @@ module _ (context : WalkContext) (walk after : WalkFields) (old new : LocalState
   holds_now : HoldsByPass context.before.held walk.pass walk.mode context.root read_now.dir read_now.bucket (view_for context new)
   holds_now = holds_on context walk (view_for context old) (view_for context new) step None splits.read splits.holds
 
-  header_kept : walk.pass ≡ pass.Narrow → (view_for context new).own context.root ≡ None
+  header_kept : walk.pass ≡ Pass.Narrow → (view_for context new).own context.root ≡ None
   header_kept narrow = narrow_keeps_header context walk old new room_depth was may (over file.clean context.before.written) agreed file.form way None splits.read (narrow_before narrow) done
 
-  wide_now : walk.pass ≡ pass.Wide → map.get (view_for context new).modes context.root ≡ Some Exclusive
+  wide_now : walk.pass ≡ Pass.Wide → map.get (view_for context new).modes context.root ≡ Some Exclusive
   wide_now wide = stays_exclusive_in_step old new context.root may touches (splits.wide wide)
 
   -- **The split goes on.**
@@ -155,9 +133,9 @@ module _ (context : WalkContext) (walk after : WalkFields) (old new : LocalState
       ]
 
   -- **The split closes.**
-  pub split_closes_walk : (n : ℕ) (split : Option SplitFields) → after ≡ record walk { phase = at.Adding value n room_depth false; split = split } → Rests (split_target context walk room_depth) new was n → steps_left was ≡ 1 → SplitCloses context new walk after value room_depth
+  pub split_closes_walk : (n : ℕ) (split : Option SplitFields) → after ≡ record walk { phase = Phase.Adding value n room_depth false; split = split } → Rests (split_target context walk room_depth) new was n → steps_left was ≡ 1 → SplitCloses context new walk after value room_depth
   split_closes_walk n split after_is rests last =
-      let here : IsAdding context (record walk { phase = at.Adding value n room_depth false; split = split }) (view_for context new) n room_depth false = record {
+      let here : IsAdding context (record walk { phase = Phase.Adding value n room_depth false; split = split }) (view_for context new) n room_depth false = record {
         header = rests.header;
         fields = rests.bucket;
         read = read_now;
@@ -191,62 +169,62 @@ module _ (context : WalkContext) (walk after : WalkFields) (old new : LocalState
 
 -- the page of a second half is not made, and nothing has changed
 making_leaves : (phase : SplitPhase) (target : SplitTarget) (old new : LocalState) → IsMaking phase → IsLeft phase target old new → new ≡ old
-making_leaves (split_at.SecondHalf place) target old new making left = left
+making_leaves (SplitPhase.SecondHalf place) target old new making left = left
 making_leaves other target old new making left = absurd making
 
 module _ (context : WalkContext) (walk after : WalkFields) (old new : LocalState) (value room_depth : ℕ) (was : SplitFields) (was_is : walk.split ≡ Some was) where
   -- **A step of the split is refused.**
-  pub split_is_refused : (target : SplitTarget) (is : SplitFields) (why : Refusal) → target ≡ split_target context walk room_depth → after ≡ record walk { split = Some is } → Tells target old new was is (split_answer.Refused why) → Touches (split_answer.Refused why) target old new was
-      → TellsOfSplitting context (walk_step old new walk after) value room_depth (answer.Refused why)
-  split_is_refused target is refusal.NoRoom same after_is tells left = ((was, was_is, tells.0), making_leaves was.phase target old new tells.0 left, tells.1)
-  split_is_refused target is refusal.OutOfMemory same after_is tells left = (refl, (was, was_is, subst (λ (a : SplitTarget). IsLeft was.phase a old new) same left))
+  pub split_is_refused : (target : SplitTarget) (is : SplitFields) (why : Refusal) → target ≡ split_target context walk room_depth → after ≡ record walk { split = Some is } → Tells target old new was is (SplitAnswer.Refused why) → Touches (SplitAnswer.Refused why) target old new was
+      → TellsOfSplitting context (walk_step old new walk after) value room_depth (WalkAnswer.Refused why)
+  split_is_refused target is Refusal.NoRoom same after_is tells left = ((was, was_is, tells.0), making_leaves was.phase target old new tells.0 left, tells.1)
+  split_is_refused target is Refusal.OutOfMemory same after_is tells left = (refl, (was, was_is, subst (λ (a : SplitTarget). IsLeft was.phase a old new) same left))
   split_is_refused target is why same after_is tells left = (tells, (was, was_is, subst (λ (a : SplitTarget). IsLeft was.phase a old new) same left))
 
 -- there is no room for a page just where the split's step makes one
-pub no_room_in_split : {Full : Type 0} (walk : WalkFields) (was : SplitFields) (was_is : walk.split ≡ Some was) (told : SplitAnswer) → (told ≡ split_answer.Refused refusal.NoRoom) ↔ (IsMaking was.phase × Full) → (told ≡ split_answer.Refused refusal.NoRoom) ↔ (OfSplit walk (λ split. IsMaking split.phase) × Full)
+pub no_room_in_split : {Full : Type 0} (walk : WalkFields) (was : SplitFields) (was_is : walk.split ≡ Some was) (told : SplitAnswer) → (told ≡ SplitAnswer.Refused Refusal.NoRoom) ↔ (IsMaking was.phase × Full) → (told ≡ SplitAnswer.Refused Refusal.NoRoom) ↔ (OfSplit walk (λ split. IsMaking split.phase) × Full)
 no_room_in_split walk was was_is told exact = (
   λ refused. let both = exact.0 refused in ((was, was_is, both.0), both.1),
   λ both. exact.1 (subst (λ (s : SplitFields). IsMaking s.phase) (some_is_one both.0.0 was walk.split both.0.1 was_is) both.0.2, both.1),
 )
 
 -- a split and its walk tell the same refusal
-pub refused_alike : (told : SplitAnswer) (why : Refusal) → told ≡ split_answer.Refused why → (told ≡ split_answer.Refused refusal.NoRoom) ↔ (answer.Refused why ≡ answer.Refused refusal.NoRoom)
+pub refused_alike : (told : SplitAnswer) (why : Refusal) → told ≡ SplitAnswer.Refused why → (told ≡ SplitAnswer.Refused Refusal.NoRoom) ↔ (WalkAnswer.Refused why ≡ WalkAnswer.Refused Refusal.NoRoom)
 refused_alike told why is = (
-  λ room. ap answer.Refused (reason_of why refusal.NoRoom (sym is ∙ room)),
-  λ room. is ∙ ap split_answer.Refused (told_reason why refusal.NoRoom room),
+  λ room. ap WalkAnswer.Refused (reason_of why Refusal.NoRoom (sym is ∙ room)),
+  λ room. is ∙ ap SplitAnswer.Refused (told_reason why Refusal.NoRoom room),
 )
   where
-    reason_of : (one other : Refusal) → split_answer.Refused one ≡ split_answer.Refused other → one ≡ other
+    reason_of : (one other : Refusal) → SplitAnswer.Refused one ≡ SplitAnswer.Refused other → one ≡ other
     reason_of one other same = cc
 
-    told_reason : (one other : Refusal) → answer.Refused one ≡ answer.Refused other → one ≡ other
+    told_reason : (one other : Refusal) → WalkAnswer.Refused one ≡ WalkAnswer.Refused other → one ≡ other
     told_reason one other same = cc
 
 -- a walk that has found its key takes no more steps to its bucket
 pub none_left : (p : Phase) (found : Option ℕ) → HasFound p found → steps_to_bucket p ≡ 0
-none_left (at.AtBucket bucket depth f) found is = refl
+none_left (Phase.AtBucket bucket depth f) found is = refl
 none_left other found is = absurd is
 
 -- **Where a step finds the key, all that it did is to lock the bucket:** it is the last one to the bucket, and no other finds it.
 pub locks_if_found : (old new : LocalState) (q : ℕ) (told : WalkAnswer) → LocksAtMost old new q → LocksIfFound old new q told
-locks_if_found old new q (answer.Found value) locks = locks
+locks_if_found old new q (WalkAnswer.Found value) locks = locks
 locks_if_found old new q other locks = tt
 
 pub earlier_finds_none : (context : WalkContext) (old new : LocalState) (before after : WalkFields) (told : WalkAnswer) → 1 < steps_to_bucket before.phase → TellsOfPath context old new before after told → LocksIfFound old new (page_of after.phase) told
-earlier_finds_none context old new before after (answer.Found value) more tells =
+earlier_finds_none context old new before after (WalkAnswer.Found value) more tells =
     let fewer = tells.0.fewer in
     let none = none_left after.phase value tells.1 in
     absurd (omega (arith, more, fewer, none))
 earlier_finds_none context old new before after other more tells = tt
 
 pub adding_finds_none : (context : WalkContext) (step : WalkStep) (value bucket room_depth : ℕ) (told : WalkAnswer) → TellsOfAdding context step value bucket room_depth told → LocksIfFound step.old step.new (page_of step.after.phase) told
-adding_finds_none context step value bucket room_depth (answer.Found found) tells = absurd tells
+adding_finds_none context step value bucket room_depth (WalkAnswer.Found found) tells = absurd tells
 adding_finds_none context step value bucket room_depth other tells = tt
 
 pub splitting_finds_none : (context : WalkContext) (step : WalkStep) (value room_depth : ℕ) (told : WalkAnswer) → TellsOfSplitting context step value room_depth told → LocksIfFound step.old step.new (page_of step.after.phase) told
-splitting_finds_none context step value room_depth (answer.Found found) tells = absurd tells
+splitting_finds_none context step value room_depth (WalkAnswer.Found found) tells = absurd tells
 splitting_finds_none context step value room_depth other tells = tt
 
 -- a step to the bucket makes no page, and is refused none
-pub path_has_room : (context : WalkContext) (old new : LocalState) (before after : WalkFields) (told : WalkAnswer) → TellsOfPath context old new before after told → told ≡ answer.Refused refusal.NoRoom → ⊥
+pub path_has_room : (context : WalkContext) (old new : LocalState) (before after : WalkFields) (told : WalkAnswer) → TellsOfPath context old new before after told → told ≡ WalkAnswer.Refused Refusal.NoRoom → ⊥
 path_has_room context old new before after told tells is = subst (λ (r : WalkAnswer). TellsOfPath context old new before after r) is tells

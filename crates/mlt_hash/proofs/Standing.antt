@@ -1,10 +1,7 @@
 -- Where a walk on its way stands
-use Rattle.std.proofs.Common.{◌≡◌, ℕ, Option, subst}
-use Rattle.std.specs.Ordering.{nat_cmp}
+use Rattle.std.proofs.Common.{◌≡◌, ℕ, Option, subst, nat_cmp}
 use Rattle.std.specs.FinSet as set
-use Rattle.mlt_hash_access.specs.Views.{View}
-use Rattle.mlt_hash.specs.Walks.{WalkContext, IsAtBucket, IsHeaded, IsPlaced, IsStanding, Stands, WalkFields}
-use Rattle.mlt_hash.specs.declared.pass.Phase.{Phase}
+use Rattle.mlt_hash.proofs.Names.{View, WalkContext, IsAtBucket, IsHeaded, IsPlaced, IsStanding, Stands, WalkFields, Phase}
 
 -- a walk stands where its phase says
 pub stands_at : (context : WalkContext) (walk : WalkFields) (view : View) (phase : Phase) → walk.phase ≡ phase → IsStanding context walk view → Stands phase context walk view

@@ -1,22 +1,9 @@
 -- What stood in the slots that a wide pass wrote for its first key, and whose room is kept once owners of ghosts close
-use Rattle.std.proofs.Common.{◌≡◌, ◌⊎◌, ℕ, zero, suc, true, slice_index_or, slice_set, List, [], ◌∷◌, Option, None, Some, refl, sym, ap, subst, ◌∙◌, inl, inr}
-use Rattle.std.specs.Ordering.{nat_cmp}
+use Rattle.std.proofs.Common.{◌≡◌, ◌⊎◌, ℕ, zero, suc, true, slice_index_or, slice_set, List, [], ◌∷◌, Option, None, Some, refl, sym, ap, subst, ◌∙◌, inl, inr, nat_cmp}
 use Rattle.std.specs.FinSet as set
-use Rattle.std.proofs.lemmas.Bool.{cases_eq}
-use Rattle.mlt_page.specs.Slots.{is_kept}
-use Rattle.mlt_page.specs.declared.slot.Slot.{Slot}
-use Rattle.mlt_page.specs.declared.slot.Slot.TheVariants.{Free, Ghost, Live}
-use Rattle.mlt_page.specs.declared.page.Page.{Page}
-use Rattle.mlt_page.specs.Values.{BucketFields}
-use Rattle.mlt_hash_form.specs.File.{FilePages}
-use Rattle.mlt_hash_form.specs.Form.{SetsOneSlot, slot_at}
-use Rattle.mlt_hash_form.proofs.Splitting.{used_from_kept}
-use Rattle.mlt_hash_access.specs.Views.{View, rebased, seen_with}
-use Rattle.mlt_hash_split.specs.Rests.{KeepsNoMore}
-use Rattle.mlt_hash.specs.Passes.{slot_after}
-use Rattle.mlt_hash.specs.Walks.{IsOwnSlot, SlotsStood, slot_on}
-use Rattle.mlt_hash.specs.declared.pass.Change.{Change}
-use Rattle.mlt_hash.specs.declared.pass.Change.TheVariants as change
+use Rattle.mlt_hash.proofs.Names.{cases_eq, is_kept, Slot, Free, Ghost, Live, Page, BucketFields, FilePages, slot_at, used_from_kept, View, KeepsNoMore, slot_after, IsOwnSlot, SlotsStood, slot_on, Change}
+use Rattle.mlt_hash_form.specs.Form.{SetsOneSlot}
+use Rattle.mlt_hash_access.specs.Views.{rebased, seen_with}
 
 -- a slot of a list in which one was set is that one's new content, or as before
 set_cases : (slots : List Slot) (i j : ℕ) (s : Slot) → (slice_index_or (slice_set slots i s) j Free ≡ s) ⊎ (slice_index_or (slice_set slots i s) j Free ≡ slice_index_or slots j Free)
@@ -37,10 +24,10 @@ slot_cases buckets buckets' n i s sets m j =
 
 -- what a change leaves in its slot is the transaction's own
 pub own_after : (done : Change) (key tx : ℕ) → IsOwnSlot tx (slot_after done key tx)
-own_after (change.Put value) key tx = tt
-own_after (change.Revive value) key tx = tt
-own_after (change.Set value) key tx = tt
-own_after change.Remove key tx = refl
+own_after (Change.Put value) key tx = tt
+own_after (Change.Revive value) key tx = tt
+own_after (Change.Set value) key tx = tt
+own_after Change.Remove key tx = refl
 
 -- and its room is kept as long as the transaction is open
 own_is_kept : (active : set.FinSet nat_cmp) (tx : ℕ) (slot : Slot) → set.contains active tx ≡ true → IsOwnSlot tx slot → is_kept active slot ≡ true

@@ -1,41 +1,20 @@
 -- A wide pass that has changed its first record goes on to another key
 use Rattle.std.proofs.Common.{◌≡◌, ℕ, ◌≤◌, true, Option, None, Some, is_some, refl, sym, ap, subst, ◌∙◌, inl, inr, arith}
 use Rattle.std.specs.FinMap as map
-use Rattle.std.proofs.lemmas.Bool.{cases_eq}
-use Rattle.mlt_types.specs.declared.mode.Mode.TheVariants.{Exclusive}
-use Rattle.mlt_page.specs.Values.{HeadFields}
-use Rattle.mlt_page.specs.declared.page.Page.{Page}
-use Rattle.mlt_page.specs.declared.page.Page.TheVariants as page
-use Rattle.mlt_page_locks.specs.LockTables.{Modes}
-use Rattle.mlt_page_locks.specs.Requests.{with_page}
+use Rattle.mlt_hash.proofs.Names.{cases_eq, Exclusive, HeadFields, Page, Modes, with_page, stronger_exclusive, Slot, buckets_of, dir_of, header_of, row_of, slot_at, Agrees, over, own_or_clean, seen_as, LocalState, ReadsHeldPage, view_of, view_over, may_read, mode_of_others, mode_of_page, seen_held, held_page, header_held, header_mode, slot_after, WalkContext, Before, GoesAfter, HoldsBeside, IsChanged, IsHeaded, IsOwnSlot, MayWalk, SlotsStood, Stands, WalkFields, context_after, before_of, nothing_before, one_key, slot_on, Change, Pass, Phase}
 use Rattle.mlt_page_locks.proofs.Maps.{same_entries}
-use Rattle.mlt_page_locks.proofs.LockLaws.{stronger_exclusive}
-use Rattle.mlt_page.specs.declared.slot.Slot.{Slot}
-use Rattle.mlt_hash_form.specs.File.{buckets_of, dir_of, header_of, row_of}
-use Rattle.mlt_hash_form.specs.Form.{is_used, slot_at}
-use Rattle.mlt_hash_form.specs.Held.{Agrees, over, own_or_clean}
-use Rattle.mlt_hash_form.proofs.HeldPages.{seen_as}
-use Rattle.mlt_hash_access.specs.LocalStates.{LocalState}
-use Rattle.mlt_hash_access.specs.Views.{ReadsHeldPage, view_of, view_over}
+use Rattle.mlt_hash_form.specs.Form.{is_used}
 use Rattle.mlt_hash_access.proofs.Since.{all_written, nothing_since, read_is_seen}
-use Rattle.mlt_hash_access.proofs.Views.{agrees, may_read, mode_of_others, mode_of_page, seen_held}
-use Rattle.mlt_hash_split.specs.Rests.{held_page}
+use Rattle.mlt_hash_access.proofs.Views.{agrees}
 use Rattle.mlt_hash_split.proofs.Closing.{held_page_over}
 use Rattle.mlt_hash_split.proofs.HeldPages.{read_of, reads_as, same_header}
-use Rattle.mlt_hash.specs.Passes.{header_held, header_mode, slot_after}
-use Rattle.mlt_hash.specs.Walks.{WalkContext, Before, GoesAfter, HoldsBeside, IsChanged, IsHeaded, IsOwnSlot, MayWalk, SlotsStood, Stands, WalkFields, context_after, before_of, nothing_before, one_key, slot_on}
 use Rattle.mlt_hash.specs.Changes.{IsChangedPhase}
-use Rattle.mlt_hash.specs.declared.pass.Change.{Change}
-use Rattle.mlt_hash.specs.declared.pass.Pass.{Pass}
-use Rattle.mlt_hash.specs.declared.pass.Pass.TheVariants as pass
-use Rattle.mlt_hash.specs.declared.pass.Phase.{Phase}
-use Rattle.mlt_hash.specs.declared.pass.Phase.TheVariants as at
 use Rattle.mlt_hash.proofs.Beside.{still_beside}
 use Rattle.mlt_hash.proofs.Stood.{own_after, slot_cases}
 
 -- where it stands
 changed_at : (phase : Phase) (context : WalkContext) (walk : WalkFields) (m : LocalState) → IsChangedPhase phase → Stands phase (one_key context) walk (view_of m) → (bucket : ℕ) × (done : Change) × IsChanged (one_key context) walk (view_of m) bucket done
-changed_at (at.Changed bucket done) context walk m changed stands = (bucket, done, stands)
+changed_at (Phase.Changed bucket done) context walk m changed stands = (bucket, done, stands)
 changed_at other context walk m changed stands = absurd changed
 
 -- a page that is held exclusively stays as it is held
@@ -46,7 +25,7 @@ held_alike modes root q held =
       | inr elsewhere ↦ sym (mode_of_others modes root Exclusive q elsewhere)
     ]
 
-module _ (context : WalkContext) (walk : WalkFields) (m : LocalState) (first : context.before ≡ nothing_before) (wide : walk.pass ≡ pass.Wide) (phase : IsChangedPhase walk.phase) (given : MayWalk context m walk) where
+module _ (context : WalkContext) (walk : WalkFields) (m : LocalState) (first : context.before ≡ nothing_before) (wide : walk.pass ≡ Pass.Wide) (phase : IsChangedPhase walk.phase) (given : MayWalk context m walk) where
   ready : MayWalk (one_key context) m walk
   ready = subst (λ (b : Before). MayWalk (context_after b context) m walk) first given
 
@@ -84,12 +63,12 @@ module _ (context : WalkContext) (walk : WalkFields) (m : LocalState) (first : c
   seen_header = ap is_some (seen_held m context.root (may_read m context.root Exclusive root_is_exclusive))
 
   -- and reads it
-  pub header_read : (h : HeadFields) × ReadsHeldPage (view_of m) context.root (page.Head h)
-  header_read = (header, read_of ((view_of m).seen context.root) ((view_of m).own context.root) (page.Head header) seen_header changed.2.head)
+  pub header_read : (h : HeadFields) × ReadsHeldPage (view_of m) context.root (Page.Head h)
+  header_read = (header, read_of ((view_of m).seen context.root) ((view_of m).own context.root) (Page.Head header) seen_header changed.2.head)
 
-  module _ (h : HeadFields) (reads : ReadsHeldPage (view_of m) context.root (page.Head h)) where
-    read_as : held_page (view_of m) context.root ≡ Some (page.Head h)
-    read_as = reads_as (view_of m) context.root (Some (page.Head h)) reads
+  module _ (h : HeadFields) (reads : ReadsHeldPage (view_of m) context.root (Page.Head h)) where
+    read_as : held_page (view_of m) context.root ≡ Some (Page.Head h)
+    read_as = reads_as (view_of m) context.root (Some (Page.Head h)) reads
 
     same_read : header ≡ h
     same_read = same_header (view_of m) context.root header h changed.2.head read_as
@@ -103,12 +82,12 @@ module _ (context : WalkContext) (walk : WalkFields) (m : LocalState) (first : c
     agree : Agrees (view_of m).seen ready.file.clean
     agree = agrees m ready.file.clean ready.may ready.file.is_clean
 
-    head_over : over ready.file.clean (view_of m).own context.root ≡ Some (page.Head h)
+    head_over : over ready.file.clean (view_of m).own context.root ≡ Some (Page.Head h)
     head_over = sym (held_page_over (view_of m) ready.file.clean context.root agree seen_header) ∙ read_as
 
     module _ (key dir row depth : ℕ) (dir_is : dir ≡ dir_of h (context.bits key)) (row_is : row ≡ row_of h (context.bits key)) (depth_is : depth ≡ h.depth) where
       abbrev on : WalkFields
-      on = record walk { key = key; mode = Exclusive; phase = at.Headed dir row depth; split = None }
+      on = record walk { key = key; mode = Exclusive; phase = Phase.Headed dir row depth; split = None }
 
       abbrev then : WalkContext
       then = context_after (before_of (view_of m)) context
@@ -120,7 +99,7 @@ module _ (context : WalkContext) (walk : WalkFields) (m : LocalState) (first : c
         header = h;
         held = same_entries (view_of m).modes (with_page (view_of m).modes context.root Exclusive) (λ q. held_alike (view_of m).modes context.root q root_is_exclusive) ∙ ap (λ p. header_held (view_of m).modes p context.root) (sym wide);
         among = still_beside (view_of m) (view_over (view_of m).own m) h 18 refl (subst (λ (h : HeadFields). HoldsBeside (view_of m) h 18) same_read changed.2.among);
-        head = read_is_seen (view_of m) context.root (page.Head h) seen_header read_as;
+        head = read_is_seen (view_of m) context.root (Page.Head h) seen_header read_as;
         dir_is = dir_is;
         row_is = row_is;
         depth_is = depth_is;

@@ -4,12 +4,10 @@ use Rattle.std.specs.List.{list_all}
 use Rattle.std.specs.FinMap as map
 use Rattle.mlt_types.specs.declared.mode.Mode.TheVariants.{Exclusive}
 use Rattle.mlt_types.specs.declared.refusal.Refusal.{Refusal}
-use Rattle.mlt_types.specs.declared.refusal.Refusal.TheVariants as refusal
 use Rattle.mlt_page.specs.Slots.{is_ghost_of, is_kept}
 use Rattle.mlt_page.specs.declared.slot.Slot.{Slot}
 use Rattle.mlt_page.specs.declared.slot.Slot.TheVariants.{Live}
 use Rattle.mlt_page.specs.declared.page.Page.{Page}
-use Rattle.mlt_page.specs.declared.page.Page.TheVariants as page
 use Rattle.mlt_page.specs.Values.{BucketFields}
 use Rattle.mlt_hash_form.specs.Room.{is_crowded}
 use Rattle.mlt_hash_access.specs.LocalStates.{LocalState}
@@ -21,47 +19,43 @@ use Rattle.mlt_hash.specs.Passes.{HasRoomFrom, IsNextPass, NeverHasRoom}
 use Rattle.mlt_hash.specs.Walks.{WalkContext, IsStanding, MayWalk, WalkFields, nothing_before, view_for}
 use Rattle.mlt_hash.specs.Steps.{IsSameWalk}
 use Rattle.mlt_hash.specs.declared.pass.Pass.{Pass}
-use Rattle.mlt_hash.specs.declared.pass.Pass.TheVariants as pass
 use Rattle.mlt_hash.specs.declared.pass.Phase.{Phase}
-use Rattle.mlt_hash.specs.declared.pass.Phase.TheVariants as at
 use Rattle.mlt_hash.specs.declared.pass.Change.{Change}
-use Rattle.mlt_hash.specs.declared.pass.Change.TheVariants as change
 use Rattle.mlt_hash.specs.declared.answer.WalkAnswer.{WalkAnswer}
-use Rattle.mlt_hash.specs.declared.answer.WalkAnswer.TheVariants as answer
 
 -- the walk is at its bucket
 abbrev pub IsAtBucketPhase : Phase → Type 0
-IsAtBucketPhase (at.AtBucket bucket depth found) = Unit {0}
+IsAtBucketPhase (Phase.AtBucket bucket depth found) = Unit {0}
 IsAtBucketPhase other = ⊥
 
 -- the walk is at its bucket, and found a record of its key there, or none
 abbrev pub IsAtRecord : Phase → Type 0
-IsAtRecord (at.AtBucket bucket depth found) = IsSome found
+IsAtRecord (Phase.AtBucket bucket depth found) = IsSome found
 IsAtRecord other = ⊥
 
 abbrev pub IsAtAbsent : Phase → Type 0
-IsAtAbsent (at.AtBucket bucket depth found) = found ≡ None
+IsAtAbsent (Phase.AtBucket bucket depth found) = found ≡ None
 IsAtAbsent other = ⊥
 
 -- the walk has written its change
 abbrev pub IsChangedPhase : Phase → Type 0
-IsChangedPhase (at.Changed bucket done) = Unit {0}
+IsChangedPhase (Phase.Changed bucket done) = Unit {0}
 IsChangedPhase other = ⊥
 
 -- the page of the bucket that a walk is at
 abbrev pub page_of : Phase → ℕ
-page_of at.Start = 0
-page_of (at.Headed dir row depth) = dir
-page_of (at.Placed bucket depth) = bucket
-page_of (at.AtBucket bucket depth found) = bucket
-page_of (at.Full next) = 0
-page_of (at.Adding value bucket room_depth unsplit) = bucket
-page_of (at.Splitting value room_depth) = 0
-page_of (at.Changed bucket done) = bucket
+page_of Phase.Start = 0
+page_of (Phase.Headed dir row depth) = dir
+page_of (Phase.Placed bucket depth) = bucket
+page_of (Phase.AtBucket bucket depth found) = bucket
+page_of (Phase.Full next) = 0
+page_of (Phase.Adding value bucket room_depth unsplit) = bucket
+page_of (Phase.Splitting value room_depth) = 0
+page_of (Phase.Changed bucket done) = bucket
 
 -- the bucket as the walk sees it
 pub record SeesBucket (walk : WalkFields) (view : View) (fields : BucketFields) : Type 0 where
-  pub at : view.seen (page_of walk.phase) ≡ Some (Some (page.Bucket fields))
+  pub at : view.seen (page_of walk.phase) ≡ Some (Some (Page.Bucket fields))
 
 -- the transaction's own ghost of the key stands in the bucket
 abbrev pub HasOwnGhost : ℕ → WalkFields → View → Type 0
@@ -94,16 +88,16 @@ pub record PlansSlot (view : View) (write : WriteFields) : Type 0 where
 -- nothing has changed.
 abbrev pub TellsOfWrite : LocalState → LocalState → WalkFields → WalkFields → WriteFields → Change → WalkAnswer
     → Type 0
-TellsOfWrite old new before after write done answer.Changed =
+TellsOfWrite old new before after write done WalkAnswer.Changed =
     WritesHeldSlot old new write.number write.at write.slot
-    × (after ≡ record before { phase = at.Changed write.number done })
-TellsOfWrite old new before after write done (answer.Refused reason) =
-    (reason ≡ refusal.OutOfMemory) × (2 ≤ map.len old.running.images) × (new ≡ old) × (after ≡ before)
+    × (after ≡ record before { phase = Phase.Changed write.number done })
+TellsOfWrite old new before after write done (WalkAnswer.Refused reason) =
+    (reason ≡ Refusal.OutOfMemory) × (2 ≤ map.len old.running.images) × (new ≡ old) × (after ≡ before)
 TellsOfWrite old new before after write done other = ⊥
 
 -- page q was written if the answer is that the change is made, and else nothing has changed
 abbrev pub WritesIfChanged : LocalState → LocalState → ℕ → WalkAnswer → Type 0
-WritesIfChanged old new q answer.Changed = (page : Page) × WritesHeldPage old new q page
+WritesIfChanged old new q WalkAnswer.Changed = (page : Page) × WritesHeldPage old new q page
 WritesIfChanged old new q other = new ≡ old
 
 -- The bucket on page q is written: s stands in the place of its first slot that has the property.
@@ -124,7 +118,7 @@ PutsLowest context old new walk q value = FillsFirst old new q (has_room context
 
 -- which slot an addition takes: that of the transaction's own ghost; where it left none, the lowest with room
 abbrev pub TakesSlot : WalkAnswer → WalkContext → View → View → WalkFields → ℕ → Type 0
-TakesSlot answer.Changed context old new walk value =
+TakesSlot WalkAnswer.Changed context old new walk value =
     RevivesFirst context.tx old new walk (page_of walk.phase) value
     ⊎ ((HasOwnGhost context.tx walk old → ⊥) × PutsLowest context old new walk (page_of walk.phase) value)
 TakesSlot other context old new walk value = Unit {0}
@@ -132,19 +126,19 @@ TakesSlot other context old new walk value = Unit {0}
 -- the change is made
 pub record Makes (context : WalkContext) (new : LocalState) (before after : WalkFields) (done : Change) : Type 0 where
   pub same : IsSameWalk before after
-  pub phase : after.phase ≡ at.Changed (page_of before.phase) done
+  pub phase : after.phase ≡ Phase.Changed (page_of before.phase) done
   pub stands : IsStanding context after (view_for context new)
 
 -- Memory was refused, and the walk is as it was. The first change of a walk takes none.
 abbrev pub LacksMemory : WalkContext → WalkFields → WalkFields → Refusal → Type 0
 LacksMemory context before after reason =
-    (reason ≡ refusal.OutOfMemory) × (context.before ≡ nothing_before → ⊥) × (after ≡ before)
+    (reason ≡ Refusal.OutOfMemory) × (context.before ≡ nothing_before → ⊥) × (after ≡ before)
 
 -- The change of the record that was found is made; or memory was refused, of which a walk's first
 -- change takes none, and the walk is as it was.
 abbrev pub TellsOfChange : WalkContext → LocalState → WalkFields → WalkFields → Change → WalkAnswer → Type 0
-TellsOfChange context new before after done answer.Changed = Makes context new before after done
-TellsOfChange context new before after done (answer.Refused reason) =
+TellsOfChange context new before after done WalkAnswer.Changed = Makes context new before after done
+TellsOfChange context new before after done (WalkAnswer.Refused reason) =
     LacksMemory context before after reason
 TellsOfChange context new before after done other = ⊥
 
@@ -166,7 +160,7 @@ crowded_at context walk fields d = is_crowded context.bits context.active d (con
 
 -- the depth of the directory that a walk at its bucket has read
 abbrev pub directory_depth_of : Phase → ℕ
-directory_depth_of (at.AtBucket bucket depth found) = depth
+directory_depth_of (Phase.AtBucket bucket depth found) = depth
 directory_depth_of other = 0
 
 -- this pass is the one that splits the bucket
@@ -181,11 +175,11 @@ pub record NeedsSplit (context : WalkContext) (new : LocalState) (before after :
   pub full : IsFull context before (view_for context new) fields
   pub same : IsSameWalk before after
   pub stands : IsStanding context after (view_for context new)
-  pub first : before.pass ≡ pass.First → (next : Pass) × (after.phase ≡ at.Full next) × IsNext context before fields next
-  pub later : (before.pass ≡ pass.First → ⊥) → (d : ℕ)
-      × (after.phase ≡ at.Adding value (page_of before.phase) d true)
+  pub first : before.pass ≡ Pass.First → (next : Pass) × (after.phase ≡ Phase.Full next) × IsNext context before fields next
+  pub later : (before.pass ≡ Pass.First → ⊥) → (d : ℕ)
+      × (after.phase ≡ Phase.Adding value (page_of before.phase) d true)
       × HasRoomFrom (crowded_at context before fields) fields.depth context.max_depth d
-  pub narrow : before.pass ≡ pass.Narrow → IsNext context before fields pass.Narrow
+  pub narrow : before.pass ≡ Pass.Narrow → IsNext context before fields Pass.Narrow
 
 -- A narrow pass has to be wide.
 pub record MustWiden (context : WalkContext) (new : LocalState) (before after : WalkFields) : Type 0 where
@@ -193,9 +187,9 @@ pub record MustWiden (context : WalkContext) (new : LocalState) (before after : 
   pub full : IsFull context before (view_for context new) fields
   pub same : IsSameWalk before after
   pub stands : IsStanding context after (view_for context new)
-  pub narrow : before.pass ≡ pass.Narrow
-  pub wide : IsNext context before fields pass.Wide
-  pub phase : after.phase ≡ at.Full pass.Wide
+  pub narrow : before.pass ≡ Pass.Narrow
+  pub wide : IsNext context before fields Pass.Wide
+  pub phase : after.phase ≡ Phase.Full Pass.Wide
 
 -- There is no room at any depth that the directory may get, and the pass is the one that would split. The walk is as it was.
 pub record HasNoRoom (context : WalkContext) (new : LocalState) (before after : WalkFields) : Type 0 where
@@ -203,18 +197,18 @@ pub record HasNoRoom (context : WalkContext) (new : LocalState) (before after : 
   pub full : IsFull context before (view_for context new) fields
   pub shallow : fields.depth ≤ context.max_depth
   pub never : NeverHasRoom (crowded_at context before fields) fields.depth context.max_depth
-  pub later : before.pass ≡ pass.First → ⊥
-  pub narrow : before.pass ≡ pass.Narrow → IsNext context before fields pass.Narrow
+  pub later : before.pass ≡ Pass.First → ⊥
+  pub narrow : before.pass ≡ Pass.Narrow → IsNext context before fields Pass.Narrow
   pub stays : after ≡ before
 
 -- A record of this value is added: in the place of the transaction's own ghost, or in a slot with room.
 abbrev pub TellsOfAddition : WalkContext → LocalState → WalkFields → WalkFields → ℕ → WalkAnswer → Type 0
-TellsOfAddition context new before after value answer.Changed =
-    Makes context new before after (change.Revive value)
-    ⊎ Makes context new before after (change.Put value)
-TellsOfAddition context new before after value answer.NeedSplit = NeedsSplit context new before after value
-TellsOfAddition context new before after value answer.Widen = MustWiden context new before after
-TellsOfAddition context new before after value (answer.Refused refusal.NoRoom) = HasNoRoom context new before after
-TellsOfAddition context new before after value (answer.Refused reason) =
+TellsOfAddition context new before after value WalkAnswer.Changed =
+    Makes context new before after (Change.Revive value)
+    ⊎ Makes context new before after (Change.Put value)
+TellsOfAddition context new before after value WalkAnswer.NeedSplit = NeedsSplit context new before after value
+TellsOfAddition context new before after value WalkAnswer.Widen = MustWiden context new before after
+TellsOfAddition context new before after value (WalkAnswer.Refused Refusal.NoRoom) = HasNoRoom context new before after
+TellsOfAddition context new before after value (WalkAnswer.Refused reason) =
     LacksMemory context before after reason
 TellsOfAddition context new before after value other = ⊥

@@ -3,11 +3,10 @@ use Rattle.std.specs.Prelude.{ℕ, ◌≡◌, ◌+◌, ◌⊎◌, true, false, S
 use Rattle.std.specs.List.{list_all}
 use Rattle.std.specs.FinMap as map
 use Rattle.mlt_types.specs.declared.mode.Mode.TheVariants.{Exclusive}
-use Rattle.mlt_types.specs.declared.refusal.Refusal.TheVariants as refusal
+use Rattle.mlt_types.specs.declared.refusal.Refusal.{Refusal}
 use Rattle.mlt_page.specs.Slots.{is_kept}
 use Rattle.mlt_page.specs.Values.{BucketFields, HeadFields}
 use Rattle.mlt_page.specs.declared.page.Page.{Page}
-use Rattle.mlt_page.specs.declared.page.Page.TheVariants as page
 use Rattle.mlt_page_locks.specs.Requests.{IsLowest, conflicts}
 use Rattle.mlt_hash_access.specs.LocalStates.{LocalState}
 use Rattle.mlt_hash_access.specs.PageSteps.{MakesLockedPage, WritesAtMost}
@@ -19,10 +18,8 @@ use Rattle.mlt_hash.specs.Walks.{WalkContext, IsStanding, WalkFields, split_targ
 use Rattle.mlt_hash.specs.Steps.{IsSameWalk, TellsOfPath}
 use Rattle.mlt_hash.specs.Changes.{Makes, PutsLowest}
 use Rattle.mlt_hash.specs.declared.pass.Phase.{Phase}
-use Rattle.mlt_hash.specs.declared.pass.Phase.TheVariants as at
-use Rattle.mlt_hash.specs.declared.pass.Change.TheVariants as change
+use Rattle.mlt_hash.specs.declared.pass.Change.{Change}
 use Rattle.mlt_hash.specs.declared.answer.WalkAnswer.{WalkAnswer}
-use Rattle.mlt_hash.specs.declared.answer.WalkAnswer.TheVariants as answer
 
 -- one step of a walk: the state and the walk, before it and after
 pub record WalkStep : Type 0 where
@@ -42,8 +39,8 @@ pub record StandsOn (context : WalkContext) (new : LocalState) (before after : W
 -- the walk has to split its bucket: it has not yet, or there is still no room
 abbrev pub HasToSplit : WalkContext → LocalState → WalkFields → ℕ → ℕ → ℕ → Type 0
 HasToSplit context old before value n room_depth =
-    (before.phase ≡ at.Adding value n room_depth true)
-    ⊎ ((bucket : BucketFields) × (held_page (view_for context old) n ≡ Some (page.Bucket bucket))
+    (before.phase ≡ Phase.Adding value n room_depth true)
+    ⊎ ((bucket : BucketFields) × (held_page (view_for context old) n ≡ Some (Page.Bucket bucket))
     × (list_all (is_kept context.active) bucket.slots ≡ true))
 
 -- this is so of the walk's split
@@ -55,13 +52,13 @@ OfSplit walk Is = (split : SplitFields) × (walk.split ≡ Some split) × Is spl
 pub record BeginsSplit (context : WalkContext) (step : WalkStep) (value n room_depth : ℕ) : Type 0 where
   pub needed : HasToSplit context step.old step.before value n room_depth
   pub on : StandsOn context step.new step.before step.after
-  pub phase : step.after.phase ≡ at.Splitting value room_depth
+  pub phase : step.after.phase ≡ Phase.Splitting value room_depth
   pub split : SplitFields
   pub split_is : step.after.split ≡ Some split
   pub header : HeadFields
-  pub head : held_page (view_for context step.old) context.root ≡ Some (page.Head header)
+  pub head : held_page (view_for context step.old) context.root ≡ Some (Page.Head header)
   pub bucket : BucketFields
-  pub found : held_page (view_for context step.old) n ≡ Some (page.Bucket bucket)
+  pub found : held_page (view_for context step.old) n ≡ Some (Page.Bucket bucket)
   pub depth : split.depth ≡ bucket.depth
   pub directory_depth : split.directory_depth ≡ header.depth
   pub steps : steps_left split ≡ 1 + directory_steps split.depth split.directory_depth
@@ -71,7 +68,7 @@ pub record BeginsSplit (context : WalkContext) (step : WalkStep) (value n room_d
 -- The split goes on, one step fewer is left.
 pub record SplitGoesOn (context : WalkContext) (new : LocalState) (before after : WalkFields) (value room_depth : ℕ) : Type 0 where
   pub on : StandsOn context new before after
-  pub phase : after.phase ≡ at.Splitting value room_depth
+  pub phase : after.phase ≡ Phase.Splitting value room_depth
   pub was : SplitFields
   pub is : SplitFields
   pub was_is : before.split ≡ Some was
@@ -84,7 +81,7 @@ pub record SplitGoesOn (context : WalkContext) (new : LocalState) (before after 
 pub record SplitCloses (context : WalkContext) (new : LocalState) (before after : WalkFields) (value room_depth : ℕ) : Type 0 where
   pub on : StandsOn context new before after
   pub bucket : ℕ
-  pub phase : after.phase ≡ at.Adding value bucket room_depth false
+  pub phase : after.phase ≡ Phase.Adding value bucket room_depth false
   pub was : SplitFields
   pub was_is : before.split ≡ Some was
   pub last : steps_left was ≡ 1
@@ -93,65 +90,65 @@ pub record SplitCloses (context : WalkContext) (new : LocalState) (before after 
 -- a step of a walk whose bucket had no room: it puts the record where there is room now, into the lowest slot, but splits once
 -- at least
 abbrev pub TellsOfAdding : WalkContext → WalkStep → ℕ → ℕ → ℕ → WalkAnswer → Type 0
-TellsOfAdding context step value bucket room_depth answer.Going =
+TellsOfAdding context step value bucket room_depth WalkAnswer.Going =
     BeginsSplit context step value bucket room_depth
-TellsOfAdding context step value bucket room_depth answer.Changed =
-    (step.before.phase ≡ at.Adding value bucket room_depth false)
-    × Makes context step.new step.before step.after (change.Put value)
+TellsOfAdding context step value bucket room_depth WalkAnswer.Changed =
+    (step.before.phase ≡ Phase.Adding value bucket room_depth false)
+    × Makes context step.new step.before step.after (Change.Put value)
     × WritesAtMost step.old step.new bucket
     × PutsLowest context (view_for context step.old) (view_for context step.new) step.before bucket value
-TellsOfAdding context step value bucket room_depth (answer.Refused refusal.NoRoom) =
+TellsOfAdding context step value bucket room_depth (WalkAnswer.Refused Refusal.NoRoom) =
     HasToSplit context step.old step.before value bucket room_depth
     × (map.len step.old.store.pages ≡ step.old.store.max_pages)
-TellsOfAdding context step value bucket room_depth (answer.Refused reason) =
-    reason ≡ refusal.OutOfMemory
+TellsOfAdding context step value bucket room_depth (WalkAnswer.Refused reason) =
+    reason ≡ Refusal.OutOfMemory
 TellsOfAdding context step value bucket room_depth other = ⊥
 
 -- a step of a walk that splits its bucket tells what the step of the split tells, and which page that one locked or made
 abbrev pub TellsOfSplitting : WalkContext → WalkStep → ℕ → ℕ → WalkAnswer → Type 0
-TellsOfSplitting context step value room_depth answer.Going =
+TellsOfSplitting context step value room_depth WalkAnswer.Going =
     OfSplit step.before (λ split.
     IsDone split.phase (split_target context step.before room_depth) step.old step.new split)
     × (SplitGoesOn context step.new step.before step.after value room_depth
     ⊎ SplitCloses context step.new step.before step.after value room_depth)
-TellsOfSplitting context step value room_depth (answer.Waiting page by) =
+TellsOfSplitting context step value room_depth (WalkAnswer.Waiting page by) =
     OfSplit step.before (λ split.
     IsNextPage split.phase (split_target context step.before room_depth) (view_for context step.old) page)
     × IsLowest (conflicts step.old.locks step.old.running.tx page Exclusive) by
     × (step.new ≡ step.old)
     × (step.after ≡ step.before)
-TellsOfSplitting context step value room_depth (answer.Refused refusal.NoRoom) =
+TellsOfSplitting context step value room_depth (WalkAnswer.Refused Refusal.NoRoom) =
     OfSplit step.before (λ split. IsMaking split.phase)
     × (step.new ≡ step.old)
     × (map.len step.old.store.pages ≡ step.old.store.max_pages)
-TellsOfSplitting context step value room_depth (answer.Refused reason) =
-    (reason ≡ refusal.OutOfMemory)
+TellsOfSplitting context step value room_depth (WalkAnswer.Refused reason) =
+    (reason ≡ Refusal.OutOfMemory)
     × OfSplit step.before (λ split.
     IsLeft split.phase (split_target context step.before room_depth) step.old step.new)
 TellsOfSplitting context step value room_depth other = ⊥
 
 -- what a step tells, by where the walk stood
 abbrev pub TellsAt : Phase → WalkContext → LocalState → LocalState → WalkFields → WalkFields → WalkAnswer → Type 0
-TellsAt (at.Adding value bucket room_depth unsplit) context old new before after told =
+TellsAt (Phase.Adding value bucket room_depth unsplit) context old new before after told =
     TellsOfAdding context (walk_step old new before after) value bucket room_depth told
-TellsAt (at.Splitting value room_depth) context old new before after told =
+TellsAt (Phase.Splitting value room_depth) context old new before after told =
     TellsOfSplitting context (walk_step old new before after) value room_depth told
 TellsAt other context old new before after told = TellsOfPath context old new before after told
 
 -- the next step makes a page: it begins a split, or makes a page of the one under way
 abbrev pub HasToMake : Phase → WalkContext → LocalState → WalkFields → Type 0
-HasToMake (at.Adding value bucket room_depth unsplit) context old before =
+HasToMake (Phase.Adding value bucket room_depth unsplit) context old before =
     HasToSplit context old before value bucket room_depth
-HasToMake (at.Splitting value room_depth) context old before = OfSplit before (λ split. IsMaking split.phase)
+HasToMake (Phase.Splitting value room_depth) context old before = OfSplit before (λ split. IsMaking split.phase)
 HasToMake other context old before = ⊥
 
 -- the walk has a next step: it is on its way to its bucket, or splits it
 abbrev pub IsUnderWay : Phase → Type 0
-IsUnderWay at.Start = Unit {0}
-IsUnderWay (at.Headed dir row depth) = Unit {0}
-IsUnderWay (at.Placed bucket depth) = Unit {0}
-IsUnderWay (at.AtBucket bucket depth found) = ⊥
-IsUnderWay (at.Full next) = ⊥
-IsUnderWay (at.Adding value bucket room_depth unsplit) = Unit {0}
-IsUnderWay (at.Splitting value room_depth) = Unit {0}
-IsUnderWay (at.Changed bucket done) = ⊥
+IsUnderWay Phase.Start = Unit {0}
+IsUnderWay (Phase.Headed dir row depth) = Unit {0}
+IsUnderWay (Phase.Placed bucket depth) = Unit {0}
+IsUnderWay (Phase.AtBucket bucket depth found) = ⊥
+IsUnderWay (Phase.Full next) = ⊥
+IsUnderWay (Phase.Adding value bucket room_depth unsplit) = Unit {0}
+IsUnderWay (Phase.Splitting value room_depth) = Unit {0}
+IsUnderWay (Phase.Changed bucket done) = ⊥

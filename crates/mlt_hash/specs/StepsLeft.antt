@@ -6,7 +6,6 @@ use Rattle.mlt_hash_split.specs.Rests.{held_page}
 use Rattle.mlt_hash_split.specs.Splits.{SplitFields, directory_steps, steps_left}
 use Rattle.mlt_hash.specs.Walks.{WalkFields}
 use Rattle.mlt_hash.specs.declared.pass.Phase.{Phase}
-use Rattle.mlt_hash.specs.declared.pass.Phase.TheVariants as at
 
 -- how deep the directory is, of depth g, once a bucket of depth l is split
 abbrev pub depth_after : ℕ → ℕ → ℕ
@@ -35,10 +34,10 @@ directory_depth view root = (header_of (held_page view root)).depth
 -- The steps that a pass still takes that splits its bucket down to a depth at which there is room, and puts its record. It
 -- takes fewer where there is room before.
 abbrev pub steps_to_put_at : Phase → ℕ → WalkFields → View → ℕ
-steps_to_put_at (at.Adding value bucket room_depth unsplit) root walk view =
+steps_to_put_at (Phase.Adding value bucket room_depth unsplit) root walk view =
     steps_of_splits (room_depth - bucket_depth view bucket) (bucket_depth view bucket)
     (directory_depth view root)
-steps_to_put_at (at.Splitting value room_depth) root walk view = steps_with_split walk.split room_depth
+steps_to_put_at (Phase.Splitting value room_depth) root walk view = steps_with_split walk.split room_depth
 steps_to_put_at other root walk view = 0
 
 abbrev pub steps_to_put : ℕ → WalkFields → View → ℕ
@@ -46,6 +45,6 @@ steps_to_put root walk view = steps_to_put_at walk.phase root walk view
 
 -- the walk splits its bucket, or is to split it or to put its record
 abbrev pub IsPutting : Phase → Type 0
-IsPutting (at.Adding value bucket room_depth unsplit) = Unit {0}
-IsPutting (at.Splitting value room_depth) = Unit {0}
+IsPutting (Phase.Adding value bucket room_depth unsplit) = Unit {0}
+IsPutting (Phase.Splitting value room_depth) = Unit {0}
 IsPutting other = ⊥

@@ -10,7 +10,6 @@ use Rattle.mlt_page.specs.Slots.{is_ghost_of, is_kept, is_live_of}
 use Rattle.mlt_page.specs.declared.slot.Slot.{Slot}
 use Rattle.mlt_page.specs.declared.slot.Slot.TheVariants.{Free, Ghost, Live}
 use Rattle.mlt_page.specs.declared.page.Page.{Page}
-use Rattle.mlt_page.specs.declared.page.Page.TheVariants as page
 use Rattle.mlt_page.specs.Values.{BucketFields, HeadFields}
 use Rattle.mlt_hash_form.specs.Form.{is_used, value_in}
 use Rattle.mlt_hash_form.specs.File.{FilePages, HasForm, bucket_of, depth_of, dir_of, row_of}
@@ -26,11 +25,8 @@ use Rattle.mlt_hash_split.specs.Splits.{IsUnderWay, SplitFields}
 use Rattle.mlt_hash_split.specs.declared.environment.Environment.{Environment}
 use Rattle.mlt_hash.specs.Passes.{MayHoldMore, bucket_held, bucket_mode, directory_held, directory_mode, header_held, header_mode, slot_after, value_after}
 use Rattle.mlt_hash.specs.declared.pass.Pass.{Pass}
-use Rattle.mlt_hash.specs.declared.pass.Pass.TheVariants as pass
 use Rattle.mlt_hash.specs.declared.pass.Phase.{Phase}
-use Rattle.mlt_hash.specs.declared.pass.Phase.TheVariants as at
 use Rattle.mlt_hash.specs.declared.pass.Change.{Change}
-use Rattle.mlt_hash.specs.declared.pass.Change.TheVariants as change
 
 -- what a contract sees of a walk
 pub record WalkFields : Type 0 where
@@ -114,7 +110,7 @@ view_for context m = view_over context.before.written m
 
 -- only a wide pass goes on to another key
 abbrev pub GoesAfter : Pass → Before → Type 0
-GoesAfter pass.Wide before = before.buckets ≤ 17
+GoesAfter Pass.Wide before = before.buckets ≤ 17
 GoesAfter other before = before ≡ nothing_before
 
 -- all pages that are held stand in a list of at most so many and the pages of the directory, and so do these
@@ -140,7 +136,7 @@ pub record IsHeaded (context : WalkContext) (walk : WalkFields) (view : View) (d
   pub header : HeadFields
   pub held : view.modes ≡ header_held context.before.held walk.pass context.root
   pub among : HoldsBeside view header (context.before.buckets + 1)
-  pub head : view.seen context.root ≡ Some (Some (page.Head header))
+  pub head : view.seen context.root ≡ Some (Some (Page.Head header))
   pub dir_is : dir ≡ dir_of header (context.bits walk.key)
   pub row_is : row ≡ row_of header (context.bits walk.key)
   pub depth_is : depth ≡ header.depth
@@ -154,9 +150,9 @@ pub record IsPlaced (context : WalkContext) (walk : WalkFields) (view : View) (b
   pub held : view.modes
       ≡ directory_held context.before.held walk.pass context.root (dir_of header (context.bits walk.key))
   pub among : HoldsBeside view header (context.before.buckets + 1)
-  pub head : view.seen context.root ≡ Some (Some (page.Head header))
+  pub head : view.seen context.root ≡ Some (Some (Page.Head header))
   pub dir : List ℕ
-  pub listed : view.seen (dir_of header (context.bits walk.key)) ≡ Some (Some (page.Dir dir))
+  pub listed : view.seen (dir_of header (context.bits walk.key)) ≡ Some (Some (Page.Dir dir))
   pub bucket_is : bucket ≡ slice_index dir (row_of header (context.bits walk.key))
   pub depth_is : depth ≡ header.depth
   pub shallow : header.depth ≤ context.max_depth
@@ -172,14 +168,14 @@ pub record IsAtBucket (context : WalkContext) (walk : WalkFields) (view : View) 
       ≡ bucket_held context.before.held walk.pass walk.mode context.root
       (dir_of header (context.bits walk.key)) bucket
   pub among : HoldsBeside view header (context.before.buckets + 2)
-  pub head : view.seen context.root ≡ Some (Some (page.Head header))
+  pub head : view.seen context.root ≡ Some (Some (Page.Head header))
   pub dir : List ℕ
-  pub listed : view.seen (dir_of header (context.bits walk.key)) ≡ Some (Some (page.Dir dir))
+  pub listed : view.seen (dir_of header (context.bits walk.key)) ≡ Some (Some (Page.Dir dir))
   pub bucket_is : bucket ≡ slice_index dir (row_of header (context.bits walk.key))
   pub depth_is : depth ≡ header.depth
   pub shallow : header.depth ≤ context.max_depth
   pub fields : BucketFields
-  pub at : view.seen bucket ≡ Some (Some (page.Bucket fields))
+  pub at : view.seen bucket ≡ Some (Some (Page.Bucket fields))
   pub found_is : found ≡ value_in walk.key fields.slots
 
 -- The header, the key's directory page and its bucket are read and held, and what the bucket has of
@@ -234,9 +230,9 @@ pub record IsAdding (context : WalkContext) (walk : WalkFields) (view : View) (b
   pub rest : IsAtRest (split_target context walk room_depth) view bucket header fields
   pub most : room_depth ≤ context.max_depth
   pub unsplit_is : unsplit ≡ true → fields.depth < room_depth
-  pub later : walk.pass ≡ pass.First → ⊥
-  pub narrow : walk.pass ≡ pass.Narrow → StaysNarrow context.root view room_depth fields.depth header.depth
-  pub wide : walk.pass ≡ pass.Wide → map.get view.modes context.root ≡ Some Exclusive
+  pub later : walk.pass ≡ Pass.First → ⊥
+  pub narrow : walk.pass ≡ Pass.Narrow → StaysNarrow context.root view room_depth fields.depth header.depth
+  pub wide : walk.pass ≡ Pass.Wide → map.get view.modes context.root ≡ Some Exclusive
 
 -- A split of the bucket is under way, down to this depth, at which there is room. Nothing was found of the key.
 pub record IsSplitting (context : WalkContext) (walk : WalkFields) (view : View) (room_depth : ℕ) : Type 0 where
@@ -247,27 +243,27 @@ pub record IsSplitting (context : WalkContext) (walk : WalkFields) (view : View)
   pub shallow : split.directory_depth ≤ context.max_depth
   pub under_way : IsUnderWay (split_target context walk room_depth) view split
   pub most : room_depth ≤ context.max_depth
-  pub later : walk.pass ≡ pass.First → ⊥
-  pub narrow : walk.pass ≡ pass.Narrow → StaysNarrow context.root view room_depth split.depth split.directory_depth
-  pub wide : walk.pass ≡ pass.Wide → map.get view.modes context.root ≡ Some Exclusive
+  pub later : walk.pass ≡ Pass.First → ⊥
+  pub narrow : walk.pass ≡ Pass.Narrow → StaysNarrow context.root view room_depth split.depth split.directory_depth
+  pub wide : walk.pass ≡ Pass.Wide → map.get view.modes context.root ≡ Some Exclusive
 
 -- what stood in the slot that a change writes
 abbrev pub StoodBefore : Change → WalkContext → ℕ → List Slot → Slot → Type 0
-StoodBefore (change.Put value) context key slots slot =
+StoodBefore (Change.Put value) context key slots slot =
     (value_in key slots ≡ None)
     × (position (is_ghost_of key context.tx) slots ≡ None)
     × (is_kept context.active slot ≡ false)
-StoodBefore (change.Revive value) context key slots slot =
+StoodBefore (Change.Revive value) context key slots slot =
     (value_in key slots ≡ None) × (is_ghost_of key context.tx slot ≡ true)
-StoodBefore (change.Set value) context key slots slot = is_live_of key slot ≡ true
-StoodBefore change.Remove context key slots slot = is_live_of key slot ≡ true
+StoodBefore (Change.Set value) context key slots slot = is_live_of key slot ≡ true
+StoodBefore Change.Remove context key slots slot = is_live_of key slot ≡ true
 
 -- what was found of the key where this change is made
 abbrev pub FoundBefore : Change → Option ℕ → Type 0
-FoundBefore (change.Put value) found = found ≡ None
-FoundBefore (change.Revive value) found = found ≡ None
-FoundBefore (change.Set value) found = IsSome found
-FoundBefore change.Remove found = IsSome found
+FoundBefore (Change.Put value) found = found ≡ None
+FoundBefore (Change.Revive value) found = found ≡ None
+FoundBefore (Change.Set value) found = IsSome found
+FoundBefore Change.Remove found = IsSome found
 
 -- A change is written in the bucket: whatever the clean pages are elsewhere, what the walk has written since it went to its
 -- key are the same slots, rearranged up to `rest`, and then one slot changed, where the walk's key leads. The header is held,
@@ -278,7 +274,7 @@ pub record IsChanged (context : WalkContext) (walk : WalkFields) (view : View) (
   pub read : HasRead context walk.key view found
   pub holds : HoldsByPass context.before.held walk.pass walk.mode context.root read.dir read.bucket view
   pub header : HeadFields
-  pub head : held_page view context.root ≡ Some (page.Head header)
+  pub head : held_page view context.root ≡ Some (Page.Head header)
   pub shallow : header.depth ≤ context.max_depth
   pub few : map.len view.modes < 300
   pub among : HoldsBeside view header (context.before.buckets + 18)
@@ -296,14 +292,14 @@ pub record IsChanged (context : WalkContext) (walk : WalkFields) (view : View) (
 
 -- where a walk stands that is in this phase
 abbrev pub Stands : Phase → WalkContext → WalkFields → View → Type 0
-Stands at.Start context walk view = StartsAnew context view
-Stands (at.Headed dir row depth) context walk view = IsHeaded context walk view dir row depth
-Stands (at.Placed bucket depth) context walk view = IsPlaced context walk view bucket depth
-Stands (at.AtBucket bucket depth found) context walk view = IsAtBucket context walk view bucket depth found
-Stands (at.Full next) context walk view = map.len view.modes ≤ 3
-Stands (at.Adding value bucket room_depth unsplit) context walk view = IsAdding context walk view bucket room_depth unsplit
-Stands (at.Splitting value room_depth) context walk view = IsSplitting context walk view room_depth
-Stands (at.Changed bucket done) context walk view = IsChanged context walk view bucket done
+Stands Phase.Start context walk view = StartsAnew context view
+Stands (Phase.Headed dir row depth) context walk view = IsHeaded context walk view dir row depth
+Stands (Phase.Placed bucket depth) context walk view = IsPlaced context walk view bucket depth
+Stands (Phase.AtBucket bucket depth found) context walk view = IsAtBucket context walk view bucket depth found
+Stands (Phase.Full next) context walk view = map.len view.modes ≤ 3
+Stands (Phase.Adding value bucket room_depth unsplit) context walk view = IsAdding context walk view bucket room_depth unsplit
+Stands (Phase.Splitting value room_depth) context walk view = IsSplitting context walk view room_depth
+Stands (Phase.Changed bucket done) context walk view = IsChanged context walk view bucket done
 
 -- Where a walk stands, by its phase: on its way; at its bucket; at one without room, before another
 -- pass; with the file at rest, or a split under way; or with its change written.

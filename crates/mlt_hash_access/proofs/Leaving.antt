@@ -1,11 +1,7 @@
 -- What steps leave, by what they do. The crates of splits and walks cite these.
 use Rattle.std.proofs.Common.{◌≡◌, ℕ, refl, inl, inr}
-use Rattle.mlt_types.specs.declared.mode.Mode.{Mode}
-use Rattle.mlt_page.specs.declared.page.Page.{Page}
-use Rattle.mlt_page_subtx.specs.Images.{Running}
+use Rattle.mlt_hash_access.proofs.Names.{Mode, Page, Running, MayStep, LocalState, local, Leaves, LocksPage, MakesLockedPage, TouchesOnePage, WritesHeldPage}
 use Rattle.mlt_hash_access.specs.declared.locked_store.LockedStore.{LockedStore}
-use Rattle.mlt_hash_access.specs.LocalStates.{MayStep, LocalState, local}
-use Rattle.mlt_hash_access.specs.PageSteps.{Leaves, LocksPage, MakesLockedPage, TouchesOnePage, WritesHeldPage}
 use Rattle.mlt_hash_access.proofs.LocalStates.{clean_after_step, may_after_step}
 
 -- what touches one page leaves clean what was clean, and the transaction may go on

@@ -1,3 +1,4 @@
+mod Names
 pub mod Leaving
 pub mod LocalStates
 pub mod OwnSteps

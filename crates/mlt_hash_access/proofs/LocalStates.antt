@@ -1,24 +1,13 @@
 -- The state after each step on a page, and what every step keeps: that its transaction may step, and which pages are clean
-use Rattle.std.proofs.Common.{◌≡◌, ◌≢◌, ℕ, ◌<◌, ◌≤◌, false, true, Option, None, is_some, sym, ap, subst, ◌∙◌, inl, inr, arith}
-use Rattle.std.specs.Cmp.{nat_cmp_total}
-use Rattle.std.specs.Ordering.{nat_cmp}
+use Rattle.std.proofs.Common.{◌≡◌, ◌≢◌, ℕ, ◌<◌, ◌≤◌, false, true, Option, None, is_some, sym, ap, subst, ◌∙◌, inl, inr, arith, nat_cmp}
+use Rattle.mlt_hash_access.proofs.Names.{nat_cmp_total, cases_eq, false≢true, nat_tests, Mode, Exclusive, Page, PageStore, Pages, page_at, get_inserted, LockTable, can_read, can_write, page_count, pages_of, IsNobody, conflicts, granted, stronger, with_page, pages_of-granted, Images, image_of, with_image, fresh_has_no_image, image_of-with_image, not_true, IsCleanFor, MayStep, LocalState, page_before, LocksAtMost, LocksPage, MakesLockedPage, TouchesOnePage, WritesAtMost, WritesHeldPage}
 use Rattle.std.specs.FinMap as map
-use Rattle.std.proofs.lemmas.Bool.{cases_eq, false≢true}
-use Rattle.std.proofs.lemmas.Bool.Decides.{nat_tests}
-use Rattle.mlt_types.specs.declared.mode.Mode.{Mode}
-use Rattle.mlt_types.specs.declared.mode.Mode.TheVariants.{Exclusive}
-use Rattle.mlt_page.specs.declared.page.Page.{Page}
-use Rattle.mlt_page_store.specs.Stores.{PageStore, Pages, page_at}
-use Rattle.mlt_page_locks.proofs.Maps.{get_inserted}
-use Rattle.mlt_page_locks.specs.LockTables.{AreCompatible, HasRoom, LockTable, can_read, can_write, page_count, pages_of}
-use Rattle.mlt_page_locks.specs.Requests.{IsNobody, conflicts, granted, stronger, with_page}
-use Rattle.mlt_page_locks.proofs.LockLaws.{can_write-granted, compatible_granted, conflicts-exclusive, page_count-granted, pages_of-granted}
-use Rattle.mlt_page_subtx.specs.Images.{Images, image_of, started, with_image}
-use Rattle.mlt_page_subtx.proofs.ImageLaws.{fresh_has_no_image, image_of-with_image, there_made, there_none, there_written, not_true}
+use Rattle.mlt_page_locks.specs.LockTables.{AreCompatible, HasRoom}
+use Rattle.mlt_page_locks.proofs.LockLaws.{can_write-granted, compatible_granted, conflicts-exclusive, page_count-granted}
+use Rattle.mlt_page_subtx.specs.Images.{started}
+use Rattle.mlt_page_subtx.proofs.ImageLaws.{there_made, there_none, there_written}
 use Rattle.mlt_page_subtx.specs.Locking.{LocksPagesThere}
 use Rattle.mlt_page_subtx.proofs.LockedPages.{locks_there-granted, locks_there-written}
-use Rattle.mlt_hash_access.specs.LocalStates.{IsCleanFor, MayStep, LocalState, page_before}
-use Rattle.mlt_hash_access.specs.PageSteps.{LocksAtMost, LocksPage, MakesLockedPage, TouchesOnePage, WritesAtMost, WritesHeldPage}
 
 -- the state once page q is locked
 abbrev pub locked : LocalState → ℕ → Mode → LocalState

@@ -1,14 +1,6 @@
 -- What a transaction's own step leaves of what it saw and wrote
 use Rattle.std.proofs.Common.{◌≡◌, ℕ, true, Option, None, Some, is_some, sym, ap, ◌∙◌, inl, inr}
-use Rattle.std.proofs.lemmas.Bool.{cases_eq}
-use Rattle.mlt_types.specs.declared.mode.Mode.{Mode}
-use Rattle.mlt_page.specs.declared.page.Page.{Page}
-use Rattle.mlt_page_store.specs.Stores.{page_at}
-use Rattle.mlt_page_subtx.specs.Images.{Running}
-use Rattle.mlt_hash_form.proofs.HeldPages.{seen_as}
-use Rattle.mlt_hash_access.specs.LocalStates.{MayStep, LocalState}
-use Rattle.mlt_hash_access.specs.PageSteps.{LocksAtMost, LocksPage, TouchesOnePage, WritesAtMost}
-use Rattle.mlt_hash_access.specs.Views.{MakesPage, ReadsPage, View, view_of}
+use Rattle.mlt_hash_access.proofs.Names.{cases_eq, Mode, Page, page_at, Running, seen_as, MayStep, LocalState, LocksAtMost, LocksPage, TouchesOnePage, WritesAtMost, MakesPage, ReadsPage, View, view_of}
 use Rattle.mlt_hash_access.proofs.Views.{lock_reads, make_makes, write_writes}
 
 -- a page that is locked is there, and is read

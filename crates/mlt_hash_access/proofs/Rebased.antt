@@ -1,15 +1,6 @@
 -- What a view knows once what was written so far is taken as seen
-use Rattle.std.proofs.Common.{◌≡◌, ℕ, true, Option, None, Some, is_some, unwrap_or, refl, sym, ap, ◌∙◌}
-use Rattle.std.specs.Prelude.{◌↔◌}
-use Rattle.std.proofs.lemmas.Bool.{false≢true}
-use Rattle.mlt_types.specs.declared.mode.Mode.{Mode}
-use Rattle.mlt_page.specs.declared.page.Page.{Page}
-use Rattle.mlt_hash_form.specs.File.{FilePages}
-use Rattle.mlt_hash_form.specs.Held.{Agrees, over, own_or_clean}
-use Rattle.mlt_hash_form.proofs.HeldPages.{seen_as}
-use Rattle.mlt_hash_access.specs.LocalStates.{MayStep, LocalState}
-use Rattle.mlt_hash_access.specs.PageSteps.{TouchesOnePage}
-use Rattle.mlt_hash_access.specs.Views.{HasWritten, MakesPage, ReadsHeldPage, ReadsPage, View, WritesPage, rebased, seen_with, view_of}
+use Rattle.std.proofs.Common.{◌≡◌, ℕ, true, Option, None, Some, is_some, unwrap_or, refl, sym, ap, ◌∙◌, ◌↔◌}
+use Rattle.mlt_hash_access.proofs.Names.{false≢true, Mode, Page, FilePages, Agrees, over, own_or_clean, seen_as, MayStep, LocalState, TouchesOnePage, HasWritten, MakesPage, ReadsHeldPage, ReadsPage, View, WritesPage, rebased, seen_with, view_of}
 use Rattle.mlt_hash_access.proofs.OwnSteps.{own_step_sees_more, own_step_writes_more}
 
 none_unless : {X Y : Type 0} (w : Option X) (o : Option Y) → o ≡ None → (is_some w ≡ true → is_some o ≡ true) → w ≡ None

@@ -1,25 +1,11 @@
 -- What the calls on a page tell, as steps
-use Rattle.std.proofs.Common.{◌≡◌, ℕ, true, Option, None, Some, is_some, Result, Ok, Err, IfOk, OnErr, OnOk, refl, sym, ap, subst, ◌∙◌}
-use Rattle.std.specs.Result.{MatchResult}
+use Rattle.std.proofs.Common.{◌≡◌, ℕ, true, Option, None, Some, is_some, Result, Ok, Err, IfOk, OnErr, OnOk, refl, sym, ap, subst, ◌∙◌, MatchResult}
 use Rattle.std.specs.FinMap as map
-use Rattle.mlt_types.specs.declared.mode.Mode.{Mode}
-use Rattle.mlt_types.specs.declared.mode.Mode.TheVariants.{Exclusive}
-use Rattle.mlt_page.specs.declared.page.Page.{Page}
-use Rattle.mlt_page.specs.declared.page.Page.TheVariants as page
-use Rattle.mlt_page.specs.declared.slot.Slot.{Slot}
-use Rattle.mlt_page.specs.Values.{BucketFields}
-use Rattle.mlt_page.specs.Pages.{page_with_slot}
-use Rattle.mlt_page_store.specs.Stores.{PageStore, SetsSlot, page_at}
-use Rattle.mlt_page_locks.specs.LockTables.{LockTable, can_read, can_write}
-use Rattle.mlt_page_locks.proofs.LockLaws.{writer_reads}
-use Rattle.mlt_page_locks.specs.Requests.{IsNobody, conflicts, granted}
-use Rattle.mlt_page_subtx.specs.Images.{Running, with_image}
-use Rattle.mlt_hash_form.specs.Held.{own_or_clean}
-use Rattle.mlt_hash_form.proofs.HeldPages.{seen_as}
+use Rattle.mlt_hash_access.proofs.Names.{Mode, Exclusive, Page, Slot, BucketFields, page_with_slot, PageStore, page_at, LockTable, can_read, can_write, writer_reads, IsNobody, conflicts, granted, Running, with_image, own_or_clean, seen_as, MayStep, LocalState, page_before, Leaves, LocksPage, MakesLockedPage, WritesHeldPage, MakesPage, ReadsHeldPage, WritesPage, WritesSlot, own_at, seen_at, view_of}
+use Rattle.mlt_page_store.specs.Stores.{SetsSlot}
 use Rattle.mlt_hash_form.proofs.Paths.{one_page}
-use Rattle.mlt_hash_access.specs.LocalStates.{MayStep, LocalState, page_before}
-use Rattle.mlt_hash_access.specs.PageSteps.{Leaves, LocksPage, MakesLockedPage, WritesHeldPage, WritesHeldSlot}
-use Rattle.mlt_hash_access.specs.Views.{MakesPage, ReadsHeldBucket, ReadsHeldPage, WritesPage, WritesSlot, own_at, seen_at, view_of}
+use Rattle.mlt_hash_access.specs.PageSteps.{WritesHeldSlot}
+use Rattle.mlt_hash_access.specs.Views.{ReadsHeldBucket}
 use Rattle.mlt_hash_access.proofs.Leaving.{leaves_by_making, leaves_by_writing, leaves_it}
 use Rattle.mlt_hash_access.proofs.Views.{make_makes, reads_what_is_there, seen_held, write_writes}
 
@@ -80,8 +66,8 @@ writes_if_told m new q page (Ok done) told = told
 writes_if_told m new q page (Err refusal) told = tt
 
 -- a bucket that is read in the view of a page that may be written is there
-pub bucket_there : (m : LocalState) (q : ℕ) (bucket : BucketFields) → MayStep m → can_write m.locks m.running.tx q ≡ true → ReadsHeldBucket (view_of m) q bucket → page_at m.store.pages q ≡ Some (page.Bucket bucket)
-bucket_there m q bucket may held reads = read_is_there m q (page.Bucket bucket) may (writer_reads m.locks m.running.tx q held) reads
+pub bucket_there : (m : LocalState) (q : ℕ) (bucket : BucketFields) → MayStep m → can_write m.locks m.running.tx q ≡ true → ReadsHeldBucket (view_of m) q bucket → page_at m.store.pages q ≡ Some (Page.Bucket bucket)
+bucket_there m q bucket may held reads = read_is_there m q (Page.Bucket bucket) may (writer_reads m.locks m.running.tx q held) reads
 
 -- a slot of it was set, or not
 module _ {A E : Type 0} (m : LocalState) (running : Running) (store : PageStore) (q i : ℕ) (s : Slot) (result : Result A E) (may : MayStep m) (held : can_write m.locks m.running.tx q ≡ true) (sets : OnOk result (SetsSlot m.store store q i s))

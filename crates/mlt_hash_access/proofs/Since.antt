@@ -1,19 +1,9 @@
 -- What a transaction knows over what it wrote before. Other crates cite this module.
 use Rattle.std.proofs.Common.{◌≡◌, ℕ, true, Option, None, Some, is_some, unwrap_or, refl, sym, ap, ◌∙◌}
 use Rattle.std.specs.FinMap as map
-use Rattle.std.proofs.lemmas.Bool.{false≢true}
-use Rattle.mlt_types.specs.declared.mode.Mode.{Mode}
-use Rattle.mlt_types.specs.declared.mode.Mode.TheVariants.{Exclusive}
-use Rattle.mlt_page.specs.declared.page.Page.{Page}
-use Rattle.mlt_page.specs.declared.page.Page.TheVariants as page
-use Rattle.mlt_page.specs.declared.slot.Slot.{Slot}
-use Rattle.mlt_page.specs.Pages.{page_with_slot}
-use Rattle.mlt_page_store.specs.Stores.{page_at}
-use Rattle.mlt_hash_form.specs.File.{FilePages}
-use Rattle.mlt_hash_form.specs.Held.{Agrees, over, own_or_clean}
-use Rattle.mlt_hash_access.specs.LocalStates.{IsCleanFor, MayStep, LocalState, no_writes}
-use Rattle.mlt_hash_access.specs.PageSteps.{TouchesOnePage}
-use Rattle.mlt_hash_access.specs.Views.{HasWritten, IsUnwritten, IsUnwrittenSince, ReadsHeldPage, ReadsPage, View, WritesSlot, rebased, seen_with, view_of, view_over}
+use Rattle.mlt_hash_access.proofs.Names.{false≢true, Mode, Exclusive, Page, Slot, page_with_slot, page_at, FilePages, Agrees, over, own_or_clean, IsCleanFor, MayStep, LocalState, TouchesOnePage, HasWritten, IsUnwritten, ReadsHeldPage, ReadsPage, View, WritesSlot, rebased, seen_with, view_of}
+use Rattle.mlt_hash_access.specs.LocalStates.{no_writes}
+use Rattle.mlt_hash_access.specs.Views.{IsUnwrittenSince, view_over}
 use Rattle.mlt_hash_access.proofs.OwnSteps.{own_step_sees_more}
 use Rattle.mlt_hash_access.proofs.Rebased.{rebased_agrees, rebased_reads, rebased_writes_page, seen_more, written_over}
 use Rattle.mlt_hash_access.proofs.Views.{agrees, may_read, over_is_there, seen_held, written_is_exclusive}
@@ -64,7 +54,7 @@ over_sees_more before old new q first may touches = seen_more (before q) ((view_
 
 -- a slot of a held bucket is written over it
 pub rebased_writes_slot : (before : FilePages) (old new : View) (q i : ℕ) (s : Slot) → HasWritten before old → WritesSlot old new q i s → WritesSlot (rebased before old) (rebased before new) q i s
-rebased_writes_slot before old new q i s written writes bucket reads = rebased_writes_page before old new q (page_with_slot bucket i s) (writes bucket ((rebased_reads before old written q (page.Bucket bucket)).0 reads))
+rebased_writes_slot before old new q i s written writes bucket reads = rebased_writes_page before old new q (page_with_slot bucket i s) (writes bucket ((rebased_reads before old written q (Page.Bucket bucket)).0 reads))
 
 -- one page that reads as it was written before
 read_same : (w own : Option Page) (seen : Option (Option Page)) (first : Option Page) → own ≡ w → ((p : Page) → w ≡ Some p → seen ≡ Some (Some p)) → seen ≡ Some first → own_or_clean own first ≡ first

@@ -1,8 +1,6 @@
 -- What a step on one page is, or a lock of it and a write, seen as one turn. The crates of operations cite these.
 use Rattle.std.proofs.Common.{ℕ, ◌≤◌, inl}
-use Rattle.mlt_page_locks.specs.LockTables.{page_count}
-use Rattle.mlt_hash_access.specs.LocalStates.{LocalState}
-use Rattle.mlt_hash_access.specs.PageSteps.{LocksAtMost, TouchesOnePage, WritesAtMost}
+use Rattle.mlt_hash_access.proofs.Names.{page_count, LocalState, LocksAtMost, TouchesOnePage, WritesAtMost}
 use Rattle.mlt_hash_access.specs.PageTurns.{TakesTurn}
 
 -- **A lock of a page and a write of the same page touch that page alone.**

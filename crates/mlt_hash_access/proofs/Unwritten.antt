@@ -1,16 +1,9 @@
 -- A view in which nothing is written: what is read is what the clean pages have, and the next write is the first.
 -- Other crates cite this module.
-use Rattle.std.proofs.Common.{◌≡◌, ℕ, ◌≤◌, Option, None, Some, is_some, refl, sym, ap, ◌∙◌, arith}
-use Rattle.std.specs.Ordering.{nat_cmp}
+use Rattle.std.proofs.Common.{◌≡◌, ℕ, ◌≤◌, Option, None, Some, is_some, refl, sym, ap, ◌∙◌, arith, nat_cmp}
 use Rattle.std.specs.FinMap as map
-use Rattle.std.proofs.lemmas.Bool.{false≢true}
-use Rattle.mlt_types.specs.declared.mode.Mode.{Mode}
-use Rattle.mlt_page.specs.declared.page.Page.{Page}
+use Rattle.mlt_hash_access.proofs.Names.{false≢true, Mode, Page, Images, image_of, own_or_clean, MayStep, LocalState, IsUnwritten, ReadsPage, View, view_of}
 use Rattle.mlt_page_locks.proofs.Maps.{same_entries}
-use Rattle.mlt_page_subtx.specs.Images.{Images, image_of}
-use Rattle.mlt_hash_form.specs.Held.{own_or_clean}
-use Rattle.mlt_hash_access.specs.LocalStates.{MayStep, LocalState}
-use Rattle.mlt_hash_access.specs.Views.{IsUnwritten, ReadsPage, View, view_of}
 use Rattle.mlt_hash_access.proofs.Views.{image_is_own}
 
 -- what is read of a page is what the clean page has,

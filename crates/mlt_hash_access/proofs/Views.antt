@@ -1,27 +1,15 @@
 -- What the view of a state has, what each step changes of it, and what follows for the clean pages
-use Rattle.std.proofs.Common.{◌≡◌, ◌≢◌, ℕ, ◌≤◌, ◌+◌, Bool, false, true, cond, Option, None, Some, is_some, refl, sym, ap, subst, ◌∙◌, inl, inr, arith}
-use Rattle.std.specs.Prelude.{◌↔◌}
-use Rattle.std.specs.Cmp.{nat_cmp_total}
+use Rattle.std.proofs.Common.{◌≡◌, ◌≢◌, ℕ, ◌≤◌, ◌+◌, Bool, false, true, cond, Option, None, Some, is_some, refl, sym, ap, subst, ◌∙◌, inl, inr, arith, ◌↔◌}
+use Rattle.mlt_hash_access.proofs.Names.{nat_cmp_total, cases_eq, false≢true, nat_tests, Mode, Exclusive, Page, Pages, page_at, get_inserted, LockTable, can_read, can_write, page_count, pages_of, granted, stronger, with_page, pages_of-granted, writer_reads, Images, image_of, with_image, fresh_has_no_image, image_of-with_image, not_true, Agrees, over, own_or_clean, IsCleanFor, MayStep, LocalState, page_before, LocksPage, MakesLockedPage, WritesHeldPage, MakesPage, ReadsHeldPage, ReadsPage, View, WritesPage, own_at, seen_at, view_of}
 use Rattle.std.specs.FinMap as map
-use Rattle.std.proofs.lemmas.Bool.{cases_eq, false≢true}
-use Rattle.std.proofs.lemmas.Bool.Decides.{nat_tests}
-use Rattle.mlt_types.specs.declared.mode.Mode.{Mode}
-use Rattle.mlt_types.specs.declared.mode.Mode.TheVariants.{Exclusive, Shared}
-use Rattle.mlt_page.specs.declared.page.Page.{Page}
-use Rattle.mlt_page_store.specs.Stores.{Pages, page_at}
+use Rattle.mlt_types.specs.declared.mode.Mode.TheVariants.{Shared}
 use Rattle.mlt_page_store.proofs.Numbered.{page_inserted}
-use Rattle.mlt_page_locks.proofs.Maps.{get_inserted}
-use Rattle.mlt_page_locks.specs.LockTables.{LockTable, Modes, allows_write, can_read, can_write, page_count, pages_of}
-use Rattle.mlt_page_locks.specs.Requests.{granted, stronger, with_page}
-use Rattle.mlt_page_locks.proofs.LockLaws.{can_read-granted, pages_of-granted, writer_reads}
-use Rattle.mlt_page_subtx.specs.Images.{Images, image_of, or_image, with_image}
-use Rattle.mlt_page_subtx.proofs.ImageLaws.{fresh_has_no_image, image_of-with_image, not_true}
+use Rattle.mlt_page_locks.specs.LockTables.{Modes, allows_write}
+use Rattle.mlt_page_locks.proofs.LockLaws.{can_read-granted}
+use Rattle.mlt_page_subtx.specs.Images.{or_image}
 use Rattle.mlt_hash_form.specs.File.{Writes}
-use Rattle.mlt_hash_form.specs.Held.{Agrees, over, own_or_clean}
 use Rattle.mlt_hash_form.proofs.HeldPages.{writes_over}
-use Rattle.mlt_hash_access.specs.LocalStates.{IsCleanFor, MayStep, LocalState, page_before}
-use Rattle.mlt_hash_access.specs.PageSteps.{LocksPage, MakesLockedPage, WritesHeldPage}
-use Rattle.mlt_hash_access.specs.Views.{MakesPage, ReadsHeldPage, ReadsPage, SeesPage, View, WritesPage, own_at, page_written, seen_at, view_of}
+use Rattle.mlt_hash_access.specs.Views.{SeesPage, page_written}
 use Rattle.mlt_hash_access.proofs.LocalStates.{fresh_is_free, is_locked, is_made, is_written, locked, made, page_before-made, page_before-written, written}
 
 some_if : {X : Type 0} (b : Bool) (x y : X) → cond b (Some x) None ≡ Some y → (b ≡ true) × (x ≡ y)

@@ -1,7 +1,7 @@
 -- What is read on the way of a key to its bucket. Each fact is about the pages that are held alone, so that what other
 -- transactions do can't touch it.
 use Rattle.std.specs.Prelude.{ℕ, ◌≡◌, List, slice_index, Option, Some}
-use Rattle.mlt_page.specs.declared.page.Page.TheVariants as page
+use Rattle.mlt_page.specs.declared.page.Page.{Page}
 use Rattle.mlt_page.specs.Values.{BucketFields, HeadFields}
 use Rattle.mlt_hash_form.specs.File.{dir_of, row_of}
 use Rattle.mlt_hash_form.specs.Form.{value_in}
@@ -10,10 +10,10 @@ use Rattle.mlt_hash_access.specs.Views.{View}
 -- the header is read, and the directory page of the key's place
 pub record HasReadPlace (bits : ℕ → ℕ) (root key : ℕ) (view : View) (dir bucket : ℕ) : Type 0 where
   pub header : HeadFields
-  pub head : view.seen root ≡ Some (Some (page.Head header))
+  pub head : view.seen root ≡ Some (Some (Page.Head header))
   pub dir_is : dir ≡ dir_of header (bits key)
   pub entries : List ℕ
-  pub listed : view.seen dir ≡ Some (Some (page.Dir entries))
+  pub listed : view.seen dir ≡ Some (Some (Page.Dir entries))
   pub bucket_is : bucket ≡ slice_index entries (row_of header (bits key))
 
 -- so is the bucket that the key leads to, and what it has of the key is known
@@ -21,5 +21,5 @@ pub record HasReadBucket (bits : ℕ → ℕ) (root key : ℕ) (view : View) (di
     (found : Option ℕ) : Type 0 where
   pub placed : HasReadPlace bits root key view dir bucket
   pub fields : BucketFields
-  pub at : view.seen bucket ≡ Some (Some (page.Bucket fields))
+  pub at : view.seen bucket ≡ Some (Some (Page.Bucket fields))
   pub found_is : found ≡ value_in key fields.slots

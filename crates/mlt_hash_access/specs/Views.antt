@@ -3,7 +3,6 @@ use Rattle.std.specs.Prelude.{ℕ, ◌≡◌, cond, true, is_some, Option, None,
 use Rattle.mlt_types.specs.declared.mode.Mode.{Mode}
 use Rattle.mlt_types.specs.declared.mode.Mode.TheVariants.{Exclusive}
 use Rattle.mlt_page.specs.declared.page.Page.{Page}
-use Rattle.mlt_page.specs.declared.page.Page.TheVariants as page
 use Rattle.mlt_page.specs.declared.slot.Slot.{Slot}
 use Rattle.mlt_page.specs.Values.{BucketFields}
 use Rattle.mlt_page.specs.Pages.{page_with_slot}
@@ -62,7 +61,7 @@ ReadsHeldPage view q page =
 
 -- page q, which is held, reads as this bucket, on whatever clean pages agree with the view
 abbrev pub ReadsHeldBucket : View → ℕ → BucketFields → Type 0
-ReadsHeldBucket view q bucket = ReadsHeldPage view q (page.Bucket bucket)
+ReadsHeldBucket view q bucket = ReadsHeldPage view q (Page.Bucket bucket)
 
 -- page q is locked in this mode and reads as this, on whatever clean pages agree with the view
 pub record ReadsPage (old new : View) (q : ℕ) (mode : Mode) (page : Option Page) : Type 0 where

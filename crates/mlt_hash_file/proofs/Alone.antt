@@ -1,30 +1,16 @@
 -- A transaction that runs alone: what each of its steps keeps, and what it reads of the store
-use Rattle.std.proofs.Common.{◌≡◌, ◌≢◌, ℕ, ◌≤◌, Bool, false, true, cond, Option, None, Some, is_some, unwrap_or, refl, sym, ap, subst, ◌∙◌, inl, inr, arith}
-use Rattle.std.specs.Ordering.{nat_cmp}
+use Rattle.std.proofs.Common.{◌≡◌, ◌≢◌, ℕ, ◌≤◌, Bool, false, true, cond, Option, None, Some, is_some, unwrap_or, refl, sym, ap, subst, ◌∙◌, inl, inr, arith, nat_cmp}
 use Rattle.std.specs.FinMap as map
-use Rattle.std.proofs.lemmas.Bool.{cases_eq, false≢true}
-use Rattle.std.proofs.lemmas.Bool.Decides.{nat_tests}
-use Rattle.mlt_types.specs.declared.mode.Mode.{Mode}
-use Rattle.mlt_types.specs.declared.mode.Mode.TheVariants.{Exclusive}
-use Rattle.mlt_page.specs.declared.page.Page.{Page}
-use Rattle.mlt_page_store.specs.Stores.{PageStore, page_at}
-use Rattle.mlt_page_locks.proofs.Maps.{get_inserted}
-use Rattle.mlt_page_locks.specs.LockTables.{LockTable, Modes, allows_write, can_read, can_write, is_holder, pages_of}
-use Rattle.mlt_page_locks.proofs.LockLaws.{writer_reads}
+use Rattle.mlt_hash_file.proofs.Names.{cases_eq, false≢true, nat_tests, Mode, Exclusive, Page, PageStore, page_at, get_inserted, LockTable, Modes, can_read, can_write, writer_reads, Running, image_of, or_image, over, own_or_clean, IsCleanFor, MayStep, LocalState, MakesLockedPage, TouchesOnePage, WritesAtMost, WritesHeldPage, page_written, view_of, HasWritten, IsUnwrittenSince, view_over, written_stays, over_since, Before, IsAlone, KeepsBefore, pages_before, pages_since}
+use Rattle.mlt_page_locks.specs.LockTables.{allows_write, is_holder, pages_of}
 use Rattle.mlt_page_locks.specs.Requests.{IsLowest, conflicts, granted, is_against, with_page}
-use Rattle.mlt_page_subtx.specs.Images.{Running, image_of, or_image}
 use Rattle.mlt_page_subtx.proofs.ImageLaws.{not_there}
 use Rattle.mlt_hash_form.specs.File.{FilePages}
-use Rattle.mlt_hash_form.specs.Held.{Agrees, over, own_or_clean}
-use Rattle.mlt_hash_access.specs.LocalStates.{IsCleanFor, MayStep, LocalState}
-use Rattle.mlt_hash_access.specs.PageSteps.{LocksAtMost, LocksPage, MakesLockedPage, TouchesOnePage, WritesAtMost, WritesHeldPage}
-use Rattle.mlt_hash_access.specs.Views.{page_written, view_of}
+use Rattle.mlt_hash_form.specs.Held.{Agrees}
+use Rattle.mlt_hash_access.specs.PageSteps.{LocksAtMost, LocksPage}
 use Rattle.mlt_hash_access.proofs.Views.{agrees}
-use Rattle.mlt_hash_access.specs.Views.{HasWritten, IsUnwrittenSince, view_over}
-use Rattle.mlt_hash_access.proofs.Rebased.{written_over, written_stays}
-use Rattle.mlt_hash_access.proofs.Since.{agrees_over, over_since}
-use Rattle.mlt_hash.specs.Walks.{Before}
-use Rattle.mlt_hash_file.specs.Alone.{IsAlone, KeepsBefore, pages_before, pages_since}
+use Rattle.mlt_hash_access.proofs.Rebased.{written_over}
+use Rattle.mlt_hash_access.proofs.Since.{agrees_over}
 
 -- the others have no place among the locks,
 pub no_place : (m : LocalState) (u : ℕ) → IsAlone m → u ≢ m.running.tx → map.get m.locks.held u ≡ None

@@ -1,28 +1,12 @@
 -- A change that a walk makes alone: what is in the store then
-use Rattle.std.proofs.Common.{◌≡◌, ℕ, ◌≤◌, Option, refl, sym, ap, subst, ◌∙◌, inl, inr, arith}
+use Rattle.std.proofs.Common.{◌≡◌, ℕ, ◌≤◌, Option, refl, sym, ap, subst, ◌∙◌, inl, inr, arith, nat_cmp}
 use Rattle.std.specs.FinSet as set
-use Rattle.std.specs.Ordering.{nat_cmp}
-use Rattle.std.proofs.lemmas.Bool.Decides.{nat_tests}
-use Rattle.mlt_page.specs.declared.page.Page.{Page}
-use Rattle.mlt_page_store.specs.Stores.{PageStore, page_at}
-use Rattle.mlt_page_locks.proofs.Maps.{get_inserted}
-use Rattle.mlt_hash_form.specs.File.{HasForm, depth_of, header_of, look_up}
-use Rattle.mlt_hash_form.specs.Held.{over}
+use Rattle.mlt_hash_file.proofs.Names.{nat_tests, Page, PageStore, page_at, get_inserted, depth_of, header_of, look_up, over, IsCleanFor, MayStep, LocalState, TouchesOnePage, WritesAtMost, HasWritten, View, view_of, view_over, written_stays, IsAlone, context_of, pages_before, pages_since, HasChanged, HasMade, IsHashFile, IsAtRecord, Makes, WritesIfChanged, page_of, value_after, WalkContext, Before, IsAtBucket, IsStanding, Stands, WalkFields, view_for, WalkAnswer, Change, Phase}
+use Rattle.mlt_hash_form.specs.File.{HasForm}
 use Rattle.mlt_hash_form.proofs.HeldPages.{changed_values}
-use Rattle.mlt_hash_access.specs.LocalStates.{IsCleanFor, MayStep, LocalState}
-use Rattle.mlt_hash_access.specs.PageSteps.{TouchesOnePage, WritesAtMost}
-use Rattle.mlt_hash_access.specs.Views.{HasWritten, View, view_of, view_over}
-use Rattle.mlt_hash_access.proofs.Rebased.{written_stays}
-use Rattle.mlt_hash_file.specs.Alone.{IsAlone, context_of, pages_before, pages_since}
-use Rattle.mlt_hash_file.specs.AloneWalks.{HasChanged, HasMade, IsHashFile, TellsOfMaking}
-use Rattle.mlt_hash.specs.Changes.{IsAtRecord, IsChangedPhase, Makes, TellsOfChange, WritesIfChanged, page_of}
-use Rattle.mlt_hash.specs.Passes.{value_after}
-use Rattle.mlt_hash.specs.Walks.{WalkContext, Before, IsAtBucket, IsChanged, IsStanding, MayWalk, Stands, WalkFields, view_for}
-use Rattle.mlt_hash.specs.declared.answer.WalkAnswer.{WalkAnswer}
-use Rattle.mlt_hash.specs.declared.answer.WalkAnswer.TheVariants as answer
-use Rattle.mlt_hash.specs.declared.pass.Change.{Change}
-use Rattle.mlt_hash.specs.declared.pass.Phase.{Phase}
-use Rattle.mlt_hash.specs.declared.pass.Phase.TheVariants as at
+use Rattle.mlt_hash_file.specs.AloneWalks.{TellsOfMaking}
+use Rattle.mlt_hash.specs.Changes.{IsChangedPhase, TellsOfChange}
+use Rattle.mlt_hash.specs.Walks.{IsChanged, MayWalk}
 use Rattle.mlt_hash.proofs.Passed.{head_is_no_bucket}
 use Rattle.mlt_hash_file.proofs.Alone.{alone_after_write, before_is_clean, sees_since, store_is_since, unwritten_store, write_keeps_before}
 use Rattle.mlt_hash_file.proofs.AloneWalks.{file_kept}
@@ -48,7 +32,7 @@ changed_alone context m walk bucket done alone written file changed shallow =
 
 -- who writes only what is changed writes one page at most
 pub writes_at_most : (old new : LocalState) (q : ℕ) (told : WalkAnswer) → WritesIfChanged old new q told → WritesAtMost old new q
-writes_at_most old new q answer.Changed writes = inr writes
+writes_at_most old new q WalkAnswer.Changed writes = inr writes
 writes_at_most old new q other same = inl same
 
 -- a write leaves the other pages
@@ -61,14 +45,14 @@ other_page_stays old new q p step ne =
 
 -- a walk that has found its key stands at its bucket
 pub stands_at_bucket : (context : WalkContext) (walk : WalkFields) (view : View) (phase : Phase) → IsAtRecord phase → Stands phase context walk view → (depth : ℕ) × (found : Option ℕ) × IsAtBucket context walk view (page_of phase) depth found
-stands_at_bucket context walk view (at.AtBucket bucket depth found) record_there stands = (depth, found, stands)
-stands_at_bucket context walk view at.Start record_there stands = absurd record_there
-stands_at_bucket context walk view (at.Headed dir row depth) record_there stands = absurd record_there
-stands_at_bucket context walk view (at.Placed bucket depth) record_there stands = absurd record_there
-stands_at_bucket context walk view (at.Full next) record_there stands = absurd record_there
-stands_at_bucket context walk view (at.Adding value bucket room_depth unsplit) record_there stands = absurd record_there
-stands_at_bucket context walk view (at.Splitting value room_depth) record_there stands = absurd record_there
-stands_at_bucket context walk view (at.Changed bucket done) record_there stands = absurd record_there
+stands_at_bucket context walk view (Phase.AtBucket bucket depth found) record_there stands = (depth, found, stands)
+stands_at_bucket context walk view Phase.Start record_there stands = absurd record_there
+stands_at_bucket context walk view (Phase.Headed dir row depth) record_there stands = absurd record_there
+stands_at_bucket context walk view (Phase.Placed bucket depth) record_there stands = absurd record_there
+stands_at_bucket context walk view (Phase.Full next) record_there stands = absurd record_there
+stands_at_bucket context walk view (Phase.Adding value bucket room_depth unsplit) record_there stands = absurd record_there
+stands_at_bucket context walk view (Phase.Splitting value room_depth) record_there stands = absurd record_there
+stands_at_bucket context walk view (Phase.Changed bucket done) record_there stands = absurd record_there
 
 -- so a write of the bucket leaves the directory as deep as it was
 pub shallow_after_write : (context : WalkContext) (old new : LocalState) (walk : WalkFields) (bucket depth : ℕ) (found : Option ℕ) → MayStep old → HasWritten context.before.written (view_of old) → IsHashFile context.bits (pages_since context.before old) context.root context.max_depth
@@ -78,7 +62,7 @@ shallow_after_write context old new walk bucket depth found may written file at 
     let stays : page_at new.store.pages context.root ≡ pages_since context.before old context.root = other_page_stays old new bucket context.root step (head_is_no_bucket (view_for context old) context.root bucket at.header at.fields at.head at.at) ∙ (λ i. stored i context.root) in
     subst (λ (p : Option Page). (header_of p).depth ≤ context.max_depth) (sym stays) file.shallow
 
-is_changed : (phase : Phase) (bucket : ℕ) (done : Change) → phase ≡ at.Changed bucket done → IsChangedPhase phase
+is_changed : (phase : Phase) (bucket : ℕ) (done : Change) → phase ≡ Phase.Changed bucket done → IsChangedPhase phase
 is_changed phase bucket done is = subst IsChangedPhase (sym is) tt
 
 -- what a walk made is in the store
@@ -110,13 +94,13 @@ may_walk_alone since bits active root max_depth mid old walk none same alone wri
     })
 
 told_change : (context : WalkContext) (new : LocalState) (before after : WalkFields) (done : Change) (told : WalkAnswer) → TellsOfChange context new before after done told → (Makes context new before after done → HasMade context new before after (value_after done)) → TellsOfMaking context new before after (value_after done) told
-told_change context new before after done answer.Changed tells made = made tells
-told_change context new before after done answer.Going tells made = absurd tells
-told_change context new before after done (answer.Waiting page by) tells made = absurd tells
-told_change context new before after done (answer.Found value) tells made = absurd tells
-told_change context new before after done answer.NeedSplit tells made = absurd tells
-told_change context new before after done answer.Widen tells made = absurd tells
-told_change context new before after done (answer.Refused reason) tells made = (tells.0, tells.1)
+told_change context new before after done WalkAnswer.Changed tells made = made tells
+told_change context new before after done WalkAnswer.Going tells made = absurd tells
+told_change context new before after done (WalkAnswer.Waiting page by) tells made = absurd tells
+told_change context new before after done (WalkAnswer.Found value) tells made = absurd tells
+told_change context new before after done WalkAnswer.NeedSplit tells made = absurd tells
+told_change context new before after done WalkAnswer.Widen tells made = absurd tells
+told_change context new before after done (WalkAnswer.Refused reason) tells made = (tells.0, tells.1)
 
 -- **A change of the record that a walk has found is in the store.**
 pub change_alone : (since : Before) (bits : ℕ → ℕ) (active : set.FinSet nat_cmp) (root max_depth : ℕ) (mid old new : LocalState) (before after : WalkFields) (done : Change) (told : WalkAnswer)

@@ -1,24 +1,13 @@
 -- A transaction alone that holds nothing: where it begins, ends or is rolled back
-use Rattle.std.proofs.Common.{◌≡◌, ℕ, ◌≤◌, false, cond, Option, None, Some, is_some, unwrap_or, sym, ap, subst, ◌∙◌, inl, inr, arith}
-use Rattle.std.specs.Ordering.{nat_cmp}
+use Rattle.std.proofs.Common.{◌≡◌, ℕ, ◌≤◌, false, cond, Option, None, Some, is_some, unwrap_or, sym, ap, subst, ◌∙◌, inl, inr, arith, nat_cmp}
 use Rattle.std.specs.FinMap as map
-use Rattle.std.proofs.lemmas.Bool.{cases_eq, false≢true}
-use Rattle.std.proofs.lemmas.Bool.Decides.{nat_tests}
-use Rattle.mlt_types.specs.declared.mode.Mode.{Mode}
-use Rattle.mlt_page.specs.declared.page.Page.{Page}
-use Rattle.mlt_page_store.specs.Stores.{PageStore, page_at}
-use Rattle.mlt_page_locks.proofs.Maps.{get_removed, same_entries}
-use Rattle.mlt_page_locks.specs.LockTables.{LockTable, Modes, can_write, no_locks}
+use Rattle.mlt_hash_file.proofs.Names.{cases_eq, false≢true, nat_tests, Mode, Page, PageStore, page_at, get_removed, same_entries, LockTable, Modes, can_write, Running, image_of, or_image, put_back, page_at-put_back, LocalState, page_written, view_of, IsAlone, IsIdle, KeepsBefore, pages_before, IsAtStart}
+use Rattle.mlt_page_locks.specs.LockTables.{no_locks}
 use Rattle.mlt_page_locks.proofs.LockLaws.{few_none, room_for_few}
 use Rattle.mlt_page_locks.specs.Requests.{released}
-use Rattle.mlt_page_subtx.specs.Images.{Images, Running, image_of, or_image, put_back, started}
-use Rattle.mlt_page_subtx.proofs.ImageLaws.{page_at-put_back}
+use Rattle.mlt_page_subtx.specs.Images.{Images, started}
 use Rattle.mlt_page_subtx.proofs.LockedPages.{locks_there-none}
-use Rattle.mlt_hash_access.specs.LocalStates.{LocalState}
-use Rattle.mlt_hash_access.specs.Views.{page_written, view_of}
 use Rattle.mlt_hash_access.proofs.LocalStates.{may_start}
-use Rattle.mlt_hash_file.specs.Alone.{IsAlone, IsIdle, KeepsBefore, pages_before}
-use Rattle.mlt_hash.specs.Walks.{IsAtStart}
 use Rattle.mlt_hash_file.proofs.Alone.{no_place}
 
 -- without locks nobody may write

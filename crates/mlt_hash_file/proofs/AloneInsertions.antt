@@ -1,29 +1,19 @@
 -- What an addition alone tells with all its passes
 use Rattle.std.proofs.Common.{◌≡◌, ℕ, ◌<◌, ◌+◌, ◌∙◌, Option, Some, refl, sym, subst, inl, inr}
 use Rattle.std.specs.FinMap as map
-use Rattle.mlt_types.specs.declared.refusal.Refusal.TheVariants as refusal
-use Rattle.mlt_page.specs.declared.page.Page.{Page}
-use Rattle.mlt_page_store.proofs.Numbered.{same_pages}
-use Rattle.mlt_page_subtx.specs.Images.{put_back}
-use Rattle.mlt_page_subtx.proofs.ImageLaws.{page_at-put_back}
-use Rattle.mlt_hash_access.specs.LocalStates.{LocalState}
-use Rattle.mlt_hash_file.specs.Alone.{KeepsBefore, context_of, pages_before}
-use Rattle.mlt_hash_file.specs.AloneWalks.{HasChanged, IsFullFor, MayAdd, NeedsRoom, NeedsSplits, NeverHasRoomFor, TellsOfLater, TellsOfPass, TellsOfSplits, added_value, bounded_before}
-use Rattle.mlt_hash.specs.Walks.{WalkContext, Before, WalkFields, one_key}
-use Rattle.mlt_hash.specs.declared.answer.WalkAnswer.{WalkAnswer}
-use Rattle.mlt_hash.specs.declared.answer.WalkAnswer.TheVariants as answer
-use Rattle.mlt_hash.specs.declared.pass.Pass.TheVariants as pass
-use Rattle.mlt_hash_file.specs.SplitPages.{HasRoomAt, LacksPages, pages_for, pages_in_the_end}
+use Rattle.mlt_hash_file.proofs.Names.{Refusal, Page, same_pages, put_back, page_at-put_back, LocalState, KeepsBefore, context_of, pages_before, HasChanged, IsFullFor, MayAdd, NeedsRoom, NeedsSplits, NeverHasRoomFor, TellsOfPass, TellsOfSplits, added_value, WalkContext, Before, WalkFields, one_key, WalkAnswer, Pass, HasRoomAt, pages_for, pages_in_the_end}
+use Rattle.mlt_hash_file.specs.AloneWalks.{TellsOfLater, bounded_before}
+use Rattle.mlt_hash_file.specs.SplitPages.{LacksPages}
 use Rattle.mlt_hash_file.proofs.AlonePages.{same_put_back}
 use Rattle.mlt_hash_file.proofs.AloneWalks.{same_context, same_before}
 
 -- a pass of a first key that needs no split tells what it told
-pub pass_is_later : (context : WalkContext) (new : LocalState) (before after : WalkFields) (value : ℕ) (told : WalkAnswer) → (told ≡ answer.NeedSplit → ⊥) → TellsOfPass (one_key context) new before after value told → TellsOfLater (one_key context) new before after value told
-pass_is_later context new before after value answer.NeedSplit not tells = absurd (not refl)
-pass_is_later context new before after value answer.Changed not tells = tells.changed
-pass_is_later context new before after value answer.Widen not tells = tells
-pass_is_later context new before after value (answer.Refused refusal.NoRoom) not tells = (tells.1, inl tells.2)
-pass_is_later context new before after value (answer.Refused reason) not tells = absurd (tells.1 refl)
+pub pass_is_later : (context : WalkContext) (new : LocalState) (before after : WalkFields) (value : ℕ) (told : WalkAnswer) → (told ≡ WalkAnswer.NeedSplit → ⊥) → TellsOfPass (one_key context) new before after value told → TellsOfLater (one_key context) new before after value told
+pass_is_later context new before after value WalkAnswer.NeedSplit not tells = absurd (not refl)
+pass_is_later context new before after value WalkAnswer.Changed not tells = tells.changed
+pass_is_later context new before after value WalkAnswer.Widen not tells = tells
+pass_is_later context new before after value (WalkAnswer.Refused Refusal.NoRoom) not tells = (tells.1, inl tells.2)
+pass_is_later context new before after value (WalkAnswer.Refused reason) not tells = absurd (tells.1 refl)
 pass_is_later context new before after value other not tells = absurd tells
 
 still_full : (context : WalkContext) (mid new : LocalState) (before at : WalkFields) (value : ℕ) → KeepsBefore mid new → NeedsRoom (one_key context) mid before at value → IsFullFor context.bits (pages_before new) context.root before.key
@@ -43,12 +33,12 @@ lacks_pages context mid new before at value keeps needs lacks =
     }
 
 -- the splits of a pass tell for the pass
-pub splits_are_later : (context : WalkContext) (mid new : LocalState) (before at after : WalkFields) (value : ℕ) (told : WalkAnswer) → KeepsBefore mid new → NeedsRoom (one_key context) mid before at value → (before.pass ≡ pass.First → ⊥) → TellsOfSplits (one_key context) new at after (added_value at.phase) (pages_in_the_end context.root at mid) told
+pub splits_are_later : (context : WalkContext) (mid new : LocalState) (before at after : WalkFields) (value : ℕ) (told : WalkAnswer) → KeepsBefore mid new → NeedsRoom (one_key context) mid before at value → (before.pass ≡ Pass.First → ⊥) → TellsOfSplits (one_key context) new at after (added_value at.phase) (pages_in_the_end context.root at mid) told
     → TellsOfLater (one_key context) new before after value told
-splits_are_later context mid new before at after value answer.Changed keeps needs later tells = subst (λ (key : ℕ). HasChanged (one_key context) new key (Some value)) needs.same.key (subst (λ (value : ℕ). HasChanged (one_key context) new at.key (Some value)) (needs.later later).value_is tells.changed)
-splits_are_later context mid new before at after value (answer.Refused refusal.NoRoom) keeps needs later tells = (still_full context mid new before at value keeps needs, inr (lacks_pages context mid new before at value keeps (needs.later later) tells))
-splits_are_later context mid new before at after value (answer.Refused refusal.OutOfMemory) keeps needs later tells = (still_full context mid new before at value keeps needs, subst (λ (pages : ℕ → Option Page). NeverHasRoomFor context.bits pages context.max_depth before.key → ⊥) (sym (same_before mid new keeps)) (needs.later later).ever)
-splits_are_later context mid new before at after value (answer.Refused reason) keeps needs later tells = absurd (let only : reason ≡ refusal.OutOfMemory = tells in cc)
+splits_are_later context mid new before at after value WalkAnswer.Changed keeps needs later tells = subst (λ (key : ℕ). HasChanged (one_key context) new key (Some value)) needs.same.key (subst (λ (value : ℕ). HasChanged (one_key context) new at.key (Some value)) (needs.later later).value_is tells.changed)
+splits_are_later context mid new before at after value (WalkAnswer.Refused Refusal.NoRoom) keeps needs later tells = (still_full context mid new before at value keeps needs, inr (lacks_pages context mid new before at value keeps (needs.later later) tells))
+splits_are_later context mid new before at after value (WalkAnswer.Refused Refusal.OutOfMemory) keeps needs later tells = (still_full context mid new before at value keeps needs, subst (λ (pages : ℕ → Option Page). NeverHasRoomFor context.bits pages context.max_depth before.key → ⊥) (sym (same_before mid new keeps)) (needs.later later).ever)
+splits_are_later context mid new before at after value (WalkAnswer.Refused reason) keeps needs later tells = absurd (let only : reason ≡ Refusal.OutOfMemory = tells in cc)
 splits_are_later context mid new before at after value other keeps needs later tells = absurd tells
 
 -- what a walk goes by is the same at this state too

@@ -2,23 +2,10 @@
 use Rattle.std.proofs.Common.{◌≡◌, ℕ, ◌≤◌, ◌+◌, true, Option, is_some, sym, ap, ◌∙◌, arith}
 use Rattle.std.specs.Cmp.{nat_cmp_total}
 use Rattle.std.specs.FinMap as map
-use Rattle.mlt_page.specs.Values.{BucketFields}
-use Rattle.mlt_page.specs.declared.page.Page.{Page}
-use Rattle.mlt_page_store.specs.Stores.{PageStore, Pages, page_at}
-use Rattle.mlt_page_store.proofs.Numbered.{same_pages}
-use Rattle.mlt_page_locks.proofs.LockLaws.{writer_reads}
-use Rattle.mlt_page_subtx.specs.Images.{put_back}
-use Rattle.mlt_page_subtx.proofs.ImageLaws.{page_at-put_back}
-use Rattle.mlt_hash_access.specs.LocalStates.{MayStep, LocalState}
-use Rattle.mlt_hash_access.specs.PageSteps.{MakesLockedPage, WritesHeldPage}
-use Rattle.mlt_hash_split.specs.Rests.{SplitTarget}
-use Rattle.mlt_hash_split.specs.Splits.{SplitFields, StandsAt, steps_left_at}
-use Rattle.mlt_hash_split.specs.Steps.{IsDone, LocksAndWrites}
-use Rattle.mlt_hash_split.specs.declared.phase.SplitPhase.{SplitPhase}
-use Rattle.mlt_hash_split.specs.declared.phase.SplitPhase.TheVariants as split_at
-use Rattle.mlt_hash_file.specs.Alone.{KeepsBefore}
+use Rattle.mlt_hash_file.proofs.Names.{BucketFields, Page, PageStore, Pages, page_at, same_pages, writer_reads, put_back, page_at-put_back, MayStep, LocalState, MakesLockedPage, WritesHeldPage, SplitTarget, SplitFields, steps_left_at, IsDone, SplitPhase, KeepsBefore, gained_from, gained_pages, left_from, pages_to_make}
+use Rattle.mlt_hash_split.specs.Splits.{StandsAt}
+use Rattle.mlt_hash_split.specs.Steps.{LocksAndWrites}
 use Rattle.mlt_hash.proofs.OpenedFiles.{fresh_is_one_more}
-use Rattle.mlt_hash_file.specs.SplitPages.{gained_from, gained_pages, left_from, pages_to_make}
 use Rattle.mlt_hash_file.proofs.SplitPages.{MayStandAt, closes_with_the_rest, makes_on, writes_on}
 
 -- what stood before is the same map at each of its steps
@@ -47,38 +34,38 @@ made old new q p makes = ap (λ (s : PageStore). map.len s.pages) makes.store �
 
 -- where a split stands, as far as its pages are concerned
 pub may_stand : (phase : SplitPhase) (target : SplitTarget) (splitters : _) (base pages : ℕ → Option Page) (split : SplitFields) (bucket : BucketFields) → StandsAt phase target splitters base pages split bucket → MayStandAt phase split.depth split.directory_depth
-may_stand split_at.OldBucket target splitters base pages split bucket stands = tt
-may_stand (split_at.InPlace place end) target splitters base pages split bucket stands = stands.shallow
-may_stand (split_at.Double place) target splitters base pages split bucket stands = tt
-may_stand (split_at.SecondHalf place) target splitters base pages split bucket stands = (stands.deep, stands.long, stands.more)
-may_stand split_at.Header target splitters base pages split bucket stands = tt
+may_stand SplitPhase.OldBucket target splitters base pages split bucket stands = tt
+may_stand (SplitPhase.InPlace place end) target splitters base pages split bucket stands = stands.shallow
+may_stand (SplitPhase.Double place) target splitters base pages split bucket stands = tt
+may_stand (SplitPhase.SecondHalf place) target splitters base pages split bucket stands = (stands.deep, stands.long, stands.more)
+may_stand SplitPhase.Header target splitters base pages split bucket stands = tt
 
 module _ (target : SplitTarget) (old new : LocalState) (split : SplitFields) (l g d : ℕ) (may : MayStep old) (within : l ≤ g) where
   -- **A step of a split leaves the number of pages that it leads to,**
   pub pages_go_on : (before after : SplitPhase) → MayStandAt before l g → steps_left_at l g after + 1 ≡ steps_left_at l g before → IsDone before target old new split → map.len new.store.pages + left_from l g d after ≤ map.len old.store.pages + left_from l g d before
-  pages_go_on split_at.OldBucket after stands steps done =
-      let left = writes_on l g split_at.OldBucket after within stands steps (λ place is. cc) in
+  pages_go_on SplitPhase.OldBucket after stands steps done =
+      let left = writes_on l g SplitPhase.OldBucket after within stands steps (λ place is. cc) in
       omega (arith, left, held_written old new split.old_page done.0 may done.1)
-  pages_go_on (split_at.InPlace place end) after stands steps done =
-      let left = writes_on l g (split_at.InPlace place end) after within stands steps (λ place is. cc) in
+  pages_go_on (SplitPhase.InPlace place end) after stands steps done =
+      let left = writes_on l g (SplitPhase.InPlace place end) after within stands steps (λ place is. cc) in
       omega (arith, left, locked_written target old new place done)
-  pages_go_on (split_at.Double place) after stands steps done =
-      let left = writes_on l g (split_at.Double place) after within stands steps (λ place is. cc) in
+  pages_go_on (SplitPhase.Double place) after stands steps done =
+      let left = writes_on l g (SplitPhase.Double place) after within stands steps (λ place is. cc) in
       omega (arith, left, locked_written target old new place done)
-  pages_go_on (split_at.SecondHalf place) after stands steps done =
+  pages_go_on (SplitPhase.SecondHalf place) after stands steps done =
       let left = makes_on l g place after stands steps in
       omega (arith, left, made old new done.0 done.1 done.2)
-  pages_go_on split_at.Header after stands steps done =
-      let left = writes_on l g split_at.Header after within stands steps (λ place is. cc) in
+  pages_go_on SplitPhase.Header after stands steps done =
+      let left = writes_on l g SplitPhase.Header after within stands steps (λ place is. cc) in
       omega (arith, left, held_written old new target.root done.0 may done.1)
 
   -- its last one makes no page,
   last_writes : (before : SplitPhase) → MayStandAt before l g → steps_left_at l g before ≡ 1 → IsDone before target old new split → map.len new.store.pages ≡ map.len old.store.pages
-  last_writes split_at.OldBucket stands last done = held_written old new split.old_page done.0 may done.1
-  last_writes (split_at.InPlace place end) stands last done = locked_written target old new place done
-  last_writes (split_at.Double place) stands last done = locked_written target old new place done
-  last_writes (split_at.SecondHalf place) stands last done = absurd (omega (arith, last))
-  last_writes split_at.Header stands last done = held_written old new target.root done.0 may done.1
+  last_writes SplitPhase.OldBucket stands last done = held_written old new split.old_page done.0 may done.1
+  last_writes (SplitPhase.InPlace place end) stands last done = locked_written target old new place done
+  last_writes (SplitPhase.Double place) stands last done = locked_written target old new place done
+  last_writes (SplitPhase.SecondHalf place) stands last done = absurd (omega (arith, last))
+  last_writes SplitPhase.Header stands last done = held_written old new target.root done.0 may done.1
 
   -- **and so does its last one.**
   pub pages_close : (before : SplitPhase) (g' : ℕ) → MayStandAt before l g → steps_left_at l g before ≡ 1 → ((l ≡ g → ⊥) → g' ≡ g) → (l ≡ g → g' ≡ g + 1) → IsDone before target old new split → map.len new.store.pages + pages_to_make (l + 1) g' d ≤ map.len old.store.pages + left_from l g d before

@@ -1,44 +1,17 @@
 -- What a pass finds that runs alone, and what it tells of its addition
-use Rattle.std.proofs.Common.{◌≡◌, ℕ, ◌≤◌, ◌<◌, ◌+◌, ◌^◌, true, false, Bool, Option, None, Some, IsSome, is_some, refl, sym, ap, subst, ◌∙◌, inl, inr, arith, ◌-◌}
-use Rattle.std.specs.List.{list_all}
-use Rattle.std.specs.Ordering.{nat_cmp}
+use Rattle.std.proofs.Common.{◌≡◌, ℕ, ◌≤◌, ◌<◌, ◌+◌, ◌^◌, true, false, Bool, Option, None, Some, IsSome, is_some, refl, sym, ap, subst, ◌∙◌, inl, inr, arith, ◌-◌, nat_cmp}
+use Rattle.mlt_hash_file.proofs.Names.{list_all, false≢true, Refusal, is_kept, BucketFields, Page, page_at, bucket_of, depth_of, header_of, look_up, Root, IsCleanFor, MayStep, LocalState, TouchesOnePage, WritesAtMost, HasWritten, IsUnwrittenSince, View, view_of, view_over, written_stays, over_since, held_page, IsAlone, KeepsBefore, context_of, pages_since, IsPutting, HasArrived, HasChanged, HasMade, IsFullFor, IsHashFile, IsReadySince, NeedsRoom, NeedsSplits, NeverHasRoomFor, TellsOfPass, added_value, IsAtRecord, Makes, WritesIfChanged, page_of, value_after, HasRoomAt, pages_for, pages_in_the_end, pages_left_at, pages_to_make, IsSameWalk, WalkContext, Before, IsAtBucket, IsStanding, Stands, WalkFields, view_for, WalkAnswer, Change, Pass, Phase}
 use Rattle.std.specs.FinMap as map
 use Rattle.std.specs.FinSet as set
-use Rattle.std.proofs.lemmas.Bool.{false≢true}
-use Rattle.mlt_types.specs.declared.refusal.Refusal.TheVariants as refusal
-use Rattle.mlt_page.specs.Slots.{is_kept}
-use Rattle.mlt_page.specs.Values.{BucketFields}
-use Rattle.mlt_page.specs.declared.page.Page.{Page}
-use Rattle.mlt_page.specs.declared.page.Page.TheVariants as page
-use Rattle.mlt_page_store.specs.Stores.{page_at}
-use Rattle.mlt_hash_form.specs.File.{bucket_of, buckets_of, depth_of, header_of, lead_of, look_up}
+use Rattle.mlt_hash_form.specs.File.{buckets_of, lead_of}
 use Rattle.mlt_hash_form.specs.Room.{is_crowded}
-use Rattle.mlt_hash_form.specs.declared.root.Root.{Root}
 use Rattle.mlt_hash_form.proofs.Crowd.{crowded_in_fewer, crowded_test}
 use Rattle.mlt_hash_form.proofs.InPages.{led_at}
-use Rattle.mlt_hash_access.specs.LocalStates.{IsCleanFor, MayStep, LocalState}
-use Rattle.mlt_hash_access.specs.PageSteps.{TouchesOnePage, WritesAtMost}
-use Rattle.mlt_hash_access.specs.Views.{HasWritten, IsUnwrittenSince, View, view_of, view_over}
-use Rattle.mlt_hash_access.proofs.Rebased.{written_stays}
-use Rattle.mlt_hash_access.proofs.Since.{over_since}
-use Rattle.mlt_hash_split.specs.Rests.{held_page}
 use Rattle.mlt_hash_split.proofs.Closing.{held_page_over}
-use Rattle.mlt_hash_file.specs.Alone.{IsAlone, KeepsBefore, context_of, pages_since}
-use Rattle.mlt_hash.specs.StepsLeft.{IsPutting}
-use Rattle.mlt_hash_file.specs.AloneWalks.{HasArrived, HasChanged, HasMade, IsFullFor, IsHashFile, IsReadySince, NeedsRoom, NeedsSplits, NeverHasRoomFor, TellsOfPass, added_value}
-use Rattle.mlt_hash.specs.Changes.{HasNoRoom, IsAtAbsent, IsAtRecord, IsFull, Makes, NeedsSplit, TellsOfAddition, WritesIfChanged, crowded_at, page_of}
-use Rattle.mlt_hash.specs.Passes.{HasRoomFrom, IsNextPass, next_of, value_after}
-use Rattle.mlt_hash_file.specs.SplitPages.{HasRoomAt, bucket_for, pages_for, pages_in_the_end, pages_left_at, pages_to_make}
-use Rattle.mlt_hash.specs.Steps.{HasFound, IsSameWalk}
-use Rattle.mlt_hash.specs.Walks.{WalkContext, Before, IsAtBucket, IsStanding, Stands, WalkFields, view_for}
-use Rattle.mlt_hash.specs.declared.answer.WalkAnswer.{WalkAnswer}
-use Rattle.mlt_hash.specs.declared.answer.WalkAnswer.TheVariants as answer
-use Rattle.mlt_hash.specs.declared.pass.Change.{Change}
-use Rattle.mlt_hash.specs.declared.pass.Change.TheVariants as change
-use Rattle.mlt_hash.specs.declared.pass.Pass.{Pass}
-use Rattle.mlt_hash.specs.declared.pass.Pass.TheVariants as pass
-use Rattle.mlt_hash.specs.declared.pass.Phase.{Phase}
-use Rattle.mlt_hash.specs.declared.pass.Phase.TheVariants as at
+use Rattle.mlt_hash.specs.Changes.{HasNoRoom, IsAtAbsent, IsFull, NeedsSplit, TellsOfAddition, crowded_at}
+use Rattle.mlt_hash.specs.Passes.{HasRoomFrom, IsNextPass, next_of}
+use Rattle.mlt_hash_file.specs.SplitPages.{bucket_for}
+use Rattle.mlt_hash.specs.Steps.{HasFound}
 use Rattle.mlt_hash_file.proofs.Alone.{alone_after_write, sees_since, unwritten_store, write_keeps_before}
 use Rattle.mlt_hash_file.proofs.AloneChanges.{made_alone, shallow_after_write, writes_at_most}
 use Rattle.mlt_hash_file.proofs.AloneWalks.{file_kept, same_context, same_since, same_walks}
@@ -46,35 +19,35 @@ use Rattle.mlt_hash.proofs.Laws.{found_there, path_taken}
 
 -- a walk that has arrived is at its bucket, with what it has found,
 arrived_at : (context : WalkContext) (walk : WalkFields) (view : View) (phase : Phase) (value : Option ℕ) → HasFound phase value → Stands phase context walk view → (depth : ℕ) × IsAtBucket context walk view (page_of phase) depth value
-arrived_at context walk view (at.AtBucket bucket depth found) value is stands = (depth, subst (λ (found : Option ℕ). IsAtBucket context walk view bucket depth found) is stands)
-arrived_at context walk view at.Start value is stands = absurd is
-arrived_at context walk view (at.Headed dir row depth) value is stands = absurd is
-arrived_at context walk view (at.Placed bucket depth) value is stands = absurd is
-arrived_at context walk view (at.Full next) value is stands = absurd is
-arrived_at context walk view (at.Adding own bucket room_depth unsplit) value is stands = absurd is
-arrived_at context walk view (at.Splitting own room_depth) value is stands = absurd is
-arrived_at context walk view (at.Changed bucket done) value is stands = absurd is
+arrived_at context walk view (Phase.AtBucket bucket depth found) value is stands = (depth, subst (λ (found : Option ℕ). IsAtBucket context walk view bucket depth found) is stands)
+arrived_at context walk view Phase.Start value is stands = absurd is
+arrived_at context walk view (Phase.Headed dir row depth) value is stands = absurd is
+arrived_at context walk view (Phase.Placed bucket depth) value is stands = absurd is
+arrived_at context walk view (Phase.Full next) value is stands = absurd is
+arrived_at context walk view (Phase.Adding own bucket room_depth unsplit) value is stands = absurd is
+arrived_at context walk view (Phase.Splitting own room_depth) value is stands = absurd is
+arrived_at context walk view (Phase.Changed bucket done) value is stands = absurd is
 
 pub found_absent : (phase : Phase) (value : Option ℕ) → HasFound phase value → value ≡ None → IsAtAbsent phase
-found_absent (at.AtBucket bucket depth found) value is none = is ∙ none
-found_absent at.Start value is none = absurd is
-found_absent (at.Headed dir row depth) value is none = absurd is
-found_absent (at.Placed bucket depth) value is none = absurd is
-found_absent (at.Full next) value is none = absurd is
-found_absent (at.Adding own bucket room_depth unsplit) value is none = absurd is
-found_absent (at.Splitting own room_depth) value is none = absurd is
-found_absent (at.Changed bucket done) value is none = absurd is
+found_absent (Phase.AtBucket bucket depth found) value is none = is ∙ none
+found_absent Phase.Start value is none = absurd is
+found_absent (Phase.Headed dir row depth) value is none = absurd is
+found_absent (Phase.Placed bucket depth) value is none = absurd is
+found_absent (Phase.Full next) value is none = absurd is
+found_absent (Phase.Adding own bucket room_depth unsplit) value is none = absurd is
+found_absent (Phase.Splitting own room_depth) value is none = absurd is
+found_absent (Phase.Changed bucket done) value is none = absurd is
 
 -- a walk that has found a value is at a record
 pub found_record : (phase : Phase) (value : Option ℕ) → HasFound phase value → IsSome value → IsAtRecord phase
-found_record (at.AtBucket bucket depth found) value is there = subst IsSome (sym is) there
-found_record at.Start value is there = absurd is
-found_record (at.Headed dir row depth) value is there = absurd is
-found_record (at.Placed bucket depth) value is there = absurd is
-found_record (at.Full next) value is there = absurd is
-found_record (at.Adding own bucket room_depth unsplit) value is there = absurd is
-found_record (at.Splitting own room_depth) value is there = absurd is
-found_record (at.Changed bucket done) value is there = absurd is
+found_record (Phase.AtBucket bucket depth found) value is there = subst IsSome (sym is) there
+found_record Phase.Start value is there = absurd is
+found_record (Phase.Headed dir row depth) value is there = absurd is
+found_record (Phase.Placed bucket depth) value is there = absurd is
+found_record (Phase.Full next) value is there = absurd is
+found_record (Phase.Adding own bucket room_depth unsplit) value is there = absurd is
+found_record (Phase.Splitting own room_depth) value is there = absurd is
+found_record (Phase.Changed bucket done) value is there = absurd is
 
 -- a walk that has arrived has written nothing
 pub arrived_store : (context : WalkContext) (m : LocalState) (before walk : WalkFields) (value : Option ℕ) → IsAlone m → HasWritten context.before.written (view_of m) → HasArrived context m before walk value → page_at m.store.pages ≡ pages_since context.before m
@@ -112,23 +85,23 @@ leads_here context m walk bucket depth found here may =
     (led_at (pages_since context.before m) context.root (context.bits walk.key) here.header here.dir bucket here.fields (path_taken context walk (view_for context m) bucket depth found (pages_since context.before m) here (sees_since context.before m may))).0
 
 pub absent_bucket : (context : WalkContext) (walk : WalkFields) (view : View) (phase : Phase) → IsAtAbsent phase → Stands phase context walk view → (depth : ℕ) × (found : Option ℕ) × IsAtBucket context walk view (page_of phase) depth found
-absent_bucket context walk view (at.AtBucket bucket depth found) none stands = (depth, found, stands)
-absent_bucket context walk view at.Start none stands = absurd none
-absent_bucket context walk view (at.Headed dir row depth) none stands = absurd none
-absent_bucket context walk view (at.Placed bucket depth) none stands = absurd none
-absent_bucket context walk view (at.Full next) none stands = absurd none
-absent_bucket context walk view (at.Adding own bucket room_depth unsplit) none stands = absurd none
-absent_bucket context walk view (at.Splitting own room_depth) none stands = absurd none
-absent_bucket context walk view (at.Changed bucket done) none stands = absurd none
+absent_bucket context walk view (Phase.AtBucket bucket depth found) none stands = (depth, found, stands)
+absent_bucket context walk view Phase.Start none stands = absurd none
+absent_bucket context walk view (Phase.Headed dir row depth) none stands = absurd none
+absent_bucket context walk view (Phase.Placed bucket depth) none stands = absurd none
+absent_bucket context walk view (Phase.Full next) none stands = absurd none
+absent_bucket context walk view (Phase.Adding own bucket room_depth unsplit) none stands = absurd none
+absent_bucket context walk view (Phase.Splitting own room_depth) none stands = absurd none
+absent_bucket context walk view (Phase.Changed bucket done) none stands = absurd none
 
-not_first : (crowded : ℕ → Bool) (l most g : ℕ) (next : Pass) → IsNextPass crowded l most g next → next ≡ pass.First → ⊥
-not_first crowded l most g pass.First is same = is
-not_first crowded l most g pass.Narrow is same = cc
-not_first crowded l most g pass.Wide is same = cc
+not_first : (crowded : ℕ → Bool) (l most g : ℕ) (next : Pass) → IsNextPass crowded l most g next → next ≡ Pass.First → ⊥
+not_first crowded l most g Pass.First is same = is
+not_first crowded l most g Pass.Narrow is same = cc
+not_first crowded l most g Pass.Wide is same = cc
 
 -- which pass follows is in the phase
-follows : (phase : Phase) (next : Pass) → phase ≡ at.Full next → (next ≡ pass.First → ⊥) → (phase ≡ at.Full (next_of phase)) × (next_of phase ≡ pass.First → ⊥)
-follows phase next is later = subst (λ (phase : Phase). (phase ≡ at.Full (next_of phase)) × (next_of phase ≡ pass.First → ⊥)) (sym is) (refl, later)
+follows : (phase : Phase) (next : Pass) → phase ≡ Phase.Full next → (next ≡ Pass.First → ⊥) → (phase ≡ Phase.Full (next_of phase)) × (next_of phase ≡ Pass.First → ⊥)
+follows phase next is later = subst (λ (phase : Phase). (phase ≡ Phase.Full (next_of phase)) × (next_of phase ≡ Pass.First → ⊥)) (sym is) (refl, later)
 
 module _ (since : Before) (bits : ℕ → ℕ) (root max_depth : ℕ) (first mid new : LocalState) (walk after : WalkFields) (value : ℕ) (alone : IsAlone mid) (written : HasWritten since.written (view_of mid)) (file : IsHashFile bits (pages_since since mid) root max_depth) (none : IsAtAbsent walk.phase)
     (stood : IsStanding (context_of since bits root max_depth first) walk (view_over since.written mid)) (may : MayStep new) (clean : (clean : ℕ → Option Page) → IsCleanFor mid clean → IsCleanFor new clean) (touches : TouchesOnePage mid new) (step : WritesAtMost mid new (page_of walk.phase))
@@ -158,8 +131,8 @@ module _ (since : Before) (bits : ℕ → ℕ) (root max_depth : ℕ) (first mid
     leads : lead_of (pages_since since new) root (bits walk.key) ≡ page_of walk.phase
     leads = let h = here in ap (λ (pages : ℕ → Option Page). lead_of pages root (bits walk.key)) (same_since since mid new keeps) ∙ leads_here ours mid walk (page_of walk.phase) h.0 h.1 h.2 alone.may
 
-    key_bucket : (fields : BucketFields) → (view_over since.written new).seen (page_of walk.phase) ≡ Some (Some (page.Bucket fields)) → buckets_of (pages_since since new) (lead_of (pages_since since new) root (bits walk.key)) ≡ fields
-    key_bucket fields sees = ap (buckets_of (pages_since since new)) leads ∙ ap bucket_of (sees_since since new may (page_of walk.phase) (Some (page.Bucket fields)) sees)
+    key_bucket : (fields : BucketFields) → (view_over since.written new).seen (page_of walk.phase) ≡ Some (Some (Page.Bucket fields)) → buckets_of (pages_since since new) (lead_of (pages_since since new) root (bits walk.key)) ≡ fields
+    key_bucket fields sees = ap (buckets_of (pages_since since new)) leads ∙ ap bucket_of (sees_since since new may (page_of walk.phase) (Some (Page.Bucket fields)) sees)
 
     is_full : (fields : BucketFields) → IsFull ours walk (view_over since.written new) fields → IsFullFor bits (pages_since since new) root walk.key
     is_full fields full = ap (λ (b : BucketFields). list_all (is_kept set.empty) b.slots) (key_bucket fields full.sees.at) ∙ full.no_room
@@ -176,7 +149,7 @@ module _ (since : Before) (bits : ℕ → ℕ) (root max_depth : ℕ) (first mid
         (crowded_test bits set.empty _ (lead_of (pages_since since new) root) (buckets_of (pages_since since new)) max_depth x below file_new.bounded file_new.form.form fine (omega (arith, file_new.small))).1 there
 
     -- at a depth at which the bucket has room, and at any deeper one, the file is not crowded
-    has_room : (fields : BucketFields) (d : ℕ) → (view_over since.written new).seen (page_of walk.phase) ≡ Some (Some (page.Bucket fields)) → d ≤ max_depth → crowded_at ours walk fields d ≡ false → NeverHasRoomFor bits (pages_since since new) max_depth walk.key → ⊥
+    has_room : (fields : BucketFields) (d : ℕ) → (view_over since.written new).seen (page_of walk.phase) ≡ Some (Some (Page.Bucket fields)) → d ≤ max_depth → crowded_at ours walk fields d ≡ false → NeverHasRoomFor bits (pages_since since new) max_depth walk.key → ⊥
     has_room fields d sees within room never =
         let same : buckets_of (pages_since since new) (lead_of (pages_since since new) root (bits walk.key)) ≡ fields = key_bucket fields sees in
         let x : ℕ = bits walk.key in
@@ -193,7 +166,7 @@ module _ (since : Before) (bits : ℕ → ℕ) (root max_depth : ℕ) (first mid
     store_is : new ≡ mid → page_at new.store.pages ≡ pages_since since new
     store_is same = let h = here in unwritten_store since new may written_new (subst (λ (m : LocalState). IsUnwrittenSince since.written (view_over since.written m)) (sym same) h.2.unwritten)
 
-    pages_counted : (d : ℕ) → new ≡ mid → after.phase ≡ at.Adding value (page_of walk.phase) d true → pages_in_the_end root after new ≡ map.len new.store.pages + pages_for bits (pages_since since new) root walk.key d
+    pages_counted : (d : ℕ) → new ≡ mid → after.phase ≡ Phase.Adding value (page_of walk.phase) d true → pages_in_the_end root after new ≡ map.len new.store.pages + pages_for bits (pages_since since new) root walk.key d
     pages_counted d same phase =
         let stored = store_is same in
         let leads_there : page_of walk.phase ≡ lead_of (pages_since since new) root (bits walk.key) = sym leads in
@@ -201,7 +174,7 @@ module _ (since : Before) (bits : ℕ → ℕ) (root max_depth : ℕ) (first mid
         let same_left : pages_to_make (buckets_of (page_at new.store.pages) (page_of walk.phase)).depth (depth_of (page_at new.store.pages) root) d ≡ pages_for bits (pages_since since new) root walk.key d = (λ i. pages_to_make (buckets_of (stored i) (leads_there i)).depth (depth_of (stored i) root) d) in
         (λ i. map.len new.store.pages + (left ∙ same_left) i)
 
-    needs_splits : new ≡ mid → NeedsSplit ours new walk after value → (walk.pass ≡ pass.First → ⊥) → NeedsSplits ours new walk after value
+    needs_splits : new ≡ mid → NeedsSplit ours new walk after value → (walk.pass ≡ Pass.First → ⊥) → NeedsSplits ours new walk after value
     needs_splits same needs later =
         let next = needs.later later in
         record {
@@ -224,15 +197,15 @@ module _ (since : Before) (bits : ℕ → ℕ) (root max_depth : ℕ) (first mid
 
     -- **The pass tells what its addition told.**
     pub pass_tells : (told : WalkAnswer) → WritesIfChanged mid new (page_of walk.phase) told → TellsOfAddition ours new walk after value told → TellsOfPass ours new walk after value told
-    pass_tells answer.Changed writes tells =
+    pass_tells WalkAnswer.Changed writes tells =
         elim tells [
-          | inl revives ↦ changed (change.Revive value) refl revives
-          | inr puts ↦ changed (change.Put value) refl puts
+          | inl revives ↦ changed (Change.Revive value) refl revives
+          | inr puts ↦ changed (Change.Put value) refl puts
         ]
-    pass_tells answer.NeedSplit writes tells = needs_room writes tells
-    pass_tells answer.Widen writes tells = record { same = tells.same; narrow = tells.narrow; phase = tells.phase }
-    pass_tells (answer.Refused refusal.NoRoom) writes tells = (tells.later, is_full tells.fields tells.full, never tells)
-    pass_tells (answer.Refused reason) writes tells = (tells.0, tells.1)
+    pass_tells WalkAnswer.NeedSplit writes tells = needs_room writes tells
+    pass_tells WalkAnswer.Widen writes tells = record { same = tells.same; narrow = tells.narrow; phase = tells.phase }
+    pass_tells (WalkAnswer.Refused Refusal.NoRoom) writes tells = (tells.later, is_full tells.fields tells.full, never tells)
+    pass_tells (WalkAnswer.Refused reason) writes tells = (tells.0, tells.1)
     pass_tells other writes tells = absurd tells
 
 retell_splits : (context : WalkContext) (new : LocalState) (before walk after : WalkFields) (value : ℕ) → IsSameWalk before walk → NeedsSplits context new walk after value → NeedsSplits context new before after value
@@ -256,16 +229,16 @@ retell_made context new before walk after value same made = record {
 
 -- a pass tells the same of the walk as it was before it went to its bucket
 pub retell : (context : WalkContext) (new : LocalState) (before walk after : WalkFields) (value : ℕ) (told : WalkAnswer) → IsSameWalk before walk → TellsOfPass context new walk after value told → TellsOfPass context new before after value told
-retell context new before walk after value answer.Changed same tells = retell_made context new before walk after (Some value) same tells
-retell context new before walk after value answer.NeedSplit same tells = record {
+retell context new before walk after value WalkAnswer.Changed same tells = retell_made context new before walk after (Some value) same tells
+retell context new before walk after value WalkAnswer.NeedSplit same tells = record {
   full = subst (λ (key : ℕ). IsFullFor context.bits (pages_since context.before new) context.root key) same.key tells.full;
   same = same_walks before walk after same tells.same;
   first = λ is. tells.first (same.pass ∙ is);
   later = λ later. retell_splits context new before walk after value same (tells.later (λ is. later (sym same.pass ∙ is)));
 }
-retell context new before walk after value answer.Widen same tells = record { same = same_walks before walk after same tells.same; narrow = sym same.pass ∙ tells.narrow; phase = tells.phase }
-retell context new before walk after value (answer.Refused refusal.NoRoom) same tells = (λ is. tells.0 (same.pass ∙ is), subst (λ (key : ℕ). IsFullFor context.bits (pages_since context.before new) context.root key) same.key tells.1, subst (λ (key : ℕ). NeverHasRoomFor context.bits (pages_since context.before new) context.max_depth key) same.key tells.2)
-retell context new before walk after value (answer.Refused reason) same tells = tells
+retell context new before walk after value WalkAnswer.Widen same tells = record { same = same_walks before walk after same tells.same; narrow = sym same.pass ∙ tells.narrow; phase = tells.phase }
+retell context new before walk after value (WalkAnswer.Refused Refusal.NoRoom) same tells = (λ is. tells.0 (same.pass ∙ is), subst (λ (key : ℕ). IsFullFor context.bits (pages_since context.before new) context.root key) same.key tells.1, subst (λ (key : ℕ). NeverHasRoomFor context.bits (pages_since context.before new) context.max_depth key) same.key tells.2)
+retell context new before walk after value (WalkAnswer.Refused reason) same tells = tells
 retell context new before walk after value other same tells = absurd tells
 
 -- **A pass alone tells what its addition told at the bucket that it went to.**

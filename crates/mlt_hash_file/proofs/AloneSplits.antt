@@ -1,45 +1,18 @@
 -- The splits of a walk alone: they come to an end, and leave the directory as shallow as it has to be
 use Rattle.std.proofs.Common.{◌≡◌, ℕ, zero, suc, min, ◌<◌, ◌≤◌, ◌+◌, ◌*◌, ◌-◌, ◌^◌, Bool, true, false, cond, Option, None, Some, is_some, unwrap_or, nat_eq, nat_lt, if◌then◌else◌, refl, sym, ap, subst, ◌∙◌, inl, inr, arith}
-use Rattle.std.specs.List.{list_all}
+use Rattle.mlt_hash_file.proofs.Names.{list_all, pow-le-pow_right, Refusal, is_kept, BucketFields, Page, page_at, can_read, writer_reads, image_of, or_image, bucket_of, depth_of, header_of, own_or_clean, MayStep, LocalState, WritesAtMost, HasWritten, View, page_written, view_of, view_over, SplitTarget, held_page, SplitFields, directory_steps, steps_left_at, IsDone, SplitPhase, HasNotWaited, IsAlone, KeepsBefore, context_of, pages_before, pages_since, IsPutting, HasMade, IsHashFile, MayAdd, TellsOfSplits, added_value, Makes, left_from, pages_in_the_end, pages_left_at, pages_to_make, TellsAt, TellsOfAdding, TellsOfSplitting, walk_step, WalkContext, Before, IsStanding, Stands, WalkFields, view_for, IsSameWalk, WalkAnswer, Change, Phase}
 use Rattle.std.specs.FinMap as map
 use Rattle.std.specs.FinSet as set
-use Rattle.std.proofs.Math.Nat.{pow-le-pow_right}
-use Rattle.mlt_types.specs.declared.refusal.Refusal.TheVariants as refusal
-use Rattle.mlt_page.specs.Slots.{is_kept}
-use Rattle.mlt_page.specs.Values.{BucketFields}
-use Rattle.mlt_page.specs.declared.page.Page.{Page}
-use Rattle.mlt_page.specs.declared.page.Page.TheVariants as page
-use Rattle.mlt_page_store.specs.Stores.{page_at}
-use Rattle.mlt_page_locks.specs.LockTables.{can_read}
-use Rattle.mlt_page_locks.proofs.LockLaws.{writer_reads}
-use Rattle.mlt_page_subtx.specs.Images.{image_of, or_image}
-use Rattle.mlt_hash_form.specs.File.{bucket_of, depth_of, header_of}
-use Rattle.mlt_hash_form.specs.Held.{own_or_clean}
-use Rattle.mlt_hash_access.specs.LocalStates.{HasFileOver, MayStep, LocalState}
-use Rattle.mlt_hash_access.specs.PageSteps.{WritesAtMost}
-use Rattle.mlt_hash_access.specs.Views.{HasWritten, View, page_written, view_of, view_over}
-use Rattle.mlt_hash_split.specs.Rests.{SplitTarget, held_page}
-use Rattle.mlt_hash_split.specs.Splits.{SplitFields, directory_steps, steps_left, steps_left_at}
-use Rattle.mlt_hash_split.specs.Steps.{IsDone, IsMaking}
-use Rattle.mlt_hash_split.specs.declared.phase.SplitPhase.{SplitPhase}
-use Rattle.mlt_hash_split.specs.declared.phase.SplitPhase.TheVariants as split_at
+use Rattle.mlt_hash_access.specs.LocalStates.{HasFileOver}
+use Rattle.mlt_hash_split.specs.Splits.{steps_left}
+use Rattle.mlt_hash_split.specs.Steps.{IsMaking}
 use Rattle.mlt_hash_split.proofs.HeldPages.{clean_now}
 use Rattle.mlt_hash_split.proofs.Later.{begins_now, stands_now}
 use Rattle.mlt_hash_split.proofs.OldBucket.{depths_are_small}
-use Rattle.mlt_hash_file.specs.Alone.{HasNotWaited, IsAlone, KeepsBefore, context_of, pages_before, pages_since}
-use Rattle.mlt_hash.specs.StepsLeft.{IsPutting}
-use Rattle.mlt_hash_file.specs.AloneWalks.{HasMade, IsHashFile, MayAdd, TellsOfSplits, added_value}
-use Rattle.mlt_hash.specs.Changes.{Makes}
-use Rattle.mlt_hash_file.specs.SplitPages.{left_from, left_from_split, pages_in_the_end, pages_left_at, pages_to_make}
-use Rattle.mlt_hash.specs.Splitting.{BeginsSplit, HasToSplit, OfSplit, SplitCloses, SplitGoesOn, TellsAt, TellsOfAdding, TellsOfSplitting, walk_step}
+use Rattle.mlt_hash_file.specs.SplitPages.{left_from_split}
+use Rattle.mlt_hash.specs.Splitting.{BeginsSplit, HasToSplit, OfSplit, SplitCloses, SplitGoesOn}
 use Rattle.mlt_hash.specs.Splitting.{IsUnderWay as HasNextStep}
-use Rattle.mlt_hash.specs.Walks.{WalkContext, Before, IsAdding, IsSplitting, IsStanding, Stands, WalkFields, split_target, view_for}
-use Rattle.mlt_hash.specs.Steps.{IsSameWalk}
-use Rattle.mlt_hash.specs.declared.answer.WalkAnswer.{WalkAnswer}
-use Rattle.mlt_hash.specs.declared.answer.WalkAnswer.TheVariants as answer
-use Rattle.mlt_hash.specs.declared.pass.Change.TheVariants as change
-use Rattle.mlt_hash.specs.declared.pass.Phase.{Phase}
-use Rattle.mlt_hash.specs.declared.pass.Phase.TheVariants as at
+use Rattle.mlt_hash.specs.Walks.{IsAdding, IsSplitting, split_target}
 use Rattle.mlt_hash_file.proofs.Alone.{before_is_clean, keeps_both, sees_since, keeps_same, reads_image_back}
 use Rattle.mlt_hash_file.proofs.AloneChanges.{made_alone, other_page_stays}
 use Rattle.mlt_hash_file.proofs.AlonePages.{made, may_stand, pages_close, pages_go_on}
@@ -84,8 +57,8 @@ split_effort None = 0
 split_effort (Some split) = 1000 * (16 - split.depth) + steps_left split
 
 abbrev pub effort_at : Phase → WalkFields → LocalState → ℕ
-effort_at (at.Adding value bucket room_depth unsplit) walk m = 1000 * (17 - (bucket_of (page_at m.store.pages bucket)).depth)
-effort_at (at.Splitting value room_depth) walk m = split_effort walk.split
+effort_at (Phase.Adding value bucket room_depth unsplit) walk m = 1000 * (17 - (bucket_of (page_at m.store.pages bucket)).depth)
+effort_at (Phase.Splitting value room_depth) walk m = split_effort walk.split
 effort_at other walk m = 0
 
 abbrev pub effort : WalkFields → LocalState → ℕ
@@ -104,14 +77,14 @@ pub record IsSplittingOn (context : WalkContext) (old now : LocalState) (before 
   pub pages : pages_in_the_end context.root walk now ≤ pages_in_the_end context.root before old
 
 next_step : (phase : Phase) → IsPutting phase → HasNextStep phase
-next_step (at.Adding value bucket room_depth unsplit) adds = tt
-next_step (at.Splitting value room_depth) adds = tt
-next_step at.Start adds = absurd adds
-next_step (at.Headed dir row depth) adds = absurd adds
-next_step (at.Placed bucket depth) adds = absurd adds
-next_step (at.AtBucket bucket depth found) adds = absurd adds
-next_step (at.Full next) adds = absurd adds
-next_step (at.Changed bucket done) adds = absurd adds
+next_step (Phase.Adding value bucket room_depth unsplit) adds = tt
+next_step (Phase.Splitting value room_depth) adds = tt
+next_step Phase.Start adds = absurd adds
+next_step (Phase.Headed dir row depth) adds = absurd adds
+next_step (Phase.Placed bucket depth) adds = absurd adds
+next_step (Phase.AtBucket bucket depth found) adds = absurd adds
+next_step (Phase.Full next) adds = absurd adds
+next_step (Phase.Changed bucket done) adds = absurd adds
 
 pub has_next_step : (context : WalkContext) (m : LocalState) (walk : WalkFields) → MayAdd context m walk → HasNextStep walk.phase
 has_next_step context m walk may = next_step walk.phase may.adds
@@ -130,15 +103,15 @@ no_more : (x y z : ℕ) → x ≤ y → y ≤ z → x ≤ z
 no_more x y z first next = omega (arith, first, next)
 
 at_most : (context : WalkContext) (new : LocalState) (before after : WalkFields) (value less most : ℕ) (told : WalkAnswer) → less ≤ most → TellsOfSplits context new before after value less told → TellsOfSplits context new before after value most told
-at_most context new before after value less most answer.Changed within tells = tells
-at_most context new before after value less most (answer.Refused refusal.NoRoom) within tells = omega (arith, within, tells)
-at_most context new before after value less most (answer.Refused reason) within tells = tells
+at_most context new before after value less most WalkAnswer.Changed within tells = tells
+at_most context new before after value less most (WalkAnswer.Refused Refusal.NoRoom) within tells = omega (arith, within, tells)
+at_most context new before after value less most (WalkAnswer.Refused reason) within tells = tells
 at_most context new before after value less most other within tells = absurd tells
 
 retell_splits : (context : WalkContext) (new : LocalState) (before walk after : WalkFields) (value most : ℕ) (told : WalkAnswer) → IsSameWalk before walk → TellsOfSplits context new walk after value most told → TellsOfSplits context new before after value most told
-retell_splits context new before walk after value most answer.Changed same tells = retell_made context new before walk after (Some value) same tells
-retell_splits context new before walk after value most (answer.Refused refusal.NoRoom) same tells = tells
-retell_splits context new before walk after value most (answer.Refused reason) same tells = tells
+retell_splits context new before walk after value most WalkAnswer.Changed same tells = retell_made context new before walk after (Some value) same tells
+retell_splits context new before walk after value most (WalkAnswer.Refused Refusal.NoRoom) same tells = tells
+retell_splits context new before walk after value most (WalkAnswer.Refused reason) same tells = tells
 retell_splits context new before walk after value most other same tells = absurd tells
 
 -- what a step leads to: the walk goes on with less work, or tells
@@ -157,18 +130,18 @@ module _ (since : Before) (bits : ℕ → ℕ) (root max_depth : ℕ) (first now
   clean_now_is = clean_file since bits root max_depth now alone.may file
 
   -- where the walk is at rest,
-  module _ (value n room_depth : ℕ) (unsplit : Bool) (adding : IsAdding ours walk (view_over since.written now) n room_depth unsplit) (phase_is : walk.phase ≡ at.Adding value n room_depth unsplit) where
-    stored_bucket : page_at now.store.pages n ≡ Some (page.Bucket adding.fields)
-    stored_bucket = held_is_stored ours now n (page.Bucket adding.fields) alone.may written adding.rest.found
+  module _ (value n room_depth : ℕ) (unsplit : Bool) (adding : IsAdding ours walk (view_over since.written now) n room_depth unsplit) (phase_is : walk.phase ≡ Phase.Adding value n room_depth unsplit) where
+    stored_bucket : page_at now.store.pages n ≡ Some (Page.Bucket adding.fields)
+    stored_bucket = held_is_stored ours now n (Page.Bucket adding.fields) alone.may written adding.rest.found
 
-    stored_head : page_at now.store.pages root ≡ Some (page.Head adding.header)
-    stored_head = held_is_stored ours now root (page.Head adding.header) alone.may written adding.rest.head
+    stored_head : page_at now.store.pages root ≡ Some (Page.Head adding.header)
+    stored_head = held_is_stored ours now root (Page.Head adding.header) alone.may written adding.rest.head
 
     shallow : depth_of (page_at now.store.pages) root ≤ max_depth
     shallow = subst (λ (p : Option Page). (header_of p).depth ≤ max_depth) (sym stored_head) adding.shallow
 
     -- a split that begins makes one of the pages that it leads to
-    begins_pages : (b : BeginsSplit ours (walk_step now new walk after) value n room_depth) → page_at now.store.pages root ≡ Some (page.Head b.header) → page_at now.store.pages n ≡ Some (page.Bucket b.bucket) → b.split.depth < room_depth
+    begins_pages : (b : BeginsSplit ours (walk_step now new walk after) value n room_depth) → page_at now.store.pages root ≡ Some (Page.Head b.header) → page_at now.store.pages n ≡ Some (Page.Bucket b.bucket) → b.split.depth < room_depth
         → pages_in_the_end root after new ≤ pages_in_the_end root walk now
     begins_pages b head bucket deep =
         let now_left : pages_left_at walk.phase root walk now ≡ pages_to_make b.bucket.depth b.header.depth room_depth = ap (λ (phase : Phase). pages_left_at phase root walk now) phase_is ∙ (λ i. pages_to_make (bucket_of (bucket i)).depth (header_of (head i)).depth room_depth) in
@@ -178,8 +151,8 @@ module _ (since : Before) (bits : ℕ → ℕ) (root max_depth : ℕ) (first now
 
     begins : BeginsSplit ours (walk_step now new walk after) value n room_depth → Advances ours now new walk after
     begins b =
-        let head : page_at now.store.pages root ≡ Some (page.Head b.header) = held_is_stored ours now root (page.Head b.header) alone.may written b.head in
-        let bucket : page_at now.store.pages n ≡ Some (page.Bucket b.bucket) = held_is_stored ours now n (page.Bucket b.bucket) alone.may written b.found in
+        let head : page_at now.store.pages root ≡ Some (Page.Head b.header) = held_is_stored ours now root (Page.Head b.header) alone.may written b.head in
+        let bucket : page_at now.store.pages n ≡ Some (Page.Bucket b.bucket) = held_is_stored ours now n (Page.Bucket b.bucket) alone.may written b.found in
         let fits : b.header.depth ≤ max_depth = subst (λ (p : Option Page). (header_of p).depth ≤ max_depth) head shallow in
         let stands : IsSplitting ours after (view_over since.written new) room_depth = subst (λ (phase : Phase). Stands phase ours after (view_over since.written new)) b.phase b.on.stands in
         let same : stands.split ≡ b.split = some_is_one stands.split b.split after.split stands.split_is b.split_is in
@@ -200,19 +173,19 @@ module _ (since : Before) (bits : ℕ → ℕ) (root max_depth : ℕ) (first now
         }
 
     not_root : root ≡ n → ⊥
-    not_root same = let both : Some (page.Head adding.header) ≡ Some (page.Bucket adding.fields) = sym stored_head ∙ ap (page_at now.store.pages) same ∙ stored_bucket in cc
+    not_root same = let both : Some (Page.Head adding.header) ≡ Some (Page.Bucket adding.fields) = sym stored_head ∙ ap (page_at now.store.pages) same ∙ stored_bucket in cc
 
-    puts : Makes ours new walk after (change.Put value) → WritesAtMost now new n → HasMade ours new walk after (Some value)
+    puts : Makes ours new walk after (Change.Put value) → WritesAtMost now new n → HasMade ours new walk after (Some value)
     puts makes writes =
         let stays : page_at new.store.pages root ≡ page_at now.store.pages root = other_page_stays now new n root writes not_root in
         let fits : depth_of (page_at new.store.pages) root ≤ max_depth = subst (λ (p : Option Page). (header_of p).depth ≤ max_depth) (sym stays) shallow in
-        made_alone ours new walk after (change.Put value) alone_new written_new (file_kept since bits root max_depth now new keeps file) fits makes
+        made_alone ours new walk after (Change.Put value) alone_new written_new (file_kept since bits root max_depth now new keeps file) fits makes
 
     has_to_be_deeper : HasToSplit ours now walk value n room_depth → adding.fields.depth < room_depth
-    has_to_be_deeper (inl unsplit_yet) = adding.unsplit_is (let both : at.Adding value n room_depth unsplit ≡ at.Adding value n room_depth true = sym phase_is ∙ unsplit_yet in cc)
+    has_to_be_deeper (inl unsplit_yet) = adding.unsplit_is (let both : Phase.Adding value n room_depth unsplit ≡ Phase.Adding value n room_depth true = sym phase_is ∙ unsplit_yet in cc)
     has_to_be_deeper (inr full) =
         let target : SplitTarget = split_target ours walk room_depth in
-        let same : full.0 ≡ adding.fields = (let both : Some (page.Bucket full.0) ≡ Some (page.Bucket adding.fields) = sym full.1 ∙ adding.rest.found in cc) in
+        let same : full.0 ≡ adding.fields = (let both : Some (Page.Bucket full.0) ≡ Some (Page.Bucket adding.fields) = sym full.1 ∙ adding.rest.found in cc) in
         kept_is_shallow target (view_over since.written now) n adding.header adding.fields adding.rest (clean_now target now alone.may clean_now_is) (subst (λ (b : BucketFields). list_all (is_kept set.empty) b.slots ≡ true) same full.2)
 
     -- where the store is full and a split is to begin, the splits lead to more pages than there may be
@@ -221,19 +194,19 @@ module _ (since : Before) (bits : ℕ → ℕ) (root max_depth : ℕ) (first now
         let left : pages_left_at walk.phase root walk now ≡ pages_to_make adding.fields.depth adding.header.depth room_depth = ap (λ (phase : Phase). pages_left_at phase root walk now) phase_is ∙ (λ i. pages_to_make (bucket_of (stored_bucket i)).depth (header_of (stored_head i)).depth room_depth) in
         past_the_limit _ _ _ _ _ full keeps.max_pages left (one_at_least adding.fields.depth adding.header.depth room_depth (has_to_be_deeper to_split))
 
-    adding_goes : TellsOfAdding ours (walk_step now new walk after) value n room_depth answer.Going → Advances ours now new walk after
+    adding_goes : TellsOfAdding ours (walk_step now new walk after) value n room_depth WalkAnswer.Going → Advances ours now new walk after
     adding_goes tells = begins tells
 
-    adding_ends : (told : WalkAnswer) → (told ≡ answer.Going → ⊥) → TellsOfAdding ours (walk_step now new walk after) value n room_depth told → TellsOfSplits ours new walk after value (pages_in_the_end root walk now) told
-    adding_ends answer.Going not tells = absurd (not refl)
-    adding_ends answer.Changed not tells = puts tells.1 tells.2
-    adding_ends (answer.Refused refusal.NoRoom) not tells = full_at_rest tells.0 tells.1
-    adding_ends (answer.Refused refusal.OutOfMemory) not tells = refl
-    adding_ends (answer.Refused reason) not tells = tells
+    adding_ends : (told : WalkAnswer) → (told ≡ WalkAnswer.Going → ⊥) → TellsOfAdding ours (walk_step now new walk after) value n room_depth told → TellsOfSplits ours new walk after value (pages_in_the_end root walk now) told
+    adding_ends WalkAnswer.Going not tells = absurd (not refl)
+    adding_ends WalkAnswer.Changed not tells = puts tells.1 tells.2
+    adding_ends (WalkAnswer.Refused Refusal.NoRoom) not tells = full_at_rest tells.0 tells.1
+    adding_ends (WalkAnswer.Refused Refusal.OutOfMemory) not tells = refl
+    adding_ends (WalkAnswer.Refused reason) not tells = tells
     adding_ends other not tells = absurd tells
 
   -- and in the midst of a split
-  module _ (value room_depth : ℕ) (splitting : IsSplitting ours walk (view_over since.written now) room_depth) (phase_is : walk.phase ≡ at.Splitting value room_depth) where
+  module _ (value room_depth : ℕ) (splitting : IsSplitting ours walk (view_over since.written now) room_depth) (phase_is : walk.phase ≡ Phase.Splitting value room_depth) where
     effort_now : (was : SplitFields) → walk.split ≡ Some was → effort walk now ≡ 1000 * (16 - was.depth) + steps_left was
     effort_now was is = ap (λ (phase : Phase). effort_at phase walk now) phase_is ∙ split_effort_is walk.split was is
 
@@ -264,7 +237,7 @@ module _ (since : Before) (bits : ℕ → ℕ) (root max_depth : ℕ) (first now
         let new_left : pages_left_at after.phase root after new ≡ left_from s.was.depth s.was.directory_depth room_depth s.is.phase = ap (λ (phase : Phase). pages_left_at phase root after new) s.phase ∙ ap (λ (o : Option SplitFields). left_from_split o room_depth) s.is_is ∙ (λ i. left_from (s.depth i) (s.directory_depth i) room_depth s.is.phase) in
         as_many _ _ _ _ _ _ (pages_go_on (split_target ours walk room_depth) now new s.was s.was.depth s.was.directory_depth room_depth alone.may (within s.was s.was_is) s.was.phase s.is.phase (stands_there s.was s.was_is) steps (done_there s.was s.was_is done)) (left_now s.was s.was_is) new_left
 
-    closes_pages : (s : SplitCloses ours new walk after value room_depth) → page_at new.store.pages root ≡ Some (page.Head s.rests.header) → page_at new.store.pages s.bucket ≡ Some (page.Bucket s.rests.bucket)
+    closes_pages : (s : SplitCloses ours new walk after value room_depth) → page_at new.store.pages root ≡ Some (Page.Head s.rests.header) → page_at new.store.pages s.bucket ≡ Some (Page.Bucket s.rests.bucket)
         → OfSplit walk (λ (split : SplitFields). IsDone split.phase (split_target ours walk room_depth) now new split) → pages_in_the_end root after new ≤ pages_in_the_end root walk now
     closes_pages s head bucket done =
         let new_left : pages_left_at after.phase root after new ≡ pages_to_make (s.was.depth + 1) s.rests.header.depth room_depth =
@@ -288,8 +261,8 @@ module _ (since : Before) (bits : ℕ → ℕ) (root max_depth : ℕ) (first now
 
     split_closes : SplitCloses ours new walk after value room_depth → OfSplit walk (λ (split : SplitFields). IsDone split.phase (split_target ours walk room_depth) now new split) → Advances ours now new walk after
     split_closes s done =
-        let head : page_at new.store.pages root ≡ Some (page.Head s.rests.header) = held_is_stored ours new root (page.Head s.rests.header) alone_new.may written_new s.rests.rest.head in
-        let bucket : page_at new.store.pages s.bucket ≡ Some (page.Bucket s.rests.bucket) = held_is_stored ours new s.bucket (page.Bucket s.rests.bucket) alone_new.may written_new s.rests.rest.found in
+        let head : page_at new.store.pages root ≡ Some (Page.Head s.rests.header) = held_is_stored ours new root (Page.Head s.rests.header) alone_new.may written_new s.rests.rest.head in
+        let bucket : page_at new.store.pages s.bucket ≡ Some (Page.Bucket s.rests.bucket) = held_is_stored ours new s.bucket (Page.Bucket s.rests.bucket) alone_new.may written_new s.rests.rest.found in
         let now_is = effort_now s.was s.was_is in
         let new_is : effort after new ≡ 1000 * (17 - s.rests.bucket.depth) = ap (λ (phase : Phase). effort_at phase after new) s.phase ∙ ap (λ (p : Option Page). 1000 * (17 - (bucket_of p).depth)) bucket in
         record {
@@ -303,39 +276,39 @@ module _ (since : Before) (bits : ℕ → ℕ) (root max_depth : ℕ) (first now
           pages = closes_pages s head bucket done;
         }
 
-    splitting_goes : TellsOfSplitting ours (walk_step now new walk after) value room_depth answer.Going → Advances ours now new walk after
+    splitting_goes : TellsOfSplitting ours (walk_step now new walk after) value room_depth WalkAnswer.Going → Advances ours now new walk after
     splitting_goes tells = elim tells.1 [ inl goes ↦ split_goes_on goes tells.0 | inr closes ↦ split_closes closes tells.0 ]
 
     -- where the store is full and a page is to be made, the splits lead to more pages than there may be
     one_left : (phase : SplitPhase) (l g : ℕ) → MayStandAt phase l g → IsMaking phase → 1 ≤ left_from l g room_depth phase
-    one_left split_at.OldBucket l g stands making = absurd making
-    one_left (split_at.InPlace place end) l g stands making = absurd making
-    one_left (split_at.Double place) l g stands making = absurd making
-    one_left (split_at.SecondHalf place) l g stands making = let one = one_is_left l g place stands in omega (arith, one)
-    one_left split_at.Header l g stands making = absurd making
+    one_left SplitPhase.OldBucket l g stands making = absurd making
+    one_left (SplitPhase.InPlace place end) l g stands making = absurd making
+    one_left (SplitPhase.Double place) l g stands making = absurd making
+    one_left (SplitPhase.SecondHalf place) l g stands making = let one = one_is_left l g place stands in omega (arith, one)
+    one_left SplitPhase.Header l g stands making = absurd making
 
     full_in_split : (split : SplitFields) → walk.split ≡ Some split → IsMaking split.phase → map.len now.store.pages ≡ now.store.max_pages → new.store.max_pages < pages_in_the_end root walk now
     full_in_split split is making full = past_the_limit _ _ _ _ _ full keeps.max_pages (left_now split is) (one_left split.phase split.depth split.directory_depth (stands_there split is) making)
 
-    splitting_ends : (told : WalkAnswer) → (told ≡ answer.Going → ⊥) → HasNotWaited told → TellsOfSplitting ours (walk_step now new walk after) value room_depth told → TellsOfSplits ours new walk after value (pages_in_the_end root walk now) told
-    splitting_ends answer.Going not went tells = absurd (not refl)
-    splitting_ends (answer.Waiting page by) not went tells = absurd went
-    splitting_ends (answer.Refused refusal.NoRoom) not went tells = full_in_split tells.0.0 tells.0.1 tells.0.2 tells.2
-    splitting_ends (answer.Refused refusal.OutOfMemory) not went tells = refl
-    splitting_ends (answer.Refused reason) not went tells = tells.0
+    splitting_ends : (told : WalkAnswer) → (told ≡ WalkAnswer.Going → ⊥) → HasNotWaited told → TellsOfSplitting ours (walk_step now new walk after) value room_depth told → TellsOfSplits ours new walk after value (pages_in_the_end root walk now) told
+    splitting_ends WalkAnswer.Going not went tells = absurd (not refl)
+    splitting_ends (WalkAnswer.Waiting page by) not went tells = absurd went
+    splitting_ends (WalkAnswer.Refused Refusal.NoRoom) not went tells = full_in_split tells.0.0 tells.0.1 tells.0.2 tells.2
+    splitting_ends (WalkAnswer.Refused Refusal.OutOfMemory) not went tells = refl
+    splitting_ends (WalkAnswer.Refused reason) not went tells = tells.0
     splitting_ends other not went tells = absurd tells
 
   -- **A step of a walk that splits goes on, with less work left,**
-  advances_at : (phase : Phase) → walk.phase ≡ phase → IsPutting phase → Stands phase ours walk (view_over since.written now) → TellsAt phase ours now new walk after answer.Going → Advances ours now new walk after
-  advances_at (at.Adding value n room_depth unsplit) is adds stands tells = adding_goes value n room_depth unsplit stands is tells
-  advances_at (at.Splitting value room_depth) is adds stands tells = splitting_goes value room_depth stands is tells
+  advances_at : (phase : Phase) → walk.phase ≡ phase → IsPutting phase → Stands phase ours walk (view_over since.written now) → TellsAt phase ours now new walk after WalkAnswer.Going → Advances ours now new walk after
+  advances_at (Phase.Adding value n room_depth unsplit) is adds stands tells = adding_goes value n room_depth unsplit stands is tells
+  advances_at (Phase.Splitting value room_depth) is adds stands tells = splitting_goes value room_depth stands is tells
   advances_at other is adds stands tells = absurd adds
 
   -- **or tells how it ended.**
-  ends_at : (phase : Phase) → walk.phase ≡ phase → IsPutting phase → Stands phase ours walk (view_over since.written now) → (told : WalkAnswer) → (told ≡ answer.Going → ⊥) → HasNotWaited told → TellsAt phase ours now new walk after told
+  ends_at : (phase : Phase) → walk.phase ≡ phase → IsPutting phase → Stands phase ours walk (view_over since.written now) → (told : WalkAnswer) → (told ≡ WalkAnswer.Going → ⊥) → HasNotWaited told → TellsAt phase ours now new walk after told
       → TellsOfSplits ours new walk after (added_value phase) (pages_in_the_end root walk now) told
-  ends_at (at.Adding value n room_depth unsplit) is adds stands told not went tells = adding_ends value n room_depth unsplit stands is told not tells
-  ends_at (at.Splitting value room_depth) is adds stands told not went tells = splitting_ends value room_depth stands is told not went tells
+  ends_at (Phase.Adding value n room_depth unsplit) is adds stands told not went tells = adding_ends value n room_depth unsplit stands is told not tells
+  ends_at (Phase.Splitting value room_depth) is adds stands told not went tells = splitting_ends value room_depth stands is told not went tells
   ends_at other is adds stands told not went tells = absurd adds
 
 splitting_still : (context : WalkContext) (first now new : LocalState) (before walk after : WalkFields) → IsSplittingOn context first now before walk → HasWritten context.before.written (view_of new) → KeepsBefore now new → Advances context now new walk after → IsSplittingOn context first new before after
@@ -354,17 +327,17 @@ module _ (since : Before) (bits : ℕ → ℕ) (root max_depth : ℕ) (first now
     told_here : (told : WalkAnswer) → TellsAt walk.phase (context_of since bits root max_depth now) now new walk after told → TellsAt walk.phase (context_of since bits root max_depth first) now new walk after told
     told_here told tells = subst (λ (context : WalkContext). TellsAt walk.phase context now new walk after told) (same_context since bits root max_depth first now on.keeps) tells
 
-    goes_on : TellsAt walk.phase (context_of since bits root max_depth now) now new walk after answer.Going → Advances (context_of since bits root max_depth first) now new walk after
+    goes_on : TellsAt walk.phase (context_of since bits root max_depth now) now new walk after WalkAnswer.Going → Advances (context_of since bits root max_depth first) now new walk after
     goes_on tells =
-        advances_at since bits root max_depth first now new walk after alone.0 alone.1 on.written written (file_kept since bits root max_depth first now on.keeps file) keeps walk.phase refl on.may.adds on.may.stands (told_here answer.Going tells)
+        advances_at since bits root max_depth first now new walk after alone.0 alone.1 on.written written (file_kept since bits root max_depth first now on.keeps file) keeps walk.phase refl on.may.adds on.may.stands (told_here WalkAnswer.Going tells)
 
-    pub splits_on : TellsAt walk.phase (context_of since bits root max_depth now) now new walk after answer.Going → IsSplittingOn (context_of since bits root max_depth first) first new before after
+    pub splits_on : TellsAt walk.phase (context_of since bits root max_depth now) now new walk after WalkAnswer.Going → IsSplittingOn (context_of since bits root max_depth first) first new before after
     splits_on tells = splitting_still (context_of since bits root max_depth first) first now new before walk after on written keeps (goes_on tells)
 
-    pub less_effort : TellsAt walk.phase (context_of since bits root max_depth now) now new walk after answer.Going → effort after new < effort walk now
+    pub less_effort : TellsAt walk.phase (context_of since bits root max_depth now) now new walk after WalkAnswer.Going → effort after new < effort walk now
     less_effort tells = (goes_on tells).less
 
-    pub splits_end : (told : WalkAnswer) → (told ≡ answer.Going → ⊥) → HasNotWaited told → TellsAt walk.phase (context_of since bits root max_depth now) now new walk after told
+    pub splits_end : (told : WalkAnswer) → (told ≡ WalkAnswer.Going → ⊥) → HasNotWaited told → TellsAt walk.phase (context_of since bits root max_depth now) now new walk after told
         → TellsOfSplits (context_of since bits root max_depth first) new before after (added_value before.phase) (pages_in_the_end root before first) told
     splits_end told not went tells =
         let ended = ends_at since bits root max_depth first now new walk after alone.0 alone.1 on.written written (file_kept since bits root max_depth first now on.keeps file) keeps walk.phase refl on.may.adds on.may.stands told not went (told_here told tells) in

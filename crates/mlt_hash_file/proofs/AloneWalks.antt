@@ -1,21 +1,9 @@
 -- The way of a walk that runs alone
-use Rattle.mlt_hash_form.specs.Held.{over}
+use Rattle.mlt_hash_file.proofs.Names.{over, Page, Root, LocalState, HasWritten, view_of, view_over, nothing_written, KeepsBefore, context_of, pages_before, pages_since, HasArrived, IsHashFile, IsReadySince, TellsAt, IsSameWalk, TellsOfPath, steps_to_bucket, WalkContext, Before, IsAtStart, IsStanding, Stands, WalkFields, nothing_before, view_for, WalkAnswer, Phase}
 use Rattle.std.proofs.Common.{◌+◌, ◌<◌, ◌∙◌, ◌≡◌, ◌≤◌, Option, ap, arith, refl, subst, sym, ℕ}
 use Rattle.std.specs.FinSet as set
-use Rattle.mlt_page.specs.declared.page.Page.{Page}
-use Rattle.mlt_hash_form.specs.declared.root.Root.{Root}
-use Rattle.mlt_hash_access.specs.LocalStates.{LocalState}
-use Rattle.mlt_hash_access.specs.Views.{HasWritten, view_of, view_over}
-use Rattle.mlt_hash_access.proofs.Since.{nothing_written}
-use Rattle.mlt_hash_file.specs.Alone.{KeepsBefore, context_of, pages_before, pages_since}
-use Rattle.mlt_hash_file.specs.AloneWalks.{HasArrived, IsFileBefore, IsHashFile, IsReadySince}
-use Rattle.mlt_hash.specs.Splitting.{IsUnderWay, TellsAt}
-use Rattle.mlt_hash.specs.Steps.{IsSameWalk, TellsOfPath, steps_to_bucket}
-use Rattle.mlt_hash.specs.Walks.{WalkContext, Before, IsAtStart, IsStanding, Stands, WalkFields, nothing_before, view_for}
-use Rattle.mlt_hash.specs.declared.answer.WalkAnswer.{WalkAnswer}
-use Rattle.mlt_hash.specs.declared.answer.WalkAnswer.TheVariants as answer
-use Rattle.mlt_hash.specs.declared.pass.Phase.{Phase}
-use Rattle.mlt_hash.specs.declared.pass.Phase.TheVariants as at
+use Rattle.mlt_hash_file.specs.AloneWalks.{IsFileBefore}
+use Rattle.mlt_hash.specs.Splitting.{IsUnderWay}
 use Rattle.mlt_hash.proofs.Splittings.{none_left}
 use Rattle.mlt_hash_file.proofs.Alone.{keeps_both, keeps_same}
 
@@ -53,10 +41,10 @@ starts context m walk more written stands = record {
 }
 
 -- a walk that has not begun is on its way, over what it has not written
-pub more_from_start : (walk : WalkFields) → walk.phase ≡ at.Start → 0 < steps_to_bucket walk.phase
+pub more_from_start : (walk : WalkFields) → walk.phase ≡ Phase.Start → 0 < steps_to_bucket walk.phase
 more_from_start walk start = subst (λ (phase : Phase). 0 < steps_to_bucket phase) (sym start) (omega arith)
 
-pub ready_at_start : {P : Type 0} (bits_of : P → ℕ → ℕ) (root : Root P) (m : LocalState) (walk : WalkFields) → walk.phase ≡ at.Start → IsAtStart (view_of m) → IsFileBefore bits_of root m → IsReadySince nothing_before bits_of root m walk
+pub ready_at_start : {P : Type 0} (bits_of : P → ℕ → ℕ) (root : Root P) (m : LocalState) (walk : WalkFields) → walk.phase ≡ Phase.Start → IsAtStart (view_of m) → IsFileBefore bits_of root m → IsReadySince nothing_before bits_of root m walk
 ready_at_start bits_of root m walk start nothing file = record {
   written = nothing_written (view_of m);
   file = file;
@@ -65,28 +53,28 @@ ready_at_start bits_of root m walk start nothing file = record {
 
 -- then it has a next step,
 under_way_at : (phase : Phase) → 0 < steps_to_bucket phase → IsUnderWay phase
-under_way_at at.Start more = tt
-under_way_at (at.Headed dir row depth) more = tt
-under_way_at (at.Placed bucket depth) more = tt
-under_way_at (at.AtBucket bucket depth found) more = absurd (omega (arith, more))
-under_way_at (at.Full next) more = absurd (omega (arith, more))
-under_way_at (at.Adding value bucket room_depth unsplit) more = absurd (omega (arith, more))
-under_way_at (at.Splitting value room_depth) more = absurd (omega (arith, more))
-under_way_at (at.Changed bucket done) more = absurd (omega (arith, more))
+under_way_at Phase.Start more = tt
+under_way_at (Phase.Headed dir row depth) more = tt
+under_way_at (Phase.Placed bucket depth) more = tt
+under_way_at (Phase.AtBucket bucket depth found) more = absurd (omega (arith, more))
+under_way_at (Phase.Full next) more = absurd (omega (arith, more))
+under_way_at (Phase.Adding value bucket room_depth unsplit) more = absurd (omega (arith, more))
+under_way_at (Phase.Splitting value room_depth) more = absurd (omega (arith, more))
+under_way_at (Phase.Changed bucket done) more = absurd (omega (arith, more))
 
 pub under_way : (context : WalkContext) (old now : LocalState) (before walk : WalkFields) → IsOnItsWay context old now before walk → IsUnderWay walk.phase
 under_way context old now before walk way = under_way_at walk.phase way.more
 
 -- which tells of its way
 path_tells : (phase : Phase) (context : WalkContext) (old new : LocalState) (before after : WalkFields) (told : WalkAnswer) → 0 < steps_to_bucket phase → TellsAt phase context old new before after told → TellsOfPath context old new before after told
-path_tells at.Start context old new before after told more tells = tells
-path_tells (at.Headed dir row depth) context old new before after told more tells = tells
-path_tells (at.Placed bucket depth) context old new before after told more tells = tells
-path_tells (at.AtBucket bucket depth found) context old new before after told more tells = tells
-path_tells (at.Full next) context old new before after told more tells = tells
-path_tells (at.Adding value bucket room_depth unsplit) context old new before after told more tells = absurd (omega (arith, more))
-path_tells (at.Splitting value room_depth) context old new before after told more tells = absurd (omega (arith, more))
-path_tells (at.Changed bucket done) context old new before after told more tells = tells
+path_tells Phase.Start context old new before after told more tells = tells
+path_tells (Phase.Headed dir row depth) context old new before after told more tells = tells
+path_tells (Phase.Placed bucket depth) context old new before after told more tells = tells
+path_tells (Phase.AtBucket bucket depth found) context old new before after told more tells = tells
+path_tells (Phase.Full next) context old new before after told more tells = tells
+path_tells (Phase.Adding value bucket room_depth unsplit) context old new before after told more tells = absurd (omega (arith, more))
+path_tells (Phase.Splitting value room_depth) context old new before after told more tells = absurd (omega (arith, more))
+path_tells (Phase.Changed bucket done) context old new before after told more tells = tells
 
 pub same_walks : (first next last : WalkFields) → IsSameWalk first next → IsSameWalk next last → IsSameWalk first last
 same_walks first next last one two = record { key = two.key ∙ one.key; mode = two.mode ∙ one.mode; pass = two.pass ∙ one.pass }
@@ -101,17 +89,17 @@ module _ (since : Before) (bits : ℕ → ℕ) (root max_depth : ℕ) (old now n
       subst (λ (context : WalkContext). TellsOfPath context now new walk after told) (same_context since bits root max_depth old now way.keeps) (path_tells walk.phase (context_of since bits root max_depth now) now new walk after told way.more tells)
 
   -- it goes on,
-  pub on_its_way : KeepsBefore now new → HasWritten since.written (view_of new) → TellsAt walk.phase (context_of since bits root max_depth now) now new walk after answer.Going → IsOnItsWay (context_of since bits root max_depth old) old new before after
+  pub on_its_way : KeepsBefore now new → HasWritten since.written (view_of new) → TellsAt walk.phase (context_of since bits root max_depth now) now new walk after WalkAnswer.Going → IsOnItsWay (context_of since bits root max_depth old) old new before after
   on_its_way keeps written tells =
-      let told = told_of answer.Going tells in
+      let told = told_of WalkAnswer.Going tells in
       record { more = told.1; same = same_walks before walk after way.same told.0.same; written = written; stands = told.0.stands; keeps = keeps_both old now new way.keeps keeps }
 
   -- with a step fewer,
-  pub one_step_fewer : TellsAt walk.phase (context_of since bits root max_depth now) now new walk after answer.Going → steps_to_bucket after.phase < steps_to_bucket walk.phase
-  one_step_fewer tells = let told = told_of answer.Going tells in omega (arith, told.0.fewer)
+  pub one_step_fewer : TellsAt walk.phase (context_of since bits root max_depth now) now new walk after WalkAnswer.Going → steps_to_bucket after.phase < steps_to_bucket walk.phase
+  one_step_fewer tells = let told = told_of WalkAnswer.Going tells in omega (arith, told.0.fewer)
 
   -- or has arrived,
-  pub arrives : (found : Option ℕ) → TellsAt walk.phase (context_of since bits root max_depth now) now new walk after (answer.Found found) → HasArrived (context_of since bits root max_depth old) new before after found
+  pub arrives : (found : Option ℕ) → TellsAt walk.phase (context_of since bits root max_depth now) now new walk after (WalkAnswer.Found found) → HasArrived (context_of since bits root max_depth old) new before after found
   arrives found tells =
-      let told = told_of (answer.Found found) tells in
+      let told = told_of (WalkAnswer.Found found) tells in
       record { same = same_walks before walk after way.same told.0.same; stands = told.0.stands; found = told.1 }

@@ -1,26 +1,9 @@
 -- A hash file alone: its records as one finite map
 use Rattle.std.proofs.Common.{◌≡◌, ℕ, Option, None, Some, IsSome, sym, ap, subst, ◌∙◌, inl, inr, arith}
-use Rattle.std.proofs.Math.Path.{transport}
+use Rattle.mlt_hash_file.proofs.Names.{transport, cases_eq, nat_tests, Refusal, Page, Pages, page_at, same_pages, get_inserted, get_removed, same_entries, put_back, page_at-put_back, look_up, live_records, LocalState, view_of, nothing_written, IsAlone, IsIdle, KeepsBefore, context_of, pages_before, HasArrived, HasChanged, IsHashFile, IsAtRecord, WalkContext, WalkFields, nothing_before, one_key}
 use Rattle.std.specs.FinMap as map
-use Rattle.std.proofs.lemmas.Bool.{cases_eq}
-use Rattle.std.proofs.lemmas.Bool.Decides.{nat_tests}
-use Rattle.mlt_types.specs.declared.refusal.Refusal.{Refusal}
-use Rattle.mlt_page.specs.declared.page.Page.{Page}
-use Rattle.mlt_page_store.specs.Stores.{Pages, page_at}
-use Rattle.mlt_page_store.proofs.Numbered.{same_pages}
-use Rattle.mlt_page_locks.proofs.Maps.{get_inserted, get_removed, same_entries}
-use Rattle.mlt_page_subtx.specs.Images.{put_back}
-use Rattle.mlt_page_subtx.proofs.ImageLaws.{page_at-put_back}
-use Rattle.mlt_hash_form.specs.File.{look_up}
-use Rattle.mlt_hash_form.specs.Records.{live_records}
 use Rattle.mlt_hash_form.proofs.MapChanges.{map_is_look_up}
-use Rattle.mlt_hash_access.specs.LocalStates.{LocalState}
-use Rattle.mlt_hash_access.specs.Views.{view_of}
-use Rattle.mlt_hash_access.proofs.Since.{nothing_written}
-use Rattle.mlt_hash_file.specs.Alone.{IsAlone, IsIdle, KeepsBefore, context_of, pages_before}
-use Rattle.mlt_hash_file.specs.AloneWalks.{ChangesValue, HasArrived, HasChanged, IsHashFile, RefusesFor, TellsRefusal}
-use Rattle.mlt_hash.specs.Changes.{IsAtRecord}
-use Rattle.mlt_hash.specs.Walks.{WalkContext, WalkFields, nothing_before, one_key}
+use Rattle.mlt_hash_file.specs.AloneWalks.{ChangesValue, RefusesFor, TellsRefusal}
 use Rattle.mlt_hash_file.proofs.Alone.{keeps_both}
 use Rattle.mlt_hash_file.proofs.AloneEnds.{idle_before, idle_store}
 use Rattle.mlt_hash_file.proofs.AlonePasses.{arrived_store, found_is_value, found_record}

@@ -1,3 +1,4 @@
+mod Names
 pub mod Alone
 pub mod AloneChanges
 pub mod AloneEnds

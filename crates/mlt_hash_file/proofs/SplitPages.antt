@@ -1,12 +1,7 @@
 -- How many pages the splits of a walk alone make
-use Rattle.std.proofs.Common.{◌≡◌, ℕ, ◌<◌, ◌≤◌, ◌+◌, ◌*◌, ◌-◌, ◌^◌, false, nat_lt, if◌then◌else◌, refl, sym, ap, subst, ◌∙◌, inl, inr, arith}
-use Rattle.std.proofs.lemmas.Bool.{cases_eq, cases_lt, cond-true, cond-false, eq-eqb, le-ltb}
-use Rattle.std.proofs.lemmas.Nat.{pow-add}
-use Rattle.std.proofs.Math.Nat.{pow-le-pow_right}
-use Rattle.mlt_hash_split.specs.Splits.{directory_steps, steps_left_at}
-use Rattle.mlt_hash_split.specs.declared.phase.SplitPhase.{SplitPhase}
-use Rattle.mlt_hash_split.specs.declared.phase.SplitPhase.TheVariants as split_at
-use Rattle.mlt_hash_file.specs.SplitPages.{gained_from, gained_pages, left_from, pages_to_make}
+use Rattle.std.proofs.Common.{◌≡◌, ℕ, ◌<◌, ◌≤◌, ◌+◌, ◌*◌, ◌-◌, ◌^◌, false, nat_lt, if◌then◌else◌, refl, sym, ap, subst, ◌∙◌, inl, inr, arith, eq-eqb, le-ltb, pow-add}
+use Rattle.mlt_hash_file.proofs.Names.{cases_eq, pow-le-pow_right, directory_steps, steps_left_at, SplitPhase, gained_from, gained_pages, left_from, pages_to_make}
+use Rattle.std.proofs.lemmas.Bool.{cases_lt, cond-true, cond-false}
 
 rising : (m n : ℕ) → m ≤ n → 2 ^ m ≤ 2 ^ n
 rising m n le = pow-le-pow_right {n = 2} (omega arith) le
@@ -53,22 +48,22 @@ gains_as_many l g same large =
     omega (arith, twice (l + 1 - 8) (g - 8) (omega (arith, same, large)))
 
 none_of_none : (phase : SplitPhase) → gained_from phase 0 ≡ 0
-none_of_none split_at.OldBucket = refl
-none_of_none (split_at.InPlace place end) = refl
-none_of_none (split_at.Double place) = omega arith
-none_of_none (split_at.SecondHalf place) = omega arith
-none_of_none split_at.Header = refl
+none_of_none SplitPhase.OldBucket = refl
+none_of_none (SplitPhase.InPlace place end) = refl
+none_of_none (SplitPhase.Double place) = omega arith
+none_of_none (SplitPhase.SecondHalf place) = omega arith
+none_of_none SplitPhase.Header = refl
 
 none_left : (l g : ℕ) (phase : SplitPhase) → gained_pages l g ≡ 0 → gained_from phase (gained_pages l g) ≡ 0
 none_left l g phase none = ap (gained_from phase) none ∙ none_of_none phase
 
 -- where a split may stand, as far as its pages are concerned
 abbrev pub MayStandAt : SplitPhase → ℕ → ℕ → Type 0
-MayStandAt split_at.OldBucket l g = Unit {0}
-MayStandAt (split_at.InPlace place end) l g = l < g
-MayStandAt (split_at.Double place) l g = Unit {0}
-MayStandAt (split_at.SecondHalf place) l g = (l ≡ g) × (8 ≤ g) × (place < 2 ^ (g - 8))
-MayStandAt split_at.Header l g = Unit {0}
+MayStandAt SplitPhase.OldBucket l g = Unit {0}
+MayStandAt (SplitPhase.InPlace place end) l g = l < g
+MayStandAt (SplitPhase.Double place) l g = Unit {0}
+MayStandAt (SplitPhase.SecondHalf place) l g = (l ≡ g) × (8 ≤ g) × (place < 2 ^ (g - 8))
+MayStandAt SplitPhase.Header l g = Unit {0}
 
 -- the steps of a directory that is doubled on many pages
 module _ (l g : ℕ) (same : l ≡ g) (large : 8 ≤ g) where
@@ -81,39 +76,39 @@ module _ (l g : ℕ) (same : l ≡ g) (large : 8 ≤ g) where
       let many : (if nat_lt g 8 then 2 else 2 ^ (g - 7) + 1) ≡ 2 ^ (g - 7) + 1 = cond-false _ 2 (2 ^ (g - 7) + 1) is_large in
       omega (arith, whole, many, twice (g - 7) (g - 8) (omega (arith, large)))
 
-  steps_from : (place : ℕ) → steps_left_at l g (split_at.Double place) ≡ 2 * (2 ^ (g - 8) - place) + 1
+  steps_from : (place : ℕ) → steps_left_at l g (SplitPhase.Double place) ≡ 2 * (2 ^ (g - 8) - place) + 1
   steps_from place = cond-false _ 2 (2 * (2 ^ (g - 8) - place) + 1) is_large
 
   -- what is left after a step that writes is what was left before
-  writes_then : (before after : SplitPhase) → MayStandAt before l g → steps_left_at l g after + 1 ≡ steps_left_at l g before → ((place : ℕ) → before ≡ split_at.SecondHalf place → ⊥) → gained_from after (2 ^ (g - 8)) ≤ gained_from before (2 ^ (g - 8))
-  writes_then split_at.OldBucket split_at.OldBucket may steps writes = omega arith
-  writes_then split_at.OldBucket (split_at.InPlace place end) may steps writes = omega arith
-  writes_then split_at.OldBucket (split_at.Double place) may steps writes = omega arith
-  writes_then split_at.OldBucket (split_at.SecondHalf place) may steps writes = omega arith
-  writes_then split_at.OldBucket split_at.Header may steps writes = omega arith
-  writes_then (split_at.InPlace place end) after may steps writes = absurd (omega (arith, may, same))
-  writes_then (split_at.Double place) split_at.OldBucket may steps writes = absurd (omega (arith, steps, steps_from place, steps_of_all))
-  writes_then (split_at.Double place) (split_at.InPlace next end) may steps writes = omega arith
-  writes_then (split_at.Double place) (split_at.Double next) may steps writes = absurd (omega (arith, steps, steps_from place, steps_from next))
-  writes_then (split_at.Double place) (split_at.SecondHalf next) may steps writes = omega (arith, steps, steps_from place)
-  writes_then (split_at.Double place) split_at.Header may steps writes = omega arith
-  writes_then (split_at.SecondHalf place) after may steps writes = absurd (writes place refl)
-  writes_then split_at.Header split_at.OldBucket may steps writes = absurd (omega (arith, steps, steps_of_all))
-  writes_then split_at.Header (split_at.InPlace place end) may steps writes = omega arith
-  writes_then split_at.Header (split_at.Double place) may steps writes = absurd (omega (arith, steps, steps_from place))
-  writes_then split_at.Header (split_at.SecondHalf place) may steps writes = omega (arith, steps)
-  writes_then split_at.Header split_at.Header may steps writes = omega arith
+  writes_then : (before after : SplitPhase) → MayStandAt before l g → steps_left_at l g after + 1 ≡ steps_left_at l g before → ((place : ℕ) → before ≡ SplitPhase.SecondHalf place → ⊥) → gained_from after (2 ^ (g - 8)) ≤ gained_from before (2 ^ (g - 8))
+  writes_then SplitPhase.OldBucket SplitPhase.OldBucket may steps writes = omega arith
+  writes_then SplitPhase.OldBucket (SplitPhase.InPlace place end) may steps writes = omega arith
+  writes_then SplitPhase.OldBucket (SplitPhase.Double place) may steps writes = omega arith
+  writes_then SplitPhase.OldBucket (SplitPhase.SecondHalf place) may steps writes = omega arith
+  writes_then SplitPhase.OldBucket SplitPhase.Header may steps writes = omega arith
+  writes_then (SplitPhase.InPlace place end) after may steps writes = absurd (omega (arith, may, same))
+  writes_then (SplitPhase.Double place) SplitPhase.OldBucket may steps writes = absurd (omega (arith, steps, steps_from place, steps_of_all))
+  writes_then (SplitPhase.Double place) (SplitPhase.InPlace next end) may steps writes = omega arith
+  writes_then (SplitPhase.Double place) (SplitPhase.Double next) may steps writes = absurd (omega (arith, steps, steps_from place, steps_from next))
+  writes_then (SplitPhase.Double place) (SplitPhase.SecondHalf next) may steps writes = omega (arith, steps, steps_from place)
+  writes_then (SplitPhase.Double place) SplitPhase.Header may steps writes = omega arith
+  writes_then (SplitPhase.SecondHalf place) after may steps writes = absurd (writes place refl)
+  writes_then SplitPhase.Header SplitPhase.OldBucket may steps writes = absurd (omega (arith, steps, steps_of_all))
+  writes_then SplitPhase.Header (SplitPhase.InPlace place end) may steps writes = omega arith
+  writes_then SplitPhase.Header (SplitPhase.Double place) may steps writes = absurd (omega (arith, steps, steps_from place))
+  writes_then SplitPhase.Header (SplitPhase.SecondHalf place) may steps writes = omega (arith, steps)
+  writes_then SplitPhase.Header SplitPhase.Header may steps writes = omega arith
 
   -- and after one that makes a page it is one less
-  makes_then : (place : ℕ) (after : SplitPhase) → place < 2 ^ (g - 8) → steps_left_at l g after + 1 ≡ steps_left_at l g (split_at.SecondHalf place) → gained_from after (2 ^ (g - 8)) + 1 ≤ 2 ^ (g - 8) - place
-  makes_then place split_at.OldBucket more steps = absurd (omega (arith, steps, steps_of_all))
-  makes_then place (split_at.InPlace next end) more steps = omega (arith, more)
-  makes_then place (split_at.Double next) more steps = omega (arith, steps, steps_from next)
-  makes_then place (split_at.SecondHalf next) more steps = absurd (omega (arith, steps))
-  makes_then place split_at.Header more steps = omega (arith, more)
+  makes_then : (place : ℕ) (after : SplitPhase) → place < 2 ^ (g - 8) → steps_left_at l g after + 1 ≡ steps_left_at l g (SplitPhase.SecondHalf place) → gained_from after (2 ^ (g - 8)) + 1 ≤ 2 ^ (g - 8) - place
+  makes_then place SplitPhase.OldBucket more steps = absurd (omega (arith, steps, steps_of_all))
+  makes_then place (SplitPhase.InPlace next end) more steps = omega (arith, more)
+  makes_then place (SplitPhase.Double next) more steps = omega (arith, steps, steps_from next)
+  makes_then place (SplitPhase.SecondHalf next) more steps = absurd (omega (arith, steps))
+  makes_then place SplitPhase.Header more steps = omega (arith, more)
 
 -- **A step that writes a page leaves as many to make,**
-pub writes_on : (l g : ℕ) (before after : SplitPhase) → l ≤ g → MayStandAt before l g → steps_left_at l g after + 1 ≡ steps_left_at l g before → ((place : ℕ) → before ≡ split_at.SecondHalf place → ⊥) → gained_from after (gained_pages l g) ≤ gained_from before (gained_pages l g)
+pub writes_on : (l g : ℕ) (before after : SplitPhase) → l ≤ g → MayStandAt before l g → steps_left_at l g after + 1 ≡ steps_left_at l g before → ((place : ℕ) → before ≡ SplitPhase.SecondHalf place → ⊥) → gained_from after (gained_pages l g) ≤ gained_from before (gained_pages l g)
 writes_on l g before after within may steps writes =
     elim (cases_eq l g) [
       | inl same ↦ elim (cases_lt g 8) [
@@ -124,19 +119,19 @@ writes_on l g before after within may steps writes =
     ]
 
 -- **and one that makes a page one less.**
-pub makes_on : (l g place : ℕ) (after : SplitPhase) → MayStandAt (split_at.SecondHalf place) l g → steps_left_at l g after + 1 ≡ steps_left_at l g (split_at.SecondHalf place) → gained_from after (gained_pages l g) + 1 ≤ gained_from (split_at.SecondHalf place) (gained_pages l g)
+pub makes_on : (l g place : ℕ) (after : SplitPhase) → MayStandAt (SplitPhase.SecondHalf place) l g → steps_left_at l g after + 1 ≡ steps_left_at l g (SplitPhase.SecondHalf place) → gained_from after (gained_pages l g) + 1 ≤ gained_from (SplitPhase.SecondHalf place) (gained_pages l g)
 makes_on l g place after may steps = subst (λ n. gained_from after n + 1 ≤ n - place) (sym (gains_as_many l g may.0 may.1)) (makes_then l g may.0 may.1 place after may.2 steps)
 
 -- where a page is to be made, one is left to make
-pub one_is_left : (l g place : ℕ) → MayStandAt (split_at.SecondHalf place) l g → 1 ≤ gained_from (split_at.SecondHalf place) (gained_pages l g)
+pub one_is_left : (l g place : ℕ) → MayStandAt (SplitPhase.SecondHalf place) l g → 1 ≤ gained_from (SplitPhase.SecondHalf place) (gained_pages l g)
 one_is_left l g place may = let many = gains_as_many l g may.0 may.1 in let more = may.2 in omega (arith, many, more)
 
 gained_is_most : (phase : SplitPhase) (gained : ℕ) → gained_from phase gained ≤ gained
-gained_is_most split_at.OldBucket gained = omega arith
-gained_is_most (split_at.InPlace place end) gained = omega arith
-gained_is_most (split_at.Double place) gained = omega arith
-gained_is_most (split_at.SecondHalf place) gained = omega arith
-gained_is_most split_at.Header gained = omega arith
+gained_is_most SplitPhase.OldBucket gained = omega arith
+gained_is_most (SplitPhase.InPlace place end) gained = omega arith
+gained_is_most (SplitPhase.Double place) gained = omega arith
+gained_is_most (SplitPhase.SecondHalf place) gained = omega arith
+gained_is_most SplitPhase.Header gained = omega arith
 
 -- **A split that begins makes a page, and leaves the others.**
 pub begun : (l g d : ℕ) (phase : SplitPhase) → l < d → left_from l g d phase + 1 ≤ pages_to_make l g d

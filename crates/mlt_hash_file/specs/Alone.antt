@@ -12,7 +12,6 @@ use Rattle.mlt_hash_form.specs.declared.root.Root.{Root}
 use Rattle.mlt_hash_access.specs.LocalStates.{MayStep, LocalState, page_before}
 use Rattle.mlt_hash.specs.Walks.{WalkContext, Before}
 use Rattle.mlt_hash.specs.declared.answer.WalkAnswer.{WalkAnswer}
-use Rattle.mlt_hash.specs.declared.answer.WalkAnswer.TheVariants as answer
 
 -- the transaction may step, and nobody else holds a page
 pub record IsAlone (m : LocalState) : Type 0 where
@@ -57,7 +56,7 @@ context_alone since bits_of root m = context_of since (bits_of root.pseudo) root
 
 -- the walk was not told to wait
 abbrev pub HasNotWaited : WalkAnswer → Type 0
-HasNotWaited (answer.Waiting page by) = ⊥
+HasNotWaited (WalkAnswer.Waiting page by) = ⊥
 HasNotWaited other = Unit {0}
 
 -- a state is stored as the triple of its parts

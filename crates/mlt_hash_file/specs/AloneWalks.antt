@@ -5,7 +5,6 @@ use Rattle.std.specs.List.{list_all}
 use Rattle.std.specs.FinMap as map
 use Rattle.std.specs.FinSet as set
 use Rattle.mlt_types.specs.declared.refusal.Refusal.{Refusal}
-use Rattle.mlt_types.specs.declared.refusal.Refusal.TheVariants as refusal
 use Rattle.mlt_page.specs.Slots.{is_kept}
 use Rattle.mlt_page.specs.declared.page.Page.{Page}
 use Rattle.mlt_page_store.specs.Stores.{page_at}
@@ -21,11 +20,9 @@ use Rattle.mlt_hash.specs.StepsLeft.{IsPutting}
 use Rattle.mlt_hash_file.specs.Alone.{context_alone, pages_before, pages_since}
 use Rattle.mlt_hash.specs.Passes.{next_of}
 use Rattle.mlt_hash_file.specs.SplitPages.{BoundedFile, HasRoomAt, LacksPages, bucket_for, pages_for, pages_in_the_end}
-use Rattle.mlt_hash.specs.declared.pass.Pass.TheVariants as pass
+use Rattle.mlt_hash.specs.declared.pass.Pass.{Pass}
 use Rattle.mlt_hash.specs.declared.pass.Phase.{Phase}
-use Rattle.mlt_hash.specs.declared.pass.Phase.TheVariants as at
 use Rattle.mlt_hash.specs.declared.answer.WalkAnswer.{WalkAnswer}
-use Rattle.mlt_hash.specs.declared.answer.WalkAnswer.TheVariants as answer
 
 -- a hash file whose directory is no deeper than this, which is at most 16
 pub record IsHashFile (bits : ℕ → ℕ) (pages : ℕ → Option Page) (root max_depth : ℕ) : Type 0 where
@@ -78,12 +75,12 @@ pub record HasMade (context : WalkContext) (new : LocalState) (before after : Wa
 
 -- a page of the walk wanted memory, which was refused: never that of its first key's one change
 abbrev pub IsRefusedMemory : WalkContext → Refusal → Type 0
-IsRefusedMemory context reason = (reason ≡ refusal.OutOfMemory) × (context.before ≢ nothing_before)
+IsRefusedMemory context reason = (reason ≡ Refusal.OutOfMemory) × (context.before ≢ nothing_before)
 
 -- what a change of a record that is there tells
 abbrev pub TellsOfMaking : WalkContext → LocalState → WalkFields → WalkFields → Option ℕ → WalkAnswer → Type 0
-TellsOfMaking context new before after value answer.Changed = HasMade context new before after value
-TellsOfMaking context new before after value (answer.Refused reason) = IsRefusedMemory context reason
+TellsOfMaking context new before after value WalkAnswer.Changed = HasMade context new before after value
+TellsOfMaking context new before after value (WalkAnswer.Refused reason) = IsRefusedMemory context reason
 TellsOfMaking context new before after value other = ⊥
 
 -- the bucket of the key has no slot with room
@@ -96,8 +93,8 @@ NeverHasRoomFor bits pages max_depth key = IsCrowded bits set.empty (buckets_of 
 
 -- the value of the record that a walk adds once its bucket is split
 abbrev pub added_value : Phase → ℕ
-added_value (at.Adding value bucket room_depth unsplit) = value
-added_value (at.Splitting value room_depth) = value
+added_value (Phase.Adding value bucket room_depth unsplit) = value
+added_value (Phase.Splitting value room_depth) = value
 added_value other = 0
 
 -- the walk may go on to split, and to add its record
@@ -125,46 +122,46 @@ pub record NeedsRoom (context : WalkContext) (new : LocalState) (before after : 
     : Type 0 where
   pub full : IsFullFor context.bits (pages_since context.before new) context.root before.key
   pub same : IsSameWalk before after
-  pub first : before.pass ≡ pass.First
-      → (after.phase ≡ at.Full (next_of after.phase)) × (next_of after.phase ≡ pass.First → ⊥)
-  pub later : (before.pass ≡ pass.First → ⊥) → NeedsSplits context new before after value
+  pub first : before.pass ≡ Pass.First
+      → (after.phase ≡ Phase.Full (next_of after.phase)) × (next_of after.phase ≡ Pass.First → ⊥)
+  pub later : (before.pass ≡ Pass.First → ⊥) → NeedsSplits context new before after value
 
 -- A narrow pass has to be wide.
 pub record NeedsWidth (before after : WalkFields) : Type 0 where
   pub same : IsSameWalk before after
-  pub narrow : before.pass ≡ pass.Narrow
-  pub phase : after.phase ≡ at.Full pass.Wide
+  pub narrow : before.pass ≡ Pass.Narrow
+  pub phase : after.phase ≡ Phase.Full Pass.Wide
 
 -- what a pass tells that adds a record of this value
 abbrev pub TellsOfPass : WalkContext → LocalState → WalkFields → WalkFields → ℕ → WalkAnswer → Type 0
-TellsOfPass context new before after value answer.Changed =
+TellsOfPass context new before after value WalkAnswer.Changed =
     HasMade context new before after (Some value)
-TellsOfPass context new before after value answer.NeedSplit = NeedsRoom context new before after value
-TellsOfPass context new before after value answer.Widen = NeedsWidth before after
-TellsOfPass context new before after value (answer.Refused refusal.NoRoom) =
-    (before.pass ≡ pass.First → ⊥)
+TellsOfPass context new before after value WalkAnswer.NeedSplit = NeedsRoom context new before after value
+TellsOfPass context new before after value WalkAnswer.Widen = NeedsWidth before after
+TellsOfPass context new before after value (WalkAnswer.Refused Refusal.NoRoom) =
+    (before.pass ≡ Pass.First → ⊥)
     × IsFullFor context.bits (pages_since context.before new) context.root before.key
     × NeverHasRoomFor context.bits (pages_since context.before new) context.max_depth before.key
-TellsOfPass context new before after value (answer.Refused reason) = IsRefusedMemory context reason
+TellsOfPass context new before after value (WalkAnswer.Refused reason) = IsRefusedMemory context reason
 TellsOfPass context new before after value other = ⊥
 
 -- what the splits of a pass tell that lead to this number of pages
 abbrev pub TellsOfSplits : WalkContext → LocalState → WalkFields → WalkFields → ℕ → ℕ → WalkAnswer → Type 0
-TellsOfSplits context new before after value most answer.Changed =
+TellsOfSplits context new before after value most WalkAnswer.Changed =
     HasMade context new before after (Some value)
-TellsOfSplits context new before after value most (answer.Refused refusal.NoRoom) =
+TellsOfSplits context new before after value most (WalkAnswer.Refused Refusal.NoRoom) =
     new.store.max_pages < most
-TellsOfSplits context new before after value most (answer.Refused reason) =
-    reason ≡ refusal.OutOfMemory
+TellsOfSplits context new before after value most (WalkAnswer.Refused reason) =
+    reason ≡ Refusal.OutOfMemory
 TellsOfSplits context new before after value most other = ⊥
 
 -- Why an addition is refused. The bucket of the key is full; and no split makes room, or there may not be as many pages as
 -- the splits make that do, or a growth was refused to them.
 abbrev pub RefusesFor : BoundedFile → ℕ → Refusal → Type 0
-RefusesFor file key refusal.NoRoom =
+RefusesFor file key Refusal.NoRoom =
     IsFullFor file.bits file.has file.root key
     × (NeverHasRoomFor file.bits file.has file.max_depth key ⊎ LacksPages file key)
-RefusesFor file key refusal.OutOfMemory =
+RefusesFor file key Refusal.OutOfMemory =
     IsFullFor file.bits file.has file.root key
     × (NeverHasRoomFor file.bits file.has file.max_depth key → ⊥)
 RefusesFor file key other = ⊥
@@ -186,13 +183,13 @@ TellsRefusal context new key reason = RefusesFor (bounded_before context new) ke
 
 -- what a later pass tells, with its splits
 abbrev pub TellsOfLater : WalkContext → LocalState → WalkFields → WalkFields → ℕ → WalkAnswer → Type 0
-TellsOfLater context new before after value answer.Changed = HasChanged context new before.key (Some value)
-TellsOfLater context new before after value answer.Widen = NeedsWidth before after
-TellsOfLater context new before after value (answer.Refused reason) = TellsRefusal context new before.key reason
+TellsOfLater context new before after value WalkAnswer.Changed = HasChanged context new before.key (Some value)
+TellsOfLater context new before after value WalkAnswer.Widen = NeedsWidth before after
+TellsOfLater context new before after value (WalkAnswer.Refused reason) = TellsRefusal context new before.key reason
 TellsOfLater context new before after value other = ⊥
 
 -- what an addition tells with all its passes
 abbrev pub TellsOfInsertion : WalkContext → LocalState → ℕ → ℕ → WalkAnswer → Type 0
-TellsOfInsertion context new key value answer.Changed = HasChanged context new key (Some value)
-TellsOfInsertion context new key value (answer.Refused reason) = TellsRefusal context new key reason
+TellsOfInsertion context new key value WalkAnswer.Changed = HasChanged context new key (Some value)
+TellsOfInsertion context new key value (WalkAnswer.Refused reason) = TellsRefusal context new key reason
 TellsOfInsertion context new key value other = ⊥

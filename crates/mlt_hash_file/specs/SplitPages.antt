@@ -10,11 +10,9 @@ use Rattle.mlt_hash_form.specs.Room.{is_crowded}
 use Rattle.mlt_hash_access.specs.LocalStates.{LocalState}
 use Rattle.mlt_hash_split.specs.Splits.{SplitFields}
 use Rattle.mlt_hash_split.specs.declared.phase.SplitPhase.{SplitPhase}
-use Rattle.mlt_hash_split.specs.declared.phase.SplitPhase.TheVariants as split_at
 use Rattle.mlt_hash.specs.Passes.{HasRoomFrom}
 use Rattle.mlt_hash.specs.Walks.{WalkFields}
 use Rattle.mlt_hash.specs.declared.pass.Phase.{Phase}
-use Rattle.mlt_hash.specs.declared.pass.Phase.TheVariants as at
 
 -- The pages that splits make of a bucket of depth l, in a directory of depth g, until the bucket has depth d: one for each
 -- split, and those of the directory, where it gets deeper.
@@ -58,11 +56,11 @@ gained_pages l g = 2 ^ (l + 1 - 8) - 2 ^ (g - 8)
 
 -- how many of so many a split has yet to make
 abbrev pub gained_from : SplitPhase → ℕ → ℕ
-gained_from split_at.OldBucket gained = gained
-gained_from (split_at.InPlace place end) gained = 0
-gained_from (split_at.Double place) gained = gained - place
-gained_from (split_at.SecondHalf place) gained = gained - place
-gained_from split_at.Header gained = 0
+gained_from SplitPhase.OldBucket gained = gained
+gained_from (SplitPhase.InPlace place end) gained = 0
+gained_from (SplitPhase.Double place) gained = gained - place
+gained_from (SplitPhase.SecondHalf place) gained = gained - place
+gained_from SplitPhase.Header gained = 0
 
 -- what a split under way has yet to make, and those after it down to depth d
 abbrev pub left_from : ℕ → ℕ → ℕ → SplitPhase → ℕ
@@ -76,10 +74,10 @@ left_from_split (Some split) d = left_from split.depth split.directory_depth d s
 
 -- what a walk that splits has yet to make
 abbrev pub pages_left_at : Phase → ℕ → WalkFields → LocalState → ℕ
-pages_left_at (at.Adding value bucket room_depth unsplit) root walk m =
+pages_left_at (Phase.Adding value bucket room_depth unsplit) root walk m =
     pages_to_make (bucket_of (page_at m.store.pages bucket)).depth
     (depth_of (page_at m.store.pages) root) room_depth
-pages_left_at (at.Splitting value room_depth) root walk m = left_from_split walk.split room_depth
+pages_left_at (Phase.Splitting value room_depth) root walk m = left_from_split walk.split room_depth
 pages_left_at other root walk m = 0
 
 -- as many pages as there will be once it is done, at most

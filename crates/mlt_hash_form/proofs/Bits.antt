@@ -1,8 +1,7 @@
 -- The first bits of a pseudokey. Other crates cite this module.
-use Rattle.std.proofs.Common.{ℕ, ◌≡◌, ◌<◌, ◌≤◌, ◌+◌, ◌-◌, ◌*◌, ◌/◌, ◌%◌, ◌^◌, sym, ◌∙◌, ap, arith}
-use Rattle.std.specs.Prelude.{◌⊎◌}
-use Rattle.std.proofs.lemmas.Nat.{shr-shr, shl-shr, shl_below, shr_below}
-use Rattle.mlt_page.specs.Bits.{first_bits, bit_at}
+use Rattle.std.proofs.Common.{ℕ, ◌≡◌, ◌<◌, ◌≤◌, ◌+◌, ◌-◌, ◌*◌, ◌/◌, ◌%◌, ◌^◌, sym, ◌∙◌, ap, arith, ◌⊎◌, shr-shr}
+use Rattle.mlt_hash_form.proofs.Names.{shl-shr, shr_below, first_bits, bit_at}
+use Rattle.std.proofs.lemmas.Nat.{shl_below}
 
 -- fewer bits are the front of more bits
 pub first_bits-first_bits : (l m x : ℕ) → l ≤ m → m ≤ 64 → first_bits m x / 2 ^ (m - l) ≡ first_bits l x

@@ -1,13 +1,6 @@
 -- A change of one slot
-use Rattle.std.proofs.Common.{ℕ, ◌≡◌, true, length, get_or, refl, sym, ◌∙◌, ap, inl, inr, length-set}
-use Rattle.std.specs.Prelude.{◌⊎◌, ◌↔◌}
-use Rattle.std.proofs.lemmas.List.{get_or-set_same, get_or-set_other}
-use Rattle.std.proofs.lemmas.Bool.{cases_eq}
-use Rattle.mlt_page.specs.Slots.{key_of}
-use Rattle.mlt_page.specs.declared.slot.Slot.{Slot}
-use Rattle.mlt_page.specs.declared.slot.Slot.TheVariants.{Free, Live}
-use Rattle.mlt_page.specs.Values.{BucketFields}
-use Rattle.mlt_hash_form.specs.Form.{slot_at, HasSlot, IsSpread, is_used, SetsOneSlot, MaySet}
+use Rattle.std.proofs.Common.{ℕ, ◌≡◌, true, length, get_or, refl, sym, ◌∙◌, ap, inl, inr, length-set, ◌⊎◌, ◌↔◌, get_or-set_same, get_or-set_other}
+use Rattle.mlt_hash_form.proofs.Names.{cases_eq, key_of, Slot, Free, Live, BucketFields, slot_at, HasSlot, IsSpread, is_used, SetsOneSlot, MaySet}
 
 module _ (bits : ℕ → ℕ) (g : ℕ) (lead : ℕ → ℕ) (buckets buckets' : ℕ → BucketFields) (n i : ℕ) (s : Slot) (form : IsSpread bits g lead buckets) (sets : SetsOneSlot buckets buckets' n i s) (fits : MaySet bits lead buckets n i s) where
   same_length : (m : ℕ) → length (buckets' m).slots ≡ length (buckets m).slots

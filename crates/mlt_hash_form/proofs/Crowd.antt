@@ -1,19 +1,11 @@
 -- No room for depth: eight entries of the file agree with the key just where the eight slots of its bucket do.
 -- Other crates cite this module.
-use Rattle.std.proofs.Common.{ℕ, zero, suc, ◌≡◌, ◌<◌, ◌≤◌, ◌-◌, ◌/◌, ◌^◌, Bool, true, false, List, [], ◌∷◌, length, map, get_or, eqb, refl, sym, ◌∙◌, ap, arith, inl, inr}
-use Rattle.std.specs.Prelude.{◌↔◌}
-use Rattle.std.specs.List.{IsDistinct, list_any, list_all, AllByRecursion}
-use Rattle.std.proofs.lemmas.Bool.{cases_lt, cases_Bool, and_parts, and_from, eqb-true, eq-eqb, ne_eqb, both_ways, or_cases, or_parts}
-use Rattle.std.proofs.lemmas.List.{get_or_past}
+use Rattle.std.proofs.Common.{ℕ, zero, suc, ◌≡◌, ◌<◌, ◌≤◌, ◌-◌, ◌/◌, ◌^◌, Bool, true, false, List, [], ◌∷◌, length, map, get_or, eqb, refl, sym, ◌∙◌, ap, arith, inl, inr, ◌↔◌, eqb-true, eq-eqb, ne_eqb, nat_cmp}
+use Rattle.mlt_hash_form.proofs.Names.{list_any, cases_lt, cases_Bool, and_parts, and_from, both_ways, or_cases, get_or_past, first_bits, half, is_kept, key_of, Slot, Free, BucketFields, slot_at, IsSpread, is_used}
+use Rattle.std.specs.List.{IsDistinct, list_all, AllByRecursion}
+use Rattle.std.proofs.lemmas.Bool.{or_parts}
 use Rattle.std.proofs.lemmas.Map.Steps.{length-le_from_distinct_below}
-use Rattle.std.specs.Ordering.{nat_cmp}
 use Rattle.std.specs.FinSet as set
-use Rattle.mlt_page.specs.Bits.{first_bits}
-use Rattle.mlt_page.specs.Slots.{half, is_kept, key_of}
-use Rattle.mlt_page.specs.declared.slot.Slot.{Slot}
-use Rattle.mlt_page.specs.declared.slot.Slot.TheVariants.{Free}
-use Rattle.mlt_page.specs.Values.{BucketFields}
-use Rattle.mlt_hash_form.specs.Form.{slot_at, IsSpread, is_used}
 use Rattle.mlt_hash_form.specs.Room.{crowds, IsCrowded}
 use Rattle.mlt_hash_form.proofs.Bits.{first_bits-first_bits}
 use Rattle.mlt_hash_form.proofs.Splitting.{half_cases, used_from_kept}

@@ -1,16 +1,11 @@
 -- The directory's pages are written one per step
-use Rattle.std.proofs.Common.{ℕ, ◌≡◌, ◌<◌, ◌≤◌, ◌+◌, ◌*◌, List, length, slice_index, Option, None, sym, ◌∙◌, ap, arith, inl, inr}
-use Rattle.std.specs.Prelude.{◌⊎◌}
-use Rattle.std.proofs.lemmas.Bool.{cases_eq}
-use Rattle.mlt_page.specs.declared.page.Page.{Page}
-use Rattle.mlt_page.specs.declared.page.Page.TheVariants as page
-use Rattle.mlt_hash_form.specs.File.{entries_of, Writes}
-use Rattle.mlt_hash_form.specs.Splits.{IsFilling, IsLonger, directory_change}
+use Rattle.std.proofs.Common.{ℕ, ◌≡◌, ◌<◌, ◌≤◌, ◌+◌, ◌*◌, List, length, slice_index, Option, None, sym, ◌∙◌, ap, arith, inl, inr, ◌⊎◌}
+use Rattle.mlt_hash_form.proofs.Names.{cases_eq, Page, entries_of, Writes, IsFilling, IsLonger, directory_change}
 
 row : (ℕ → Option Page) → ℕ → ℕ → ℕ
 row pages n r = slice_index (entries_of (pages n)) r
 
-module _ (pages pages' : ℕ → Option Page) (made made' dirs : List ℕ) (to old : ℕ → ℕ) (j k count n : ℕ) (d : List ℕ) (before : IsFilling (directory_change dirs to old count) pages made j k) (writes : Writes pages pages' n (page.Dir d)) (longer : IsLonger made made' j n) (size : length d ≡ 256) (right : (r : ℕ) → r < 256 → slice_index d r ≡ to (256 * j + r)) where
+module _ (pages pages' : ℕ → Option Page) (made made' dirs : List ℕ) (to old : ℕ → ℕ) (j k count n : ℕ) (d : List ℕ) (before : IsFilling (directory_change dirs to old count) pages made j k) (writes : Writes pages pages' n (Page.Dir d)) (longer : IsLonger made made' j n) (size : length d ≡ 256) (right : (r : ℕ) → r < 256 → slice_index d r ≡ to (256 * j + r)) where
   -- the page of a new place is another than those before it
   at_last : (q : ℕ) → q < j + 1 → (q ≡ j) ⊎ (q < j)
   at_last q h = elim (cases_eq q j) [ inl e ↦ inl e | inr ne ↦ inr (omega arith) ]

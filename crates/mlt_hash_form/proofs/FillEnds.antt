@@ -1,13 +1,9 @@
 -- Where writing the directory's pages begins and ends, and what each page is to hold.
 -- Other crates cite this module.
-use Rattle.std.proofs.Common.{ℕ, ◌≡◌, ◌<◌, ◌≤◌, ◌+◌, ◌-◌, ◌*◌, ◌/◌, ◌%◌, ◌^◌, ◌==◌, cond, List, slice_index, Option, refl, sym, ◌∙◌, ap, arith, inl, inr}
-use Rattle.std.specs.Prelude.{◌⊎◌}
-use Rattle.std.proofs.lemmas.Bool.{cases_eq, cases_lt, cond-true, cond-false, eq-eqb, ne_eqb}
-use Rattle.std.proofs.lemmas.Nat.{div-mul-add, pow_pos, shr_below, div_below, le-div}
+use Rattle.std.proofs.Common.{ℕ, ◌≡◌, ◌<◌, ◌≤◌, ◌+◌, ◌-◌, ◌*◌, ◌/◌, ◌%◌, ◌^◌, ◌==◌, cond, List, slice_index, Option, refl, sym, ◌∙◌, ap, arith, inl, inr, ◌⊎◌, eq-eqb, ne_eqb, pow_pos}
+use Rattle.mlt_hash_form.proofs.Names.{cases_eq, cases_lt, cond-true, cond-false, shr_below, Page, entries_of, entry, IsDirectory, target, IsFilling, directory_change}
+use Rattle.std.proofs.lemmas.Nat.{div-mul-add, div_below, le-div}
 use Rattle.std.proofs.Math.Nat.{pow-le-pow_right}
-use Rattle.mlt_page.specs.declared.page.Page.{Page}
-use Rattle.mlt_hash_form.specs.File.{entries_of, entry, IsDirectory}
-use Rattle.mlt_hash_form.specs.Splits.{target, IsFilling, directory_change}
 
 page_of_place : (q r : ℕ) → r < 256 → (256 * q + r) / 256 ≡ q
 page_of_place q r h = omega arith

@@ -1,19 +1,9 @@
 -- Walks side by side. Other crates cite this module.
-use Rattle.std.proofs.Common.{ℕ, ◌≡◌, Option, Some, None, refl, sym, ◌∙◌, ap, inl, inr}
-use Rattle.std.specs.Prelude.{◌⊎◌, true, false, is_some, slice_index_or}
-use Rattle.std.specs.Ordering.{nat_cmp, eq_by_cmp}
+use Rattle.std.proofs.Common.{ℕ, ◌≡◌, Option, Some, None, refl, sym, ◌∙◌, ap, inl, inr, ◌⊎◌, true, false, is_some, slice_index_or, nat_cmp}
+use Rattle.mlt_hash_form.proofs.Names.{eq_by_cmp, both_ways, cases_Bool, cond-true, cond-false, nat_cmp_total, is_kept, Slot, Free, Live, Page, ChangesRecord, IsSplit, slot_change, HasSlot, is_used, slot_at, bucket_of, buckets_of, lead_of, look_up, HasForm, Writes, over, Agrees, ChangesFile}
 use Rattle.std.specs.FinMap as map
 use Rattle.std.specs.FinSet as set
-use Rattle.std.proofs.lemmas.Bool.{both_ways, cases_Bool, cond-true, cond-false}
-use Rattle.std.proofs.lemmas.Cmp.{nat_cmp_total}
-use Rattle.mlt_page.specs.Slots.{is_kept}
-use Rattle.mlt_page.specs.declared.slot.Slot.{Slot}
-use Rattle.mlt_page.specs.declared.slot.Slot.TheVariants.{Free, Live}
-use Rattle.mlt_page.specs.declared.page.Page.{Page}
-use Rattle.mlt_hash_form.specs.Changes.{ChangesRecord, IsSplit, slot_change}
-use Rattle.mlt_hash_form.specs.Form.{HasSlot, is_used, slot_at}
-use Rattle.mlt_hash_form.specs.File.{bucket_of, buckets_of, lead_of, look_up, HasForm, Writes}
-use Rattle.mlt_hash_form.specs.Held.{own_or_clean, over, Agrees, StoodOnHeld, KeepsFile, ChangesFile}
+use Rattle.mlt_hash_form.specs.Held.{own_or_clean, StoodOnHeld, KeepsFile}
 use Rattle.mlt_hash_form.proofs.InPages.{same_option}
 use Rattle.mlt_hash_form.proofs.Lookup.{found}
 use Rattle.mlt_hash_form.proofs.RecordMap.{tied, tied_itself}

@@ -1,15 +1,6 @@
 -- The look-up and the change of one slot, in pages. Other crates cite this module.
-use Rattle.std.proofs.Common.{ℕ, List, ◌≡◌, ◌<◌, ◌≤◌, ◌-◌, ◌/◌, ◌%◌, ◌^◌, length, set, slice_index, Option, Some, None, refl, sym, ◌∙◌, ap, arith}
-use Rattle.std.specs.Prelude.{◌↔◌}
-use Rattle.mlt_page.specs.Bits.{first_bits}
-use Rattle.mlt_page.specs.Slots.{key_of}
-use Rattle.mlt_page.specs.declared.slot.Slot.{Slot}
-use Rattle.mlt_page.specs.declared.slot.Slot.TheVariants.{Live}
-use Rattle.mlt_page.specs.Values.{BucketFields, HeadFields}
-use Rattle.mlt_page.specs.declared.page.Page.{Page}
-use Rattle.mlt_page.specs.declared.page.Page.TheVariants as page
-use Rattle.mlt_hash_form.specs.File.{header_of, entries_of, bucket_of, lead_of, buckets_of, HasForm, Writes, IsPath, look_up}
-use Rattle.mlt_hash_form.specs.Form.{slot_at, HasSlot, SetsOneSlot, MaySet, value_in}
+use Rattle.std.proofs.Common.{ℕ, List, ◌≡◌, ◌<◌, ◌≤◌, ◌-◌, ◌/◌, ◌%◌, ◌^◌, length, set, slice_index, Option, Some, None, refl, sym, ◌∙◌, ap, arith, ◌↔◌}
+use Rattle.mlt_hash_form.proofs.Names.{first_bits, key_of, Slot, Live, BucketFields, HeadFields, Page, header_of, entries_of, bucket_of, lead_of, buckets_of, HasForm, Writes, IsPath, look_up, slot_at, HasSlot, SetsOneSlot, MaySet, value_in}
 use Rattle.mlt_hash_form.proofs.Bits.{first_bits_below}
 use Rattle.mlt_hash_form.proofs.Lookup.{found}
 use Rattle.mlt_hash_form.proofs.Same.{form_same}
@@ -17,17 +8,17 @@ use Rattle.mlt_hash_form.proofs.Change.{slot_here, form_after, others_hold, reco
 use Rattle.mlt_hash_form.proofs.FillEnds.{page_listed}
 
 -- the kind of a page, told by what can be read of it
-pub dir_from_entries : (p : Option Page) → length (entries_of p) ≡ 256 → (d : List ℕ) × (p ≡ Some (page.Dir d))
+pub dir_from_entries : (p : Option Page) → length (entries_of p) ≡ 256 → (d : List ℕ) × (p ≡ Some (Page.Dir d))
 dir_from_entries None h = absurd (omega arith)
-dir_from_entries (Some (page.Head x)) h = absurd (omega arith)
-dir_from_entries (Some (page.Dir d)) h = (d, refl)
-dir_from_entries (Some (page.Bucket x)) h = absurd (omega arith)
+dir_from_entries (Some (Page.Head x)) h = absurd (omega arith)
+dir_from_entries (Some (Page.Dir d)) h = (d, refl)
+dir_from_entries (Some (Page.Bucket x)) h = absurd (omega arith)
 
-pub data_from_slots : (p : Option Page) → length (bucket_of p).slots ≡ 8 → (b : BucketFields) × (p ≡ Some (page.Bucket b))
+pub data_from_slots : (p : Option Page) → length (bucket_of p).slots ≡ 8 → (b : BucketFields) × (p ≡ Some (Page.Bucket b))
 data_from_slots None h = absurd (omega arith)
-data_from_slots (Some (page.Head x)) h = absurd (omega arith)
-data_from_slots (Some (page.Dir d)) h = absurd (omega arith)
-data_from_slots (Some (page.Bucket b)) h = (b, refl)
+data_from_slots (Some (Page.Head x)) h = absurd (omega arith)
+data_from_slots (Some (Page.Dir d)) h = absurd (omega arith)
+data_from_slots (Some (Page.Bucket b)) h = (b, refl)
 
 -- what was read leads where the key leads, and the bucket is the key's
 pub led_at : (pages : ℕ → Option Page) (root x : ℕ) (h : HeadFields) (d : List ℕ) (b : ℕ) (bucket : BucketFields) → IsPath pages root x h d b bucket → (lead_of pages root x ≡ b) × (buckets_of pages b ≡ bucket)
@@ -48,11 +39,11 @@ same_option None None f g = refl
 same_option (Some x) p f g = sym (f x refl)
 same_option None (Some y) f g = g y refl
 
-module _ (bits : ℕ → ℕ) (pages pages' : ℕ → Option Page) (root b i : ℕ) (s : Slot) (was now : BucketFields) (bounded : (k : ℕ) → bits k < 2 ^ 64) (file : HasForm bits pages root) (old : pages b ≡ Some (page.Bucket was)) (writes : Writes pages pages' b (page.Bucket now)) (depth : now.depth ≡ was.depth) (slots : now.slots ≡ set was.slots i s) (fits : MaySet bits (lead_of pages root) (buckets_of pages) b i s) where
+module _ (bits : ℕ → ℕ) (pages pages' : ℕ → Option Page) (root b i : ℕ) (s : Slot) (was now : BucketFields) (bounded : (k : ℕ) → bits k < 2 ^ 64) (file : HasForm bits pages root) (old : pages b ≡ Some (Page.Bucket was)) (writes : Writes pages pages' b (Page.Bucket now)) (depth : now.depth ≡ was.depth) (slots : now.slots ≡ set was.slots i s) (fits : MaySet bits (lead_of pages root) (buckets_of pages) b i s) where
   not_root : root ≡ b → ⊥
   not_root e =
-      let at : pages b ≡ Some (page.Head (header_of (pages root))) = ap pages (sym e) ∙ file.head in
-      let q : Some (page.Bucket was) ≡ Some (page.Head (header_of (pages root))) = sym old ∙ at in
+      let at : pages b ≡ Some (Page.Head (header_of (pages root))) = ap pages (sym e) ∙ file.head in
+      let q : Some (Page.Bucket was) ≡ Some (Page.Head (header_of (pages root))) = sym old ∙ at in
       cc
 
   root_same : pages' root ≡ pages root

@@ -1,7 +1,8 @@
 -- The run of places of a new bucket, where the directory is not doubled: within one page, or whole pages.
 -- Other crates cite this module.
-use Rattle.std.proofs.Common.{ℕ, ◌≡◌, ◌<◌, ◌≤◌, ◌+◌, ◌-◌, ◌*◌, ◌/◌, ◌%◌, ◌^◌, sym, ◌∙◌, ap, arith, add-zero}
-use Rattle.std.proofs.lemmas.Nat.{mod-pow-add, shl-shr, mod_low, pow-add, pow_pos, row_fits, mod_below, one_shl}
+use Rattle.std.proofs.Common.{ℕ, ◌≡◌, ◌<◌, ◌≤◌, ◌+◌, ◌-◌, ◌*◌, ◌/◌, ◌%◌, ◌^◌, sym, ◌∙◌, ap, arith, add-zero, pow-add, pow_pos}
+use Rattle.mlt_hash_form.proofs.Names.{shl-shr}
+use Rattle.std.proofs.lemmas.Nat.{mod-pow-add, mod_low, row_fits, mod_below, one_shl}
 use Rattle.std.proofs.Math.Nat.{mul-le-mul_right}
 
 -- a run of 2 ^ k places, k at most 8, lies within one page

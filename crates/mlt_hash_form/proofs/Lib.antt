@@ -1,3 +1,4 @@
+mod Names
 pub mod Bits
 mod Change
 pub mod Crowd

@@ -1,17 +1,9 @@
 -- The look-up finds exactly the live pair. Other crates cite this module.
-use Rattle.std.proofs.Common.{ℕ, ◌≡◌, ◌<◌, ◌≤◌, true, ltb, List, length, get_or, Some, None, refl, sym, ◌∙◌, ap, arith, inl, inr}
-use Rattle.std.specs.Prelude.{◌↔◌}
-use Rattle.std.specs.Option.{option_map}
+use Rattle.std.proofs.Common.{ℕ, ◌≡◌, ◌<◌, ◌≤◌, true, ltb, List, length, get_or, Some, None, refl, sym, ◌∙◌, ap, arith, inl, inr, ◌↔◌, option_map, eqb-true, eq-eqb, lt-ltb, le-ltb}
 use Rattle.std.specs.List.{position_or_len}
-use Rattle.std.proofs.lemmas.List.{get_or_past}
+use Rattle.mlt_hash_form.proofs.Names.{get_or_past, both_ways, cases_lt, cond-true, cond-false, same_Some, none-some, is_live_of, Slot, Free, Live, Ghost, BucketFields, slot_at, HasSlot, IsSpread, is_used, slot_value, value_in}
 use Rattle.std.proofs.lemmas.List.Sums.{fails_before_first, passes_at_first}
-use Rattle.std.proofs.lemmas.Bool.{eqb-true, eq-eqb, both_ways, cases_lt, lt-ltb, cond-true, cond-false, le-ltb}
-use Rattle.std.proofs.lemmas.Option.{same_Some, none-some}
-use Rattle.mlt_page.specs.Slots.{is_live_of}
-use Rattle.mlt_page.specs.declared.slot.Slot.{Slot}
-use Rattle.mlt_page.specs.declared.slot.Slot.TheVariants.{Free, Live, Ghost}
-use Rattle.mlt_page.specs.Values.{BucketFields}
-use Rattle.mlt_hash_form.specs.Form.{slot_at, HasSlot, IsSpread, is_used, slot_value, value_in, value_by_lead}
+use Rattle.mlt_hash_form.specs.Form.{value_by_lead}
 
 -- a slot that passes the test is the live one of the key
 pub live_is : (k : ℕ) (s : Slot) → is_live_of k s ≡ true → s ≡ Live k (slot_value s)

@@ -1,20 +1,11 @@
 -- The map of the records, and what changes do to it. Other crates cite this module.
-use Rattle.std.proofs.Common.{ℕ, ◌≡◌, ◌<◌, ◌^◌, cond, Option, Some, None, sym, ◌∙◌, ap, subst, inl, inr}
-use Rattle.std.specs.Ordering.{nat_cmp, eq_by_cmp}
+use Rattle.std.proofs.Common.{ℕ, ◌≡◌, ◌<◌, ◌^◌, cond, Option, Some, None, sym, ◌∙◌, ap, subst, inl, inr, nat_cmp}
+use Rattle.mlt_hash_form.proofs.Names.{eq_by_cmp, nat_cmp-IsAntisymmetric, nat_cmp_total, cases_Bool, both_ways, cond-true, cond-false, Slot, Free, Live, Page, ChangesRecord, IsOpening, IsSplit, slot_change, buckets_of, lead_of, HasForm, look_up, slot_at, Agrees, ChangesFile, over, live_records}
 use Rattle.std.specs.FinMap as map
-use Rattle.std.specs.FinMap.{nat_cmp-IsAntisymmetric}
 use Rattle.std.specs.FinSet as set
-use Rattle.std.proofs.lemmas.Cmp.{nat_cmp_total}
-use Rattle.std.proofs.lemmas.Bool.{cases_Bool, both_ways, cond-true, cond-false}
 use Rattle.mlt_types.specs.Maps.{with_entry}
-use Rattle.mlt_page.specs.declared.slot.Slot.{Slot}
-use Rattle.mlt_page.specs.declared.slot.Slot.TheVariants.{Free, Live}
-use Rattle.mlt_page.specs.declared.page.Page.{Page}
-use Rattle.mlt_hash_form.specs.Changes.{ChangesRecord, IsOpening, IsSplit, slot_change}
-use Rattle.mlt_hash_form.specs.File.{FilePages, GivesPseudokeys, buckets_of, lead_of, HasForm, look_up}
-use Rattle.mlt_hash_form.specs.Form.{slot_at}
-use Rattle.mlt_hash_form.specs.Held.{Agrees, ChangesFile, SeenPages, over}
-use Rattle.mlt_hash_form.specs.Records.{live_records}
+use Rattle.mlt_hash_form.specs.File.{FilePages, GivesPseudokeys}
+use Rattle.mlt_hash_form.specs.Held.{SeenPages}
 use Rattle.mlt_hash_form.proofs.HeldPages.{changed_values}
 use Rattle.mlt_hash_form.proofs.InPages.{same_option}
 use Rattle.mlt_hash_form.proofs.Lookup.{found}

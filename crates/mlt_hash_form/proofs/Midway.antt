@@ -1,15 +1,7 @@
 -- A split, one page per step, from the buckets' pages to the header. Other crates cite this module.
-use Rattle.std.proofs.Common.{ℕ, ◌≡◌, ◌<◌, ◌≤◌, ◌+◌, ◌-◌, ◌*◌, ◌^◌, List, [], length, slice_index, Option, Some, None, sym, ◌∙◌, ap, arith, inl, inr}
-use Rattle.std.proofs.lemmas.Bool.{cases_eq}
-use Rattle.std.proofs.lemmas.List.{length-map}
-use Rattle.std.specs.Ordering.{nat_cmp}
+use Rattle.std.proofs.Common.{ℕ, ◌≡◌, ◌<◌, ◌≤◌, ◌+◌, ◌-◌, ◌*◌, ◌^◌, List, [], length, slice_index, Option, Some, None, sym, ◌∙◌, ap, arith, inl, inr, nat_cmp}
+use Rattle.mlt_hash_form.proofs.Names.{cases_eq, length-map, first_bits, BucketFields, Page, header_of, entries_of, bucket_of, entry, buckets_of, HasForm, Writes, target, IsFilling, IsLonger, IsMidway, bucket_split, directory_change}
 use Rattle.std.specs.FinSet as set
-use Rattle.mlt_page.specs.Bits.{first_bits}
-use Rattle.mlt_page.specs.Values.{BucketFields}
-use Rattle.mlt_page.specs.declared.page.Page.{Page}
-use Rattle.mlt_page.specs.declared.page.Page.TheVariants as page
-use Rattle.mlt_hash_form.specs.File.{header_of, entries_of, bucket_of, entry, buckets_of, HasForm, Writes}
-use Rattle.mlt_hash_form.specs.Splits.{target, IsFilling, IsLonger, IsMidway, bucket_split, directory_change}
 use Rattle.mlt_hash_form.proofs.InPages.{dir_from_entries}
 use Rattle.mlt_hash_form.proofs.Fill.{fill_over, fill_made}
 
@@ -27,14 +19,14 @@ fill_beside pages pages' made dirs to old j k count n p f w beside =
       once = f.once;
     }
 
-differ_at : (pages : ℕ → Option Page) (m n : ℕ) (c : BucketFields) → pages m ≡ Some (page.Bucket c) → buckets_of pages n ≡ record { depth = 0; slots = [] } → length c.slots ≡ 8 → m ≡ n → ⊥
+differ_at : (pages : ℕ → Option Page) (m n : ℕ) (c : BucketFields) → pages m ≡ Some (Page.Bucket c) → buckets_of pages n ≡ record { depth = 0; slots = [] } → length c.slots ≡ 8 → m ≡ n → ⊥
 differ_at pages m n c e f h same =
     let at : bucket_of (pages n) ≡ c = rw (← same) (ap bucket_of e) in
     let none = ap (λ (d : BucketFields). length d.slots) (sym at ∙ f) in
     omega (arith, none, h)
 
 -- one more directory page: an old one rewritten in its new place, or a new one
-module _ (bits : ℕ → ℕ) (active : set.FinSet nat_cmp) (base pages pages' : ℕ → Option Page) (root b new seed g' : ℕ) (made made' : List ℕ) (j k n : ℕ) (d : List ℕ) (before : IsMidway (bucket_split bits active base root b new seed) g' pages made j k) (file : HasForm bits base root) (full : length (buckets_of base b).slots ≡ 8) (writes : Writes pages pages' n (page.Dir d)) (longer : IsLonger made made' j n) (size : length d ≡ 256)
+module _ (bits : ℕ → ℕ) (active : set.FinSet nat_cmp) (base pages pages' : ℕ → Option Page) (root b new seed g' : ℕ) (made made' : List ℕ) (j k n : ℕ) (d : List ℕ) (before : IsMidway (bucket_split bits active base root b new seed) g' pages made j k) (file : HasForm bits base root) (full : length (buckets_of base b).slots ≡ 8) (writes : Writes pages pages' n (Page.Dir d)) (longer : IsLonger made made' j n) (size : length d ≡ 256)
     (right : (r : ℕ) → r < 256 → slice_index d r ≡ target (entry base (header_of (base root)).dirs) (header_of (base root)).depth g' (buckets_of base b).depth (2 * first_bits (buckets_of base b).depth seed + 1) new (256 * j + r)) where
   -- the page written was no bucket, and is none
   module _ (no_bucket : buckets_of pages n ≡ record { depth = 0; slots = [] }) (no_head : root ≡ n → ⊥) where
@@ -52,7 +44,7 @@ module _ (bits : ℕ → ℕ) (active : set.FinSet nat_cmp) (base pages pages' :
       filling = f;
     }
 
-  root_is : pages root ≡ Some (page.Head (header_of (base root)))
+  root_is : pages root ≡ Some (Page.Head (header_of (base root)))
   root_is = before.header ∙ file.head
 
   pub midway_over : k < 2 ^ ((header_of (base root)).depth - 8) → slice_index (header_of (base root)).dirs k ≡ n → IsMidway (bucket_split bits active base root b new seed) g' pages' made' (j + 1) (k + 1)
@@ -60,11 +52,11 @@ module _ (bits : ℕ → ℕ) (active : set.FinSet nat_cmp) (base pages pages' :
       let fill = before.filling in
       let sized = rw at at (fill.rest_sized k (omega arith) in_list) in
       let dir = dir_from_entries (pages n) sized in
-      let no_head : root ≡ n → ⊥ = λ e. let q : Some (page.Head (header_of (base root))) ≡ Some (page.Dir dir.0) = sym root_is ∙ ap pages e ∙ dir.1 in cc in
+      let no_head : root ≡ n → ⊥ = λ e. let q : Some (Page.Head (header_of (base root))) ≡ Some (Page.Dir dir.0) = sym root_is ∙ ap pages e ∙ dir.1 in cc in
       let once : (r : ℕ) → k < r → r < 2 ^ ((header_of (base root)).depth - 8) → slice_index (header_of (base root)).dirs r ≡ n → ⊥ = λ r h o e. let s = file.listed.once r k o in_list (e ∙ sym at) in omega arith in
       midway' (ap bucket_of dir.1) no_head (k + 1) (fill_over pages pages' made made' _ _ _ j k _ n d fill writes longer size right in_list at once)
 
   pub midway_made : pages n ≡ None → IsMidway (bucket_split bits active base root b new seed) g' pages' made' (j + 1) k
   midway_made none =
-      let no_head : root ≡ n → ⊥ = λ e. let q : Some (page.Head (header_of (base root))) ≡ None = sym root_is ∙ ap pages e ∙ none in cc in
+      let no_head : root ≡ n → ⊥ = λ e. let q : Some (Page.Head (header_of (base root))) ≡ None = sym root_is ∙ ap pages e ∙ none in cc in
       midway' (ap bucket_of none) no_head k (fill_made pages pages' made made' _ _ _ j k _ n d before.filling writes longer size right none)

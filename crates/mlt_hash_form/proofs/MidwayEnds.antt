@@ -1,24 +1,15 @@
 -- Where a split begins and closes
-use Rattle.std.proofs.Common.{ℕ, ◌≡◌, ◌<◌, ◌≤◌, ◌+◌, ◌-◌, ◌*◌, ◌^◌, List, length, map, slice_index, Option, Some, None, sym, ◌∙◌, ap, arith, inl, inr}
-use Rattle.std.proofs.lemmas.Bool.{cases_eq}
-use Rattle.std.specs.Ordering.{nat_cmp}
+use Rattle.std.proofs.Common.{ℕ, ◌≡◌, ◌<◌, ◌≤◌, ◌+◌, ◌-◌, ◌*◌, ◌^◌, List, length, map, slice_index, Option, Some, None, sym, ◌∙◌, ap, arith, inl, inr, nat_cmp}
+use Rattle.mlt_hash_form.proofs.Names.{cases_eq, first_bits, half, BucketFields, HeadFields, Page, header_of, entries_of, bucket_of, entry, lead_of, buckets_of, IsDirectory, HasForm, Writes, target, IsFilling, IsMidway, bucket_split, directory_change, IsSplit}
 use Rattle.std.specs.FinSet as set
-use Rattle.mlt_page.specs.Bits.{first_bits}
-use Rattle.mlt_page.specs.Slots.{half}
-use Rattle.mlt_page.specs.Values.{BucketFields, HeadFields}
-use Rattle.mlt_page.specs.declared.page.Page.{Page}
-use Rattle.mlt_page.specs.declared.page.Page.TheVariants as page
-use Rattle.mlt_hash_form.specs.File.{header_of, entries_of, bucket_of, entry, lead_of, buckets_of, IsDirectory, HasForm, Writes}
-use Rattle.mlt_hash_form.specs.Splits.{target, IsFilling, IsMidway, bucket_split, directory_change}
 use Rattle.mlt_hash_form.proofs.InPages.{data_from_slots}
 use Rattle.mlt_hash_form.proofs.FillEnds.{filled_reads, filled_listed, double_none, place_none, place_all}
 use Rattle.mlt_hash_form.proofs.Midway.{fill_beside}
 use Rattle.mlt_hash_form.proofs.SplitDone.{file_is_split}
-use Rattle.mlt_hash_form.specs.Changes.{IsSplit}
 
 module _ (bits : ℕ → ℕ) (active : set.FinSet nat_cmp) (base one two : ℕ → Option Page) (root b new seed : ℕ) (file : HasForm bits base root) (full : length (buckets_of base b).slots ≡ 8) (fresh : base new ≡ None)
-    (first_write : Writes base one new (page.Bucket (record { depth = (buckets_of base b).depth + 1; slots = map (half bits active (buckets_of base b).depth 1) (buckets_of base b).slots })))
-    (second_write : Writes one two b (page.Bucket (record { depth = (buckets_of base b).depth + 1; slots = map (half bits active (buckets_of base b).depth 0) (buckets_of base b).slots }))) where
+    (first_write : Writes base one new (Page.Bucket (record { depth = (buckets_of base b).depth + 1; slots = map (half bits active (buckets_of base b).depth 1) (buckets_of base b).slots })))
+    (second_write : Writes one two b (Page.Bucket (record { depth = (buckets_of base b).depth + 1; slots = map (half bits active (buckets_of base b).depth 0) (buckets_of base b).slots }))) where
   new_not_b : new ≡ b → ⊥
   new_not_b e =
       let none : length (buckets_of base b).slots ≡ 0 = ap (λ p. length (bucket_of p).slots) (ap base (sym e) ∙ fresh) in
@@ -33,10 +24,10 @@ module _ (bits : ℕ → ℕ) (active : set.FinSet nat_cmp) (base one two : ℕ 
       else_same root
       (λ e.
       let c = data_from_slots (base b) full in
-      let q : Some (page.Head (header_of (base root))) ≡ Some (page.Bucket c.0) = sym file.head ∙ ap base e ∙ c.1 in
+      let q : Some (Page.Head (header_of (base root))) ≡ Some (Page.Bucket c.0) = sym file.head ∙ ap base e ∙ c.1 in
       cc)
       (λ e.
-      let q : Some (page.Head (header_of (base root))) ≡ None = sym file.head ∙ ap base e ∙ fresh in
+      let q : Some (Page.Head (header_of (base root))) ≡ None = sym file.head ∙ ap base e ∙ fresh in
       cc)
 
   dirs_same : (q : ℕ) → q < 2 ^ ((header_of (base root)).depth - 8) → two (slice_index (header_of (base root)).dirs q) ≡ base (slice_index (header_of (base root)).dirs q)
@@ -64,18 +55,18 @@ module _ (bits : ℕ → ℕ) (active : set.FinSet nat_cmp) (base one two : ℕ 
   midway_place q0 h m = begun _ _ q0 q0 (place_none base two _ _ (buckets_of base b).depth (2 * first_bits (buckets_of base b).depth seed + 1) new file.listed q0 dirs_same h m)
 
 module _ (bits : ℕ → ℕ) (active : set.FinSet nat_cmp) (base pages : ℕ → Option Page) (root b new seed : ℕ) (bounded : (k : ℕ) → bits k < 2 ^ 64) (file : HasForm bits base root) (seed_ok : seed < 2 ^ 64) (at_b : lead_of base root seed ≡ b) (fresh : base new ≡ None) where
-  module _ (pages' : ℕ → Option Page) (made : List ℕ) (g' k : ℕ) (h' : HeadFields) (before : IsMidway (bucket_split bits active base root b new seed) g' pages made (2 ^ (g' - 8)) k) (writes : Writes pages pages' root (page.Head h')) (depth : h'.depth ≡ g') (dirs : h'.dirs ≡ made) (small : g' ≤ 16) (deeper : (header_of (base root)).depth ≤ g') (room : (buckets_of base b).depth < g') where
-    root_is : pages root ≡ Some (page.Head (header_of (base root)))
+  module _ (pages' : ℕ → Option Page) (made : List ℕ) (g' k : ℕ) (h' : HeadFields) (before : IsMidway (bucket_split bits active base root b new seed) g' pages made (2 ^ (g' - 8)) k) (writes : Writes pages pages' root (Page.Head h')) (depth : h'.depth ≡ g') (dirs : h'.dirs ≡ made) (small : g' ≤ 16) (deeper : (header_of (base root)).depth ≤ g') (room : (buckets_of base b).depth < g') where
+    root_is : pages root ≡ Some (Page.Head (header_of (base root)))
     root_is = before.header ∙ file.head
 
     not_dir : length (entries_of (pages root)) ≡ 256 → ⊥
     not_dir e = let at = rw root_is at e in omega (arith, at)
 
-    not_data : (n : ℕ) (c : BucketFields) → pages n ≡ Some (page.Bucket c) → n ≡ root → ⊥
-    not_data n c e f = let q : Some (page.Head (header_of (base root))) ≡ Some (page.Bucket c) = sym root_is ∙ ap pages (sym f) ∙ e in cc
+    not_data : (n : ℕ) (c : BucketFields) → pages n ≡ Some (Page.Bucket c) → n ≡ root → ⊥
+    not_data n c e f = let q : Some (Page.Head (header_of (base root))) ≡ Some (Page.Bucket c) = sym root_is ∙ ap pages (sym f) ∙ e in cc
 
     filling' : IsFilling (directory_change (header_of (base root)).dirs (target (entry base (header_of (base root)).dirs) (header_of (base root)).depth g' (buckets_of base b).depth (2 * first_bits (buckets_of base b).depth seed + 1) new) (entry base (header_of (base root)).dirs) (2 ^ ((header_of (base root)).depth - 8))) pages' made (2 ^ (g' - 8)) k
-    filling' = fill_beside pages pages' made _ _ _ _ k _ root (page.Head h') before.filling writes not_dir
+    filling' = fill_beside pages pages' made _ _ _ _ k _ root (Page.Head h') before.filling writes not_dir
 
     header_is : header_of (pages' root) ≡ h'
     header_is = ap header_of writes.here
@@ -90,7 +81,7 @@ module _ (bits : ℕ → ℕ) (active : set.FinSet nat_cmp) (base pages : ℕ �
     -- the header is written last: the file has its form, and lost nothing
     pub split_closes : IsSplit bits active base pages' root b new
     split_closes =
-        let head' : pages' root ≡ Some (page.Head (header_of (pages' root))) = rw header_is writes.here in
+        let head' : pages' root ≡ Some (Page.Head (header_of (pages' root))) = rw header_is writes.here in
         let listed' : IsDirectory pages' (header_of (pages' root)).depth (header_of (pages' root)).dirs = rw (header_is, depth, dirs) (filled_listed pages' made _ _ _ g' k _ small filling') in
         let deeper' : (header_of (base root)).depth ≤ (header_of (pages' root)).depth = rw (header_is, depth) deeper in
         let room' : (buckets_of base b).depth < (header_of (pages' root)).depth = rw (header_is, depth) room in
@@ -105,7 +96,7 @@ module _ (bits : ℕ → ℕ) (active : set.FinSet nat_cmp) (base pages : ℕ �
   split_closes_in_place q1 m h room =
       let f = place_all base pages _ _ (buckets_of base b).depth (2 * first_bits (buckets_of base b).depth seed + 1) new file.listed q1 m.filling h in
       let same : header_of (pages root) ≡ header_of (base root) = ap header_of m.header in
-      let head' : pages root ≡ Some (page.Head (header_of (pages root))) = rw same (m.header ∙ file.head) in
+      let head' : pages root ≡ Some (Page.Head (header_of (pages root))) = rw same (m.header ∙ file.head) in
       let listed' : IsDirectory pages (header_of (pages root)).depth (header_of (pages root)).dirs = rw same (filled_listed pages _ _ _ _ _ _ _ file.listed.small f) in
       let deeper' : (header_of (base root)).depth ≤ (header_of (pages root)).depth = rw same (omega arith) in
       let room' : (buckets_of base b).depth < (header_of (pages root)).depth = rw same room in

@@ -1,15 +1,8 @@
 -- The opening file: a header of depth 0, one directory page, one empty bucket
 use Rattle.std.proofs.Common.{ℕ, List, ◌≡◌, ◌<◌, ◌^◌, [], length, get_or, slice_index, Option, Some, refl, sym, ◌∙◌, ap, arith, inl, inr}
-use Rattle.std.proofs.lemmas.Bool.{cases_eq, both_ways}
-use Rattle.mlt_page.specs.Bits.{first_bits}
-use Rattle.mlt_page.specs.declared.slot.Slot.TheVariants.{Free, Live}
-use Rattle.mlt_page.specs.Values.{BucketFields, HeadFields}
-use Rattle.mlt_page.specs.declared.page.Page.{Page}
-use Rattle.mlt_page.specs.declared.page.Page.TheVariants as page
-use Rattle.mlt_hash_form.specs.File.{header_of, lead_of, buckets_of, HasForm}
-use Rattle.mlt_hash_form.specs.Form.{slot_at, IsSpread, is_used}
+use Rattle.mlt_hash_form.proofs.Names.{cases_eq, both_ways, first_bits, Free, Live, BucketFields, HeadFields, Page, header_of, lead_of, buckets_of, HasForm, slot_at, IsSpread, is_used}
 
-module _ (bits : ℕ → ℕ) (pages : ℕ → Option Page) (root b : ℕ) (h : HeadFields) (d : List ℕ) (bucket : BucketFields) (header : pages root ≡ Some (page.Head h)) (depth : h.depth ≡ 0) (dir : pages (slice_index h.dirs 0) ≡ Some (page.Dir d)) (wide : length d ≡ 256) (at : slice_index d 0 ≡ b) (data_is : pages b ≡ Some (page.Bucket bucket)) (shallow : bucket.depth ≡ 0) (eight : length bucket.slots ≡ 8) (free : (i : ℕ) → get_or bucket.slots i Free ≡ Free) (others : (m : ℕ) → (m ≡ b → ⊥) → buckets_of pages m ≡ record { depth = 0; slots = [] }) where
+module _ (bits : ℕ → ℕ) (pages : ℕ → Option Page) (root b : ℕ) (h : HeadFields) (d : List ℕ) (bucket : BucketFields) (header : pages root ≡ Some (Page.Head h)) (depth : h.depth ≡ 0) (dir : pages (slice_index h.dirs 0) ≡ Some (Page.Dir d)) (wide : length d ≡ 256) (at : slice_index d 0 ≡ b) (data_is : pages b ≡ Some (Page.Bucket bucket)) (shallow : bucket.depth ≡ 0) (eight : length bucket.slots ≡ 8) (free : (i : ℕ) → get_or bucket.slots i Free ≡ Free) (others : (m : ℕ) → (m ≡ b → ⊥) → buckets_of pages m ≡ record { depth = 0; slots = [] }) where
   no_bits : (x : ℕ) → x < 2 ^ 64 → first_bits 0 x ≡ 0
   no_bits x k = omega arith
 

@@ -1,14 +1,8 @@
 -- A file as it is opened: it has the form, and no slot of it is used.
 -- Other crates cite this module.
 use Rattle.std.proofs.Common.{ℕ, ◌≡◌, [], get_or, slice_index, replicate, Option, Some, refl, ap, arith, inl, inr}
-use Rattle.std.proofs.lemmas.Bool.{cases_eq, cases_lt}
-use Rattle.std.proofs.lemmas.List.{get_or-replicate, get_or_past, length-replicate}
-use Rattle.mlt_page.specs.declared.slot.Slot.TheVariants.{Free}
-use Rattle.mlt_page.specs.declared.page.Page.{Page}
-use Rattle.mlt_page.specs.declared.page.Page.TheVariants as page
-use Rattle.mlt_hash_form.specs.Changes.{IsOpening}
-use Rattle.mlt_hash_form.specs.File.{bucket_of, buckets_of, HasForm}
-use Rattle.mlt_hash_form.specs.Form.{slot_at}
+use Rattle.mlt_hash_form.proofs.Names.{cases_eq, cases_lt, get_or_past, Free, Page, IsOpening, bucket_of, buckets_of, HasForm, slot_at}
+use Rattle.std.proofs.lemmas.List.{get_or-replicate, length-replicate}
 use Rattle.mlt_hash_form.proofs.Opening.{opening, all_free}
 
 free_in : (i : ℕ) → get_or (replicate 8 Free) i Free ≡ Free
@@ -35,7 +29,7 @@ module _ (bits : ℕ → ℕ) (pages : ℕ → Option Page) (root d n : ℕ) (is
   first_entry : slice_index (replicate 256 n) 0 ≡ n
   first_entry = get_or-replicate 256 0 n 0 (omega arith)
 
-  listed : pages (slice_index (replicate 256 d) 0) ≡ Some (page.Dir (replicate 256 n))
+  listed : pages (slice_index (replicate 256 d) 0) ≡ Some (Page.Dir (replicate 256 n))
   listed = rw first_dir is.listed
 
   pub opening_has_form : HasForm bits pages root

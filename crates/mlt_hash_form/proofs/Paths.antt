@@ -1,17 +1,8 @@
 -- The path of a pseudokey: there is one, it leads to the bucket, and each slot of a key lies there.
 -- Other crates cite this module.
-use Rattle.std.proofs.Common.{ℕ, ◌≡◌, ◌<◌, ◌≤◌, ◌/◌, ◌%◌, ◌^◌, true, List, slice_index, get_or, Option, Some, refl, sym, ◌∙◌, ap, subst, arith}
-use Rattle.std.specs.Prelude.{◌↔◌}
-use Rattle.mlt_page.specs.Bits.{first_bits}
-use Rattle.mlt_page.specs.Slots.{key_of}
-use Rattle.mlt_page.specs.Values.{BucketFields, HeadFields}
-use Rattle.mlt_page.specs.declared.slot.Slot.{Slot}
-use Rattle.mlt_page.specs.declared.slot.Slot.TheVariants.{Free}
-use Rattle.mlt_page.specs.declared.page.Page.{Page}
-use Rattle.mlt_page.specs.declared.page.Page.TheVariants as page
-use Rattle.mlt_hash_form.specs.Changes.{IsHome}
-use Rattle.mlt_hash_form.specs.File.{header_of, entries_of, bucket_of, lead_of, buckets_of, HasForm, IsPath, dir_of, row_of}
-use Rattle.mlt_hash_form.specs.Form.{HasSlot, is_used, slot_at}
+use Rattle.std.proofs.Common.{ℕ, ◌≡◌, ◌<◌, ◌≤◌, ◌/◌, ◌%◌, ◌^◌, true, List, slice_index, get_or, Option, Some, refl, sym, ◌∙◌, ap, subst, arith, ◌↔◌}
+use Rattle.mlt_hash_form.proofs.Names.{first_bits, key_of, BucketFields, HeadFields, Slot, Free, Page, IsHome, header_of, entries_of, bucket_of, lead_of, buckets_of, HasForm, IsPath, HasSlot, is_used, slot_at}
+use Rattle.mlt_hash_form.specs.File.{dir_of, row_of}
 use Rattle.mlt_hash_form.proofs.Bits.{first_bits_below}
 use Rattle.mlt_hash_form.proofs.FillEnds.{page_listed}
 use Rattle.mlt_hash_form.proofs.InPages.{dir_from_entries, data_from_slots, led_at}
@@ -42,15 +33,15 @@ pub one_page : (found : Option Page) (read page : Page) → found ≡ Some read 
 one_page found read page is_read is = let same : Some read ≡ Some page = sym is_read ∙ is in cc
 
 -- a path goes on from its header,
-pub path_from_header : (bits : ℕ → ℕ) (pages : ℕ → Option Page) (root x : ℕ) (header : HeadFields) → x < 2 ^ 64 → HasForm bits pages root → pages root ≡ Some (page.Head header)
+pub path_from_header : (bits : ℕ → ℕ) (pages : ℕ → Option Page) (root x : ℕ) (header : HeadFields) → x < 2 ^ 64 → HasForm bits pages root → pages root ≡ Some (Page.Head header)
     → (dir : List ℕ) × (n : ℕ) × (bucket : BucketFields) × IsPath pages root x header dir n bucket
 path_from_header bits pages root x header below form head =
     let path = path_of bits pages root x below form in
     subst (λ (header : HeadFields). (dir : List ℕ) × (n : ℕ) × (bucket : BucketFields) × IsPath pages root x header dir n bucket) (ap header_of (sym path.4.head ∙ head)) (path.1, path.2, path.3, path.4)
 
 -- and from its directory page
-pub path_from_dir : (bits : ℕ → ℕ) (pages : ℕ → Option Page) (root x : ℕ) (header : HeadFields) (dir : List ℕ) → x < 2 ^ 64 → HasForm bits pages root → pages root ≡ Some (page.Head header)
-    → pages (dir_of header x) ≡ Some (page.Dir dir)
+pub path_from_dir : (bits : ℕ → ℕ) (pages : ℕ → Option Page) (root x : ℕ) (header : HeadFields) (dir : List ℕ) → x < 2 ^ 64 → HasForm bits pages root → pages root ≡ Some (Page.Head header)
+    → pages (dir_of header x) ≡ Some (Page.Dir dir)
     → (bucket : BucketFields) × IsPath pages root x header dir (slice_index dir (row_of header x)) bucket
 path_from_dir bits pages root x header dir below form head listed =
     let path = path_from_header bits pages root x header below form head in

@@ -1,15 +1,7 @@
 -- The form by pseudokeys and the form by the entries of the directory say the same
-use Rattle.std.proofs.Common.{ℕ, ◌≡◌, ◌<◌, ◌≤◌, ◌-◌, ◌/◌, ◌^◌, true, length, slice_index, Option, refl, sym, ◌∙◌, ap, arith}
-use Rattle.std.specs.Prelude.{◌↔◌}
-use Rattle.std.specs.Ordering.{nat_cmp}
+use Rattle.std.proofs.Common.{ℕ, ◌≡◌, ◌<◌, ◌≤◌, ◌-◌, ◌/◌, ◌^◌, true, length, slice_index, Option, refl, sym, ◌∙◌, ap, arith, ◌↔◌, nat_cmp}
 use Rattle.std.specs.FinSet as set
-use Rattle.mlt_page.specs.Bits.{first_bits}
-use Rattle.mlt_page.specs.Slots.{key_of}
-use Rattle.mlt_page.specs.Values.{BucketFields}
-use Rattle.mlt_page.specs.declared.slot.Slot.TheVariants.{Live}
-use Rattle.mlt_page.specs.declared.page.Page.{Page}
-use Rattle.mlt_hash_form.specs.File.{header_of, bucket_of, entry, lead_of, buckets_of, HasForm, IsOnceLive}
-use Rattle.mlt_hash_form.specs.Form.{slot_at, is_used, IsSpread}
+use Rattle.mlt_hash_form.proofs.Names.{first_bits, key_of, BucketFields, Live, Page, header_of, bucket_of, entry, lead_of, buckets_of, HasForm, IsOnceLive, slot_at, is_used, IsSpread}
 use Rattle.mlt_hash_form.specs.Prefixes.{IsDirPage, IsBucketPage, HasOnePrefix, IsExtendibleHashFile}
 use Rattle.mlt_hash_form.proofs.Bits.{first_bits-first_bits, first_bits_below, with_first_bits, first_bits-with_first_bits, with_first_bits_below}
 use Rattle.mlt_hash_form.proofs.InPages.{dir_from_entries, data_from_slots}

@@ -1,23 +1,13 @@
 -- The live pairs of all pages are the records
-use Rattle.std.proofs.Common.{ℕ, zero, suc, ◌≡◌, true, false, List, [], ◌∷◌, ◌++◌, get_or, Option, Some, None, refl, sym, ◌∙◌, ap, inl, inr}
-use Rattle.std.specs.Prelude.{◌⊎◌, is_some}
-use Rattle.std.specs.List.{flat_map, list_any}
-use Rattle.std.specs.Ordering.{nat_cmp, eq_by_cmp, is_eq}
+use Rattle.std.proofs.Common.{ℕ, zero, suc, ◌≡◌, true, false, List, [], ◌∷◌, ◌++◌, get_or, Option, Some, None, refl, sym, ◌∙◌, ap, inl, inr, ◌⊎◌, is_some, flat_map, nat_cmp, is_eq}
+use Rattle.mlt_hash_form.proofs.Names.{list_any, eq_by_cmp, nat_cmp-IsAntisymmetric, nat_cmp_total, cases_Bool, both_ways, cond-true, cond-false, or_cases, same_Some, none-some, Slot, Free, Live, Ghost, BucketFields, Page, bucket_of, buckets_of, IsOnceLive, slot_at, slot_value, live_records}
 use Rattle.std.specs.declared.cmp.Ordering.{Ordering}
 use Rattle.std.specs.declared.cmp.Ordering.TheVariants.{Less, Equal, Greater}
 use Rattle.std.specs.Cmp.{nat_cmp_is}
 use Rattle.std.specs.FinMap as map
-use Rattle.std.specs.FinMap.{find, nat_cmp-IsAntisymmetric}
-use Rattle.std.proofs.lemmas.Cmp.{nat_cmp_total}
-use Rattle.std.proofs.lemmas.Bool.{cases_Bool, both_ways, cond-true, cond-false, or_cases}
-use Rattle.std.proofs.lemmas.Option.{same_Some, none-some}
-use Rattle.mlt_page.specs.declared.slot.Slot.{Slot}
-use Rattle.mlt_page.specs.declared.slot.Slot.TheVariants.{Free, Live, Ghost}
-use Rattle.mlt_page.specs.Values.{BucketFields}
-use Rattle.mlt_page.specs.declared.page.Page.{Page}
-use Rattle.mlt_hash_form.specs.File.{bucket_of, buckets_of, IsOnceLive, HasRecord}
-use Rattle.mlt_hash_form.specs.Form.{slot_at, slot_value}
-use Rattle.mlt_hash_form.specs.Records.{live_pairs, live_records, IsRecordMap}
+use Rattle.std.specs.FinMap.{find}
+use Rattle.mlt_hash_form.specs.File.{HasRecord}
+use Rattle.mlt_hash_form.specs.Records.{live_pairs, IsRecordMap}
 
 is_equal : (r : Ordering) → is_eq r ≡ true → r ≡ Equal
 is_equal Less e = cc

@@ -1,8 +1,6 @@
 -- The file form depends only on where pseudokeys of 64 bits lead, and on the buckets; and a deeper directory may keep it
 use Rattle.std.proofs.Common.{ℕ, ◌≡◌, ◌<◌, ◌≤◌, ◌^◌, sym, ◌∙◌, arith}
-use Rattle.mlt_page.specs.Slots.{key_of}
-use Rattle.mlt_page.specs.Values.{BucketFields}
-use Rattle.mlt_hash_form.specs.Form.{slot_at, IsSpread}
+use Rattle.mlt_hash_form.proofs.Names.{key_of, BucketFields, slot_at, IsSpread}
 
 pub form_same : (bits : ℕ → ℕ) (g g' : ℕ) (lead lead' : ℕ → ℕ) (buckets : ℕ → BucketFields) → ((k : ℕ) → bits k < 2 ^ 64) → g ≤ g' → ((x : ℕ) → x < 2 ^ 64 → lead' x ≡ lead x) → IsSpread bits g lead buckets → IsSpread bits g' lead' buckets
 form_same bits g g' lead lead' buckets bounded deeper same form = record {

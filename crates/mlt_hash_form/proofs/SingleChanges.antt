@@ -1,19 +1,8 @@
 -- The four changes of a record: put, set_value, to_ghost, revive. Other crates cite this module.
-use Rattle.std.proofs.Common.{ℕ, ◌≡◌, ◌<◌, true, false, length, get_or, set, Option, Some, None, refl, sym, ◌∙◌, ap, arith}
-use Rattle.std.specs.Prelude.{◌↔◌}
-use Rattle.std.specs.Ordering.{nat_cmp}
+use Rattle.std.proofs.Common.{ℕ, ◌≡◌, ◌<◌, true, false, length, get_or, set, Option, Some, None, refl, sym, ◌∙◌, ap, arith, ◌↔◌, nat_cmp}
 use Rattle.std.specs.FinSet as fin
-use Rattle.std.proofs.lemmas.Bool.{both_ways}
-use Rattle.std.proofs.lemmas.Option.{none-some}
-use Rattle.mlt_page.specs.Slots.{is_live_of, is_ghost_of, is_kept, key_of}
-use Rattle.mlt_page.specs.declared.slot.Slot.{Slot}
-use Rattle.mlt_page.specs.declared.slot.Slot.TheVariants.{Free, Live, Ghost}
-use Rattle.mlt_page.specs.Values.{BucketFields}
-use Rattle.mlt_page.specs.declared.page.Page.{Page}
-use Rattle.mlt_page.specs.declared.page.Page.TheVariants as page
-use Rattle.mlt_hash_form.specs.Changes.{IsHome, ChangesRecord, slot_change}
-use Rattle.mlt_hash_form.specs.File.{bucket_of, buckets_of, lead_of, look_up, Writes}
-use Rattle.mlt_hash_form.specs.Form.{MaySet, value_in, slot_value, slot_at}
+use Rattle.mlt_hash_form.proofs.Names.{both_ways, none-some, is_live_of, is_kept, key_of, Slot, Free, Live, Ghost, BucketFields, Page, IsHome, ChangesRecord, slot_change, bucket_of, buckets_of, lead_of, look_up, Writes, MaySet, value_in, slot_value, slot_at}
+use Rattle.mlt_page.specs.Slots.{is_ghost_of}
 use Rattle.mlt_hash_form.proofs.Lookup.{live_is, value_from_live}
 use Rattle.mlt_hash_form.proofs.InPages.{file_change, file_change_holds, value_other, value_here, sets, set_here}
 
@@ -62,7 +51,7 @@ module _ (bits : ℕ → ℕ) (pages pages' : ℕ → Option Page) (root key n i
     own = λ q w e. absurd (dead q w (sym slot_is ∙ e));
   }
 
-  module _ (s : Slot) (k : key_of s ≡ key) (writes : Writes pages pages' n (page.Bucket (record was { slots = set was.slots i s }))) (fits : MaySet bits (lead_of pages root) (buckets_of pages) n i s) where
+  module _ (s : Slot) (k : key_of s ≡ key) (writes : Writes pages pages' n (Page.Bucket (record was { slots = set was.slots i s }))) (fits : MaySet bits (lead_of pages root) (buckets_of pages) n i s) where
     abbrev now : BucketFields
     now = record was { slots = set was.slots i s }
 
@@ -79,32 +68,32 @@ module _ (bits : ℕ → ℕ) (pages pages' : ℕ → Option Page) (root key n i
     found_now : (v : ℕ) → (look_up bits pages' root (key_of s) ≡ Some v) ↔ (s ≡ Live (key_of s) v)
     found_now = value_here bits pages pages' root n i s was now home.bounded home.form home.found writes refl refl fits
 
-  live_changes : (value : ℕ) → Writes pages pages' n (page.Bucket (record was { slots = set was.slots i (Live key value) })) → MaySet bits (lead_of pages root) (buckets_of pages) n i (Live key value) → ChangesRecord bits pages pages' root (slot_change key (Some value) n i (Live key value))
+  live_changes : (value : ℕ) → Writes pages pages' n (Page.Bucket (record was { slots = set was.slots i (Live key value) })) → MaySet bits (lead_of pages root) (buckets_of pages) n i (Live key value) → ChangesRecord bits pages pages' root (slot_change key (Some value) n i (Live key value))
   live_changes value writes fits = changes (Live key value) refl writes fits (Some value) ((found_now (Live key value) refl writes fits value).1 refl)
 
-  ghost_changes : (owner : ℕ) → Writes pages pages' n (page.Bucket (record was { slots = set was.slots i (Ghost key 0 owner) })) → MaySet bits (lead_of pages root) (buckets_of pages) n i (Ghost key 0 owner) → ChangesRecord bits pages pages' root (slot_change key None n i (Ghost key 0 owner))
+  ghost_changes : (owner : ℕ) → Writes pages pages' n (Page.Bucket (record was { slots = set was.slots i (Ghost key 0 owner) })) → MaySet bits (lead_of pages root) (buckets_of pages) n i (Ghost key 0 owner) → ChangesRecord bits pages pages' root (slot_change key None n i (Ghost key 0 owner))
   ghost_changes owner writes fits = changes (Ghost key 0 owner) refl writes fits None (none_from _ (λ v e. let q : Ghost key 0 owner ≡ Live key v = (found_now (Ghost key 0 owner) refl writes fits v).0 e in cc))
 
 pub put_changes : (bits : ℕ → ℕ) (active : fin.FinSet nat_cmp) (pages pages' : ℕ → Option Page) (root key value n i : ℕ) (was : BucketFields)
     → IsHome bits pages root key n was → value_in key was.slots ≡ None → i < 8 → is_kept active (get_or was.slots i Free) ≡ false
-    → Writes pages pages' n (page.Bucket (record was { slots = set was.slots i (Live key value) })) → ChangesRecord bits pages pages' root (slot_change key (Some value) n i (Live key value))
+    → Writes pages pages' n (Page.Bucket (record was { slots = set was.slots i (Live key value) })) → ChangesRecord bits pages pages' root (slot_change key (Some value) n i (Live key value))
 put_changes bits active pages pages' root key value n i was home none lt free writes =
     live_changes bits pages pages' root key n i was home lt value writes (may_add bits pages pages' root key n i was home lt (Live key value) refl none (λ q w e. both_ways _ free (ap (is_kept active) e)))
 
 pub set_value_changes : (bits : ℕ → ℕ) (pages pages' : ℕ → Option Page) (root key value n i : ℕ) (was : BucketFields)
     → IsHome bits pages root key n was → i < 8 → is_live_of key (get_or was.slots i Free) ≡ true
-    → Writes pages pages' n (page.Bucket (record was { slots = set was.slots i (Live key value) })) → ChangesRecord bits pages pages' root (slot_change key (Some value) n i (Live key value))
+    → Writes pages pages' n (Page.Bucket (record was { slots = set was.slots i (Live key value) })) → ChangesRecord bits pages pages' root (slot_change key (Some value) n i (Live key value))
 set_value_changes bits pages pages' root key value n i was home lt live writes =
     live_changes bits pages pages' root key n i was home lt value writes (may_change bits pages pages' root key n i was home lt (Live key value) refl live)
 
 pub to_ghost_changes : (bits : ℕ → ℕ) (pages pages' : ℕ → Option Page) (root key owner n i : ℕ) (was : BucketFields)
     → IsHome bits pages root key n was → i < 8 → is_live_of key (get_or was.slots i Free) ≡ true
-    → Writes pages pages' n (page.Bucket (record was { slots = set was.slots i (Ghost key 0 owner) })) → ChangesRecord bits pages pages' root (slot_change key None n i (Ghost key 0 owner))
+    → Writes pages pages' n (Page.Bucket (record was { slots = set was.slots i (Ghost key 0 owner) })) → ChangesRecord bits pages pages' root (slot_change key None n i (Ghost key 0 owner))
 to_ghost_changes bits pages pages' root key owner n i was home lt live writes =
     ghost_changes bits pages pages' root key n i was home lt owner writes (may_change bits pages pages' root key n i was home lt (Ghost key 0 owner) refl live)
 
 pub revive_changes : (bits : ℕ → ℕ) (pages pages' : ℕ → Option Page) (root key owner value n i : ℕ) (was : BucketFields)
     → IsHome bits pages root key n was → value_in key was.slots ≡ None → i < 8 → is_ghost_of key owner (get_or was.slots i Free) ≡ true
-    → Writes pages pages' n (page.Bucket (record was { slots = set was.slots i (Live key value) })) → ChangesRecord bits pages pages' root (slot_change key (Some value) n i (Live key value))
+    → Writes pages pages' n (Page.Bucket (record was { slots = set was.slots i (Live key value) })) → ChangesRecord bits pages pages' root (slot_change key (Some value) n i (Live key value))
 revive_changes bits pages pages' root key owner value n i was home none lt ghost writes =
     live_changes bits pages pages' root key n i was home lt value writes (may_add bits pages pages' root key n i was home lt (Live key value) refl none (λ q w e. both_ways _ (ap (is_ghost_of key owner) e) ghost))

@@ -1,36 +1,23 @@
 -- A split, once its directory pages are written
-use Rattle.std.proofs.Common.{ℕ, ◌≡◌, ◌<◌, ◌≤◌, ◌+◌, ◌*◌, ◌^◌, ◌==◌, true, cond, map, Option, Some, None, refl, sym, ◌∙◌, ap, arith, []}
-use Rattle.std.specs.Prelude.{◌↔◌}
-use Rattle.std.proofs.lemmas.Bool.{cond-true, cond-false, eq-eqb, ne_eqb}
-use Rattle.std.specs.Ordering.{nat_cmp}
+use Rattle.std.proofs.Common.{ℕ, ◌≡◌, ◌<◌, ◌≤◌, ◌+◌, ◌*◌, ◌^◌, ◌==◌, true, cond, map, Option, Some, None, refl, sym, ◌∙◌, ap, arith, [], ◌↔◌, eq-eqb, ne_eqb, nat_cmp}
+use Rattle.mlt_hash_form.proofs.Names.{cond-true, cond-false, first_bits, bit_at, is_kept, half, Slot, Page, header_of, bucket_of, entry, lead_of, buckets_of, IsDirectory, HasForm, HasSlot, IsSpread, SplitsBucket, spread, target, Live, IsSplit, look_up}
 use Rattle.std.specs.FinSet as set
-use Rattle.mlt_page.specs.Bits.{first_bits, bit_at}
-use Rattle.mlt_page.specs.Slots.{is_kept, half}
-use Rattle.mlt_page.specs.declared.slot.Slot.{Slot}
-use Rattle.mlt_page.specs.declared.page.Page.{Page}
-use Rattle.mlt_page.specs.declared.page.Page.TheVariants as page
-use Rattle.mlt_hash_form.specs.File.{header_of, bucket_of, entry, lead_of, buckets_of, IsDirectory, HasForm}
-use Rattle.mlt_hash_form.specs.Form.{HasSlot, IsSpread, SplitsBucket, spread}
-use Rattle.mlt_hash_form.specs.Splits.{target}
 use Rattle.mlt_hash_form.proofs.Bits.{first_bits-first_bits, first_bits_below, first_bits_next}
 use Rattle.mlt_hash_form.proofs.Same.{form_same}
 use Rattle.mlt_hash_form.proofs.Splitting.{form_split, split_holds, split_lost, split_before, split_dropped}
 use Rattle.mlt_hash_form.proofs.Lookup.{found}
 use Rattle.mlt_hash_form.proofs.InPages.{same_option}
-use Rattle.mlt_page.specs.declared.slot.Slot.TheVariants.{Live}
-use Rattle.mlt_hash_form.specs.Changes.{IsSplit}
-use Rattle.mlt_hash_form.specs.File.{look_up}
 
 -- the directory as the header of pages reads
 abbrev old_of : (ℕ → Option Page) → ℕ → ℕ → ℕ
 old_of pages root = entry pages (header_of (pages root)).dirs
 
 module _ (bits : ℕ → ℕ) (active : set.FinSet nat_cmp) (pages pages' : ℕ → Option Page) (root b new seed : ℕ) (bounded : (k : ℕ) → bits k < 2 ^ 64) (file : HasForm bits pages root)
-    (head' : pages' root ≡ Some (page.Head (header_of (pages' root)))) (listed' : IsDirectory pages' (header_of (pages' root)).depth (header_of (pages' root)).dirs)
+    (head' : pages' root ≡ Some (Page.Head (header_of (pages' root)))) (listed' : IsDirectory pages' (header_of (pages' root)).depth (header_of (pages' root)).dirs)
     (deeper : (header_of (pages root)).depth ≤ (header_of (pages' root)).depth) (room : (buckets_of pages b).depth < (header_of (pages' root)).depth)
     (seed_ok : seed < 2 ^ 64) (at_b : lead_of pages root seed ≡ b) (fresh : pages new ≡ None)
-    (zeros : pages' b ≡ Some (page.Bucket (record { depth = (buckets_of pages b).depth + 1; slots = map (half bits active (buckets_of pages b).depth 0) (buckets_of pages b).slots })))
-    (ones : pages' new ≡ Some (page.Bucket (record { depth = (buckets_of pages b).depth + 1; slots = map (half bits active (buckets_of pages b).depth 1) (buckets_of pages b).slots })))
+    (zeros : pages' b ≡ Some (Page.Bucket (record { depth = (buckets_of pages b).depth + 1; slots = map (half bits active (buckets_of pages b).depth 0) (buckets_of pages b).slots })))
+    (ones : pages' new ≡ Some (Page.Bucket (record { depth = (buckets_of pages b).depth + 1; slots = map (half bits active (buckets_of pages b).depth 1) (buckets_of pages b).slots })))
     (others : (m : ℕ) → (m ≡ b → ⊥) → (m ≡ new → ⊥) → buckets_of pages' m ≡ buckets_of pages m)
     (reads : (i : ℕ) → i < 2 ^ (header_of (pages' root)).depth → entry pages' (header_of (pages' root)).dirs i ≡ target (old_of pages root) (header_of (pages root)).depth (header_of (pages' root)).depth (buckets_of pages b).depth (2 * first_bits (buckets_of pages b).depth seed + 1) new i) where
   lead_is : (x : ℕ) → x < 2 ^ 64 → lead_of pages' root x ≡ cond (first_bits ((buckets_of pages b).depth + 1) x == 2 * first_bits (buckets_of pages b).depth seed + 1) new (lead_of pages root x)

@@ -1,16 +1,9 @@
 -- The steps of a split, from its first page to its last. Other crates cite this module.
-use Rattle.std.proofs.Common.{ℕ, ◌≡◌, ◌<◌, ◌≤◌, ◌+◌, ◌-◌, ◌*◌, ◌^◌, List, length, slice_index, slice_set, Option, None, Some, refl, sym, ◌∙◌, ap, arith}
-use Rattle.std.specs.Ordering.{nat_cmp}
+use Rattle.std.proofs.Common.{ℕ, ◌≡◌, ◌<◌, ◌≤◌, ◌+◌, ◌-◌, ◌*◌, ◌^◌, List, length, slice_index, slice_set, Option, None, Some, refl, sym, ◌∙◌, ap, arith, nat_cmp, get_or-set_same, get_or-set_other, pow-add}
 use Rattle.std.specs.FinSet as set
-use Rattle.mlt_page.specs.Values.{HeadFields}
-use Rattle.mlt_page.specs.declared.page.Page.{Page}
-use Rattle.mlt_page.specs.declared.page.Page.TheVariants as page
-use Rattle.mlt_hash_form.specs.Changes.{IsSplit, MaySplit}
-use Rattle.mlt_hash_form.specs.File.{buckets_of, entries_of, entry, depth_of, dirs_of, Writes}
+use Rattle.mlt_hash_form.proofs.Names.{HeadFields, Page, IsSplit, MaySplit, buckets_of, entries_of, entry, depth_of, dirs_of, Writes, IsLonger, IsMidway, run_length, run_start, bucket_split}
 use Rattle.mlt_hash_form.specs.Form.{half_of}
-use Rattle.mlt_hash_form.specs.Splits.{IsLonger, IsMidway, WritesDirPage, run_length, run_start, bucket_split, next_page}
-use Rattle.std.proofs.lemmas.List.{get_or-set_same, get_or-set_other}
-use Rattle.std.proofs.lemmas.Nat.{pow-add}
+use Rattle.mlt_hash_form.specs.Splits.{WritesDirPage, next_page}
 use Rattle.mlt_hash_form.proofs.FillEnds.{entry_at}
 use Rattle.mlt_hash_form.proofs.InPages.{dir_from_entries}
 use Rattle.mlt_hash_form.proofs.Midway.{midway_over, midway_made}
@@ -21,7 +14,7 @@ module _ (bits : ℕ → ℕ) (active : set.FinSet nat_cmp) (base : ℕ → Opti
   pub split_full : length (buckets_of base n).slots ≡ 8
   split_full = rw may.leads at (may.form.form.whole x may.pseudokey)
 
-  module _ (one two : ℕ → Option Page) (first_write : Writes base one new (page.Bucket (half_of bits active (buckets_of base n) 1))) (second_write : Writes one two n (page.Bucket (half_of bits active (buckets_of base n) 0))) where
+  module _ (one two : ℕ → Option Page) (first_write : Writes base one new (Page.Bucket (half_of bits active (buckets_of base n) 1))) (second_write : Writes one two n (Page.Bucket (half_of bits active (buckets_of base n) 0))) where
     pub begins_to_double : (g' : ℕ) (made : List ℕ) → IsMidway (bucket_split bits active base root n new x) g' two made 0 0
     begins_to_double = midway_double bits active base one two root n new x may.form split_full may.fresh first_write second_write
 
@@ -36,7 +29,7 @@ module _ (bits : ℕ → ℕ) (active : set.FinSet nat_cmp) (base : ℕ → Opti
     makes_a_page = midway_made bits active base pages pages' root n new x g' made made' j k m dir midway may.form split_full writes.writes writes.longer writes.size writes.right
 
   pub closes_by_header : (pages pages' : ℕ → Option Page) (g' k : ℕ) (header : HeadFields) → IsMidway (bucket_split bits active base root n new x) g' pages header.dirs (2 ^ (g' - 8)) k
-      → g' ≤ 16 → depth_of base root ≤ g' → (buckets_of base n).depth < g' → header.depth ≡ g' → Writes pages pages' root (page.Head header) → IsSplit bits active base pages' root n new
+      → g' ≤ 16 → depth_of base root ≤ g' → (buckets_of base n).depth < g' → header.depth ≡ g' → Writes pages pages' root (Page.Head header) → IsSplit bits active base pages' root n new
   closes_by_header pages pages' g' k header midway small deeper room depth writes =
       split_closes bits active base pages root n new x may.bounded may.form may.pseudokey may.leads may.fresh pages' header.dirs g' k header midway writes depth refl small deeper room
 
@@ -45,12 +38,12 @@ module _ (bits : ℕ → ℕ) (active : set.FinSet nat_cmp) (base : ℕ → Opti
   closes_in_place pages = split_closes_in_place bits active base pages root n new x may.bounded may.form may.pseudokey may.leads may.fresh
 
 -- a page of the directory has the directory's entries of its places
-pub listed_entries : (pages : ℕ → Option Page) (dirs : List ℕ) (q r : ℕ) (dir : List ℕ) → pages (slice_index dirs q) ≡ Some (page.Dir dir) → r < 256 → slice_index dir r ≡ entry pages dirs (256 * q + r)
+pub listed_entries : (pages : ℕ → Option Page) (dirs : List ℕ) (q r : ℕ) (dir : List ℕ) → pages (slice_index dirs q) ≡ Some (Page.Dir dir) → r < 256 → slice_index dir r ≡ entry pages dirs (256 * q + r)
 listed_entries pages dirs q r dir is h = sym (ap (λ p. slice_index (entries_of p) r) is) ∙ sym (entry_at pages dirs q r h)
 
 -- in the midst of a split, a page that is not yet written is as it was
 pub page_as_it_was : (bits : ℕ → ℕ) (active : set.FinSet nat_cmp) (base pages : ℕ → Option Page) (root n new x g' j k q : ℕ) (made : List ℕ) → IsMidway (bucket_split bits active base root n new x) g' pages made j k → k ≤ q → q < 2 ^ (depth_of base root - 8)
-    → (dir : List ℕ) × (pages (slice_index (dirs_of base root) q) ≡ Some (page.Dir dir)) × (length dir ≡ 256) × ((r : ℕ) → r < 256 → slice_index dir r ≡ entry base (dirs_of base root) (256 * q + r))
+    → (dir : List ℕ) × (pages (slice_index (dirs_of base root) q) ≡ Some (Page.Dir dir)) × (length dir ≡ 256) × ((r : ℕ) → r < 256 → slice_index dir r ≡ entry base (dirs_of base root) (256 * q + r))
 page_as_it_was bits active base pages root n new x g' j k q made midway h lt =
     let size = midway.filling.rest_sized q h lt in
     let dir = dir_from_entries _ size in (

@@ -1,16 +1,9 @@
 -- A split of one bucket. Other crates cite this module.
-use Rattle.std.proofs.Common.{ℕ, ◌≡◌, ◌<◌, ◌≤◌, ◌+◌, ◌*◌, ◌^◌, ◌==◌, ◌&&◌, true, false, List, length, get_or, map, refl, sym, ◌∙◌, ap, arith, inl, inr, []}
-use Rattle.std.specs.Prelude.{◌⊎◌, ◌↔◌}
-use Rattle.std.proofs.lemmas.List.{get_or_past, get_or-map, length-map}
-use Rattle.std.proofs.lemmas.Bool.{cases_eq, cases_lt, cases_Bool, both_ways, eqb-true, eq-eqb, and_parts, and_from}
-use Rattle.std.specs.Ordering.{nat_cmp}
+use Rattle.std.proofs.Common.{ℕ, ◌≡◌, ◌<◌, ◌≤◌, ◌+◌, ◌*◌, ◌^◌, ◌==◌, ◌&&◌, true, false, List, length, get_or, map, refl, sym, ◌∙◌, ap, arith, inl, inr, [], ◌⊎◌, ◌↔◌, eqb-true, eq-eqb, nat_cmp}
+use Rattle.mlt_hash_form.proofs.Names.{get_or_past, length-map, cases_eq, cases_lt, cases_Bool, both_ways, and_parts, and_from, first_bits, bit_at, is_kept, key_of, half, Slot, Free, Live, Ghost, BucketFields, slot_at, HasSlot, IsSpread, is_used, SplitsBucket, spread}
+use Rattle.std.proofs.lemmas.List.{get_or-map}
 use Rattle.std.specs.FinSet as set
-use Rattle.mlt_page.specs.Bits.{first_bits, bit_at}
-use Rattle.mlt_page.specs.Slots.{is_kept, key_of, kept_if, half}
-use Rattle.mlt_page.specs.declared.slot.Slot.{Slot}
-use Rattle.mlt_page.specs.declared.slot.Slot.TheVariants.{Free, Live, Ghost}
-use Rattle.mlt_page.specs.Values.{BucketFields}
-use Rattle.mlt_hash_form.specs.Form.{slot_at, HasSlot, IsSpread, is_used, SplitsBucket, spread}
+use Rattle.mlt_page.specs.Slots.{kept_if}
 use Rattle.std.proofs.Math.Nat.{pow-suc}
 use Rattle.std.proofs.Math.Numerals.{add-one}
 use Rattle.mlt_hash_form.proofs.Bits.{first_bits_next, first_bits_below, side_cases, next_same, front_same, with_first_bits, first_bits-with_first_bits, with_first_bits_below}

@@ -7,7 +7,7 @@ use Rattle.mlt_page.specs.Slots.{is_kept}
 use Rattle.mlt_page.specs.declared.slot.Slot.{Slot}
 use Rattle.mlt_page.specs.declared.slot.Slot.TheVariants.{Free}
 use Rattle.mlt_page.specs.Values.{BucketFields}
-use Rattle.mlt_page.specs.declared.page.Page.TheVariants as page
+use Rattle.mlt_page.specs.declared.page.Page.{Page}
 use Rattle.mlt_hash_form.specs.Form.{HasSlot, SetsOneSlot, is_used, slot_at}
 use Rattle.mlt_hash_form.specs.File.{FilePages, GivesPseudokeys, HasForm, Writes, buckets_of, lead_of, look_up}
 
@@ -17,7 +17,7 @@ pub record IsHome (bits : ℕ → ℕ) (pages : FilePages) (root key n : ℕ) (b
   pub bounded : GivesPseudokeys bits
   pub form : HasForm bits pages root
   pub leads : lead_of pages root (bits key) ≡ n
-  pub found : pages n ≡ Some (page.Bucket bucket)
+  pub found : pages n ≡ Some (Page.Bucket bucket)
 
 -- one slot of a file: the number of its page, its place there, and the bucket
 pub record Spot : Type 0 where
@@ -96,7 +96,7 @@ pub record IsSplit (bits : ℕ → ℕ) (active : set.FinSet nat_cmp) (pages pag
 
 -- a file as it is opened: its header names the directory page d, whose entries all name page n, an empty bucket
 pub record IsOpening (pages : FilePages) (root d n : ℕ) : Type 0 where
-  pub head : pages root ≡ Some (page.Head (record { depth = 0; dirs = replicate 256 d }))
-  pub listed : pages d ≡ Some (page.Dir (replicate 256 n))
-  pub bucket : pages n ≡ Some (page.Bucket (record { depth = 0; slots = replicate 8 Free }))
+  pub head : pages root ≡ Some (Page.Head (record { depth = 0; dirs = replicate 256 d }))
+  pub listed : pages d ≡ Some (Page.Dir (replicate 256 n))
+  pub bucket : pages n ≡ Some (Page.Bucket (record { depth = 0; slots = replicate 8 Free }))
   pub others : (m : ℕ) → (m ≡ root → ⊥) → (m ≡ d → ⊥) → (m ≡ n → ⊥) → pages m ≡ None

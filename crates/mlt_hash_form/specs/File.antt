@@ -5,7 +5,6 @@ use Rattle.mlt_page.specs.Bits.{first_bits}
 use Rattle.mlt_page.specs.declared.slot.Slot.TheVariants.{Live}
 use Rattle.mlt_page.specs.Values.{BucketFields, HeadFields}
 use Rattle.mlt_page.specs.declared.page.Page.{Page}
-use Rattle.mlt_page.specs.declared.page.Page.TheVariants as page
 use Rattle.mlt_hash_form.specs.Form.{IsSpread, HasSlot, slot_at, value_by_lead}
 
 -- the page of each number, if there is one
@@ -18,22 +17,22 @@ GivesPseudokeys bits = (key : ℕ) → bits key < 2 ^ 64
 
 -- the three readings of a page, each empty for a page of another kind
 abbrev pub header_of : Option Page → HeadFields
-header_of (Some (page.Head header)) = header
-header_of (Some (page.Dir dir)) = record { depth = 0; dirs = [] }
-header_of (Some (page.Bucket bucket)) = record { depth = 0; dirs = [] }
+header_of (Some (Page.Head header)) = header
+header_of (Some (Page.Dir dir)) = record { depth = 0; dirs = [] }
+header_of (Some (Page.Bucket bucket)) = record { depth = 0; dirs = [] }
 header_of None = record { depth = 0; dirs = [] }
 
 abbrev pub entries_of : Option Page → List ℕ
-entries_of (Some (page.Head header)) = []
-entries_of (Some (page.Dir dir)) = dir
-entries_of (Some (page.Bucket bucket)) = []
+entries_of (Some (Page.Head header)) = []
+entries_of (Some (Page.Dir dir)) = dir
+entries_of (Some (Page.Bucket bucket)) = []
 entries_of None = []
 
 -- the bucket that a page is, and an empty one of depth 0 for any other page
 abbrev pub bucket_of : Option Page → BucketFields
-bucket_of (Some (page.Head header)) = record { depth = 0; slots = [] }
-bucket_of (Some (page.Dir dir)) = record { depth = 0; slots = [] }
-bucket_of (Some (page.Bucket bucket)) = bucket
+bucket_of (Some (Page.Head header)) = record { depth = 0; slots = [] }
+bucket_of (Some (Page.Dir dir)) = record { depth = 0; slots = [] }
+bucket_of (Some (Page.Bucket bucket)) = bucket
 bucket_of None = record { depth = 0; slots = [] }
 
 -- the depth and the pages of the directory, as the header has them
@@ -66,7 +65,7 @@ pub record IsDirectory (pages : FilePages) (depth : ℕ) (dirs : List ℕ) : Typ
 
 -- the pages have the form of an extendible hash file
 pub record HasForm (bits : ℕ → ℕ) (pages : FilePages) (root : ℕ) : Type 0 where
-  pub head : pages root ≡ Some (page.Head (header_of (pages root)))
+  pub head : pages root ≡ Some (Page.Head (header_of (pages root)))
   pub listed : IsDirectory pages (header_of (pages root)).depth (header_of (pages root)).dirs
   pub form : IsSpread bits (header_of (pages root)).depth (lead_of pages root) (buckets_of pages)
 
@@ -97,10 +96,10 @@ row_of header x = first_bits header.depth x % 256
 -- what three steps by a pseudokey read: the header, the directory page of its place, and the bucket named there
 pub record IsPath (pages : FilePages) (root x : ℕ) (header : HeadFields) (dir : List ℕ) (n : ℕ)
     (bucket : BucketFields) : Type 0 where
-  pub head : pages root ≡ Some (page.Head header)
-  pub listed : pages (dir_of header x) ≡ Some (page.Dir dir)
+  pub head : pages root ≡ Some (Page.Head header)
+  pub listed : pages (dir_of header x) ≡ Some (Page.Dir dir)
   pub at : slice_index dir (row_of header x) ≡ n
-  pub found : pages n ≡ Some (page.Bucket bucket)
+  pub found : pages n ≡ Some (Page.Bucket bucket)
 
 -- a path leads from the header, whose depth is at most 16, to this bucket on page n
 abbrev pub LeadsTo : FilePages → ℕ → ℕ → ℕ → BucketFields → Type 0

@@ -1,7 +1,6 @@
 -- An extendible hash file apart from its directory: the bucket page that each pseudokey leads to (`lead`), and
 -- the bucket on each page (`buckets`; of a page that is no bucket, one without slots).
-use Rattle.std.specs.Prelude.{ℕ, ◌≡◌, ◌<◌, ◌≤◌, ◌+◌, ◌^◌, Bool, true, false, List, length, slice_index_or, slice_set, map, Option, option_map}
-use Rattle.std.specs.List.{position}
+use Rattle.std.specs.Prelude.{ℕ, ◌≡◌, ◌<◌, ◌≤◌, ◌+◌, ◌^◌, Bool, true, false, List, length, slice_index_or, slice_set, map, Option, option_map, position}
 use Rattle.std.specs.Ordering.{nat_cmp}
 use Rattle.std.specs.FinSet as set
 use Rattle.mlt_page.specs.Bits.{first_bits, bit_at}

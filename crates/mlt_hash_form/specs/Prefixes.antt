@@ -6,16 +6,15 @@ use Rattle.mlt_page.specs.Bits.{first_bits}
 use Rattle.mlt_page.specs.Slots.{is_kept, key_of}
 use Rattle.mlt_page.specs.Values.{BucketFields}
 use Rattle.mlt_page.specs.declared.page.Page.{Page}
-use Rattle.mlt_page.specs.declared.page.Page.TheVariants as page
 use Rattle.mlt_hash_form.specs.Form.{slot_at}
 use Rattle.mlt_hash_form.specs.File.{FilePages, entry, header_of, depth_of, dirs_of, buckets_of, IsOnceLive}
 
 -- a page of the directory is full, and a bucket has eight slots
 abbrev pub IsDirPage : Option Page → Type 0
-IsDirPage p = (dir : List ℕ) × (p ≡ Some (page.Dir dir)) × (length dir ≡ 256)
+IsDirPage p = (dir : List ℕ) × (p ≡ Some (Page.Dir dir)) × (length dir ≡ 256)
 
 abbrev pub IsBucketPage : Option Page → BucketFields → Type 0
-IsBucketPage p bucket = (p ≡ Some (page.Bucket bucket)) × (length bucket.slots ≡ 8)
+IsBucketPage p bucket = (p ≡ Some (Page.Bucket bucket)) × (length bucket.slots ≡ 8)
 
 -- of the places of a directory of depth g, those that name page n are just those of one prefix of l bits; there
 -- are 2^(g-l) of them
@@ -34,7 +33,7 @@ pub record IsExtendibleHashFile (bits : ℕ → ℕ) (active : set.FinSet nat_cm
     (root : ℕ) : Type 0 where
   -- the header names the depth g, at most 16, and the directory's pages: one where g is at most 8, and above
   -- that 2^(g-8); each is of 256 entries, and none stands twice
-  pub header : pages root ≡ Some (page.Head (header_of (pages root)))
+  pub header : pages root ≡ Some (Page.Head (header_of (pages root)))
   pub small : depth_of pages root ≤ 16
   pub directory : (q : ℕ) → q < 2 ^ (depth_of pages root - 8)
       → IsDirPage (pages (slice_index (dirs_of pages root) q))

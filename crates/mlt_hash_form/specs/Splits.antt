@@ -4,7 +4,7 @@ use Rattle.std.specs.Ordering.{nat_cmp}
 use Rattle.std.specs.FinSet as set
 use Rattle.mlt_page.specs.Bits.{first_bits}
 use Rattle.mlt_page.specs.Values.{BucketFields}
-use Rattle.mlt_page.specs.declared.page.Page.TheVariants as page
+use Rattle.mlt_page.specs.declared.page.Page.{Page}
 use Rattle.mlt_hash_form.specs.Form.{half_of}
 use Rattle.mlt_hash_form.specs.Changes.{IsSplit, MaySplit}
 use Rattle.mlt_hash_form.specs.File.{FilePages, depth_of, dirs_of, entries_of, entry, buckets_of, Writes}
@@ -161,8 +161,8 @@ directory_in split g' = record {
 pub record IsMidway (split : BucketSplit) (g' : ℕ) (pages : FilePages) (made : List ℕ) (j k : ℕ)
     : Type 0 where
   pub header : pages split.root ≡ split.before split.root
-  pub zeros : pages split.old_page ≡ Some (page.Bucket (half_in split 0))
-  pub ones : pages split.new_page ≡ Some (page.Bucket (half_in split 1))
+  pub zeros : pages split.old_page ≡ Some (Page.Bucket (half_in split 0))
+  pub ones : pages split.new_page ≡ Some (Page.Bucket (half_in split 1))
   pub others : (m : ℕ) → (m ≡ split.old_page → ⊥) → (m ≡ split.new_page → ⊥)
       → buckets_of pages m ≡ buckets_of split.before m
   pub filling : IsFilling (directory_in split g') pages made j k
@@ -175,8 +175,8 @@ IsMidwayInPlace split pages q =
 
 -- the second half of the old bucket is written on the new page, and then the first one on the old page
 pub record WritesBothHalves (split : BucketSplit) (one two : FilePages) : Type 0 where
-  pub ones : Writes split.before one split.new_page (page.Bucket (half_in split 1))
-  pub zeros : Writes one two split.old_page (page.Bucket (half_in split 0))
+  pub ones : Writes split.before one split.new_page (Page.Bucket (half_in split 1))
+  pub zeros : Writes one two split.old_page (Page.Bucket (half_in split 0))
 
 -- the next page of a new directory: its place in the list of pages, its number, and the bucket pages that it names
 pub record NextPage : Type 0 where
@@ -191,7 +191,7 @@ next_page place number names = record { place = place; number = number; names = 
 -- and its entries are as they are to be
 pub record WritesDirPage (split : BucketSplit) (g' : ℕ) (pages pages' : FilePages)
     (made made' : List ℕ) (dir : NextPage) : Type 0 where
-  pub writes : Writes pages pages' dir.number (page.Dir dir.names)
+  pub writes : Writes pages pages' dir.number (Page.Dir dir.names)
   pub longer : IsLonger made made' dir.place dir.number
   pub size : length dir.names ≡ 256
   pub right : HasEntries dir.names dir.place (target_in split g')

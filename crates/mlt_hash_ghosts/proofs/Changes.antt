@@ -1,19 +1,11 @@
 -- The laws of changes of one slot. Other crates are to cite this module.
-use Rattle.std.proofs.Common.{ℕ, ◌≡◌, ◌<◌, ◌≤◌, true, false, [], ◌∷◌, ◌++◌, length, get_or, Option, Some, None, refl, sym, ◌∙◌, ap, inl, inr, arith}
-use Rattle.std.specs.Prelude.{position}
+use Rattle.std.proofs.Common.{ℕ, ◌≡◌, ◌<◌, ◌≤◌, true, false, [], ◌∷◌, ◌++◌, length, get_or, Option, Some, None, refl, sym, ◌∙◌, ap, inl, inr, arith, position}
 use Rattle.std.specs.FinSet as fin
-use Rattle.std.proofs.lemmas.Bool.{both_ways, cases_eq}
-use Rattle.std.proofs.lemmas.Option.{none-some}
-use Rattle.mlt_page.specs.Slots.{is_ghost_of, is_kept, is_live_of}
-use Rattle.mlt_page.specs.Values.{BucketFields}
-use Rattle.mlt_page.specs.declared.slot.Slot.{Slot}
-use Rattle.mlt_page.specs.declared.slot.Slot.TheVariants.{Free, Live, Ghost}
+use Rattle.mlt_hash_ghosts.proofs.Names.{both_ways, cases_eq, none-some, is_ghost_of, is_kept, is_live_of, BucketFields, Slot, Free, Live, Ghost, slot_at, value_in, FilePages, HasRecord, buckets_of, IsGhostAt, IsInStep, PagesMatchOperations, Presence, Added, Removed, Standing, TakeTurns, last_of, IsOpenIn, Ledger}
 use Rattle.mlt_hash_form.specs.Changes.{ChangesRecord, IsHome, Spot, slot_of, slot_change}
-use Rattle.mlt_hash_form.specs.Form.{slot_at, value_in}
-use Rattle.mlt_hash_form.specs.File.{FilePages, HasRecord, bucket_of, buckets_of}
-use Rattle.mlt_hash_ghosts.specs.Ghosts.{IsGhostAt, IsInStep, PagesMatchOperations}
-use Rattle.mlt_hash_ghosts.specs.Operations.{Presence, Added, Removed, Standing, Appends, TakeTurns, last_of}
-use Rattle.mlt_hash_ghosts.specs.Ledgers.{IsOpenIn, Ledger, NoOtherLast, last_by}
+use Rattle.mlt_hash_form.specs.File.{bucket_of}
+use Rattle.mlt_hash_ghosts.specs.Operations.{Appends}
+use Rattle.mlt_hash_ghosts.specs.Ledgers.{NoOtherLast, last_by}
 use Rattle.mlt_hash_ghosts.specs.Events.{ChangesSlot, IsRoomFor, MayAddKey, MayRemoveKey}
 use Rattle.mlt_hash_ghosts.proofs.InStep.{frame, gone, made}
 use Rattle.mlt_hash_ghosts.proofs.Lists.{last_append, last_cases, none_last, not_empty, turns_append, turns_front}

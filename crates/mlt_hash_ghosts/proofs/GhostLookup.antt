@@ -1,17 +1,8 @@
 -- The look-up of a ghost in its key's bucket. Other crates are to cite this module.
-use Rattle.std.proofs.Common.{ℕ, ◌≡◌, Bool, List, get_or, Option, Some, None, refl, sym, ap, inl, inr}
-use Rattle.std.specs.Prelude.{◌⊎◌, position}
-use Rattle.std.specs.Option.{option_map}
+use Rattle.std.proofs.Common.{ℕ, ◌≡◌, Bool, List, get_or, Option, Some, None, refl, sym, ap, inl, inr, ◌⊎◌, position, option_map}
 use Rattle.std.proofs.lemmas.List.Quantifiers.{position-Some}
-use Rattle.mlt_page.specs.Slots.{is_ghost_of, is_live_of}
-use Rattle.mlt_page.specs.declared.page.Page.{Page}
-use Rattle.mlt_page.specs.declared.slot.Slot.{Slot}
-use Rattle.mlt_page.specs.declared.slot.Slot.TheVariants.{Free, Live, Ghost}
-use Rattle.mlt_hash_form.specs.Form.{slot_at, value_in, slot_value}
-use Rattle.mlt_hash_form.specs.File.{HasForm, buckets_of, lead_of}
-use Rattle.mlt_hash_ghosts.specs.Ghosts.{IsGhostAt, PagesMatchOperations}
-use Rattle.mlt_hash_ghosts.specs.Ledgers.{IsOpenIn, Ledger}
-use Rattle.mlt_hash_ghosts.specs.Operations.{Added, Removed, last_of}
+use Rattle.mlt_hash_ghosts.proofs.Names.{is_ghost_of, is_live_of, Page, Slot, Free, Live, Ghost, slot_at, value_in, HasForm, buckets_of, lead_of, IsGhostAt, PagesMatchOperations, IsOpenIn, Ledger, Added, Removed, last_of}
+use Rattle.mlt_hash_form.specs.Form.{slot_value}
 use Rattle.mlt_hash_ghosts.proofs.SlotTests.{ghost_from, live_from, no_ghost, no_live_test}
 use Rattle.mlt_hash_ghosts.proofs.Slots.{ghost_home, live_home}
 

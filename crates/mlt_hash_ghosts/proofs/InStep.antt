@@ -1,13 +1,6 @@
 -- What a change of one slot leaves of each key and open transaction
-use Rattle.std.proofs.Common.{ℕ, ◌≡◌, ◌<◌, Bool, false, length, Option, Some, sym, ◌∙◌, inl, inr}
-use Rattle.std.specs.Prelude.{◌⊎◌}
-use Rattle.mlt_page.specs.declared.slot.Slot.{Slot}
-use Rattle.mlt_page.specs.declared.slot.Slot.TheVariants.{Live, Ghost}
-use Rattle.mlt_page.specs.declared.page.Page.{Page}
-use Rattle.mlt_hash_form.specs.Form.{SetsOneSlot, slot_at}
-use Rattle.mlt_hash_form.specs.File.{HasForm, HasRecord, buckets_of}
-use Rattle.mlt_hash_ghosts.specs.Ghosts.{IsGhostAt, IsInStep}
-use Rattle.mlt_hash_ghosts.specs.Operations.{Presence, Added, Removed}
+use Rattle.std.proofs.Common.{ℕ, ◌≡◌, ◌<◌, Bool, false, length, Option, Some, sym, ◌∙◌, inl, inr, ◌⊎◌}
+use Rattle.mlt_hash_ghosts.proofs.Names.{Slot, Live, Ghost, Page, SetsOneSlot, slot_at, HasForm, HasRecord, buckets_of, IsGhostAt, IsInStep, Presence, Added, Removed}
 use Rattle.mlt_hash_ghosts.proofs.Slots.{ghost_home, live_once, slot_cases, slot_here, slot_was, slot_stays}
 
 module _ (bits : ℕ → ℕ) (pages pages' : ℕ → Option Page) (root n i : ℕ) (s : Slot) (form : HasForm bits pages root) (form' : HasForm bits pages' root) (sets : SetsOneSlot (buckets_of pages) (buckets_of pages') n i s) (within : i < length (buckets_of pages n).slots) where

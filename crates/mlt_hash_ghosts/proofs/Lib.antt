@@ -1,3 +1,4 @@
+mod Names
 pub mod Changes
 pub mod GhostLookup
 mod InStep

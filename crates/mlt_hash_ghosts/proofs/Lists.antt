@@ -1,8 +1,7 @@
 -- Lists of operations on a key's presence
-use Rattle.std.proofs.Common.{◌≡◌, List, [], ◌∷◌, ◌++◌, Option, Some, None, refl, inl, inr}
-use Rattle.std.specs.Prelude.{◌⊎◌}
+use Rattle.std.proofs.Common.{◌≡◌, List, [], ◌∷◌, ◌++◌, Option, Some, None, refl, inl, inr, ◌⊎◌}
 use Rattle.std.specs.List.{last_or}
-use Rattle.mlt_hash_ghosts.specs.Operations.{Presence, Added, Removed, TakeTurns, last_of}
+use Rattle.mlt_hash_ghosts.proofs.Names.{Presence, Added, Removed, TakeTurns, last_of}
 
 pub last_append_from : (o : Option Presence) (xs : List Presence) (p : Presence) → last_or o (xs ++ p ∷ []) ≡ Some p
 last_append_from o [] p = refl

@@ -1,19 +1,11 @@
 -- The laws of moved slots. Other crates are to cite this module.
-use Rattle.std.proofs.Common.{Bool, ℕ, ◌≡◌, ◌≤◌, true, refl, sym, ◌∙◌, ap, subst, inl, inr}
-use Rattle.std.specs.Ordering.{nat_cmp}
+use Rattle.std.proofs.Common.{Bool, ℕ, ◌≡◌, ◌≤◌, true, refl, sym, ◌∙◌, ap, subst, inl, inr, nat_cmp}
 use Rattle.std.specs.FinSet as fin
-use Rattle.mlt_page.specs.Slots.{is_kept}
-use Rattle.mlt_page.specs.declared.slot.Slot.{Slot}
-use Rattle.mlt_page.specs.declared.slot.Slot.TheVariants.{Live, Ghost}
-use Rattle.mlt_hash_form.specs.Form.{is_used, slot_at}
-use Rattle.mlt_hash_form.specs.File.{FilePages, HasForm, HasRecord, buckets_of}
+use Rattle.mlt_hash_ghosts.proofs.Names.{is_kept, Slot, Live, Ghost, slot_at, FilePages, HasForm, HasRecord, buckets_of, both_ways, IsGhostAt, IsInStep, PagesMatchOperations, Ledger, last_of}
+use Rattle.mlt_hash_form.specs.Form.{is_used}
 use Rattle.mlt_hash_form.specs.Held.{Agrees, KeepsFile, RearrangesSlots, SeenPages, over}
 use Rattle.mlt_hash_form.proofs.Splitting.{used_from_kept}
-use Rattle.std.proofs.lemmas.Bool.{both_ways}
-use Rattle.mlt_hash_ghosts.specs.Ghosts.{IsGhostAt, IsInStep, PagesMatchOperations}
 use Rattle.mlt_hash_ghosts.specs.Moves.{MovesSlots}
-use Rattle.mlt_hash_ghosts.specs.Ledgers.{Ledger}
-use Rattle.mlt_hash_ghosts.specs.Operations.{last_of}
 use Rattle.mlt_hash_ghosts.proofs.Slots.{ghost_home}
 
 -- slots that are moved twice, and those that a walk rearranged

@@ -1,16 +1,10 @@
 -- What the tests of a slot say, and look-ups by them in a bucket
-use Rattle.std.proofs.Common.{ℕ, ◌≡◌, ◌<◌, ◌==◌, Bool, true, false, List, length, get_or, Option, Some, None, refl, sym, ◌∙◌, inl, inr, arith}
-use Rattle.std.specs.Prelude.{position}
+use Rattle.std.proofs.Common.{ℕ, ◌≡◌, ◌<◌, ◌==◌, Bool, true, false, List, length, get_or, Option, Some, None, refl, sym, ◌∙◌, inl, inr, arith, position, option_map, eq-eqb, eqb-true, lt-ltb}
 use Rattle.std.specs.List.{position_or_len}
-use Rattle.std.specs.Option.{option_map}
-use Rattle.std.proofs.lemmas.Bool.{and_from, and_parts, cases_lt, both_ways, cond-true, eq-eqb, eqb-true, lt-ltb}
+use Rattle.mlt_hash_ghosts.proofs.Names.{both_ways, none-some, is_ghost_of, is_live_of, Slot, Free, Live, Ghost, value_in}
+use Rattle.std.proofs.lemmas.Bool.{and_from, and_parts, cases_lt, cond-true}
 use Rattle.std.proofs.lemmas.List.{get_or_past}
 use Rattle.std.proofs.lemmas.List.Sums.{fails_before_first}
-use Rattle.std.proofs.lemmas.Option.{none-some}
-use Rattle.mlt_page.specs.Slots.{is_ghost_of, is_live_of}
-use Rattle.mlt_page.specs.declared.slot.Slot.{Slot}
-use Rattle.mlt_page.specs.declared.slot.Slot.TheVariants.{Free, Live, Ghost}
-use Rattle.mlt_hash_form.specs.Form.{value_in}
 use Rattle.mlt_hash_form.proofs.Lookup.{live_passes}
 
 -- what the tests of a slot say

@@ -1,14 +1,6 @@
 -- What a change of one slot leaves, slot by slot
-use Rattle.std.proofs.Common.{ℕ, ◌≡◌, ◌<◌, length, get_or, Option, refl, sym, ◌∙◌, ap, inl, inr}
-use Rattle.std.specs.Prelude.{◌⊎◌}
-use Rattle.std.proofs.lemmas.List.{get_or-set_same, get_or-set_other}
-use Rattle.std.proofs.lemmas.Bool.{cases_eq}
-use Rattle.mlt_page.specs.declared.slot.Slot.{Slot}
-use Rattle.mlt_page.specs.declared.slot.Slot.TheVariants.{Free, Live, Ghost}
-use Rattle.mlt_page.specs.declared.page.Page.{Page}
-use Rattle.mlt_page.specs.Values.{BucketFields}
-use Rattle.mlt_hash_form.specs.Form.{SetsOneSlot, slot_at}
-use Rattle.mlt_hash_form.specs.File.{HasForm, buckets_of, lead_of}
+use Rattle.std.proofs.Common.{ℕ, ◌≡◌, ◌<◌, length, get_or, Option, refl, sym, ◌∙◌, ap, inl, inr, ◌⊎◌, get_or-set_same, get_or-set_other}
+use Rattle.mlt_hash_ghosts.proofs.Names.{cases_eq, Slot, Free, Live, Ghost, Page, BucketFields, SetsOneSlot, slot_at, HasForm, buckets_of, lead_of}
 
 -- in a file of the form a ghost and a record lie where their keys lead, and a key's record stands once
 module _ (bits : ℕ → ℕ) (pages : ℕ → Option Page) (root : ℕ) (form : HasForm bits pages root) where

@@ -1,18 +1,9 @@
 -- The laws of beginnings and ends. Other crates are to cite this module.
-use Rattle.std.proofs.Common.{ℕ, ◌≡◌, ◌+◌, ◌≤◌, nat_eq, ◌&&◌, ◌||◌, Bool, true, false, not, [], Option, None, refl, sym, ◌∙◌, ap, arith, inl, inr}
+use Rattle.std.proofs.Common.{ℕ, ◌≡◌, ◌+◌, ◌≤◌, nat_eq, ◌&&◌, ◌||◌, Bool, true, false, not, [], Option, None, refl, sym, ◌∙◌, ap, arith, inl, inr, nat_cmp, eq-eqb, ne_eqb}
 use Rattle.std.specs.Cmp.{nat_cmp_total, unsigned_tied}
-use Rattle.std.specs.Ordering.{nat_cmp}
 use Rattle.std.specs.FinSet as fin
-use Rattle.std.proofs.lemmas.Bool.{both_ways, cases_eq, eq-eqb, ne_eqb}
-use Rattle.mlt_page.specs.Slots.{is_kept}
-use Rattle.mlt_page.specs.declared.slot.Slot.{Slot}
-use Rattle.mlt_page.specs.declared.slot.Slot.TheVariants.{Free, Live, Ghost}
-use Rattle.mlt_page.specs.declared.page.Page.{Page}
-use Rattle.mlt_hash_form.specs.Form.{slot_at}
-use Rattle.mlt_hash_form.specs.File.{buckets_of}
-use Rattle.mlt_hash_ghosts.specs.Ghosts.{GhostsAreKept, IsGhostAt, IsInStep, PagesMatchOperations}
-use Rattle.mlt_hash_ghosts.specs.Ledgers.{IsOpenIn, Ledger}
-use Rattle.mlt_hash_ghosts.specs.Operations.{Standing, TakeTurns, last_of}
+use Rattle.mlt_hash_ghosts.proofs.Names.{both_ways, cases_eq, is_kept, Slot, Free, Live, Ghost, Page, slot_at, buckets_of, IsGhostAt, IsInStep, PagesMatchOperations, IsOpenIn, Ledger, Standing, TakeTurns, last_of}
+use Rattle.mlt_hash_ghosts.specs.Ghosts.{GhostsAreKept}
 
 -- members of a set with one number more, and with one less
 inserted : (active : fin.FinSet nat_cmp) (x q : ℕ) → fin.contains (fin.insert active x) q ≡ (nat_eq q x || fin.contains active q)

@@ -1,30 +1,12 @@
 -- Where a pair stands behind its changes
-use Rattle.std.proofs.Common.{◌≡◌, ◌≢◌, ◌⊎◌, ℕ, ◌<◌, ◌≤◌, true, Option, None, Some, refl, sym, ap, subst, ◌∙◌, inl, inr, arith}
-use Rattle.std.specs.Ordering.{nat_cmp}
+use Rattle.std.proofs.Common.{◌≡◌, ◌≢◌, ◌⊎◌, ℕ, ◌<◌, ◌≤◌, true, Option, None, Some, refl, sym, ap, subst, ◌∙◌, inl, inr, arith, nat_cmp}
 use Rattle.std.specs.FinMap as map
 use Rattle.std.specs.FinSet as set
-use Rattle.mlt_types.specs.declared.mode.Mode.TheVariants.{Exclusive}
-use Rattle.mlt_page.specs.declared.page.Page.TheVariants as page
-use Rattle.mlt_page.specs.Values.{BucketFields}
-use Rattle.mlt_page_locks.specs.LockTables.{Modes, can_write}
-use Rattle.mlt_hash_form.specs.Held.{own_or_clean}
-use Rattle.mlt_hash_access.specs.LocalStates.{MayStep, LocalState}
-use Rattle.mlt_hash_access.specs.PageSteps.{WritesAtMost}
-use Rattle.mlt_hash_access.specs.Views.{IsUnwritten, ReadsHeldBucket, View, WritesSlot, view_of}
+use Rattle.mlt_hash_pair.proofs.Names.{Exclusive, Page, BucketFields, Modes, can_write, own_or_clean, MayStep, LocalState, WritesAtMost, ReadsHeldBucket, View, WritesSlot, view_of, WriteFields, HasChanged, IsHolding, OwesChange, OwesIf, TellsOfTwo, task_in, task_of, HoldsDescents, IsFinding, IsFound, PairFields, later_of, FitsFound, IsPlan, HasRead, IsLocked, IsThere, found_of, page_of, MayPlan, TellsOfOne, Descent, ChangeAnswer, Side, PairChanges, RecordChange}
+use Rattle.mlt_hash_access.specs.Views.{IsUnwritten}
 use Rattle.mlt_hash_access.proofs.Views.{may_write, write_writes}
-use Rattle.mlt_hash_record.specs.Plans.{WriteFields}
-use Rattle.mlt_hash_pair.specs.Changes.{FitsBoth, HasChanged, HoldsOn, IsHolding, IsSide, MakesOwed, MayWriteEarlier, Owes, OwesChange, OwesIf, StandsBehind, TellsOfTwo, task_in, task_of}
-use Rattle.mlt_hash_pair.specs.Pairs.{HoldsDescents, IsFinding, IsFound, PairFields, later_of, later_page}
-use Rattle.mlt_hash_pair.specs.Plans.{FitsFound, IsPlan}
-use Rattle.mlt_hash_pair.specs.Descents.{HasRead, IsLocked, IsThere, found_of, page_of}
-use Rattle.mlt_hash_pair.specs.Writing.{MayPlan, TellsOfOne}
-use Rattle.mlt_hash_pair.specs.declared.descent.Descent.{Descent}
-use Rattle.mlt_hash_pair.specs.declared.descent.Descent.TheVariants as at
-use Rattle.mlt_hash_pair.specs.declared.answer.ChangeAnswer.{ChangeAnswer}
-use Rattle.mlt_hash_pair.specs.declared.answer.ChangeAnswer.TheVariants as answer
-use Rattle.mlt_hash_pair.specs.declared.answer.Side.TheVariants as side
-use Rattle.mlt_hash_pair.specs.declared.asked.PairChanges.{PairChanges}
-use Rattle.mlt_hash_pair.specs.declared.asked.RecordChange.{RecordChange}
+use Rattle.mlt_hash_pair.specs.Changes.{FitsBoth, HoldsOn, IsSide, MakesOwed, MayWriteEarlier, Owes, StandsBehind}
+use Rattle.mlt_hash_pair.specs.Pairs.{later_page}
 use Rattle.mlt_hash_pair.proofs.Makes.{second_is_not_third}
 use Rattle.mlt_hash_pair.proofs.Together.{later_left, later_right}
 use Rattle.mlt_hash_pair.proofs.Readings.{read_still}
@@ -32,12 +14,12 @@ use Rattle.mlt_hash_pair.proofs.Slots.{fits_slots, plan_number}
 
 -- **A pair that has found its keys may plan the changes that fit what was found.**
 pub may_plan : (bits : ℕ → ℕ) (root key : ℕ) (view : View) (descent : Descent) (asked : Option RecordChange) → IsThere descent → HasRead bits root key view descent → IsUnwritten view → FitsFound asked (found_of descent) → MayPlan asked key (page_of descent) view
-may_plan bits root key view (at.AtBucket dir bucket found) asked there read none fits = (read.fields, (Some (page.Bucket read.fields), read.at, ap (λ own. own_or_clean own (Some (page.Bucket read.fields))) (none bucket)), fits_slots asked key read.fields.slots found read.found_is fits)
+may_plan bits root key view (Descent.AtBucket dir bucket found) asked there read none fits = (read.fields, (Some (Page.Bucket read.fields), read.at, ap (λ own. own_or_clean own (Some (Page.Bucket read.fields))) (none bucket)), fits_slots asked key read.fields.slots found read.found_is fits)
 may_plan bits root key view descent asked there read none fits = absurd there
 
 -- it holds both buckets exclusively
 there_locked : (root : ℕ) (descent : Descent) → IsThere descent → IsLocked root descent (page_of descent) Exclusive
-there_locked root (at.AtBucket dir bucket found) there = inr (refl, refl)
+there_locked root (Descent.AtBucket dir bucket found) there = inr (refl, refl)
 there_locked root descent there = absurd there
 
 pub left_held : (root : ℕ) (left right : Descent) (m : LocalState) → IsThere left → HoldsDescents root left right (view_of m) → can_write m.locks m.running.tx (page_of left) ≡ true
@@ -53,10 +35,10 @@ one_tells told active old new before after q left_page right_page changes is_lef
     subst (λ p. TellsOfTwo (task_of active before p right_page changes) old new before after told) is_left (subst (λ p. TellsOfTwo (task_of active before q p changes) old new before after told) is_right (go told tells))
   where
     go : (told : ChangeAnswer) → TellsOfOne (task_in active before.left before.right q changes) old new told → TellsOfTwo (task_of active before q q changes) old new before after told
-    go answer.Changed tells = (record { mid = tells.0; left = tells.1; right = tells.2; no_left = λ lt. absurd (omega (arith, lt)); no_right = λ lt. absurd (omega (arith, lt)) }, stays)
-    go answer.OneLeft tells = absurd tells
-    go (answer.Full side.Left) tells = (tells.0, tells.1, stays)
-    go (answer.Full side.Right) tells = (record { mid = tells.0.0; left = tells.0.1; right = tells.0.2 }, tells.1, stays)
+    go ChangeAnswer.Changed tells = (record { mid = tells.0; left = tells.1; right = tells.2; no_left = λ lt. absurd (omega (arith, lt)); no_right = λ lt. absurd (omega (arith, lt)) }, stays)
+    go ChangeAnswer.OneLeft tells = absurd tells
+    go (ChangeAnswer.Full Side.Left) tells = (tells.0, tells.1, stays)
+    go (ChangeAnswer.Full Side.Right) tells = (record { mid = tells.0.0; left = tells.0.1; right = tells.0.2 }, tells.1, stays)
 
 pub one_later : (left_page right_page q : ℕ) → q ≡ left_page → q ≡ right_page → q ≡ later_of left_page right_page
 one_later left_page right_page q is_left is_right = is_left ∙ sym (later_left left_page right_page (omega (arith, is_left, is_right)))
@@ -72,7 +54,7 @@ writes_one old new q (inl same) = record { modes = ap (λ m. (view_of m).modes) 
 writes_one old new q (inr write) = let writes = write_writes old new q write.0 write.1 in record { modes = writes.modes; seen = writes.seen; others = writes.others }
 
 -- what is read of a page that is not written is what was seen
-read_is_seen : (view : View) (q : ℕ) (bucket : BucketFields) → IsUnwritten view → ReadsHeldBucket view q bucket → view.seen q ≡ Some (Some (page.Bucket bucket))
+read_is_seen : (view : View) (q : ℕ) (bucket : BucketFields) → IsUnwritten view → ReadsHeldBucket view q bucket → view.seen q ≡ Some (Some (Page.Bucket bucket))
 read_is_seen view q bucket none reads = reads.1 ∙ ap Some (sym (ap (λ own. own_or_clean own reads.0) (none q)) ∙ reads.2)
 
 module _ (bits : ℕ → ℕ) (root : ℕ) (active : set.FinSet nat_cmp) (old new : LocalState) (before : PairFields) (finding : IsFinding bits root before (view_of old)) (found : IsFound before) (writes : WritesAtMost old new (later_page before)) where
@@ -120,8 +102,8 @@ module _ (bits : ℕ → ℕ) (root : ℕ) (active : set.FinSet nat_cmp) (old ne
 
   -- **A pair that has made its changes stands where it stood, with the change of the earlier bucket owed or nothing.**
   pub stands_behind : (told : ChangeAnswer) (after : PairFields) (changes : PairChanges) → TellsOfTwo (task_of active before (page_of before.left_descent) (page_of before.right_descent) changes) old new before after told → StandsBehind told bits root active old.running.tx after (view_of new)
-  stands_behind answer.Changed after changes tells = subst (λ p. HasChanged bits root active old.running.tx p (view_of new)) (sym tells.1) stands_done
-  stands_behind answer.OneLeft after changes tells =
+  stands_behind ChangeAnswer.Changed after changes tells = subst (λ p. HasChanged bits root active old.running.tx p (view_of new)) (sym tells.1) stands_done
+  stands_behind ChangeAnswer.OneLeft after changes tells =
       subst (λ p. HasChanged bits root active old.running.tx p (view_of new)) (sym tells.1)
       (elim tells.0 [
         | inl leaves ↦ owes_it changes.left before.left (page_of before.left_descent) after.owed (inl (refl, refl))
@@ -129,7 +111,7 @@ module _ (bits : ℕ → ℕ) (root : ℕ) (active : set.FinSet nat_cmp) (old ne
         | inr leaves ↦ owes_it changes.right before.right (page_of before.right_descent) after.owed (inr (refl, refl))
             (λ same. let low = leaves.earlier in let le : page_of before.right_descent ≤ page_of before.left_descent = omega (arith, low) in let both : page_of before.right_descent ≡ page_of before.left_descent = same ∙ later_left (page_of before.left_descent) (page_of before.right_descent) le in omega (arith, low, both)) leaves.owes
       ])
-  stands_behind (answer.Full which) after changes tells = tt
+  stands_behind (ChangeAnswer.Full which) after changes tells = tt
 
 -- what is asked of both buckets, by their pages
 module _ (bits : ℕ → ℕ) (root : ℕ) (pair : PairFields) (m : LocalState) (finding : IsFinding bits root pair (view_of m)) (found : IsFound pair) where
@@ -164,7 +146,7 @@ module _ (m : LocalState) (pair : PairFields) (write : WriteFields) (is : pair.o
 
   -- and reads as it was read
   reads_as : (active : set.FinSet nat_cmp) (this : Owes active m.running.tx pair (view_of m) write) → ReadsHeldBucket (view_of m) write.number this.bucket
-  reads_as active this = (Some (page.Bucket this.bucket), this.seen, ap (λ own. own_or_clean own (Some (page.Bucket this.bucket))) (ready.3.unwritten write.number this.earlier))
+  reads_as active this = (Some (Page.Bucket this.bucket), this.seen, ap (λ own. own_or_clean own (Some (Page.Bucket this.bucket))) (ready.3.unwritten write.number this.earlier))
 
   pub earlier_reads : (bucket : BucketFields) × ReadsHeldBucket (view_of m) write.number bucket
   earlier_reads = (owes.bucket, reads_as ready.2 owes)
@@ -184,10 +166,10 @@ module _ (m : LocalState) (pair : PairFields) (write : WriteFields) (is : pair.o
       let mine : Owes active m.running.tx pair (view_of m) write = subst (Owes active m.running.tx pair (view_of m)) (sym one) this in
       record {
         bucket = this.bucket;
-        reads = (Some (page.Bucket this.bucket), this.seen, ap (λ own. own_or_clean own (Some (page.Bucket this.bucket))) (ready.3.unwritten other.number this.earlier));
+        reads = (Some (Page.Bucket this.bucket), this.seen, ap (λ own. own_or_clean own (Some (Page.Bucket this.bucket))) (ready.3.unwritten other.number this.earlier));
         write = other;
         plan = this.plan;
-        writes = subst (λ (w : WriteFields). WritesSlot (view_of m) new w.number w.at w.slot) one writes this.bucket (Some (page.Bucket this.bucket), this.seen, ap (λ own. own_or_clean own (Some (page.Bucket this.bucket))) (ready.3.unwritten other.number this.earlier));
+        writes = subst (λ (w : WriteFields). WritesSlot (view_of m) new w.number w.at w.slot) one writes this.bucket (Some (Page.Bucket this.bucket), this.seen, ap (λ own. own_or_clean own (Some (Page.Bucket this.bucket))) (ready.3.unwritten other.number this.earlier));
       }
 
   -- while what was read and held stays so

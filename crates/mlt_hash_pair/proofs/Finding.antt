@@ -1,40 +1,28 @@
 -- A step of a pair to its buckets
 use Rattle.std.proofs.Common.{◌≡◌, ℕ, ◌<◌, ◌≤◌, true, Option, Some, is_some, refl, sym, ap, subst, ◌∙◌, inl, inr, arith}
-use Rattle.mlt_types.specs.declared.mode.Mode.{Mode}
-use Rattle.mlt_page.specs.declared.page.Page.{Page}
-use Rattle.mlt_page.specs.declared.page.Page.TheVariants as page
-use Rattle.mlt_page.specs.Values.{HeadFields}
+use Rattle.mlt_hash_pair.proofs.Names.{Mode, Page, HeadFields, HasForm, header_of, Agrees, LocalState, view_of, GoTogether, IsFinding, IsUnderWay, MayFind, PairFields, later_of, mode_next, most_steps, page_next, next_page, next_descent, descent_after, TellsOfStep, told_by, IsThere, page_of, pages_to_read, Descent, PairAnswer}
 use Rattle.mlt_page_store.specs.Stores.{page_at}
 use Rattle.mlt_page_locks.specs.LockTables.{page_count}
-use Rattle.mlt_hash_form.specs.File.{HasForm, header_of}
-use Rattle.mlt_hash_form.specs.Held.{Agrees}
-use Rattle.mlt_hash_access.specs.LocalStates.{LocalState}
 use Rattle.mlt_hash_access.specs.PageSteps.{Leaves, LocksPage}
-use Rattle.mlt_hash_access.specs.Views.{ReadsHeldPage, ReadsPage, SeesPage, view_of}
+use Rattle.mlt_hash_access.specs.Views.{ReadsHeldPage, ReadsPage, SeesPage}
 use Rattle.mlt_hash_access.proofs.Unwritten.{sees_page, unwritten_still}
 use Rattle.mlt_hash_access.proofs.Views.{agrees, count_after_read, page_count_of_view, reads_seen}
-use Rattle.mlt_hash_pair.specs.Pairs.{GoTogether, IsFinding, IsUnderWay, MayFind, PairFields, later_of, mode_next, most_steps, page_next}
-use Rattle.mlt_hash_pair.specs.Reading.{next_page, next_descent, descent_after}
-use Rattle.mlt_hash_pair.specs.Steps.{GoesOn, HasFound, TellsOfStep, told_by}
-use Rattle.mlt_hash_pair.specs.Descents.{IsThere, page_of, pages_to_read}
-use Rattle.mlt_hash_pair.specs.declared.descent.Descent.{Descent}
-use Rattle.mlt_hash_pair.specs.declared.descent.Descent.TheVariants as at
-use Rattle.mlt_hash_pair.specs.declared.answer.PairAnswer.{PairAnswer}
+use Rattle.mlt_hash_pair.specs.Steps.{GoesOn, HasFound}
 use Rattle.mlt_hash_pair.proofs.Locks.{holds_after}
 use Rattle.mlt_hash_pair.proofs.Nexts.{KindIs, NextIs, has_next, kind_of_next, next_is, next_there, reads_on}
 use Rattle.mlt_hash_pair.proofs.Readings.{read_after}
 use Rattle.mlt_hash_pair.proofs.Together.{IsFurther, either_way, goes_further, lead_goes_on, more_to_come}
 
 -- a header that a descent reads is no deeper than 16 bits
-small_header : (bits : ℕ → ℕ) (clean : ℕ → Option Page) (root : ℕ) (lead : Descent) (read : Page) (header : HeadFields) → HasForm bits clean root → clean (next_page root lead) ≡ Some read → KindIs lead read → read ≡ page.Head header → header.depth ≤ 16
-small_header bits clean root at.Start read header form sees kind is = subst (λ (h : HeadFields). h.depth ≤ 16) (ap header_of (sees ∙ ap Some is)) form.listed.small
-small_header bits clean root (at.Headed place dir row) read header form sees kind is = let both : page.Dir kind.0 ≡ page.Head header = sym kind.1 ∙ is in let none : ⊥ = cc in absurd none
-small_header bits clean root (at.Placed dir bucket) read header form sees kind is = let both : page.Bucket kind.0 ≡ page.Head header = sym kind.1 ∙ is in let none : ⊥ = cc in absurd none
-small_header bits clean root (at.AtBucket dir bucket found) read header form sees kind is = absurd kind
+small_header : (bits : ℕ → ℕ) (clean : ℕ → Option Page) (root : ℕ) (lead : Descent) (read : Page) (header : HeadFields) → HasForm bits clean root → clean (next_page root lead) ≡ Some read → KindIs lead read → read ≡ Page.Head header → header.depth ≤ 16
+small_header bits clean root Descent.Start read header form sees kind is = subst (λ (h : HeadFields). h.depth ≤ 16) (ap header_of (sees ∙ ap Some is)) form.listed.small
+small_header bits clean root (Descent.Headed place dir row) read header form sees kind is = let both : Page.Dir kind.0 ≡ Page.Head header = sym kind.1 ∙ is in let none : ⊥ = cc in absurd none
+small_header bits clean root (Descent.Placed dir bucket) read header form sees kind is = let both : Page.Bucket kind.0 ≡ Page.Head header = sym kind.1 ∙ is in let none : ⊥ = cc in absurd none
+small_header bits clean root (Descent.AtBucket dir bucket found) read header form sees kind is = absurd kind
 
 -- what a pair is told that went on, by where it is now
 tells_by : (bits : ℕ → ℕ) (root : ℕ) (old new : LocalState) (before after : PairFields) (left right : Descent) → GoTogether left right → (IsThere left → IsThere right → page_next root before ≡ later_of (page_of left) (page_of right)) → after.left_descent ≡ left → after.right_descent ≡ right → GoesOn bits root old new before after → TellsOfStep bits root old new before after (told_by left right)
-tells_by bits root old new before after (at.AtBucket d b found) (at.AtBucket d' b' found') together last left_is right_is on = (
+tells_by bits root old new before after (Descent.AtBucket d b found) (Descent.AtBucket d' b' found') together last left_is right_is on = (
   on,
   subst (λ w. HasFound w found) (sym left_is) refl,
   subst (λ w. HasFound w found') (sym right_is) refl,
@@ -88,7 +76,7 @@ module _ (bits : ℕ → ℕ) (root : ℕ) (old : LocalState) (before : PairFiel
     kind = kind_of_next ready.file.clean root lead (page_next root before) read lead_is clean_has (has_next root lead goes)
 
     -- **A header that is read is small.**
-    pub reads_small : (header : HeadFields) → read ≡ page.Head header → header.depth ≤ 16
+    pub reads_small : (header : HeadFields) → read ≡ Page.Head header → header.depth ≤ 16
     reads_small header is = small_header bits ready.file.clean root lead read header ready.file.form clean_has kind is
 
     abbrev after : PairFields

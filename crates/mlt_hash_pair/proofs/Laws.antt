@@ -1,24 +1,13 @@
 -- What a pair knows by its view alone
-use Rattle.std.proofs.Common.{◌≡◌, ◌≢◌, ℕ, false, Option, None, Some, is_some, refl, sym, ap, ◌∙◌, inl, inr, arith}
-use Rattle.std.specs.Ordering.{nat_cmp}
+use Rattle.std.proofs.Common.{◌≡◌, ◌≢◌, ℕ, false, Option, None, Some, is_some, refl, sym, ap, ◌∙◌, inl, inr, arith, nat_cmp}
 use Rattle.std.specs.FinMap as map
 use Rattle.std.specs.FinSet as set
-use Rattle.std.proofs.lemmas.Option.{none-some}
-use Rattle.mlt_types.specs.declared.mode.Mode.{Mode}
-use Rattle.mlt_page.specs.declared.page.Page.{Page}
-use Rattle.mlt_page_locks.specs.LockTables.{Modes, can_read, pages_of}
-use Rattle.mlt_hash_form.specs.File.{look_up}
-use Rattle.mlt_hash_form.specs.Held.{Agrees}
-use Rattle.mlt_hash_access.specs.LocalStates.{LocalState}
-use Rattle.mlt_hash_access.specs.Views.{IsSameView, View, view_of}
+use Rattle.mlt_hash_pair.proofs.Names.{none-some, Mode, Page, Modes, look_up, Agrees, LocalState, IsSameView, View, view_of, WriteFields, HasChanged, IsHolding, OwesIf, IsFinding, IsFound, PairFields, HasRead, IsThere, found_of, Descent}
+use Rattle.mlt_page_locks.specs.LockTables.{can_read, pages_of}
 use Rattle.mlt_hash_access.proofs.Reading.{read_is_there}
 use Rattle.mlt_hash_access.proofs.Views.{own_free}
-use Rattle.mlt_hash_record.specs.Plans.{WriteFields}
-use Rattle.mlt_hash_pair.specs.Changes.{HasChanged, IsHolding, KeepsNoMore, OwesIf}
-use Rattle.mlt_hash_pair.specs.Pairs.{IsFinding, IsFound, PairFields, find_by}
-use Rattle.mlt_hash_pair.specs.Descents.{HasRead, IsThere, found_of}
-use Rattle.mlt_hash_pair.specs.declared.descent.Descent.{Descent}
-use Rattle.mlt_hash_pair.specs.declared.descent.Descent.TheVariants as at
+use Rattle.mlt_hash_pair.specs.Changes.{KeepsNoMore}
+use Rattle.mlt_hash_pair.specs.Pairs.{find_by}
 
 -- who holds no page reads none
 reads_none : (m : LocalState) (q : ℕ) → pages_of m.locks m.running.tx ≡ map.empty → can_read m.locks m.running.tx q ≡ false
@@ -49,7 +38,7 @@ holds_read bits root pair view finding = record { left = finding.left; right = f
 
 -- what was found of a key is on the clean pages
 found_there : (bits : ℕ → ℕ) (root key : ℕ) (view : View) (clean : ℕ → Option Page) (descent : Descent) → IsThere descent → HasRead bits root key view descent → Agrees view.seen clean → found_of descent ≡ look_up bits clean root key
-found_there bits root key view clean (at.AtBucket dir bucket found) there read agree = read_is_there bits root key view dir bucket found clean read agree
+found_there bits root key view clean (Descent.AtBucket dir bucket found) there read agree = read_is_there bits root key view dir bucket found clean read agree
 found_there bits root key view clean descent there read agree = absurd there
 
 -- **What was found of both keys is on the clean pages.**

@@ -1,3 +1,4 @@
+mod Names
 pub mod Behind
 pub mod Finding
 pub mod Laws

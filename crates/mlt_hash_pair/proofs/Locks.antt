@@ -1,91 +1,80 @@
 -- Which pages the two descents hold, as one more is locked
-use Rattle.std.proofs.Common.{◌≡◌, ◌≢◌, ◌⊎◌, ℕ, Option, None, Some, refl, sym, ap, subst, ◌∙◌, inl, inr}
-use Rattle.std.specs.Prelude.{◌==◌}
+use Rattle.std.proofs.Common.{◌≡◌, ◌≢◌, ◌⊎◌, ℕ, Option, None, Some, refl, sym, ap, subst, ◌∙◌, inl, inr, ◌==◌, eqb-true}
 use Rattle.std.specs.FinMap as map
-use Rattle.std.proofs.lemmas.Bool.{cases_eq, cond_both, eqb-true}
-use Rattle.mlt_types.specs.declared.mode.Mode.{Mode}
-use Rattle.mlt_types.specs.declared.mode.Mode.TheVariants.{Exclusive, Shared}
-use Rattle.mlt_page.specs.declared.page.Page.{Page}
-use Rattle.mlt_page.specs.declared.page.Page.TheVariants as page
+use Rattle.mlt_hash_pair.proofs.Names.{cases_eq, cond_both, Mode, Exclusive, Page, View, SeesMore, HoldsDescents, next_mode, next_page, descent_after, descent_by, HasRead, IsLocked, IsNext, Descent}
+use Rattle.mlt_types.specs.declared.mode.Mode.TheVariants.{Shared}
 use Rattle.mlt_page_locks.specs.Requests.{stronger, with_page}
 use Rattle.mlt_hash_access.specs.Reading.{HasReadPlace}
-use Rattle.mlt_hash_access.specs.Views.{View}
 use Rattle.mlt_hash_access.proofs.Views.{mode_of_others, mode_of_page}
-use Rattle.mlt_hash_access.proofs.Reading.{SeesMore}
-use Rattle.mlt_hash_pair.specs.Pairs.{HoldsDescents}
-use Rattle.mlt_hash_pair.specs.Reading.{next_mode, next_page, descent_after, descent_by}
-use Rattle.mlt_hash_pair.specs.Descents.{HasRead, IsLocked, IsNext}
-use Rattle.mlt_hash_pair.specs.declared.descent.Descent.{Descent}
-use Rattle.mlt_hash_pair.specs.declared.descent.Descent.TheVariants as at
 use Rattle.mlt_hash_pair.proofs.Nexts.{KindIs, after_next}
 use Rattle.mlt_hash_pair.proofs.Readings.{read_after}
 
 -- the mode in which pages of a kind are locked
 abbrev mode_for : Page → Mode
-mode_for (page.Head header) = Shared
-mode_for (page.Dir entries) = Shared
-mode_for (page.Bucket fields) = Exclusive
+mode_for (Page.Head header) = Shared
+mode_for (Page.Dir entries) = Shared
+mode_for (Page.Bucket fields) = Exclusive
 
 -- a page is seen, and locked in the mode of its kind
 abbrev SeenIn : View → ℕ → Mode → Type 0
 SeenIn view q mode = (read : Page) × (view.seen q ≡ Some (Some read)) × (mode ≡ mode_for read)
 
 -- each page of a descent is
-placed_kind : (bits : ℕ → ℕ) (root key : ℕ) (view : View) (dir bucket q : ℕ) (mode : Mode) → HasReadPlace bits root key view dir bucket → IsLocked root (at.Placed dir bucket) q mode → SeenIn view q mode
+placed_kind : (bits : ℕ → ℕ) (root key : ℕ) (view : View) (dir bucket q : ℕ) (mode : Mode) → HasReadPlace bits root key view dir bucket → IsLocked root (Descent.Placed dir bucket) q mode → SeenIn view q mode
 placed_kind bits root key view dir bucket q mode read locked =
     elim locked.0 [
-      | inl here ↦ (page.Head read.header, ap view.seen here ∙ read.head, locked.1)
-      | inr here ↦ (page.Dir read.entries, ap view.seen here ∙ read.listed, locked.1)
+      | inl here ↦ (Page.Head read.header, ap view.seen here ∙ read.head, locked.1)
+      | inr here ↦ (Page.Dir read.entries, ap view.seen here ∙ read.listed, locked.1)
     ]
 
 locked_kind : (bits : ℕ → ℕ) (root key : ℕ) (view : View) (descent : Descent) (q : ℕ) (mode : Mode) → HasRead bits root key view descent → IsLocked root descent q mode → SeenIn view q mode
-locked_kind bits root key view at.Start q mode read locked = absurd locked
-locked_kind bits root key view (at.Headed place dir row) q mode read locked = (page.Head read.header, ap view.seen locked.0 ∙ read.head, locked.1)
-locked_kind bits root key view (at.Placed dir bucket) q mode read locked = placed_kind bits root key view dir bucket q mode read locked
-locked_kind bits root key view (at.AtBucket dir bucket found) q mode read locked =
+locked_kind bits root key view Descent.Start q mode read locked = absurd locked
+locked_kind bits root key view (Descent.Headed place dir row) q mode read locked = (Page.Head read.header, ap view.seen locked.0 ∙ read.head, locked.1)
+locked_kind bits root key view (Descent.Placed dir bucket) q mode read locked = placed_kind bits root key view dir bucket q mode read locked
+locked_kind bits root key view (Descent.AtBucket dir bucket found) q mode read locked =
     elim locked [
       | inl before ↦ placed_kind bits root key view dir bucket q mode read.placed before
-      | inr here ↦ (page.Bucket read.fields, ap view.seen here.0 ∙ read.at, here.1)
+      | inr here ↦ (Page.Bucket read.fields, ap view.seen here.0 ∙ read.at, here.1)
     ]
 
 module _ (bits : ℕ → ℕ) (root key : ℕ) (q : ℕ) (mode : Mode) where
   locked_by : (descent : Descent) (read : Page) → IsLocked root descent q mode → IsLocked root (descent_by bits key descent read) q mode
-  locked_by at.Start read locked = absurd locked
-  locked_by (at.Headed place dir row) (page.Dir entries) locked = (inl locked.0, locked.1)
-  locked_by (at.Headed place dir row) (page.Head header) locked = locked
-  locked_by (at.Headed place dir row) (page.Bucket fields) locked = locked
-  locked_by (at.Placed dir bucket) (page.Bucket fields) locked = inl locked
-  locked_by (at.Placed dir bucket) (page.Head header) locked = locked
-  locked_by (at.Placed dir bucket) (page.Dir entries) locked = locked
-  locked_by (at.AtBucket dir bucket found) (page.Head header) locked = locked
-  locked_by (at.AtBucket dir bucket found) (page.Dir entries) locked = locked
-  locked_by (at.AtBucket dir bucket found) (page.Bucket fields) locked = locked
+  locked_by Descent.Start read locked = absurd locked
+  locked_by (Descent.Headed place dir row) (Page.Dir entries) locked = (inl locked.0, locked.1)
+  locked_by (Descent.Headed place dir row) (Page.Head header) locked = locked
+  locked_by (Descent.Headed place dir row) (Page.Bucket fields) locked = locked
+  locked_by (Descent.Placed dir bucket) (Page.Bucket fields) locked = inl locked
+  locked_by (Descent.Placed dir bucket) (Page.Head header) locked = locked
+  locked_by (Descent.Placed dir bucket) (Page.Dir entries) locked = locked
+  locked_by (Descent.AtBucket dir bucket found) (Page.Head header) locked = locked
+  locked_by (Descent.AtBucket dir bucket found) (Page.Dir entries) locked = locked
+  locked_by (Descent.AtBucket dir bucket found) (Page.Bucket fields) locked = locked
 
   -- a descent keeps its pages as it goes on,
   locked_on : (descent : Descent) (n : ℕ) (read : Page) → IsLocked root descent q mode → IsLocked root (descent_after bits root key descent n read) q mode
   locked_on descent n read locked = cond_both (n == next_page root descent) (descent_by bits key descent read) descent (λ w. IsLocked root w q mode) (λ here. locked_by descent read locked) (λ elsewhere. locked)
 
   back_by : (descent : Descent) (read : Page) → q ≢ next_page root descent → IsLocked root (descent_by bits key descent read) q mode → IsLocked root descent q mode
-  back_by at.Start (page.Head header) ne locked = absurd (ne locked.0)
-  back_by at.Start (page.Dir entries) ne locked = locked
-  back_by at.Start (page.Bucket fields) ne locked = locked
-  back_by (at.Headed place dir row) (page.Dir entries) ne locked =
+  back_by Descent.Start (Page.Head header) ne locked = absurd (ne locked.0)
+  back_by Descent.Start (Page.Dir entries) ne locked = locked
+  back_by Descent.Start (Page.Bucket fields) ne locked = locked
+  back_by (Descent.Headed place dir row) (Page.Dir entries) ne locked =
       elim locked.0 [
         | inl here ↦ (here, locked.1)
         | inr here ↦ absurd (ne here)
       ]
-  back_by (at.Headed place dir row) (page.Head header) ne locked = locked
-  back_by (at.Headed place dir row) (page.Bucket fields) ne locked = locked
-  back_by (at.Placed dir bucket) (page.Bucket fields) ne locked =
+  back_by (Descent.Headed place dir row) (Page.Head header) ne locked = locked
+  back_by (Descent.Headed place dir row) (Page.Bucket fields) ne locked = locked
+  back_by (Descent.Placed dir bucket) (Page.Bucket fields) ne locked =
       elim locked [
         | inl before ↦ before
         | inr here ↦ absurd (ne here.0)
       ]
-  back_by (at.Placed dir bucket) (page.Head header) ne locked = locked
-  back_by (at.Placed dir bucket) (page.Dir entries) ne locked = locked
-  back_by (at.AtBucket dir bucket found) (page.Head header) ne locked = locked
-  back_by (at.AtBucket dir bucket found) (page.Dir entries) ne locked = locked
-  back_by (at.AtBucket dir bucket found) (page.Bucket fields) ne locked = locked
+  back_by (Descent.Placed dir bucket) (Page.Head header) ne locked = locked
+  back_by (Descent.Placed dir bucket) (Page.Dir entries) ne locked = locked
+  back_by (Descent.AtBucket dir bucket found) (Page.Head header) ne locked = locked
+  back_by (Descent.AtBucket dir bucket found) (Page.Dir entries) ne locked = locked
+  back_by (Descent.AtBucket dir bucket found) (Page.Bucket fields) ne locked = locked
 
   -- and gets no other than the page that is read
   locked_back : (descent : Descent) (n : ℕ) (read : Page) → q ≢ n → IsLocked root (descent_after bits root key descent n read) q mode → IsLocked root descent q mode
@@ -94,16 +83,16 @@ module _ (bits : ℕ → ℕ) (root key : ℕ) (q : ℕ) (mode : Mode) where
 
 -- the page that is read is locked for the descent, in the mode of its kind
 locked_here : (bits : ℕ → ℕ) (root key : ℕ) (descent : Descent) (read : Page) → KindIs descent read → IsLocked root (descent_by bits key descent read) (next_page root descent) (next_mode descent)
-locked_here bits root key at.Start read kind = subst (λ p. IsLocked root (descent_by bits key at.Start p) root Shared) (sym kind.1) (refl, refl)
-locked_here bits root key (at.Headed place dir row) read kind = subst (λ p. IsLocked root (descent_by bits key (at.Headed place dir row) p) dir Shared) (sym kind.1) (inr refl, refl)
-locked_here bits root key (at.Placed dir bucket) read kind = subst (λ p. IsLocked root (descent_by bits key (at.Placed dir bucket) p) bucket Exclusive) (sym kind.1) (inr (refl, refl))
-locked_here bits root key (at.AtBucket dir bucket found) read kind = absurd kind
+locked_here bits root key Descent.Start read kind = subst (λ p. IsLocked root (descent_by bits key Descent.Start p) root Shared) (sym kind.1) (refl, refl)
+locked_here bits root key (Descent.Headed place dir row) read kind = subst (λ p. IsLocked root (descent_by bits key (Descent.Headed place dir row) p) dir Shared) (sym kind.1) (inr refl, refl)
+locked_here bits root key (Descent.Placed dir bucket) read kind = subst (λ p. IsLocked root (descent_by bits key (Descent.Placed dir bucket) p) bucket Exclusive) (sym kind.1) (inr (refl, refl))
+locked_here bits root key (Descent.AtBucket dir bucket found) read kind = absurd kind
 
 mode_is : (descent : Descent) (read : Page) → KindIs descent read → next_mode descent ≡ mode_for read
-mode_is at.Start read kind = sym (ap mode_for kind.1)
-mode_is (at.Headed place dir row) read kind = sym (ap mode_for kind.1)
-mode_is (at.Placed dir bucket) read kind = sym (ap mode_for kind.1)
-mode_is (at.AtBucket dir bucket found) read kind = absurd kind
+mode_is Descent.Start read kind = sym (ap mode_for kind.1)
+mode_is (Descent.Headed place dir row) read kind = sym (ap mode_for kind.1)
+mode_is (Descent.Placed dir bucket) read kind = sym (ap mode_for kind.1)
+mode_is (Descent.AtBucket dir bucket found) read kind = absurd kind
 
 -- a page that is locked again in its mode keeps it
 same_mode : (mode : Mode) → stronger (Some mode) mode ≡ mode

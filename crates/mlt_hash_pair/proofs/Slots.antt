@@ -1,24 +1,14 @@
 -- What the slots of a bucket have of a key, and what a change for another key leaves of it
-use Rattle.std.proofs.Common.{◌≡◌, ◌≢◌, ℕ, ◌<◌, Bool, false, true, List, length, ltb, Option, None, Some, refl, sym, ap, subst, ◌∙◌, inl, inr, arith, slice_index_or, slice_set}
-use Rattle.std.specs.Prelude.{IsSome}
-use Rattle.std.specs.List.{position, position_or_len}
-use Rattle.std.specs.Option.{option_map}
-use Rattle.std.specs.Ordering.{nat_cmp}
+use Rattle.std.proofs.Common.{◌≡◌, ◌≢◌, ℕ, ◌<◌, Bool, false, true, List, length, ltb, Option, None, Some, refl, sym, ap, subst, ◌∙◌, inl, inr, arith, slice_index_or, slice_set, IsSome, position, option_map, nat_cmp, eqb-true, lt-ltb, ne_eqb, get_or-set_other, get_or-set_same}
+use Rattle.std.specs.List.{position_or_len}
 use Rattle.std.specs.FinSet as set
-use Rattle.std.proofs.lemmas.Bool.{cases_eq, cases_lt, cond-true, eqb-true, false≢true, lt-ltb, ne_eqb}
-use Rattle.std.proofs.lemmas.Option.{none-some}
-use Rattle.std.proofs.lemmas.List.{get_or-set_other, get_or-set_same, get_or_past, set_past}
+use Rattle.mlt_hash_pair.proofs.Names.{cases_eq, cond-true, false≢true, none-some, is_ghost_of, is_live_of, Slot, Free, Ghost, Live, BucketFields, value_in, SetsFirst, WriteFields, has_room, FitsFound, FitsSlots, IsPlan, RecordChange}
+use Rattle.std.proofs.lemmas.Bool.{cases_lt}
+use Rattle.std.proofs.lemmas.List.{get_or_past, set_past}
 use Rattle.std.proofs.lemmas.List.Sums.{fails_before_first}
 use Rattle.std.proofs.lemmas.List.Quantifiers.{position-Some}
-use Rattle.mlt_page.specs.Slots.{is_ghost_of, is_live_of}
-use Rattle.mlt_page.specs.declared.slot.Slot.{Slot}
-use Rattle.mlt_page.specs.declared.slot.Slot.TheVariants.{Free, Ghost, Live}
-use Rattle.mlt_page.specs.Values.{BucketFields}
-use Rattle.mlt_hash_form.specs.Form.{slot_value, value_in}
-use Rattle.mlt_hash_record.specs.Plans.{SetsFirst, WriteFields, has_room}
-use Rattle.mlt_hash_pair.specs.Plans.{FitsFound, FitsSlots, IsAbsent, IsPlan, IsPresent}
-use Rattle.mlt_hash_pair.specs.declared.asked.RecordChange.{RecordChange}
-use Rattle.mlt_hash_pair.specs.declared.asked.RecordChange.TheVariants as change
+use Rattle.mlt_hash_form.specs.Form.{slot_value}
+use Rattle.mlt_hash_pair.specs.Plans.{IsAbsent, IsPresent}
 
 -- a search that finds no record has none to find,
 none_there : (key : ℕ) (slots : List Slot) → position (is_live_of key) slots ≡ None → IsAbsent key slots
@@ -57,9 +47,9 @@ found_record key slots found some is = go (position (is_live_of key) slots) refl
 -- **A change that fits what was found fits the bucket.**
 pub fits_slots : (asked : Option RecordChange) (key : ℕ) (slots : List Slot) (found : Option ℕ) → found ≡ value_in key slots → FitsFound asked found → FitsSlots asked key slots
 fits_slots None key slots found is fits = tt
-fits_slots (Some (change.Insert value)) key slots found is fits = found_nothing key slots (sym fits ∙ is)
-fits_slots (Some (change.Update value)) key slots found is fits = found_record key slots found fits is
-fits_slots (Some change.Remove) key slots found is fits = found_record key slots found fits is
+fits_slots (Some (RecordChange.Insert value)) key slots found is fits = found_nothing key slots (sym fits ∙ is)
+fits_slots (Some (RecordChange.Update value)) key slots found is fits = found_record key slots found fits is
+fits_slots (Some RecordChange.Remove) key slots found is fits = found_record key slots found fits is
 
 -- a slot for a key is no record of another one
 room_is_no_record : (active : set.FinSet nat_cmp) (other : ℕ) (slot : Slot) → has_room active slot ≡ true → is_live_of other slot ≡ false
@@ -93,13 +83,13 @@ spares_first other q bucket has slot write spares none sets = record {
 }
 
 spares_other : (asked : RecordChange) (active : set.FinSet nat_cmp) (tx key other q : ℕ) (bucket : BucketFields) (write : WriteFields) → key ≢ other → IsPlan asked active tx key q bucket write → Spares other q bucket write
-spares_other (change.Insert value) active tx key other q bucket write apart plan =
+spares_other (RecordChange.Insert value) active tx key other q bucket write apart plan =
     elim plan [
       | inl revives ↦ spares_first other q bucket (is_ghost_of key tx) (Live key value) write (ghost_is_no_record key tx other) (ne_eqb key other apart) revives
       | inr puts ↦ spares_first other q bucket (has_room active) (Live key value) write (room_is_no_record active other) (ne_eqb key other apart) puts.1
     ]
-spares_other (change.Update value) active tx key other q bucket write apart plan = spares_first other q bucket (is_live_of key) (Live key value) write (λ slot. record_of_one key other slot apart) (ne_eqb key other apart) plan
-spares_other change.Remove active tx key other q bucket write apart plan = spares_first other q bucket (is_live_of key) (Ghost key 0 tx) write (λ slot. record_of_one key other slot apart) refl plan
+spares_other (RecordChange.Update value) active tx key other q bucket write apart plan = spares_first other q bucket (is_live_of key) (Live key value) write (λ slot. record_of_one key other slot apart) (ne_eqb key other apart) plan
+spares_other RecordChange.Remove active tx key other q bucket write apart plan = spares_first other q bucket (is_live_of key) (Ghost key 0 tx) write (λ slot. record_of_one key other slot apart) refl plan
 
 same_records : (other at : ℕ) (slots : List Slot) (slot : Slot) → is_live_of other (slice_index_or slots at Free) ≡ false → is_live_of other slot ≡ false → (i : ℕ) → is_live_of other (slice_index_or (slice_set slots at slot) i Free) ≡ is_live_of other (slice_index_or slots i Free)
 same_records other at slots slot was is i =
@@ -121,13 +111,13 @@ fits_after asked done active tx key other q bucket write apart plan fits = go as
 
     go : (asked : Option RecordChange) → FitsSlots asked other bucket.slots → FitsSlots asked other (slice_set bucket.slots write.at write.slot)
     go None fits = tt
-    go (Some (change.Insert value)) fits = λ i. same i ∙ fits i
-    go (Some (change.Update value)) fits = (fits.0, same fits.0 ∙ fits.1)
-    go (Some change.Remove) fits = (fits.0, same fits.0 ∙ fits.1)
+    go (Some (RecordChange.Insert value)) fits = λ i. same i ∙ fits i
+    go (Some (RecordChange.Update value)) fits = (fits.0, same fits.0 ∙ fits.1)
+    go (Some RecordChange.Remove) fits = (fits.0, same fits.0 ∙ fits.1)
 
 -- a plan names the page of its bucket, and one of the eight slots
 pub plan_number : (asked : RecordChange) (active : set.FinSet nat_cmp) (tx key q : ℕ) (bucket : BucketFields) (write : WriteFields) → IsPlan asked active tx key q bucket write → (write.number ≡ q) × (write.at < 8)
-plan_number (change.Insert value) active tx key q bucket write plan =
+plan_number (RecordChange.Insert value) active tx key q bucket write plan =
     elim plan [
       | inl revives ↦ of_first (is_ghost_of key tx) (Live key value) revives
       | inr puts ↦ of_first (has_room active) (Live key value) puts.1
@@ -135,5 +125,5 @@ plan_number (change.Insert value) active tx key q bucket write plan =
   where
     of_first : (has : Slot → Bool) (slot : Slot) → SetsFirst q bucket has slot write → (write.number ≡ q) × (write.at < 8)
     of_first has slot sets = (ap (λ (w : WriteFields). w.number) sets.written, subst (λ (w : WriteFields). w.at < 8) (sym sets.written) sets.within)
-plan_number (change.Update value) active tx key q bucket write plan = (ap (λ (w : WriteFields). w.number) plan.written, subst (λ (w : WriteFields). w.at < 8) (sym plan.written) plan.within)
-plan_number change.Remove active tx key q bucket write plan = (ap (λ (w : WriteFields). w.number) plan.written, subst (λ (w : WriteFields). w.at < 8) (sym plan.written) plan.within)
+plan_number (RecordChange.Update value) active tx key q bucket write plan = (ap (λ (w : WriteFields). w.number) plan.written, subst (λ (w : WriteFields). w.at < 8) (sym plan.written) plan.within)
+plan_number RecordChange.Remove active tx key q bucket write plan = (ap (λ (w : WriteFields). w.number) plan.written, subst (λ (w : WriteFields). w.at < 8) (sym plan.written) plan.within)

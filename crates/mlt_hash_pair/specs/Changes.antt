@@ -3,7 +3,7 @@ use Rattle.std.specs.Prelude.{ℕ, ◌≡◌, ◌≢◌, ◌<◌, ◌≤◌, ◌
 use Rattle.std.specs.Ordering.{nat_cmp}
 use Rattle.std.specs.FinMap as map
 use Rattle.std.specs.FinSet as set
-use Rattle.mlt_page.specs.declared.page.Page.TheVariants as page
+use Rattle.mlt_page.specs.declared.page.Page.{Page}
 use Rattle.mlt_page.specs.Values.{BucketFields}
 use Rattle.mlt_hash_form.specs.File.{FilePages, GivesPseudokeys, HasForm, lead_of, look_up}
 use Rattle.mlt_hash_form.specs.Held.{Agrees, AreKeptToo, over}
@@ -16,8 +16,7 @@ use Rattle.mlt_hash_pair.specs.Descents.{HasRead, found_of, page_of}
 use Rattle.mlt_hash_pair.specs.declared.asked.PairChanges.{PairChanges}
 use Rattle.mlt_hash_pair.specs.declared.asked.RecordChange.{RecordChange}
 use Rattle.mlt_hash_pair.specs.declared.answer.ChangeAnswer.{ChangeAnswer}
-use Rattle.mlt_hash_pair.specs.declared.answer.ChangeAnswer.TheVariants as answer
-use Rattle.mlt_hash_pair.specs.declared.answer.Side.TheVariants as side
+use Rattle.mlt_hash_pair.specs.declared.answer.Side.{Side}
 
 -- what is asked fits what was found of both keys
 abbrev pub FitsBoth : PairChanges → PairFields → Type 0
@@ -129,16 +128,16 @@ pub record IsFullBehind (task : Task) (tx : ℕ) (old : View) : Type 0 where
 
 -- the same, by the pages of the pair's buckets
 abbrev pub TellsOfTwo : Task → LocalState → LocalState → PairFields → PairFields → ChangeAnswer → Type 0
-TellsOfTwo task old new before after answer.Changed =
+TellsOfTwo task old new before after ChangeAnswer.Changed =
     MakesBoth task old.running.tx (view_of old) (view_of new) × (after ≡ before)
-TellsOfTwo task old new before after answer.OneLeft =
+TellsOfTwo task old new before after ChangeAnswer.OneLeft =
     (LeavesLeft task old.running.tx (view_of old) (view_of new) after.owed
     ⊎ LeavesRight task old.running.tx (view_of old) (view_of new) after.owed)
     × (after ≡ record before { owed = after.owed })
-TellsOfTwo task old new before after (answer.Full side.Left) =
+TellsOfTwo task old new before after (ChangeAnswer.Full Side.Left) =
     IsFull task.changes.left task.active old.running.tx task.left task.left_page (view_of old)
     × (new ≡ old) × (after ≡ before)
-TellsOfTwo task old new before after (answer.Full side.Right) =
+TellsOfTwo task old new before after (ChangeAnswer.Full Side.Right) =
     IsFullBehind task old.running.tx (view_of old) × (new ≡ old) × (after ≡ before)
 
 -- What the changes of a pair are told. Changed: all is written. OneLeft: but for the change of the
@@ -173,7 +172,7 @@ pub record Owes (active : set.FinSet nat_cmp) (tx : ℕ) (pair : PairFields) (vi
   pub bucket : BucketFields
   pub side : IsSide pair key write.number
   pub earlier : write.number ≢ later_page pair
-  pub seen : view.seen write.number ≡ Some (Some (page.Bucket bucket))
+  pub seen : view.seen write.number ≡ Some (Some (Page.Bucket bucket))
   pub plan : IsPlan change planners tx key write.number bucket write
   pub fewer : AreKeptToo active planners bucket
 
@@ -192,9 +191,9 @@ pub record HasChanged (bits : ℕ → ℕ) (root : ℕ) (active : set.FinSet nat
 -- where a pair stands that has made its changes
 abbrev pub StandsBehind
     : ChangeAnswer → (ℕ → ℕ) → ℕ → set.FinSet nat_cmp → ℕ → PairFields → View → Type 0
-StandsBehind answer.Changed bits root active tx pair view = HasChanged bits root active tx pair view
-StandsBehind answer.OneLeft bits root active tx pair view = HasChanged bits root active tx pair view
-StandsBehind (answer.Full side) bits root active tx pair view = Unit {0}
+StandsBehind ChangeAnswer.Changed bits root active tx pair view = HasChanged bits root active tx pair view
+StandsBehind ChangeAnswer.OneLeft bits root active tx pair view = HasChanged bits root active tx pair view
+StandsBehind (ChangeAnswer.Full side) bits root active tx pair view = Unit {0}
 
 -- What the last step of a pair asks: it has changed its later bucket at most, and owes the change of the earlier one.
 abbrev pub MayWriteEarlier : ℕ → PairFields → View → Type 0
@@ -218,7 +217,7 @@ HoldsOn pair old new =
 -- on the buckets that are held no slot's room is kept now that was not before
 abbrev pub KeepsNoMore : set.FinSet nat_cmp → set.FinSet nat_cmp → View → Type 0
 KeepsNoMore before now view =
-    (q : ℕ) (bucket : BucketFields) → view.seen q ≡ Some (Some (page.Bucket bucket))
+    (q : ℕ) (bucket : BucketFields) → view.seen q ≡ Some (Some (Page.Bucket bucket))
     → AreKeptToo now before bucket
 
 -- of the pages that are held only the two buckets are written

@@ -9,7 +9,6 @@ use Rattle.mlt_hash_record.specs.Plans.{WriteFields}
 use Rattle.mlt_hash_pair.specs.Reading.{next_mode, next_page, next_descent}
 use Rattle.mlt_hash_pair.specs.Descents.{HasRead, IsLocked, IsThere, page_of}
 use Rattle.mlt_hash_pair.specs.declared.descent.Descent.{Descent}
-use Rattle.mlt_hash_pair.specs.declared.descent.Descent.TheVariants as at
 
 -- what a pair reads by: the function of keys, and the header's page
 pub record FileRoot : Type 0 where
@@ -27,19 +26,19 @@ pub record PairFields : Type 0 where
 -- a pair that has read nothing
 abbrev pub find_by : ℕ → ℕ → PairFields
 find_by left right =
-    record { left = left; right = right; left_descent = at.Start; right_descent = at.Start; owed = None }
+    record { left = left; right = right; left_descent = Descent.Start; right_descent = Descent.Start; owed = None }
 
 -- The two descents go on together: both read the header; then the pages of the directory come before the buckets; and where one
 -- bucket is read and the other is not, the first has the lower page.
 abbrev pub GoTogether : Descent → Descent → Type 0
-GoTogether at.Start at.Start = Unit {0}
-GoTogether (at.Headed place dir row) (at.Headed place' dir' row') = Unit {0}
-GoTogether (at.Headed place dir row) (at.Placed dir' bucket') = Unit {0}
-GoTogether (at.Placed dir bucket) (at.Headed place' dir' row') = Unit {0}
-GoTogether (at.Placed dir bucket) (at.Placed dir' bucket') = Unit {0}
-GoTogether (at.Placed dir bucket) (at.AtBucket dir' bucket' found') = bucket' < bucket
-GoTogether (at.AtBucket dir bucket found) (at.Placed dir' bucket') = bucket < bucket'
-GoTogether (at.AtBucket dir bucket found) (at.AtBucket dir' bucket' found') = Unit {0}
+GoTogether Descent.Start Descent.Start = Unit {0}
+GoTogether (Descent.Headed place dir row) (Descent.Headed place' dir' row') = Unit {0}
+GoTogether (Descent.Headed place dir row) (Descent.Placed dir' bucket') = Unit {0}
+GoTogether (Descent.Placed dir bucket) (Descent.Headed place' dir' row') = Unit {0}
+GoTogether (Descent.Placed dir bucket) (Descent.Placed dir' bucket') = Unit {0}
+GoTogether (Descent.Placed dir bucket) (Descent.AtBucket dir' bucket' found') = bucket' < bucket
+GoTogether (Descent.AtBucket dir bucket found) (Descent.Placed dir' bucket') = bucket < bucket'
+GoTogether (Descent.AtBucket dir bucket found) (Descent.AtBucket dir' bucket' found') = Unit {0}
 GoTogether descent other = ⊥
 
 -- a page for each descent, which is one step where it is one page
@@ -48,24 +47,24 @@ steps_for page other = if page == other then 1 else 2
 
 -- how many steps a pair still takes at least, and at most, until it has found both keys, those that wait aside
 abbrev pub least_steps : Descent → Descent → ℕ
-least_steps at.Start other = 3
-least_steps (at.Headed place dir row) (at.Headed place' dir' row') = steps_for dir dir' + 1
-least_steps (at.Headed place dir row) other = 2
-least_steps (at.Placed dir bucket) (at.Placed dir' bucket') = steps_for bucket bucket'
-least_steps (at.Placed dir bucket) (at.AtBucket dir' bucket' found') = 1
-least_steps (at.Placed dir bucket) other = 2
-least_steps (at.AtBucket dir bucket found) (at.AtBucket dir' bucket' found') = 0
-least_steps (at.AtBucket dir bucket found) other = 1
+least_steps Descent.Start other = 3
+least_steps (Descent.Headed place dir row) (Descent.Headed place' dir' row') = steps_for dir dir' + 1
+least_steps (Descent.Headed place dir row) other = 2
+least_steps (Descent.Placed dir bucket) (Descent.Placed dir' bucket') = steps_for bucket bucket'
+least_steps (Descent.Placed dir bucket) (Descent.AtBucket dir' bucket' found') = 1
+least_steps (Descent.Placed dir bucket) other = 2
+least_steps (Descent.AtBucket dir bucket found) (Descent.AtBucket dir' bucket' found') = 0
+least_steps (Descent.AtBucket dir bucket found) other = 1
 
 abbrev pub most_steps : Descent → Descent → ℕ
-most_steps at.Start other = 5
-most_steps (at.Headed place dir row) (at.Headed place' dir' row') = steps_for dir dir' + 2
-most_steps (at.Headed place dir row) other = 3
-most_steps (at.Placed dir bucket) (at.Placed dir' bucket') = steps_for bucket bucket'
-most_steps (at.Placed dir bucket) (at.AtBucket dir' bucket' found') = 1
-most_steps (at.Placed dir bucket) other = 3
-most_steps (at.AtBucket dir bucket found) (at.AtBucket dir' bucket' found') = 0
-most_steps (at.AtBucket dir bucket found) other = 1
+most_steps Descent.Start other = 5
+most_steps (Descent.Headed place dir row) (Descent.Headed place' dir' row') = steps_for dir dir' + 2
+most_steps (Descent.Headed place dir row) other = 3
+most_steps (Descent.Placed dir bucket) (Descent.Placed dir' bucket') = steps_for bucket bucket'
+most_steps (Descent.Placed dir bucket) (Descent.AtBucket dir' bucket' found') = 1
+most_steps (Descent.Placed dir bucket) other = 3
+most_steps (Descent.AtBucket dir bucket found) (Descent.AtBucket dir' bucket' found') = 0
+most_steps (Descent.AtBucket dir bucket found) other = 1
 
 -- a key is not at its bucket yet
 abbrev pub IsUnderWay : PairFields → Type 0

@@ -3,51 +3,49 @@ use Rattle.std.specs.Prelude.{ℕ, ◌==◌, nat_le, Bool, true, false, if◌the
 use Rattle.mlt_types.specs.declared.mode.Mode.{Mode}
 use Rattle.mlt_types.specs.declared.mode.Mode.TheVariants.{Exclusive, Shared}
 use Rattle.mlt_page.specs.declared.page.Page.{Page}
-use Rattle.mlt_page.specs.declared.page.Page.TheVariants as page
 use Rattle.mlt_page.specs.Values.{HeadFields}
 use Rattle.mlt_hash_form.specs.File.{dir_of, place_of, row_of}
 use Rattle.mlt_hash_form.specs.Form.{value_in}
 use Rattle.mlt_hash_pair.specs.declared.descent.Descent.{Descent}
-use Rattle.mlt_hash_pair.specs.declared.descent.Descent.TheVariants as at
 
 -- the page that a descent reads next, and its mode; at its bucket it is done
 abbrev pub next_page : ℕ → Descent → ℕ
-next_page root at.Start = root
-next_page root (at.Headed place dir row) = dir
-next_page root (at.Placed dir bucket) = bucket
-next_page root (at.AtBucket dir bucket found) = bucket
+next_page root Descent.Start = root
+next_page root (Descent.Headed place dir row) = dir
+next_page root (Descent.Placed dir bucket) = bucket
+next_page root (Descent.AtBucket dir bucket found) = bucket
 
 abbrev pub next_mode : Descent → Mode
-next_mode at.Start = Shared
-next_mode (at.Headed place dir row) = Shared
-next_mode (at.Placed dir bucket) = Exclusive
-next_mode (at.AtBucket dir bucket found) = Exclusive
+next_mode Descent.Start = Shared
+next_mode (Descent.Headed place dir row) = Shared
+next_mode (Descent.Placed dir bucket) = Exclusive
+next_mode (Descent.AtBucket dir bucket found) = Exclusive
 
 -- whether the first descent's next page is locked before the other's: the header, then the pages of the directory by their
 -- places, then the buckets by their pages
 abbrev pub is_before : Descent → Descent → Bool
-is_before at.Start other = true
-is_before (at.Headed place dir row) at.Start = false
-is_before (at.Headed place dir row) (at.Headed place' dir' row') = nat_le place place'
-is_before (at.Headed place dir row) (at.Placed dir' bucket') = true
-is_before (at.Headed place dir row) (at.AtBucket dir' bucket' found') = true
-is_before (at.Placed dir bucket) at.Start = false
-is_before (at.Placed dir bucket) (at.Headed place' dir' row') = false
-is_before (at.Placed dir bucket) (at.Placed dir' bucket') = nat_le bucket bucket'
-is_before (at.Placed dir bucket) (at.AtBucket dir' bucket' found') = true
-is_before (at.AtBucket dir bucket found) other = false
+is_before Descent.Start other = true
+is_before (Descent.Headed place dir row) Descent.Start = false
+is_before (Descent.Headed place dir row) (Descent.Headed place' dir' row') = nat_le place place'
+is_before (Descent.Headed place dir row) (Descent.Placed dir' bucket') = true
+is_before (Descent.Headed place dir row) (Descent.AtBucket dir' bucket' found') = true
+is_before (Descent.Placed dir bucket) Descent.Start = false
+is_before (Descent.Placed dir bucket) (Descent.Headed place' dir' row') = false
+is_before (Descent.Placed dir bucket) (Descent.Placed dir' bucket') = nat_le bucket bucket'
+is_before (Descent.Placed dir bucket) (Descent.AtBucket dir' bucket' found') = true
+is_before (Descent.AtBucket dir bucket found) other = false
 
 -- where the descent of a key is once it has read its next page
 abbrev pub descent_by_header : (ℕ → ℕ) → ℕ → HeadFields → Descent
 descent_by_header bits key header =
-    at.Headed (place_of header (bits key)) (dir_of header (bits key)) (row_of header (bits key))
+    Descent.Headed (place_of header (bits key)) (dir_of header (bits key)) (row_of header (bits key))
 
 abbrev pub descent_by : (ℕ → ℕ) → ℕ → Descent → Page → Descent
-descent_by bits key at.Start (page.Head header) = descent_by_header bits key header
-descent_by bits key (at.Headed place dir row) (page.Dir entries) =
-    at.Placed dir (slice_index entries row)
-descent_by bits key (at.Placed dir bucket) (page.Bucket fields) =
-    at.AtBucket dir bucket (value_in key fields.slots)
+descent_by bits key Descent.Start (Page.Head header) = descent_by_header bits key header
+descent_by bits key (Descent.Headed place dir row) (Page.Dir entries) =
+    Descent.Placed dir (slice_index entries row)
+descent_by bits key (Descent.Placed dir bucket) (Page.Bucket fields) =
+    Descent.AtBucket dir bucket (value_in key fields.slots)
 descent_by bits key descent page = descent
 
 -- and once page `number` is read, which may be its next one

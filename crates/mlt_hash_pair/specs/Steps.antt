@@ -7,9 +7,7 @@ use Rattle.mlt_hash_access.specs.Views.{view_of}
 use Rattle.mlt_hash_pair.specs.Pairs.{IsFinding, IsUnderWay, PairFields, later_page, least_steps, mode_next, most_steps, page_next}
 use Rattle.mlt_hash_pair.specs.Descents.{IsNext, pages_to_read}
 use Rattle.mlt_hash_pair.specs.declared.descent.Descent.{Descent}
-use Rattle.mlt_hash_pair.specs.declared.descent.Descent.TheVariants as at
 use Rattle.mlt_hash_pair.specs.declared.answer.PairAnswer.{PairAnswer}
-use Rattle.mlt_hash_pair.specs.declared.answer.PairAnswer.TheVariants as answer
 
 -- where page q was read: a descent of which it was the next one has read it, and another is as it was
 pub record ReadsOn (root q : ℕ) (before after : Descent) : Type 0 where
@@ -32,7 +30,7 @@ pub record GoesOn (bits : ℕ → ℕ) (root : ℕ) (old new : LocalState) (befo
 
 -- the key is at its bucket, and has this value there, or none
 abbrev pub HasFound : Descent → Option ℕ → Type 0
-HasFound (at.AtBucket dir bucket found) value = found ≡ value
+HasFound (Descent.AtBucket dir bucket found) value = found ≡ value
 HasFound other value = ⊥
 
 -- A step to the buckets goes on; or has found both values, with the later bucket read last; or
@@ -40,18 +38,18 @@ HasFound other value = ⊥
 -- nothing has changed.
 abbrev pub TellsOfStep
     : (ℕ → ℕ) → ℕ → LocalState → LocalState → PairFields → PairFields → PairAnswer → Type 0
-TellsOfStep bits root old new before after answer.Going =
+TellsOfStep bits root old new before after PairAnswer.Going =
     GoesOn bits root old new before after × IsUnderWay after
-TellsOfStep bits root old new before after (answer.Waiting page by) =
+TellsOfStep bits root old new before after (PairAnswer.Waiting page by) =
     (page ≡ page_next root before)
     × IsLowest (conflicts old.locks old.running.tx page (mode_next before)) by
     × (new ≡ old) × (after ≡ before)
-TellsOfStep bits root old new before after (answer.Found left right) =
+TellsOfStep bits root old new before after (PairAnswer.Found left right) =
     GoesOn bits root old new before after
     × HasFound after.left_descent left × HasFound after.right_descent right
     × (page_next root before ≡ later_page after)
 
 -- what a step tells that has read its page
 abbrev pub told_by : Descent → Descent → PairAnswer
-told_by (at.AtBucket dir bucket found) (at.AtBucket dir' bucket' found') = answer.Found found found'
-told_by left right = answer.Going
+told_by (Descent.AtBucket dir bucket found) (Descent.AtBucket dir' bucket' found') = PairAnswer.Found found found'
+told_by left right = PairAnswer.Going

@@ -12,10 +12,8 @@ use Rattle.mlt_hash_pair.specs.Pairs.{PairFields}
 use Rattle.mlt_hash_pair.specs.Plans.{FitsSlots, IsPlanned}
 use Rattle.mlt_hash_pair.specs.declared.asked.RecordChange.{RecordChange}
 use Rattle.mlt_hash_pair.specs.declared.answer.ChangeAnswer.{ChangeAnswer}
-use Rattle.mlt_hash_pair.specs.declared.answer.ChangeAnswer.TheVariants as answer
-use Rattle.mlt_hash_pair.specs.declared.answer.Side.TheVariants as side
+use Rattle.mlt_hash_pair.specs.declared.answer.Side.{Side}
 use Rattle.mlt_hash_pair.specs.declared.plan.SlotPlan.{SlotPlan}
-use Rattle.mlt_hash_pair.specs.declared.plan.SlotPlan.TheVariants as plan
 
 -- page q reads as a bucket that what is asked fits
 abbrev pub MayPlan : Option RecordChange → ℕ → ℕ → View → Type 0
@@ -30,17 +28,17 @@ HasPlan plan asked active tx key q view =
 
 -- both changes in one bucket, the left one first
 abbrev pub TellsOfOne : Task → LocalState → LocalState → ChangeAnswer → Type 0
-TellsOfOne task old new answer.Changed =
+TellsOfOne task old new ChangeAnswer.Changed =
     (mid : View)
     × MakesAsked task.changes.left task.active old.running.tx task.left task.left_page
     (view_of old) mid
     × MakesAsked task.changes.right task.active old.running.tx task.right task.right_page
     mid (view_of new)
-TellsOfOne task old new answer.OneLeft = ⊥
-TellsOfOne task old new (answer.Full side.Left) =
+TellsOfOne task old new ChangeAnswer.OneLeft = ⊥
+TellsOfOne task old new (ChangeAnswer.Full Side.Left) =
     IsFull task.changes.left task.active old.running.tx task.left task.left_page (view_of old)
     × (new ≡ old)
-TellsOfOne task old new (answer.Full side.Right) =
+TellsOfOne task old new (ChangeAnswer.Full Side.Right) =
     ((mid : View)
     × MakesAsked task.changes.left task.active old.running.tx task.left task.left_page
     (view_of old) mid
@@ -49,22 +47,22 @@ TellsOfOne task old new (answer.Full side.Right) =
 
 -- the slot that is planned may be written
 abbrev pub MayWrite : SlotPlan → LocalState → Type 0
-MayWrite plan.Nothing m = Unit {0}
-MayWrite (plan.Set write) m = (can_write m.locks m.running.tx write.number ≡ true)
+MayWrite SlotPlan.Nothing m = Unit {0}
+MayWrite (SlotPlan.Set write) m = (can_write m.locks m.running.tx write.number ≡ true)
     × ((bucket : BucketFields) × ReadsHeldBucket (view_of m) write.number bucket)
-MayWrite plan.Full m = Unit {0}
+MayWrite SlotPlan.Full m = Unit {0}
 
 -- and is written
 abbrev pub WritesPlan : SlotPlan → LocalState → LocalState → Type 0
-WritesPlan plan.Nothing old new = new ≡ old
-WritesPlan (plan.Set write) old new =
+WritesPlan SlotPlan.Nothing old new = new ≡ old
+WritesPlan (SlotPlan.Set write) old new =
     WritesHeldSlot old new write.number write.at write.slot
     × WritesSlot (view_of old) (view_of new) write.number write.at write.slot
-WritesPlan plan.Full old new = new ≡ old
+WritesPlan SlotPlan.Full old new = new ≡ old
 
 -- a plan is owed, if a slot is to be set
 abbrev pub OwesPlan : SlotPlan → PairFields → PairFields → ChangeAnswer → Type 0
-OwesPlan plan.Nothing before after told = (after ≡ before) × (told ≡ answer.Changed)
-OwesPlan (plan.Set write) before after told =
-    (after ≡ record before { owed = Some write }) × (told ≡ answer.OneLeft)
-OwesPlan plan.Full before after told = (after ≡ before) × (told ≡ answer.Changed)
+OwesPlan SlotPlan.Nothing before after told = (after ≡ before) × (told ≡ ChangeAnswer.Changed)
+OwesPlan (SlotPlan.Set write) before after told =
+    (after ≡ record before { owed = Some write }) × (told ≡ ChangeAnswer.OneLeft)
+OwesPlan SlotPlan.Full before after told = (after ≡ before) × (told ≡ ChangeAnswer.Changed)

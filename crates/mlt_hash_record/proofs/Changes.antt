@@ -1,12 +1,9 @@
 -- What setting one slot does to the pairs of a bucket
-use Rattle.std.proofs.Common.{ℕ, ◌≡◌, ◌<◌, true, List, length, get_or, set, Option, Some, None, refl, sym, ◌∙◌, ap, inl, inr}
-use Rattle.std.specs.Prelude.{◌↔◌}
-use Rattle.std.specs.List.{position}
+use Rattle.std.proofs.Common.{ℕ, ◌≡◌, ◌<◌, true, List, length, get_or, set, Option, Some, None, refl, sym, ◌∙◌, ap, inl, inr, ◌↔◌, position, nat_cmp, get_or-set_same, get_or-set_other, eq-eqb, eqb-true}
 use Rattle.mlt_hash_record.proofs.Places.{nowhere}
-use Rattle.std.specs.Ordering.{nat_cmp}
 use Rattle.std.specs.FinSet as fin
-use Rattle.std.proofs.lemmas.List.{get_or_past, get_or-set_same, get_or-set_other}
-use Rattle.std.proofs.lemmas.Bool.{both_ways, cases_lt, eq-eqb, cases_eq, eqb-true}
+use Rattle.std.proofs.lemmas.List.{get_or_past}
+use Rattle.std.proofs.lemmas.Bool.{both_ways, cases_lt, cases_eq}
 use Rattle.mlt_page.specs.Slots.{is_ghost_of, is_live_of}
 use Rattle.mlt_page.specs.declared.slot.Slot.{Slot}
 use Rattle.mlt_page.specs.declared.slot.Slot.TheVariants.{Free, Live, Ghost}

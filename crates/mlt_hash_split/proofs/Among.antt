@@ -1,18 +1,10 @@
 -- The pages that a walk holds stand in a list
 use Rattle.std.proofs.Common.{ℕ, ◌≡◌, ◌<◌, ◌≤◌, ◌+◌, ◌-◌, ◌^◌, true, is_some, List, ◌∷◌, sym, ◌∙◌, ap, subst, inl, inr, arith}
 use Rattle.std.specs.FinMap as map
-use Rattle.std.proofs.lemmas.Bool.{cases_eq}
-use Rattle.std.proofs.lemmas.Bool.Decides.{nat_tests}
-use Rattle.std.proofs.Math.Nat.{pow-le-pow_right}
+use Rattle.mlt_hash_split.proofs.Names.{cases_eq, nat_tests, pow-le-pow_right, Modes, page_count, with_page, FilePages, LocalState, View, view_over, HoldsAmong, IsIn, most_held, mode_of_others}
 use Rattle.mlt_types.specs.declared.mode.Mode.{Mode}
-use Rattle.mlt_page_locks.specs.LockTables.{Modes, page_count}
-use Rattle.mlt_page_locks.specs.Requests.{with_page}
 use Rattle.mlt_page_locks.proofs.LockLaws.{keys_within}
-use Rattle.mlt_hash_form.specs.File.{FilePages}
-use Rattle.mlt_hash_access.specs.LocalStates.{LocalState}
-use Rattle.mlt_hash_access.specs.Views.{View, view_over}
-use Rattle.mlt_hash_split.specs.Rests.{HoldsAmong, IsIn, most_held}
-use Rattle.mlt_hash_access.proofs.Views.{mode_of_others, page_count_of_view}
+use Rattle.mlt_hash_access.proofs.Views.{page_count_of_view}
 
 -- a walk holds no more pages than the list has
 pub few_are_held : (view : View) (dirs made : List ℕ) (k count j most : ℕ) → HoldsAmong view dirs made k count j most → map.len view.modes ≤ most

@@ -1,34 +1,22 @@
 -- The beginning of a split
 use Rattle.std.proofs.Common.{ℕ, ◌≡◌, ◌<◌, ◌≤◌, ◌+◌, ◌-◌, ◌^◌, is_some, List, Option, Some, refl, sym, ◌∙◌, ap, subst, arith}
 use Rattle.std.specs.FinMap as map
-use Rattle.mlt_types.specs.declared.mode.Mode.TheVariants.{Exclusive}
-use Rattle.mlt_page.specs.Values.{BucketFields, HeadFields}
-use Rattle.mlt_page.specs.declared.page.Page.{Page}
-use Rattle.mlt_page.specs.declared.page.Page.TheVariants as page
-use Rattle.mlt_page_store.specs.Stores.{PageStore, Pages, page_at}
+use Rattle.mlt_hash_split.proofs.Names.{Exclusive, BucketFields, HeadFields, Page, page_at, HasForm, Writes, bucket_of, buckets_of, depth_of, header_of, lead_of, half_of, Agrees, over, own_or_clean, keeps_more, MakesPage, View, view_over, LocalState, SplitTarget, HoldsAmong, IsAtRest, held_page, most_held, seed_of, Begins, IsAtOldBucket, IsUnderWay, SplitFields, SplitPhase, page_count, made_is_not_clean, makes_over}
+use Rattle.mlt_page_store.specs.Stores.{PageStore, Pages}
 use Rattle.mlt_page_store.proofs.Numbered.{page_inserted}
-use Rattle.mlt_hash_form.specs.File.{HasForm, Writes, bucket_of, buckets_of, depth_of, header_of, lead_of}
-use Rattle.mlt_hash_form.specs.Form.{half_of}
-use Rattle.mlt_hash_form.specs.Held.{Agrees, over, own_or_clean}
-use Rattle.mlt_hash_form.proofs.HeldPages.{keeps_more}
-use Rattle.mlt_hash_access.specs.Views.{MakesPage, View, view_over}
-use Rattle.mlt_hash_access.specs.LocalStates.{LocalState}
 use Rattle.mlt_hash_access.specs.PageSteps.{MakesLockedPage}
-use Rattle.mlt_hash_split.specs.Rests.{SplitTarget, HoldsAmong, IsAtRest, held_page, most_held, seed_of}
-use Rattle.mlt_hash_split.specs.Splits.{Begins, HasHalves, IsAtOldBucket, IsUnderWay, MayBegin, SplitFields}
-use Rattle.mlt_hash_split.specs.declared.phase.SplitPhase.TheVariants as at
-use Rattle.mlt_page_locks.specs.LockTables.{page_count}
+use Rattle.mlt_hash_split.specs.Splits.{HasHalves, MayBegin}
 use Rattle.mlt_hash_split.proofs.Among.{among_after_make, count_is_few, most_is_small}
 use Rattle.mlt_hash_split.proofs.Closing.{HasClean, held_page_over}
 use Rattle.mlt_hash_split.proofs.HeldPages.{exclusive_after_make, grows_by_make, mode_after_make, reads_after_make, same_bucket, same_header, seen_after_make}
-use Rattle.mlt_hash_access.proofs.Views.{agrees_before_make, made_is_not_clean, makes_over}
+use Rattle.mlt_hash_access.proofs.Views.{agrees_before_make}
 
 module _ (target : SplitTarget) (view : View) (n : ℕ) (header : HeadFields) (bucket : BucketFields) (rest : IsAtRest target view n header bucket) where
   -- over any clean pages that agree the walk's file at rest has its header and its bucket
-  pub rest_head : (clean : ℕ → Option Page) → Agrees view.seen clean → over clean view.own target.root ≡ Some (page.Head header)
+  pub rest_head : (clean : ℕ → Option Page) → Agrees view.seen clean → over clean view.own target.root ≡ Some (Page.Head header)
   rest_head clean agrees = sym (held_page_over view clean target.root agrees rest.head_held) ∙ rest.head
 
-  pub rest_bucket : (clean : ℕ → Option Page) → Agrees view.seen clean → over clean view.own n ≡ Some (page.Bucket bucket)
+  pub rest_bucket : (clean : ℕ → Option Page) → Agrees view.seen clean → over clean view.own n ≡ Some (Page.Bucket bucket)
   rest_bucket clean agrees = sym (held_page_over view clean n agrees rest.bucket_held) ∙ rest.found
 
   -- the directory is at most 16 deep, and the bucket no deeper
@@ -53,18 +41,18 @@ one_more_held : (before l g : ℕ) → most_held before l g + 1 ≡ most_held be
 one_more_held before l g = omega arith
 
 -- **A split whose new bucket is made is under way.**
-module _ (target : SplitTarget) (old new : View) (n q : ℕ) (ones : BucketFields) (header : HeadFields) (bucket : BucketFields) (rest : IsAtRest target old n header bucket) (shallow : bucket.depth < target.room_depth) (doubles : bucket.depth ≡ header.depth → map.get old.modes target.root ≡ Some Exclusive) (makes : MakesPage old new q (page.Bucket ones)) (ones_is : ones ≡ half_of target.bits target.active bucket 1) where
+module _ (target : SplitTarget) (old new : View) (n q : ℕ) (ones : BucketFields) (header : HeadFields) (bucket : BucketFields) (rest : IsAtRest target old n header bucket) (shallow : bucket.depth < target.room_depth) (doubles : bucket.depth ≡ header.depth → map.get old.modes target.root ≡ Some Exclusive) (makes : MakesPage old new q (Page.Bucket ones)) (ones_is : ones ≡ half_of target.bits target.active bucket 1) where
   begins_over : (second : List ℕ) (clean : ℕ → Option Page) → Agrees new.seen clean → HasForm target.bits clean target.root
-      → Begins target (over clean old.own) (record { seed = seed_of target; old_page = n; new_page = q; depth = bucket.depth; directory_depth = header.depth; zeros = half_of target.bits target.active bucket 0; made = record { depth = header.depth + 1; dirs = header.dirs }; second = second; phase = at.OldBucket }) bucket
+      → Begins target (over clean old.own) (record { seed = seed_of target; old_page = n; new_page = q; depth = bucket.depth; directory_depth = header.depth; zeros = half_of target.bits target.active bucket 0; made = record { depth = header.depth + 1; dirs = header.dirs }; second = second; phase = SplitPhase.OldBucket }) bucket
   begins_over second clean agrees form =
-      let before = agrees_before_make old new q (page.Bucket ones) clean makes agrees in
+      let before = agrees_before_make old new q (Page.Bucket ones) clean makes agrees in
       record {
         may = record {
           bounded = rest.bounded;
           form = (rest.keeps clean before form).form;
           pseudokey = rest.bounded target.key;
           leads = rest.leads clean before form;
-          fresh = ap (λ o. own_or_clean o (clean q)) makes.own_before ∙ made_is_not_clean old new q (page.Bucket ones) clean makes agrees;
+          fresh = ap (λ o. own_or_clean o (clean q)) makes.own_before ∙ made_is_not_clean old new q (Page.Bucket ones) clean makes agrees;
         };
         was = rest_bucket target old n header bucket rest clean before;
         seed = refl;
@@ -74,29 +62,29 @@ module _ (target : SplitTarget) (old new : View) (n q : ℕ) (ones : BucketField
       }
 
   stands_over : (second : List ℕ) (clean : ℕ → Option Page) → Agrees new.seen clean → HasForm target.bits clean target.root
-      → IsAtOldBucket target target.active (over clean old.own) (over clean new.own) (record { seed = seed_of target; old_page = n; new_page = q; depth = bucket.depth; directory_depth = header.depth; zeros = half_of target.bits target.active bucket 0; made = record { depth = header.depth + 1; dirs = header.dirs }; second = second; phase = at.OldBucket }) bucket
+      → IsAtOldBucket target target.active (over clean old.own) (over clean new.own) (record { seed = seed_of target; old_page = n; new_page = q; depth = bucket.depth; directory_depth = header.depth; zeros = half_of target.bits target.active bucket 0; made = record { depth = header.depth + 1; dirs = header.dirs }; second = second; phase = SplitPhase.OldBucket }) bucket
   stands_over second clean agrees form =
-      let before = agrees_before_make old new q (page.Bucket ones) clean makes agrees in
+      let before = agrees_before_make old new q (Page.Bucket ones) clean makes agrees in
       record {
         zeros = refl;
-        ones = subst (λ (b : BucketFields). Writes (over clean old.own) (over clean new.own) q (page.Bucket b)) ones_is (makes_over old new q (page.Bucket ones) clean makes);
+        ones = subst (λ (b : BucketFields). Writes (over clean old.own) (over clean new.own) q (Page.Bucket b)) ones_is (makes_over old new q (Page.Bucket ones) clean makes);
         doubles = λ _. ap (λ (p : Option Page). record { depth = header.depth + 1; dirs = (header_of p).dirs }) (sym (rest_head target old n header bucket rest clean before));
       }
 
-  pub begins_under_way : (second : List ℕ) → IsUnderWay target new (record { seed = seed_of target; old_page = n; new_page = q; depth = bucket.depth; directory_depth = header.depth; zeros = half_of target.bits target.active bucket 0; made = record { depth = header.depth + 1; dirs = header.dirs }; second = second; phase = at.OldBucket })
+  pub begins_under_way : (second : List ℕ) → IsUnderWay target new (record { seed = seed_of target; old_page = n; new_page = q; depth = bucket.depth; directory_depth = header.depth; zeros = half_of target.bits target.active bucket 0; made = record { depth = header.depth + 1; dirs = header.dirs }; second = second; phase = SplitPhase.OldBucket })
   begins_under_way second = record {
     bounded = rest.bounded;
     rest = old.own;
     splitters = target.active;
     header = header;
     bucket = bucket;
-    keeps = keeps_more target.bits target.active target.root old.seen new.seen old.own (grows_by_make old new q (page.Bucket ones) makes) rest.keeps;
-    head_held = ap is_some (seen_after_make old new q (page.Bucket ones) makes target.root rest.head_held) ∙ rest.head_held;
-    head = reads_after_make old new q (page.Bucket ones) makes target.root rest.head_held ∙ rest.head;
-    old_held = ap is_some (seen_after_make old new q (page.Bucket ones) makes n rest.bucket_held) ∙ rest.bucket_held;
-    exclusive = mode_after_make old new q (page.Bucket ones) makes n rest.bucket_held ∙ rest.exclusive;
-    new_exclusive = exclusive_after_make old new q (page.Bucket ones) makes;
-    doubles = λ e. mode_after_make old new q (page.Bucket ones) makes target.root rest.head_held ∙ doubles e;
+    keeps = keeps_more target.bits target.active target.root old.seen new.seen old.own (grows_by_make old new q (Page.Bucket ones) makes) rest.keeps;
+    head_held = ap is_some (seen_after_make old new q (Page.Bucket ones) makes target.root rest.head_held) ∙ rest.head_held;
+    head = reads_after_make old new q (Page.Bucket ones) makes target.root rest.head_held ∙ rest.head;
+    old_held = ap is_some (seen_after_make old new q (Page.Bucket ones) makes n rest.bucket_held) ∙ rest.bucket_held;
+    exclusive = mode_after_make old new q (Page.Bucket ones) makes n rest.bucket_held ∙ rest.exclusive;
+    new_exclusive = exclusive_after_make old new q (Page.Bucket ones) makes;
+    doubles = λ e. mode_after_make old new q (Page.Bucket ones) makes target.root rest.head_held ∙ doubles e;
     fewer = λ i k. k;
     absent = rest.absent;
     no_ghost = rest.no_ghost;
@@ -109,17 +97,17 @@ module _ (target : SplitTarget) (old new : View) (n q : ℕ) (ones : BucketField
   }
 
 -- what is read of the walk's file at rest
-pub rest_as_read : (target : SplitTarget) (view : View) (n : ℕ) (header read_header : HeadFields) (bucket read : BucketFields) → IsAtRest target view n header bucket → held_page view target.root ≡ Some (page.Head read_header) → held_page view n ≡ Some (page.Bucket read) → IsAtRest target view n read_header read
+pub rest_as_read : (target : SplitTarget) (view : View) (n : ℕ) (header read_header : HeadFields) (bucket read : BucketFields) → IsAtRest target view n header bucket → held_page view target.root ≡ Some (Page.Head read_header) → held_page view n ≡ Some (Page.Bucket read) → IsAtRest target view n read_header read
 rest_as_read target view n header read_header bucket read rest head found =
     let h = same_header view target.root header read_header rest.head head in
     let b = same_bucket view n bucket read rest.found found in
     subst (λ (p : HeadFields × BucketFields). IsAtRest target view n p.0 p.1) (λ i. (h i, b i)) rest
 
 pub begun : (target : SplitTarget) (old new : View) (n q seed : ℕ) (header : HeadFields) (bucket zeros ones : BucketFields) (second : List ℕ) → MayBegin target old n
-    → held_page old target.root ≡ Some (page.Head header) → held_page old n ≡ Some (page.Bucket bucket)
+    → held_page old target.root ≡ Some (Page.Head header) → held_page old n ≡ Some (Page.Bucket bucket)
     → seed ≡ seed_of target → zeros ≡ half_of target.bits target.active bucket 0 → ones ≡ half_of target.bits target.active bucket 1
-    → MakesPage old new q (page.Bucket ones)
-    → IsUnderWay target new (record { seed = seed; old_page = n; new_page = q; depth = bucket.depth; directory_depth = header.depth; zeros = zeros; made = record { depth = header.depth + 1; dirs = header.dirs }; second = second; phase = at.OldBucket })
+    → MakesPage old new q (Page.Bucket ones)
+    → IsUnderWay target new (record { seed = seed; old_page = n; new_page = q; depth = bucket.depth; directory_depth = header.depth; zeros = zeros; made = record { depth = header.depth + 1; dirs = header.dirs }; second = second; phase = SplitPhase.OldBucket })
 begun target old new n q seed header bucket zeros ones second begin head found seed_is zeros_is ones_is makes =
     let h = same_header old target.root begin.header header begin.rest.head head in
     let b = same_bucket old n begin.bucket bucket begin.rest.found found in
@@ -127,23 +115,23 @@ begun target old new n q seed header bucket zeros ones second begin head found s
     let shallow = subst (λ (c : BucketFields). c.depth < target.room_depth) b begin.shallow in
     let doubles = subst (λ (p : HeadFields × BucketFields). p.1.depth ≡ p.0.depth → map.get old.modes target.root ≡ Some Exclusive) (λ i. (h i, b i)) begin.doubles in
     let way = begins_under_way target old new n q ones header bucket rest shallow doubles makes ones_is second in
-    subst (λ (p : ℕ × BucketFields). IsUnderWay target new (record { seed = p.0; old_page = n; new_page = q; depth = bucket.depth; directory_depth = header.depth; zeros = p.1; made = record { depth = header.depth + 1; dirs = header.dirs }; second = second; phase = at.OldBucket })) (λ i. (sym seed_is i, sym zeros_is i)) way
+    subst (λ (p : ℕ × BucketFields). IsUnderWay target new (record { seed = p.0; old_page = n; new_page = q; depth = bucket.depth; directory_depth = header.depth; zeros = p.1; made = record { depth = header.depth + 1; dirs = header.dirs }; second = second; phase = SplitPhase.OldBucket })) (λ i. (sym seed_is i, sym zeros_is i)) way
 
 -- the halves that are made are those of the bucket that was found
 pub halves_made : (target : SplitTarget) (old new : LocalState) (n : ℕ) (read seen ones : BucketFields) (split : SplitFields)
-    → held_page (view_over target.before old) n ≡ Some (page.Bucket read) → held_page (view_over target.before old) n ≡ Some (page.Bucket seen)
+    → held_page (view_over target.before old) n ≡ Some (Page.Bucket read) → held_page (view_over target.before old) n ≡ Some (Page.Bucket seen)
     → split.zeros ≡ half_of target.bits target.active read 0 → ones ≡ half_of target.bits target.active read 1
-    → MakesLockedPage old new split.new_page (page.Bucket ones) → HasHalves target new.store.pages seen split
+    → MakesLockedPage old new split.new_page (Page.Bucket ones) → HasHalves target new.store.pages seen split
 halves_made target old new n read seen ones split found at zeros_is ones_is makes =
     let same : read ≡ seen = same_bucket (view_over target.before old) n read seen found at in
-    let pages : new.store.pages ≡ map.insert old.store.pages split.new_page (page.Bucket ones) = ap (λ (s : PageStore). s.pages) makes.store in
+    let pages : new.store.pages ≡ map.insert old.store.pages split.new_page (Page.Bucket ones) = ap (λ (s : PageStore). s.pages) makes.store in
     record {
       zeros = zeros_is ∙ ap (λ b. half_of target.bits target.active b 0) same;
-      ones = ap (λ (all : Pages). page_at all split.new_page) pages ∙ page_inserted old.store.pages split.new_page (page.Bucket ones)
-          ∙ ap (λ b. Some (page.Bucket b)) (ones_is ∙ ap (λ b. half_of target.bits target.active b 1) same);
+      ones = ap (λ (all : Pages). page_at all split.new_page) pages ∙ page_inserted old.store.pages split.new_page (Page.Bucket ones)
+          ∙ ap (λ b. Some (Page.Bucket b)) (ones_is ∙ ap (λ b. half_of target.bits target.active b 1) same);
     }
 
 -- the depth of a file's header, with one more, is small
-pub deeper_fits : (target : SplitTarget) (view : View) (n : ℕ) (header : HeadFields) → HasClean target view → MayBegin target view n → held_page view target.root ≡ Some (page.Head header) → header.depth ≤ 16
+pub deeper_fits : (target : SplitTarget) (view : View) (n : ℕ) (header : HeadFields) → HasClean target view → MayBegin target view n → held_page view target.root ≡ Some (Page.Head header) → header.depth ≤ 16
 deeper_fits target view n header w begin head =
     rest_is_small target view n header begin.bucket (rest_as_read target view n begin.header header begin.bucket begin.bucket begin.rest head begin.rest.found) w

@@ -1,35 +1,22 @@
 -- The end of a split: what the last written page leaves is a file at rest
-use Rattle.std.proofs.Common.{ℕ, ◌≡◌, ◌<◌, ◌≤◌, ◌+◌, ◌-◌, ◌*◌, ◌%◌, ◌^◌, ◌==◌, true, false, cond, is_some, unwrap_or, Bool, List, length, map, Option, Some, None, refl, sym, ◌∙◌, ap, subst, inl, inr, arith}
-use Rattle.std.specs.Prelude.{if◌then◌else◌, slice_index_or}
-use Rattle.std.specs.Ordering.{nat_cmp}
+use Rattle.std.proofs.Common.{ℕ, ◌≡◌, ◌<◌, ◌≤◌, ◌+◌, ◌-◌, ◌*◌, ◌%◌, ◌^◌, ◌==◌, true, false, cond, is_some, unwrap_or, Bool, List, length, map, Option, Some, None, refl, sym, ◌∙◌, ap, subst, inl, inr, arith, if◌then◌else◌, slice_index_or, nat_cmp, eq-eqb, ne_eqb, eqb-true}
 use Rattle.std.specs.FinMap as finmap
 use Rattle.std.specs.FinSet as set
-use Rattle.std.proofs.lemmas.Bool.{both_ways, cases_Bool, cond-true, cond-false, eq-eqb, ne_eqb, eqb-true}
+use Rattle.mlt_hash_split.proofs.Names.{both_ways, cond-true, cond-false, Exclusive, bit_at, first_bits, half, is_kept, Free, BucketFields, HeadFields, Page, half_of, HasForm, Writes, bucket_of, buckets_of, depth_of, dirs_of, entry, header_of, lead_of, Agrees, KeepsFile, over, own_or_clean, IsMidway, run_length, run_start, target_of, bucket_split, first_bits-first_bits, View, SplitTarget, HoldsAmong, IsAtRest, held_page, most_held, seed_of, Begins, SplitFields}
+use Rattle.std.proofs.lemmas.Bool.{cases_Bool}
 use Rattle.std.proofs.Math.ListN.{get_or-map}
-use Rattle.mlt_types.specs.declared.mode.Mode.TheVariants.{Exclusive}
-use Rattle.mlt_page.specs.Bits.{bit_at, first_bits}
-use Rattle.mlt_page.specs.Slots.{half, is_ghost_of, is_kept, is_live_of}
+use Rattle.mlt_page.specs.Slots.{is_ghost_of, is_live_of}
 use Rattle.mlt_page.specs.declared.slot.Slot.{Slot}
-use Rattle.mlt_page.specs.declared.slot.Slot.TheVariants.{Free}
-use Rattle.mlt_page.specs.Values.{BucketFields, HeadFields}
-use Rattle.mlt_page.specs.declared.page.Page.{Page}
-use Rattle.mlt_page.specs.declared.page.Page.TheVariants as page
-use Rattle.mlt_hash_form.specs.Form.{half_of}
-use Rattle.mlt_hash_form.specs.File.{HasForm, Writes, bucket_of, buckets_of, depth_of, dirs_of, entries_of, entry, header_of, lead_of}
+use Rattle.mlt_hash_form.specs.File.{entries_of}
 use Rattle.mlt_hash_form.specs.Changes.{IsSplit, MaySplit}
-use Rattle.mlt_hash_form.specs.Held.{Agrees, KeepsFile, over, own_or_clean}
 use Rattle.mlt_hash_form.specs.Room.{is_crowded}
-use Rattle.mlt_hash_form.specs.Splits.{IsMidway, run_length, run_start, target_of, bucket_split}
-use Rattle.mlt_hash_form.proofs.Bits.{first_bits-first_bits, first_bits_below, first_bits_next, side_cases}
+use Rattle.mlt_hash_form.proofs.Bits.{first_bits_below, first_bits_next, side_cases}
 use Rattle.mlt_hash_form.proofs.Crowd.{crowded_half}
 use Rattle.mlt_hash_form.proofs.FillEnds.{filled_reads, place_all}
 use Rattle.mlt_hash_form.proofs.HeldPages.{split_keeps}
 use Rattle.mlt_hash_form.proofs.Midway.{fill_beside}
 use Rattle.mlt_hash_form.proofs.Splitting.{half_cases}
 use Rattle.mlt_hash_form.proofs.SplitSteps.{closes_by_header, closes_in_place}
-use Rattle.mlt_hash_access.specs.Views.{View}
-use Rattle.mlt_hash_split.specs.Rests.{SplitTarget, HoldsAmong, IsAtRest, held_page, most_held, seed_of}
-use Rattle.mlt_hash_split.specs.Splits.{Begins, SplitFields}
 
 -- the page of the half that the pseudokey x goes to, where the bucket of this depth is split
 abbrev pub half_page : ℕ → ℕ → ℕ → ℕ → ℕ
@@ -38,8 +25,8 @@ half_page depth x n new = if bit_at depth x == 1 then new else n
 -- what the last page of a split leaves: the split, its two halves, and where its pseudokey leads
 pub record IsClosed (bits : ℕ → ℕ) (splitters : set.FinSet nat_cmp) (base pages : ℕ → Option Page) (root n new x : ℕ) : Type 0 where
   pub split : IsSplit bits splitters base pages root n new
-  pub zeros : pages n ≡ Some (page.Bucket (half_of bits splitters (buckets_of base n) 0))
-  pub ones : pages new ≡ Some (page.Bucket (half_of bits splitters (buckets_of base n) 1))
+  pub zeros : pages n ≡ Some (Page.Bucket (half_of bits splitters (buckets_of base n) 0))
+  pub ones : pages new ≡ Some (Page.Bucket (half_of bits splitters (buckets_of base n) 1))
   pub leads : lead_of pages root x ≡ half_page (buckets_of base n).depth x n new
 
 -- the bit behind the first l bits says which of two prefixes of l + 1 bits a pseudokey has
@@ -80,13 +67,13 @@ module _ (bits : ℕ → ℕ) (splitters : set.FinSet nat_cmp) (base : ℕ → O
 
   -- and the header that of a doubled directory
   pub closed_by_header : (pages pages' : ℕ → Option Page) (k : ℕ) (header : HeadFields) → IsMidway (bucket_split bits splitters base root n new x) header.depth pages header.dirs (2 ^ (header.depth - 8)) k
-      → header.depth ≤ 16 → depth_of base root ≤ header.depth → (buckets_of base n).depth < header.depth → Writes pages pages' root (page.Head header)
+      → header.depth ≤ 16 → depth_of base root ≤ header.depth → (buckets_of base n).depth < header.depth → Writes pages pages' root (Page.Head header)
       → IsClosed bits splitters base pages' root n new x
   closed_by_header pages pages' k header m small deeper room writes =
-      let root_is : pages root ≡ Some (page.Head (header_of (base root))) = m.header ∙ may.form.head in
+      let root_is : pages root ≡ Some (Page.Head (header_of (base root))) = m.header ∙ may.form.head in
       let not_dir : length (entries_of (pages root)) ≡ 256 → ⊥ = λ e. let at = rw root_is at e in omega (arith, at) in
-      let not_root : (o : ℕ) (c : BucketFields) → pages o ≡ Some (page.Bucket c) → o ≡ root → ⊥ = λ o c e f. let q : Some (page.Head (header_of (base root))) ≡ Some (page.Bucket c) = sym root_is ∙ ap pages (sym f) ∙ e in cc in
-      let f = fill_beside pages pages' header.dirs _ _ _ _ k _ root (page.Head header) m.filling writes not_dir in
+      let not_root : (o : ℕ) (c : BucketFields) → pages o ≡ Some (Page.Bucket c) → o ≡ root → ⊥ = λ o c e f. let q : Some (Page.Head (header_of (base root))) ≡ Some (Page.Bucket c) = sym root_is ∙ ap pages (sym f) ∙ e in cc in
+      let f = fill_beside pages pages' header.dirs _ _ _ _ k _ root (Page.Head header) m.filling writes not_dir in
       let reads : (i : ℕ) → i < 2 ^ header.depth → entry pages' header.dirs i ≡ target_of base root n new x header.depth i = filled_reads pages' _ _ _ _ header.depth k _ f in
       let leads = target_leads base pages' root n new x header.depth header.dirs may.pseudokey small deeper room may.leads reads in
       record {
@@ -101,7 +88,7 @@ pub record HasClosed (target : SplitTarget) (view : View) (rest : ℕ → Option
   pub bounded : (k : ℕ) → target.bits k < 2 ^ 64
   pub keeps : KeepsFile target.bits target.active target.root view.seen rest
   pub head_held : is_some (view.seen target.root) ≡ true
-  pub head : held_page view target.root ≡ Some (page.Head header)
+  pub head : held_page view target.root ≡ Some (Page.Head header)
   pub old_held : is_some (view.seen split.old_page) ≡ true
   pub new_held : is_some (view.seen split.new_page) ≡ true
   pub old_exclusive : finmap.get view.modes split.old_page ≡ Some Exclusive
@@ -178,7 +165,7 @@ module _ (target : SplitTarget) (view : View) (rest : ℕ → Option Page) (spli
       (done.closed clean agrees form).leads ∙ (λ i. half_page ((ap (λ (c : BucketFields). c.depth) is ∙ b.depth) i) (sym b.seed i) split.old_page split.new_page)
 
   abbrev Reads : ℕ → ℕ → Type 0
-  Reads q bit = held_page view q ≡ Some (page.Bucket (half_of target.bits splitters bucket bit))
+  Reads q bit = held_page view q ≡ Some (Page.Bucket (half_of target.bits splitters bucket bit))
 
   found' : Reads here side
   found' =
@@ -186,8 +173,8 @@ module _ (target : SplitTarget) (view : View) (rest : ℕ → Option Page) (spli
       let c = done.closed w.clean w.agrees w.form in
       let is = bucket_is w.clean w.agrees w.form in
       of_half_page Reads split.depth split.seed split.old_page split.new_page
-      (held_page_over view w.clean split.old_page w.agrees done.old_held ∙ c.zeros ∙ ap (λ b. Some (page.Bucket (half_of target.bits splitters b 0))) is)
-      (held_page_over view w.clean split.new_page w.agrees done.new_held ∙ c.ones ∙ ap (λ b. Some (page.Bucket (half_of target.bits splitters b 1))) is)
+      (held_page_over view w.clean split.old_page w.agrees done.old_held ∙ c.zeros ∙ ap (λ b. Some (Page.Bucket (half_of target.bits splitters b 0))) is)
+      (held_page_over view w.clean split.new_page w.agrees done.new_held ∙ c.ones ∙ ap (λ b. Some (Page.Bucket (half_of target.bits splitters b 1))) is)
 
   -- **The last page of a split leaves the walk's file at rest, on the page of the key's half.**
   pub closes : IsAtRest target view here header (half_of target.bits splitters bucket side)

@@ -1,16 +1,8 @@
 -- How many pages a walk holds that splits
-use Rattle.std.proofs.Common.{ℕ, ◌<◌, ◌≤◌, ◌+◌, ◌-◌, ◌^◌, List, Option, arith}
-use Rattle.std.specs.Ordering.{nat_cmp}
+use Rattle.std.proofs.Common.{ℕ, ◌<◌, ◌≤◌, ◌+◌, ◌-◌, ◌^◌, List, Option, arith, nat_cmp}
 use Rattle.std.specs.FinMap as map
 use Rattle.std.specs.FinSet as set
-use Rattle.mlt_page.specs.Values.{BucketFields, HeadFields}
-use Rattle.mlt_page.specs.declared.page.Page.{Page}
-use Rattle.mlt_hash_form.specs.Held.{over}
-use Rattle.mlt_hash_access.specs.Views.{View}
-use Rattle.mlt_hash_split.specs.Rests.{SplitTarget, IsAtRest, most_held}
-use Rattle.mlt_hash_split.specs.Splits.{HoldsAmongAt, IsUnderWay, SplitFields, StandsAt}
-use Rattle.mlt_hash_split.specs.declared.phase.SplitPhase.{SplitPhase}
-use Rattle.mlt_hash_split.specs.declared.phase.SplitPhase.TheVariants as at
+use Rattle.mlt_hash_split.proofs.Names.{BucketFields, HeadFields, Page, over, View, SplitTarget, IsAtRest, most_held, HoldsAmongAt, IsUnderWay, SplitFields, StandsAt, SplitPhase}
 use Rattle.mlt_hash_split.proofs.Among.{few_are_held, most_is_small}
 use Rattle.mlt_hash_split.proofs.Beginning.{rest_is_shallow, rest_is_small}
 use Rattle.mlt_hash_split.proofs.Closing.{HasClean}
@@ -27,21 +19,21 @@ rest_holds_few target view n header bucket w rest =
 
 few_at : (phase : SplitPhase) (target : SplitTarget) (splitters : set.FinSet nat_cmp) (base pages : ℕ → Option Page) (split : SplitFields) (bucket : BucketFields) (view : View) (dirs : List ℕ) → split.depth < 16 → split.directory_depth ≤ 16 → target.held_before ≤ 17
     → StandsAt phase target splitters base pages split bucket → HoldsAmongAt phase target.held_before view dirs split → map.len view.modes < 300
-few_at at.OldBucket target splitters base pages split bucket view dirs deep small before stands among = let few = few_are_held view _ _ _ _ _ _ among in omega (arith, few, most_is_small target.held_before (split.depth + 1) split.directory_depth before (omega (arith, deep)) small)
-few_at (at.InPlace place end) target splitters base pages split bucket view dirs deep small before stands among = let few = few_are_held view _ _ _ _ _ _ among in omega (arith, few, most_is_small target.held_before (split.depth + 1) split.directory_depth before (omega (arith, deep)) small)
-few_at (at.Double place) target splitters base pages split bucket view dirs deep small before stands among =
+few_at SplitPhase.OldBucket target splitters base pages split bucket view dirs deep small before stands among = let few = few_are_held view _ _ _ _ _ _ among in omega (arith, few, most_is_small target.held_before (split.depth + 1) split.directory_depth before (omega (arith, deep)) small)
+few_at (SplitPhase.InPlace place end) target splitters base pages split bucket view dirs deep small before stands among = let few = few_are_held view _ _ _ _ _ _ among in omega (arith, few, most_is_small target.held_before (split.depth + 1) split.directory_depth before (omega (arith, deep)) small)
+few_at (SplitPhase.Double place) target splitters base pages split bucket view dirs deep small before stands among =
     let few = few_are_held view _ _ _ _ _ _ among in
     let same = stands.deep in
     let more = stands.more in
     let lower : split.directory_depth < 16 = omega (arith, deep, same) in
     omega (arith, few, deep, more, before, half_pages split.directory_depth lower)
-few_at (at.SecondHalf place) target splitters base pages split bucket view dirs deep small before stands among =
+few_at (SplitPhase.SecondHalf place) target splitters base pages split bucket view dirs deep small before stands among =
     let few = few_are_held view _ _ _ _ _ _ among in
     let same = stands.deep in
     let more = stands.more in
     let lower : split.directory_depth < 16 = omega (arith, deep, same) in
     omega (arith, few, deep, more, before, half_pages split.directory_depth lower)
-few_at at.Header target splitters base pages split bucket view dirs deep small before stands among =
+few_at SplitPhase.Header target splitters base pages split bucket view dirs deep small before stands among =
     let few = few_are_held view _ _ _ _ _ _ among in
     let same = stands.deep in
     let deeper = stands.deeper in

@@ -1,42 +1,24 @@
 -- The header of the doubled directory is written, which closes the split
-use Rattle.std.proofs.Common.{◌≡◌, ℕ, ◌+◌, ◌<◌, true, Option, None, Some, is_some, unwrap_or, sym, ap, subst, ◌∙◌, arith}
+use Rattle.std.proofs.Common.{◌≡◌, ℕ, ◌+◌, ◌<◌, true, Option, None, Some, is_some, unwrap_or, sym, ap, subst, ◌∙◌, arith, ◌==◌, if◌then◌else◌}
 use Rattle.std.specs.FinMap as map
-use Rattle.std.specs.Prelude.{◌==◌, if◌then◌else◌}
-use Rattle.mlt_types.specs.declared.mode.Mode.TheVariants.{Exclusive}
-use Rattle.mlt_page.specs.Bits.{bit_at}
-use Rattle.mlt_page.specs.declared.page.Page.{Page}
-use Rattle.mlt_page.specs.declared.page.Page.TheVariants as page
-use Rattle.mlt_page_locks.specs.LockTables.{Modes, can_write}
-use Rattle.mlt_hash_form.specs.File.{HasForm, buckets_of, bucket_of}
-use Rattle.mlt_hash_form.specs.Form.{half_of}
-use Rattle.mlt_hash_form.specs.Held.{Agrees, over, own_or_clean}
-use Rattle.mlt_hash_form.proofs.HeldPages.{keeps_more}
-use Rattle.mlt_hash_access.specs.LocalStates.{MayStep, LocalState}
-use Rattle.mlt_hash_access.specs.Views.{WritesPage, view_over}
-use Rattle.mlt_hash_access.proofs.Since.{seen_over_held}
-use Rattle.mlt_hash_split.specs.Rests.{SplitTarget, IsAtRest, seed_of}
-use Rattle.mlt_hash_split.specs.Splits.{HoldsAmongAt, IsUnderWay, SplitFields, StandsAt, steps_left, steps_left_at}
-use Rattle.mlt_hash_split.specs.Tells.{Rests}
-use Rattle.mlt_hash_split.specs.declared.phase.SplitPhase.{SplitPhase}
-use Rattle.mlt_hash_split.specs.declared.phase.SplitPhase.TheVariants as at
+use Rattle.mlt_hash_split.proofs.Names.{Exclusive, bit_at, Page, Modes, can_write, HasForm, buckets_of, bucket_of, half_of, Agrees, over, own_or_clean, keeps_more, MayStep, LocalState, WritesPage, view_over, seen_over_held, SplitTarget, IsAtRest, seed_of, HoldsAmongAt, IsUnderWay, SplitFields, StandsAt, steps_left, steps_left_at, Rests, SplitPhase, agrees_through_write, may_write, writes_over_clean}
 use Rattle.mlt_hash_split.proofs.Closing.{HasClean, HasClosed, IsClosed, closed_by_header, closes}
 use Rattle.mlt_hash_split.proofs.Later.{begins_now, stands_now}
-use Rattle.mlt_hash_access.proofs.Views.{agrees_through_write, may_write, writes_over_clean}
 
 -- the header may be written, and the depths are in their ranges
-module _ (target : SplitTarget) (m : LocalState) (split : SplitFields) (phase : split.phase ≡ at.Header) (may : MayStep m) (file : HasClean target (view_over target.before m)) (under : IsUnderWay target (view_over target.before m) split) where
+module _ (target : SplitTarget) (m : LocalState) (split : SplitFields) (phase : split.phase ≡ SplitPhase.Header) (may : MayStep m) (file : HasClean target (view_over target.before m)) (under : IsUnderWay target (view_over target.before m) split) where
   pub depth_of_header : (split.depth < 16) × (split.depth ≡ split.directory_depth) × (split.made.depth ≡ split.directory_depth + 1)
   depth_of_header =
       let begins = begins_now target m split may file under in
-      let stands = stands_now target m split at.Header phase may file under in
+      let stands = stands_now target m split SplitPhase.Header phase may file under in
       (omega (arith, begins.deep, under.small), stands.deep, stands.deeper)
 
   pub header_may_be_written : can_write m.locks m.running.tx target.root ≡ true
   header_may_be_written = may_write m target.root (under.doubles depth_of_header.1)
 
-module _ (target : SplitTarget) (old new : LocalState) (split : SplitFields) (phase : split.phase ≡ at.Header) (under : IsUnderWay target (view_over target.before old) split) (depth : (split.depth < 16) × (split.depth ≡ split.directory_depth) × (split.made.depth ≡ split.directory_depth + 1)) (writes : WritesPage (view_over target.before old) (view_over target.before new) target.root (page.Head split.made)) where
+module _ (target : SplitTarget) (old new : LocalState) (split : SplitFields) (phase : split.phase ≡ SplitPhase.Header) (under : IsUnderWay target (view_over target.before old) split) (depth : (split.depth < 16) × (split.depth ≡ split.directory_depth) × (split.made.depth ≡ split.directory_depth + 1)) (writes : WritesPage (view_over target.before old) (view_over target.before new) target.root (Page.Head split.made)) where
   before : (clean : ℕ → Option Page) → Agrees (view_over target.before new).seen clean → Agrees (view_over target.before old).seen clean
-  before clean = (agrees_through_write (view_over target.before old) (view_over target.before new) target.root (page.Head split.made) clean writes).1
+  before clean = (agrees_through_write (view_over target.before old) (view_over target.before new) target.root (Page.Head split.made) clean writes).1
 
   held_as_before : (q : ℕ) → is_some ((view_over target.before old).seen q) ≡ true → is_some ((view_over target.before new).seen q) ≡ true
   held_as_before q held = ap is_some (writes.seen q) ∙ held
@@ -51,7 +33,7 @@ module _ (target : SplitTarget) (old new : LocalState) (split : SplitFields) (ph
       let bucket : (buckets_of (over clean under.rest) split.old_page).depth ≡ split.depth = ap (λ (p : Option Page). (bucket_of p).depth) begins.was ∙ begins.depth in
       closed_by_header target.bits under.splitters (over clean under.rest) target.root split.old_page split.new_page (seed_of target) begins.may (over clean (view_over target.before old).own) (over clean (view_over target.before new).own) stands.taken split.made stands.filled
       (omega (arith, depth.0, depth.1, depth.2)) (omega (arith, begins.directory_depth, depth.2)) (omega (arith, bucket, depth.1, depth.2))
-      (writes_over_clean (view_over target.before old) (view_over target.before new) target.root (page.Head split.made) clean writes)
+      (writes_over_clean (view_over target.before old) (view_over target.before new) target.root (Page.Head split.made) clean writes)
 
   -- with the header written, the split is closed over the pages that the walk holds
   pub header_closes : HasClosed target (view_over target.before new) under.rest under.splitters split split.made under.bucket
@@ -84,8 +66,8 @@ module _ (target : SplitTarget) (old new : LocalState) (split : SplitFields) (ph
       }
 
 -- **The walk's file is at rest once the header is written.**
-pub rests_at_header : (target : SplitTarget) (old new : LocalState) (split : SplitFields) (n : ℕ) → split.phase ≡ at.Header → MayStep old → HasClean target (view_over target.before old) → IsUnderWay target (view_over target.before old) split
-    → WritesPage (view_over target.before old) (view_over target.before new) target.root (page.Head split.made) → n ≡ (if bit_at split.depth split.seed == 1 then split.new_page else split.old_page)
+pub rests_at_header : (target : SplitTarget) (old new : LocalState) (split : SplitFields) (n : ℕ) → split.phase ≡ SplitPhase.Header → MayStep old → HasClean target (view_over target.before old) → IsUnderWay target (view_over target.before old) split
+    → WritesPage (view_over target.before old) (view_over target.before new) target.root (Page.Head split.made) → n ≡ (if bit_at split.depth split.seed == 1 then split.new_page else split.old_page)
     → Rests target new split n × (steps_left split ≡ 1)
 rests_at_header target old new split n phase may file under writes is =
     let depth = depth_of_header target old split phase may file under in
@@ -93,7 +75,7 @@ rests_at_header target old new split n phase may file under writes is =
     let done = header_closes target old new split phase under depth writes in
     let witness : HasClean target (view_over target.before new) = record {
       clean = file.clean;
-      agrees = (agrees_through_write (view_over target.before old) (view_over target.before new) target.root (page.Head split.made) file.clean writes).0 file.agrees;
+      agrees = (agrees_through_write (view_over target.before old) (view_over target.before new) target.root (Page.Head split.made) file.clean writes).0 file.agrees;
       form = file.form;
     } in (
       record {

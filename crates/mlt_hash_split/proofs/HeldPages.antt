@@ -1,19 +1,10 @@
 -- What the pages that a walk holds read as, and what stays of them from step to step
 use Rattle.std.proofs.Common.{ℕ, ◌≡◌, true, is_some, unwrap_or, Option, Some, None, refl, sym, ◌∙◌, ap, subst}
 use Rattle.std.specs.FinMap as map
-use Rattle.std.proofs.lemmas.Bool.{both_ways}
-use Rattle.mlt_types.specs.declared.mode.Mode.TheVariants.{Exclusive}
-use Rattle.mlt_page.specs.Values.{BucketFields, HeadFields}
-use Rattle.mlt_page.specs.declared.page.Page.{Page}
-use Rattle.mlt_page.specs.declared.page.Page.TheVariants as page
-use Rattle.mlt_page_store.specs.Stores.{page_at}
-use Rattle.mlt_hash_form.specs.File.{FilePages}
-use Rattle.mlt_hash_form.specs.Held.{Agrees, over, own_or_clean}
-use Rattle.mlt_hash_access.specs.LocalStates.{HasFileOver, IsCleanFor, MayStep, LocalState}
-use Rattle.mlt_hash_access.specs.Views.{HasWritten, MakesPage, ReadsHeldPage, View, view_of, view_over}
-use Rattle.mlt_hash_access.proofs.Since.{agrees_over, reads_below_writes, reads_over_writes, there_since}
-use Rattle.mlt_hash_split.specs.Rests.{SplitTarget, held_page}
-use Rattle.mlt_hash_access.proofs.Views.{mode_of_others}
+use Rattle.mlt_hash_split.proofs.Names.{both_ways, Exclusive, BucketFields, HeadFields, Page, page_at, FilePages, Agrees, over, own_or_clean, MayStep, LocalState, MakesPage, View, view_of, view_over, reads_over_writes, SplitTarget, held_page, mode_of_others}
+use Rattle.mlt_hash_access.specs.LocalStates.{HasFileOver, IsCleanFor}
+use Rattle.mlt_hash_access.specs.Views.{HasWritten, ReadsHeldPage}
+use Rattle.mlt_hash_access.proofs.Since.{agrees_over, reads_below_writes, there_since}
 use Rattle.mlt_hash_split.proofs.Closing.{HasClean}
 use Rattle.mlt_hash_split.proofs.Later.{exclusive_here}
 
@@ -49,15 +40,15 @@ reads_held before m q p page same written held is =
     subst (λ n. ReadsHeldPage (view_of m) n page) (sym same) (reads_below_writes before m written p page (read_of ((view_over before m).seen p) ((view_over before m).own p) page held is))
 
 -- so the header is held as it was read
-pub header_as_read : (before : FilePages) (m : LocalState) (q root : ℕ) (header : HeadFields) → q ≡ root → HasWritten before (view_of m) → ReadsHeldPage (view_of m) q (page.Head header) → held_page (view_over before m) root ≡ Some (page.Head header)
+pub header_as_read : (before : FilePages) (m : LocalState) (q root : ℕ) (header : HeadFields) → q ≡ root → HasWritten before (view_of m) → ReadsHeldPage (view_of m) q (Page.Head header) → held_page (view_over before m) root ≡ Some (Page.Head header)
 header_as_read before m q root header same written reads =
-    subst (λ n. held_page (view_over before m) n ≡ Some (page.Head header)) same (reads_as (view_over before m) q (Some (page.Head header)) (reads_over_writes before m written q (page.Head header) reads))
+    subst (λ n. held_page (view_over before m) n ≡ Some (Page.Head header)) same (reads_as (view_over before m) q (Some (Page.Head header)) (reads_over_writes before m written q (Page.Head header) reads))
 
-pub same_header : (view : View) (q : ℕ) (old new : HeadFields) → held_page view q ≡ Some (page.Head old) → held_page view q ≡ Some (page.Head new) → old ≡ new
-same_header view q old new is_old is_new = let e : Some (page.Head old) ≡ Some (page.Head new) = sym is_old ∙ is_new in cc
+pub same_header : (view : View) (q : ℕ) (old new : HeadFields) → held_page view q ≡ Some (Page.Head old) → held_page view q ≡ Some (Page.Head new) → old ≡ new
+same_header view q old new is_old is_new = let e : Some (Page.Head old) ≡ Some (Page.Head new) = sym is_old ∙ is_new in cc
 
-pub same_bucket : (view : View) (q : ℕ) (old new : BucketFields) → held_page view q ≡ Some (page.Bucket old) → held_page view q ≡ Some (page.Bucket new) → old ≡ new
-same_bucket view q old new is_old is_new = let e : Some (page.Bucket old) ≡ Some (page.Bucket new) = sym is_old ∙ is_new in cc
+pub same_bucket : (view : View) (q : ℕ) (old new : BucketFields) → held_page view q ≡ Some (Page.Bucket old) → held_page view q ≡ Some (Page.Bucket new) → old ≡ new
+same_bucket view q old new is_old is_new = let e : Some (Page.Bucket old) ≡ Some (Page.Bucket new) = sym is_old ∙ is_new in cc
 
 module _ (old new : View) (q : ℕ) (page : Page) (makes : MakesPage old new q page) where
   -- a page that is held is not the one that is made

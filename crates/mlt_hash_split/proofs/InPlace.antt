@@ -1,36 +1,13 @@
 -- The steps that write a directory in place
-use Rattle.std.proofs.Common.{ℕ, ◌≡◌, ◌<◌, ◌≤◌, ◌+◌, ◌-◌, ◌*◌, ◌^◌, is_some, true, List, length, slice_index, Option, Some, refl, sym, ◌∙◌, ap, subst, arith}
-use Rattle.std.specs.Prelude.{◌⊎◌}
-use Rattle.std.specs.Ordering.{nat_cmp}
+use Rattle.std.proofs.Common.{ℕ, ◌≡◌, ◌<◌, ◌≤◌, ◌+◌, ◌-◌, ◌*◌, ◌^◌, is_some, true, List, length, slice_index, Option, Some, refl, sym, ◌∙◌, ap, subst, arith, ◌⊎◌, nat_cmp}
 use Rattle.std.specs.FinSet as set
-use Rattle.mlt_types.specs.declared.mode.Mode.TheVariants.{Exclusive}
-use Rattle.mlt_page.specs.Bits.{first_bits}
-use Rattle.mlt_page.specs.Values.{BucketFields, HeadFields}
-use Rattle.mlt_page.specs.declared.page.Page.{Page}
-use Rattle.mlt_page.specs.declared.page.Page.TheVariants as page
-use Rattle.mlt_page_store.specs.Stores.{page_at}
-use Rattle.mlt_page_locks.specs.LockTables.{page_count}
-use Rattle.mlt_hash_form.specs.File.{HasForm, Writes, bucket_of, buckets_of, depth_of, dirs_of, entry, header_of}
-use Rattle.mlt_hash_form.specs.Held.{Agrees, over, own_or_clean}
-use Rattle.mlt_hash_form.specs.Form.{half_of}
-use Rattle.mlt_page.specs.Bits.{bit_at}
-use Rattle.mlt_hash_form.specs.Splits.{HasNewPlaces, IsMidway, run_length, run_start, target_of, bucket_split}
-use Rattle.mlt_hash_form.proofs.HeldPages.{keeps_more}
+use Rattle.mlt_hash_split.proofs.Names.{Exclusive, first_bits, BucketFields, HeadFields, Page, page_at, page_count, HasForm, Writes, bucket_of, buckets_of, depth_of, dirs_of, entry, header_of, Agrees, over, own_or_clean, half_of, bit_at, IsMidway, run_length, run_start, target_of, bucket_split, keeps_more, page_as_it_was, rewrites_a_page, MayStep, LocalState, ReadsPage, View, WritesPage, view_over, view_of, seen_over_held, SplitTarget, HoldsAmong, IsAtRest, IsIn, held_page, most_held, seed_of, Begins, HoldsAmongAt, IsInPlace, IsUnderWay, SplitFields, StandsAt, steps_left, steps_left_at, GoesOn, Rests, SplitPhase, reads_over}
+use Rattle.mlt_hash_form.specs.Splits.{HasNewPlaces}
 use Rattle.mlt_hash_form.proofs.PageContents.{placed_right}
-use Rattle.mlt_hash_form.proofs.SplitSteps.{page_as_it_was, rewrites_a_page}
-use Rattle.mlt_hash_access.specs.LocalStates.{MayStep, LocalState}
-use Rattle.mlt_hash_access.specs.Views.{ReadsPage, View, WritesPage, view_over, view_of}
-use Rattle.mlt_hash_access.proofs.Since.{seen_over_held}
-use Rattle.mlt_hash_split.specs.Rests.{SplitTarget, HoldsAmong, IsAtRest, IsIn, held_page, most_held, seed_of}
-use Rattle.mlt_hash_split.specs.Splits.{Begins, HoldsAmongAt, IsInPlace, IsUnderWay, SplitFields, StandsAt, steps_left, steps_left_at}
-use Rattle.mlt_hash_split.specs.Tells.{GoesOn, Rests}
-use Rattle.mlt_hash_split.specs.declared.phase.SplitPhase.{SplitPhase}
-use Rattle.mlt_hash_split.specs.declared.phase.SplitPhase.TheVariants as at
 use Rattle.mlt_hash_split.proofs.Among.{among_after_lock, count_is_few, few_pages, most_is_small}
 use Rattle.mlt_hash_split.proofs.Closing.{HasClean, HasClosed, IsClosed, closed_in_place, closes, half_page, held_page_over}
 use Rattle.mlt_hash_split.proofs.Later.{IsLater, Rewrites, agreed_before, begins_now, held_still, later_by_rewrite, rewrites, same_head, stands_now, stays_under_way}
 use Rattle.mlt_hash_split.proofs.OldBucket.{depths_are_small}
-use Rattle.mlt_hash_access.proofs.Views.{reads_over}
 
 -- the places that the new bucket gets, in the words of the split
 pub record AreNewPlaces (split : SplitFields) (first count : ℕ) : Type 0 where
@@ -42,7 +19,7 @@ pub record IsMadeInPlace (old made : List ℕ) (place first count bucket : ℕ) 
   pub size : length made ≡ 256
   pub entries : HasNewPlaces old made place first count bucket
 
-module _ (target : SplitTarget) (splitters : set.FinSet nat_cmp) (base pages : ℕ → Option Page) (split : SplitFields) (bucket : BucketFields) (place end : ℕ) (header : HeadFields) (b : Begins target base split bucket) (s : IsInPlace target splitters base pages split place end) (head : pages target.root ≡ Some (page.Head header)) where
+module _ (target : SplitTarget) (splitters : set.FinSet nat_cmp) (base pages : ℕ → Option Page) (split : SplitFields) (bucket : BucketFields) (place end : ℕ) (header : HeadFields) (b : Begins target base split bucket) (s : IsInPlace target splitters base pages split place end) (head : pages target.root ≡ Some (Page.Head header)) where
   header_is : header_of (base target.root) ≡ header
   header_is = ap header_of (sym s.filled.header ∙ head)
 
@@ -54,19 +31,19 @@ module _ (target : SplitTarget) (splitters : set.FinSet nat_cmp) (base pages : �
   listed = subst (λ g. place < 2 ^ (g - 8)) (sym b.directory_depth) (omega (arith, s.more, s.places.within))
 
   -- the next page of the directory is as it was
-  pub next_page : (dir : List ℕ) × (pages (slice_index header.dirs place) ≡ Some (page.Dir dir)) × (length dir ≡ 256) × ((r : ℕ) → r < 256 → slice_index dir r ≡ entry base (dirs_of base target.root) (256 * place + r))
+  pub next_page : (dir : List ℕ) × (pages (slice_index header.dirs place) ≡ Some (Page.Dir dir)) × (length dir ≡ 256) × ((r : ℕ) → r < 256 → slice_index dir r ≡ entry base (dirs_of base target.root) (256 * place + r))
   next_page =
       let p = page_as_it_was target.bits splitters base pages target.root split.old_page split.new_page (seed_of target) split.directory_depth place place place (dirs_of base target.root) s.filled (omega arith) listed in
-      (p.0, subst (λ (h : HeadFields). pages (slice_index h.dirs place) ≡ Some (page.Dir p.0)) header_is p.1, p.2, p.3)
+      (p.0, subst (λ (h : HeadFields). pages (slice_index h.dirs place) ≡ Some (Page.Dir p.0)) header_is p.1, p.2, p.3)
 
   -- which is not the header's
   pub next_is_elsewhere : target.root ≡ slice_index header.dirs place → ⊥
   next_is_elsewhere e =
       let p = next_page in
-      let q : Some (page.Head header) ≡ Some (page.Dir p.0) = sym head ∙ ap pages e ∙ p.1 in
+      let q : Some (Page.Head header) ≡ Some (Page.Dir p.0) = sym head ∙ ap pages e ∙ p.1 in
       cc
 
-  module _ (pages' : ℕ → Option Page) (dir made : List ℕ) (first count : ℕ) (places : AreNewPlaces split first count) (has : IsMadeInPlace dir made place first count split.new_page) (reads : pages (slice_index header.dirs place) ≡ Some (page.Dir dir)) (writes : Writes pages pages' (slice_index header.dirs place) (page.Dir made)) where
+  module _ (pages' : ℕ → Option Page) (dir made : List ℕ) (first count : ℕ) (places : AreNewPlaces split first count) (has : IsMadeInPlace dir made place first count split.new_page) (reads : pages (slice_index header.dirs place) ≡ Some (Page.Dir dir)) (writes : Writes pages pages' (slice_index header.dirs place) (Page.Dir made)) where
     depth_is : split.depth ≡ (buckets_of base split.old_page).depth
     depth_is = sym (ap (λ (p : Option Page). (bucket_of p).depth) b.was ∙ b.depth)
 
@@ -79,7 +56,7 @@ module _ (target : SplitTarget) (splitters : set.FinSet nat_cmp) (base pages : �
     was : (r : ℕ) → r < 256 → slice_index dir r ≡ entry base (dirs_of base target.root) (256 * place + r)
     was r h =
         let p = next_page in
-        let e : Some (page.Dir dir) ≡ Some (page.Dir p.0) = sym reads ∙ p.1 in
+        let e : Some (Page.Dir dir) ≡ Some (Page.Dir p.0) = sym reads ∙ p.1 in
         let same : dir ≡ p.0 = cc in
         ap (λ d. slice_index d r) same ∙ p.3 r h
 
@@ -97,7 +74,7 @@ module _ (target : SplitTarget) (splitters : set.FinSet nat_cmp) (base pages : �
         listed number
 
     -- with this page written the split is one page further
-    pub in_place_further : place + 1 < end → IsInPlace target splitters base pages' (record split { phase = at.InPlace (place + 1) end }) (place + 1) end
+    pub in_place_further : place + 1 < end → IsInPlace target splitters base pages' (record split { phase = SplitPhase.InPlace (place + 1) end }) (place + 1) end
     in_place_further more = record {
       shallow = s.shallow;
       filled = subst (λ g. IsMidway (bucket_split target.bits splitters base target.root split.old_page split.new_page (seed_of target)) g pages' (dirs_of base target.root) (place + 1) (place + 1)) b.directory_depth filled_in_base;
@@ -115,17 +92,17 @@ module _ (target : SplitTarget) (splitters : set.FinSet nat_cmp) (base pages : �
         (subst (λ e. run_start base target.root split.old_page (seed_of target) + run_length base target.root split.old_page ≤ 256 * e) (sym at_end) s.last)
         (subst (λ (p : ℕ × ℕ). p.0 < p.1) (λ i. (depth_is i, sym b.directory_depth i)) s.shallow)
 
-module _ (target : SplitTarget) (m : LocalState) (split : SplitFields) (place end : ℕ) (may : MayStep m) (file : HasClean target (view_over target.before m)) (way : IsUnderWay target (view_over target.before m) split) (at_place : split.phase ≡ at.InPlace place end) where
+module _ (target : SplitTarget) (m : LocalState) (split : SplitFields) (place end : ℕ) (may : MayStep m) (file : HasClean target (view_over target.before m)) (way : IsUnderWay target (view_over target.before m) split) (at_place : split.phase ≡ SplitPhase.InPlace place end) where
   begins_here : Begins target (over file.clean way.rest) split way.bucket
   begins_here = begins_now target m split may file way
 
   stands_here : IsInPlace target way.splitters (over file.clean way.rest) (over file.clean (view_over target.before m).own) split place end
-  stands_here = stands_now target m split (at.InPlace place end) at_place may file way
+  stands_here = stands_now target m split (SplitPhase.InPlace place end) at_place may file way
 
   among_here : HoldsAmong (view_over target.before m) way.header.dirs way.header.dirs 0 (2 ^ (split.directory_depth - 8)) 0 (most_held target.held_before (split.depth + 1) split.directory_depth)
   among_here = subst (λ (p : SplitPhase). HoldsAmongAt p target.held_before (view_over target.before m) way.header.dirs split) at_place way.among
 
-  head_over : (clean : ℕ → Option Page) → Agrees (view_over target.before m).seen clean → over clean (view_over target.before m).own target.root ≡ Some (page.Head way.header)
+  head_over : (clean : ℕ → Option Page) → Agrees (view_over target.before m).seen clean → over clean (view_over target.before m).own target.root ≡ Some (Page.Head way.header)
   head_over clean agrees = sym (held_page_over (view_over target.before m) clean target.root agrees way.head_held) ∙ way.head
 
   pub depths_here : (split.depth < split.directory_depth) × (split.directory_depth ≤ 16)
@@ -152,12 +129,12 @@ module _ (target : SplitTarget) (m : LocalState) (split : SplitFields) (place en
       let d = depths_here in
       count_is_few target.before m way.header.dirs way.header.dirs 0 (2 ^ (split.directory_depth - 8)) 0 (most_held target.held_before (split.depth + 1) split.directory_depth) among_here (most_is_small target.held_before (split.depth + 1) split.directory_depth way.few_before (omega (arith, d.0, d.1)) d.1)
 
-  module _ (header : HeadFields) (head : held_page (view_over target.before m) target.root ≡ Some (page.Head header)) (q : ℕ) (number : q ≡ slice_index header.dirs place) where
+  module _ (header : HeadFields) (head : held_page (view_over target.before m) target.root ≡ Some (Page.Head header)) (q : ℕ) (number : q ≡ slice_index header.dirs place) where
     number_is : q ≡ slice_index way.header.dirs place
-    number_is = let e : Some (page.Head header) ≡ Some (page.Head way.header) = sym head ∙ way.head in let same : header ≡ way.header = cc in number ∙ ap (λ (h : HeadFields). slice_index h.dirs place) same
+    number_is = let e : Some (Page.Head header) ≡ Some (Page.Head way.header) = sym head ∙ way.head in let same : header ≡ way.header = cc in number ∙ ap (λ (h : HeadFields). slice_index h.dirs place) same
 
     -- the next page of the directory is there,
-    next_over : (dir : List ℕ) × (over file.clean (view_over target.before m).own q ≡ Some (page.Dir dir))
+    next_over : (dir : List ℕ) × (over file.clean (view_over target.before m).own q ≡ Some (Page.Dir dir))
     next_over =
         let p = next_page target way.splitters (over file.clean way.rest) (over file.clean (view_over target.before m).own) split way.bucket place end way.header begins_here stands_here (head_over file.clean file.agrees) in
         (p.0, ap (over file.clean (view_over target.before m).own) number_is ∙ p.1)
@@ -166,27 +143,27 @@ module _ (target : SplitTarget) (m : LocalState) (split : SplitFields) (place en
     next_is_there there = there q (ap is_some next_over.1)
 
     -- and one of the directory's
-    pub next_is_dir : (mid : View) (read : Option Page) → ReadsPage (view_over target.before m) mid q Exclusive read → Agrees mid.seen file.clean → (dir : List ℕ) × (read ≡ Some (page.Dir dir))
+    pub next_is_dir : (mid : View) (read : Option Page) → ReadsPage (view_over target.before m) mid q Exclusive read → Agrees mid.seen file.clean → (dir : List ℕ) × (read ≡ Some (Page.Dir dir))
     next_is_dir mid read reads agrees = let p = next_over in (p.0, sym (reads_over (view_over target.before m) mid q Exclusive read file.clean reads agrees) ∙ p.1)
 
-    module _ (new : LocalState) (mid : View) (dir made : List ℕ) (first count : ℕ) (places : AreNewPlaces split first count) (has : IsMadeInPlace dir made place first count split.new_page) (reads : ReadsPage (view_over target.before m) mid q Exclusive (Some (page.Dir dir))) (writes : WritesPage mid (view_over target.before new) q (page.Dir made)) where
-      rewritten : Rewrites (view_over target.before m) (view_over target.before new) q (page.Dir made)
-      rewritten = rewrites (view_over target.before m) mid (view_over target.before new) q (Some (page.Dir dir)) (page.Dir made) reads writes
+    module _ (new : LocalState) (mid : View) (dir made : List ℕ) (first count : ℕ) (places : AreNewPlaces split first count) (has : IsMadeInPlace dir made place first count split.new_page) (reads : ReadsPage (view_over target.before m) mid q Exclusive (Some (Page.Dir dir))) (writes : WritesPage mid (view_over target.before new) q (Page.Dir made)) where
+      rewritten : Rewrites (view_over target.before m) (view_over target.before new) q (Page.Dir made)
+      rewritten = rewrites (view_over target.before m) mid (view_over target.before new) q (Some (Page.Dir dir)) (Page.Dir made) reads writes
 
       elsewhere : target.root ≡ q → ⊥
       elsewhere e = next_is_elsewhere target way.splitters (over file.clean way.rest) (over file.clean (view_over target.before m).own) split way.bucket place end way.header begins_here stands_here (head_over file.clean file.agrees) (e ∙ number_is)
 
       later : IsLater target.root (view_over target.before m) (view_over target.before new)
-      later = later_by_rewrite target.root (view_over target.before m) (view_over target.before new) q (page.Dir made) elsewhere rewritten
+      later = later_by_rewrite target.root (view_over target.before m) (view_over target.before new) q (Page.Dir made) elsewhere rewritten
 
       agrees_mid : (clean : ℕ → Option Page) → Agrees (view_over target.before new).seen clean → Agrees mid.seen clean
       agrees_mid clean agrees p first sees = agrees p first (writes.seen p ∙ sees)
 
-      read_over : (clean : ℕ → Option Page) → Agrees (view_over target.before new).seen clean → over clean (view_over target.before m).own (slice_index way.header.dirs place) ≡ Some (page.Dir dir)
-      read_over clean agrees = ap (over clean (view_over target.before m).own) (sym number_is) ∙ reads_over (view_over target.before m) mid q Exclusive (Some (page.Dir dir)) clean reads (agrees_mid clean agrees)
+      read_over : (clean : ℕ → Option Page) → Agrees (view_over target.before new).seen clean → over clean (view_over target.before m).own (slice_index way.header.dirs place) ≡ Some (Page.Dir dir)
+      read_over clean agrees = ap (over clean (view_over target.before m).own) (sym number_is) ∙ reads_over (view_over target.before m) mid q Exclusive (Some (Page.Dir dir)) clean reads (agrees_mid clean agrees)
 
-      written_over : (clean : ℕ → Option Page) → Writes (over clean (view_over target.before m).own) (over clean (view_over target.before new).own) (slice_index way.header.dirs place) (page.Dir made)
-      written_over clean = subst (λ n. Writes (over clean (view_over target.before m).own) (over clean (view_over target.before new).own) n (page.Dir made)) number_is (record {
+      written_over : (clean : ℕ → Option Page) → Writes (over clean (view_over target.before m).own) (over clean (view_over target.before new).own) (slice_index way.header.dirs place) (Page.Dir made)
+      written_over clean = subst (λ n. Writes (over clean (view_over target.before m).own) (over clean (view_over target.before new).own) n (Page.Dir made)) number_is (record {
         here = ap (λ o. own_or_clean o (clean q)) rewritten.here;
         others = λ p ne. ap (λ o. own_or_clean o (clean p)) (rewritten.others p ne);
       })
@@ -203,9 +180,9 @@ module _ (target : SplitTarget) (m : LocalState) (split : SplitFields) (place en
           among_after_lock (view_over target.before m) (view_over target.before new) way.header.dirs way.header.dirs 0 (2 ^ (split.directory_depth - 8)) 0 (most_held target.held_before (split.depth + 1) split.directory_depth) a q Exclusive (subst (λ n. IsIn n a.pages) (sym number_is) listed) rewritten.modes
 
       -- **A page that is written in place is a step further,**
-      pub in_place_goes_on : place + 1 < end → GoesOn target new split (record split { phase = at.InPlace (place + 1) end })
+      pub in_place_goes_on : place + 1 < end → GoesOn target new split (record split { phase = SplitPhase.InPlace (place + 1) end })
       in_place_goes_on more = record {
-        under_way = stays_under_way target (view_over target.before m) (view_over target.before new) split split.made split.second (at.InPlace (place + 1) end) way later
+        under_way = stays_under_way target (view_over target.before m) (view_over target.before new) split split.made split.second (SplitPhase.InPlace (place + 1) end) way later
             (λ clean agrees form.
             let before = agreed_before target.root (view_over target.before m) (view_over target.before new) clean later agrees in
             in_place_further target way.splitters (over clean way.rest) (over clean (view_over target.before m).own) split way.bucket place end way.header (way.begins clean before form) (stood clean before form) (head_over clean before) (over clean (view_over target.before new).own) dir made first count places has (read_over clean agrees) (written_over clean) more)

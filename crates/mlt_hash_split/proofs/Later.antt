@@ -1,29 +1,11 @@
 -- What stays of a split under way as its walk locks, writes and makes pages
-use Rattle.std.proofs.Common.{◌≡◌, ℕ, ◌-◌, ◌<◌, ◌≤◌, ◌^◌, true, List, Option, None, Some, is_some, unwrap_or, refl, sym, ap, subst, ◌∙◌, inl, inr, arith}
+use Rattle.std.proofs.Common.{◌≡◌, ℕ, ◌-◌, ◌<◌, ◌≤◌, ◌^◌, true, List, Option, None, Some, is_some, unwrap_or, refl, sym, ap, subst, ◌∙◌, inl, inr, arith, ◌⊎◌, ◌↔◌, Result, Err}
 use Rattle.std.specs.FinMap as map
-use Rattle.mlt_types.specs.declared.mode.Mode.TheVariants.{Exclusive}
-use Rattle.mlt_page.specs.declared.page.Page.{Page}
-use Rattle.mlt_page.specs.Values.{HeadFields}
-use Rattle.mlt_page_locks.specs.LockTables.{Modes, can_write}
-use Rattle.mlt_page_locks.specs.Requests.{with_page}
-use Rattle.mlt_page_locks.proofs.LockLaws.{stronger_exclusive}
-use Rattle.mlt_hash_form.specs.File.{HasForm}
-use Rattle.mlt_hash_form.specs.Held.{Agrees, over, own_or_clean}
-use Rattle.mlt_hash_form.proofs.HeldPages.{keeps_more, seen_as}
-use Rattle.mlt_hash_access.specs.LocalStates.{MayStep, LocalState}
-use Rattle.mlt_hash_access.specs.Views.{MakesPage, ReadsPage, View, WritesPage, view_of, view_over}
+use Rattle.mlt_hash_split.proofs.Names.{Exclusive, Page, HeadFields, Modes, can_write, with_page, stronger_exclusive, HasForm, Agrees, over, own_or_clean, keeps_more, seen_as, MayStep, LocalState, MakesPage, ReadsPage, View, WritesPage, view_of, view_over, SplitTarget, held_page, Begins, HoldsAmongAt, IsUnderWay, SplitFields, StandsAt, IsMaking, SplitPhase, SplitAnswer, pow-le-pow_right, may_write}
 use Rattle.mlt_hash_split.proofs.Closing.{HasClean}
-use Rattle.mlt_hash_split.specs.Rests.{SplitTarget, held_page}
-use Rattle.mlt_hash_split.specs.Splits.{Begins, HoldsAmongAt, IsUnderWay, SplitFields, StandsAt}
-use Rattle.mlt_hash_split.specs.Steps.{IsMaking}
 use Rattle.mlt_hash_split.specs.Tells.{Tells}
-use Rattle.mlt_hash_split.specs.declared.phase.SplitPhase.{SplitPhase}
-use Rattle.mlt_hash_split.specs.declared.split.SplitAnswer.TheVariants as answer
 use Rattle.mlt_types.specs.declared.refusal.Refusal.{Refusal}
-use Rattle.mlt_types.specs.declared.refusal.Refusal.TheVariants as refusal
-use Rattle.std.specs.Prelude.{◌⊎◌, ◌↔◌, Result, Err}
-use Rattle.std.proofs.Math.Nat.{pow-le-pow_right}
-use Rattle.mlt_hash_access.proofs.Views.{exclusive_stays, may_write, mode_of_page}
+use Rattle.mlt_hash_access.proofs.Views.{exclusive_stays, mode_of_page}
 
 -- what was seen is seen still, what was held exclusively is held so, and the header is not written
 pub record IsLater (root : ℕ) (view view' : View) : Type 0 where
@@ -150,11 +132,11 @@ abbrev err : {A : Type 0} → Refusal → Result A Refusal
 err why = Err why
 
 -- why a page was not made, or not written
-pub refused_to_make : {A : Type 0} (target : SplitTarget) (old new : LocalState) (before after : SplitFields) (result : Result A Refusal) (why : Refusal) → IsMaking before.phase → result ≡ Err why → (result ≡ Err refusal.NoRoom) ↔ (map.len old.store.pages ≡ old.store.max_pages) → (why ≡ refusal.NoRoom) ⊎ (why ≡ refusal.OutOfMemory) → Tells target old new before after (answer.Refused why)
+pub refused_to_make : {A : Type 0} (target : SplitTarget) (old new : LocalState) (before after : SplitFields) (result : Result A Refusal) (why : Refusal) → IsMaking before.phase → result ≡ Err why → (result ≡ Err Refusal.NoRoom) ↔ (map.len old.store.pages ≡ old.store.max_pages) → (why ≡ Refusal.NoRoom) ⊎ (why ≡ Refusal.OutOfMemory) → Tells target old new before after (SplitAnswer.Refused why)
 refused_to_make {A} target old new before after result why making is full either =
     elim either [
-      | inl room ↦ subst (λ (w : Refusal). Tells target old new before after (answer.Refused w)) (sym room) (making, full.0 (is ∙ ap (err {A = A}) room))
-      | inr memory ↦ subst (λ (w : Refusal). Tells target old new before after (answer.Refused w)) (sym memory) refl
+      | inl room ↦ subst (λ (w : Refusal). Tells target old new before after (SplitAnswer.Refused w)) (sym room) (making, full.0 (is ∙ ap (err {A = A}) room))
+      | inr memory ↦ subst (λ (w : Refusal). Tells target old new before after (SplitAnswer.Refused w)) (sym memory) refl
     ]
 
 -- a page that was locked exclusively may be written

@@ -1,23 +1,12 @@
 -- What a walk knows of its splits once owners have closed
-use Rattle.std.proofs.Common.{ℕ, ◌≡◌, true, is_some, Option, sym, ◌∙◌, ap, subst, inl, inr}
-use Rattle.std.specs.Prelude.{slice_index_or}
-use Rattle.std.specs.Ordering.{nat_cmp}
+use Rattle.std.proofs.Common.{ℕ, ◌≡◌, true, is_some, Option, sym, ◌∙◌, ap, subst, inl, inr, slice_index_or, nat_cmp}
 use Rattle.std.specs.FinSet as set
-use Rattle.mlt_page.specs.Slots.{is_kept}
-use Rattle.mlt_page.specs.declared.slot.Slot.TheVariants.{Free}
-use Rattle.mlt_page.specs.Values.{BucketFields, HeadFields}
-use Rattle.mlt_page.specs.declared.page.Page.{Page}
+use Rattle.mlt_hash_split.proofs.Names.{is_kept, Free, BucketFields, HeadFields, Page, HasForm, bucket_of, buckets_of, Agrees, KeepsFile, over, seen_as, View, SplitTarget, IsAtRest, seed_of, IsUnderWay, SplitFields, StandsAt, SplitPhase}
 use Rattle.mlt_hash_form.specs.Form.{slot_at}
-use Rattle.mlt_hash_form.specs.File.{HasForm, bucket_of, buckets_of}
-use Rattle.mlt_hash_form.specs.Held.{Agrees, KeepsFile, over}
 use Rattle.mlt_hash_form.proofs.Crowd.{crowded_with_fewer}
-use Rattle.mlt_hash_form.proofs.HeldPages.{keeps_fewer, seen_as}
+use Rattle.mlt_hash_form.proofs.HeldPages.{keeps_fewer}
 use Rattle.mlt_hash_form.proofs.Splitting.{used_from_kept}
-use Rattle.mlt_hash_access.specs.Views.{View}
-use Rattle.mlt_hash_split.specs.Rests.{SplitTarget, IsAtRest, KeepsNoMore, seed_of}
-use Rattle.mlt_hash_split.specs.Splits.{IsUnderWay, SplitFields, StandsAt}
-use Rattle.mlt_hash_split.specs.declared.phase.SplitPhase.{SplitPhase}
-use Rattle.mlt_hash_split.specs.declared.phase.SplitPhase.TheVariants as at
+use Rattle.mlt_hash_split.specs.Rests.{KeepsNoMore}
 use Rattle.mlt_hash_split.proofs.Closing.{held_page_over, not_true}
 
 -- the slots of a held page of the walk's file were on held clean pages, so no more of them are kept than were
@@ -61,11 +50,11 @@ rest_with_fewer target fewer view n header bucket clean agrees form rest no_more
 
 -- where a split stands says nothing of who is open now
 stands_with_fewer : (phase : SplitPhase) (target : SplitTarget) (fewer splitters : set.FinSet nat_cmp) (base pages : ℕ → Option Page) (split : SplitFields) (bucket : BucketFields) → StandsAt phase target splitters base pages split bucket → StandsAt phase (record target { active = fewer }) splitters base pages split bucket
-stands_with_fewer at.OldBucket target fewer splitters base pages split bucket s = record { zeros = s.zeros; ones = s.ones; doubles = s.doubles }
-stands_with_fewer (at.InPlace place end) target fewer splitters base pages split bucket s = record { shallow = s.shallow; filled = s.filled; first = s.first; places = s.places; from = s.from; more = s.more; last = s.last }
-stands_with_fewer (at.Double place) target fewer splitters base pages split bucket s = record { deep = s.deep; filled = s.filled; more = s.more; deeper = s.deeper }
-stands_with_fewer (at.SecondHalf place) target fewer splitters base pages split bucket s = record { deep = s.deep; filled = s.filled; more = s.more; deeper = s.deeper; long = s.long; sized = s.sized; right = s.right }
-stands_with_fewer at.Header target fewer splitters base pages split bucket s = record { deep = s.deep; taken = s.taken; filled = s.filled; deeper = s.deeper }
+stands_with_fewer SplitPhase.OldBucket target fewer splitters base pages split bucket s = record { zeros = s.zeros; ones = s.ones; doubles = s.doubles }
+stands_with_fewer (SplitPhase.InPlace place end) target fewer splitters base pages split bucket s = record { shallow = s.shallow; filled = s.filled; first = s.first; places = s.places; from = s.from; more = s.more; last = s.last }
+stands_with_fewer (SplitPhase.Double place) target fewer splitters base pages split bucket s = record { deep = s.deep; filled = s.filled; more = s.more; deeper = s.deeper }
+stands_with_fewer (SplitPhase.SecondHalf place) target fewer splitters base pages split bucket s = record { deep = s.deep; filled = s.filled; more = s.more; deeper = s.deeper; long = s.long; sized = s.sized; right = s.right }
+stands_with_fewer SplitPhase.Header target fewer splitters base pages split bucket s = record { deep = s.deep; taken = s.taken; filled = s.filled; deeper = s.deeper }
 
 pub under_way_with_fewer : (target : SplitTarget) (fewer : set.FinSet nat_cmp) (view : View) (split : SplitFields) (clean : ℕ → Option Page) → Agrees view.seen clean → HasForm target.bits clean target.root
     → IsUnderWay target view split → KeepsNoMore target.active fewer view → IsUnderWay (record target { active = fewer }) view split

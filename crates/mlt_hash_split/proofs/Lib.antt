@@ -1,3 +1,4 @@
+mod Names
 pub mod Among
 pub mod Beginning
 pub mod Closing

@@ -1,22 +1,11 @@
 -- What a step of a split leaves locked
 use Rattle.std.proofs.Common.{ℕ, ◌≡◌, ◌⊎◌, true, is_some, None, Some, sym, ◌∙◌, ap, subst, inl, inr, arith}
-use Rattle.std.proofs.lemmas.Bool.{cases_eq}
-use Rattle.std.proofs.lemmas.Bool.Decides.{nat_tests}
-use Rattle.mlt_types.specs.declared.mode.Mode.TheVariants.{Exclusive}
-use Rattle.mlt_page_store.specs.Stores.{page_at}
-use Rattle.mlt_page_locks.proofs.LockLaws.{mode_held-granted, stronger_exclusive}
+use Rattle.mlt_hash_split.proofs.Names.{cases_eq, nat_tests, Exclusive, page_at, stronger_exclusive, MayStep, LocalState, view_of, view_over, write_writes, SplitTarget, SplitFields, IsDone, IsLeft, IsMaking, IsNextPage, SplitPhase, SplitAnswer}
+use Rattle.mlt_page_locks.proofs.LockLaws.{mode_held-granted}
 use Rattle.mlt_page_locks.specs.LockTables.{LockTable, mode_held}
 use Rattle.mlt_page_locks.specs.Requests.{granted, stronger}
-use Rattle.mlt_hash_access.specs.LocalStates.{MayStep, LocalState}
-use Rattle.mlt_hash_access.specs.Views.{view_of, view_over}
-use Rattle.mlt_hash_access.proofs.Views.{make_makes, write_writes}
-use Rattle.mlt_hash_split.specs.Rests.{SplitTarget}
-use Rattle.mlt_hash_split.specs.Splits.{SplitFields}
-use Rattle.mlt_hash_split.specs.Steps.{IsDone, IsLeft, IsMaking, IsNextPage, Touches}
-use Rattle.mlt_hash_split.specs.declared.phase.SplitPhase.{SplitPhase}
-use Rattle.mlt_hash_split.specs.declared.phase.SplitPhase.TheVariants as at
-use Rattle.mlt_hash_split.specs.declared.split.SplitAnswer.{SplitAnswer}
-use Rattle.mlt_hash_split.specs.declared.split.SplitAnswer.TheVariants as answer
+use Rattle.mlt_hash_access.proofs.Views.{make_makes}
+use Rattle.mlt_hash_split.specs.Steps.{Touches}
 
 granted_here : (table : LockTable) (tx q : ℕ) → mode_held (granted table tx q Exclusive) tx q ≡ Some Exclusive
 granted_here table tx q =
@@ -49,26 +38,26 @@ MayLock phase target old p = IsNextPage phase target (view_over target.before ol
 
 -- a step that was done,
 done_locks : (phase : SplitPhase) (target : SplitTarget) (old new : LocalState) (split : SplitFields) (p : ℕ) → IsDone phase target old new split → IsHeldAs old new (MayLock phase target old) p
-done_locks at.OldBucket target old new split p done = held_as_before old new (MayLock at.OldBucket target old) p done.1.locks
-done_locks (at.InPlace place end) target old new split p done = held_as_locked old new (MayLock (at.InPlace place end) target old) p done.0 (inl done.1) (done.2.2.1.locks ∙ done.2.1.locks)
-done_locks (at.Double place) target old new split p done = held_as_locked old new (MayLock (at.Double place) target old) p done.0 (inl done.1) (done.2.2.1.locks ∙ done.2.1.locks)
-done_locks (at.SecondHalf place) target old new split p done = held_as_locked old new (MayLock (at.SecondHalf place) target old) p done.0 (inr (tt, done.2.fresh)) done.2.locks
-done_locks at.Header target old new split p done = held_as_before old new (MayLock at.Header target old) p done.1.locks
+done_locks SplitPhase.OldBucket target old new split p done = held_as_before old new (MayLock SplitPhase.OldBucket target old) p done.1.locks
+done_locks (SplitPhase.InPlace place end) target old new split p done = held_as_locked old new (MayLock (SplitPhase.InPlace place end) target old) p done.0 (inl done.1) (done.2.2.1.locks ∙ done.2.1.locks)
+done_locks (SplitPhase.Double place) target old new split p done = held_as_locked old new (MayLock (SplitPhase.Double place) target old) p done.0 (inl done.1) (done.2.2.1.locks ∙ done.2.1.locks)
+done_locks (SplitPhase.SecondHalf place) target old new split p done = held_as_locked old new (MayLock (SplitPhase.SecondHalf place) target old) p done.0 (inr (tt, done.2.fresh)) done.2.locks
+done_locks SplitPhase.Header target old new split p done = held_as_before old new (MayLock SplitPhase.Header target old) p done.1.locks
 
 -- and one that was refused
 left_locks : (phase : SplitPhase) (target : SplitTarget) (old new : LocalState) (p : ℕ) → IsLeft phase target old new → IsHeldAs old new (MayLock phase target old) p
-left_locks at.OldBucket target old new p left = held_as_before old new (MayLock at.OldBucket target old) p (ap (λ (m : LocalState). m.locks) left)
-left_locks (at.InPlace place end) target old new p left = held_as_locked old new (MayLock (at.InPlace place end) target old) p left.0 (inl left.1) left.2.locks
-left_locks (at.Double place) target old new p left = held_as_locked old new (MayLock (at.Double place) target old) p left.0 (inl left.1) left.2.locks
-left_locks (at.SecondHalf place) target old new p left = held_as_before old new (MayLock (at.SecondHalf place) target old) p (ap (λ (m : LocalState). m.locks) left)
-left_locks at.Header target old new p left = held_as_before old new (MayLock at.Header target old) p (ap (λ (m : LocalState). m.locks) left)
+left_locks SplitPhase.OldBucket target old new p left = held_as_before old new (MayLock SplitPhase.OldBucket target old) p (ap (λ (m : LocalState). m.locks) left)
+left_locks (SplitPhase.InPlace place end) target old new p left = held_as_locked old new (MayLock (SplitPhase.InPlace place end) target old) p left.0 (inl left.1) left.2.locks
+left_locks (SplitPhase.Double place) target old new p left = held_as_locked old new (MayLock (SplitPhase.Double place) target old) p left.0 (inl left.1) left.2.locks
+left_locks (SplitPhase.SecondHalf place) target old new p left = held_as_before old new (MayLock (SplitPhase.SecondHalf place) target old) p (ap (λ (m : LocalState). m.locks) left)
+left_locks SplitPhase.Header target old new p left = held_as_before old new (MayLock SplitPhase.Header target old) p (ap (λ (m : LocalState). m.locks) left)
 
 -- **A step of a split locks no page but its own.**
 pub locks_its_page_alone : (told : SplitAnswer) (target : SplitTarget) (old new : LocalState) (split : SplitFields) (p : ℕ) → Touches told target old new split → IsHeldAs old new (MayLock split.phase target old) p
-locks_its_page_alone answer.Going target old new split p done = done_locks split.phase target old new split p done
-locks_its_page_alone (answer.Closed n) target old new split p done = done_locks split.phase target old new split p done
-locks_its_page_alone (answer.Waiting n by) target old new split p same = held_as_before old new (MayLock split.phase target old) p (ap (λ (m : LocalState). m.locks) same)
-locks_its_page_alone (answer.Refused reason) target old new split p left = left_locks split.phase target old new p left
+locks_its_page_alone SplitAnswer.Going target old new split p done = done_locks split.phase target old new split p done
+locks_its_page_alone (SplitAnswer.Closed n) target old new split p done = done_locks split.phase target old new split p done
+locks_its_page_alone (SplitAnswer.Waiting n by) target old new split p same = held_as_before old new (MayLock split.phase target old) p (ap (λ (m : LocalState). m.locks) same)
+locks_its_page_alone (SplitAnswer.Refused reason) target old new split p left = left_locks split.phase target old new p left
 
 -- the page is written
 abbrev IsWrittenIn : LocalState → ℕ → Type 0
@@ -76,8 +65,8 @@ IsWrittenIn new p = is_some ((view_of new).own p) ≡ true
 
 -- **What a step locks that was done it has written or made.**
 pub done_writes_what_it_locks : (phase : SplitPhase) (target : SplitTarget) (old new : LocalState) (split : SplitFields) (p : ℕ) → MayStep old → IsDone phase target old new split → IsHeldAs old new (IsWrittenIn new) p
-done_writes_what_it_locks at.OldBucket target old new split p may done = held_as_before old new (IsWrittenIn new) p done.1.locks
-done_writes_what_it_locks (at.InPlace place end) target old new split p may done = held_as_locked old new (IsWrittenIn new) p done.0 (ap is_some (write_writes done.2.0 new done.0 done.2.2.0 done.2.2.1).here) (done.2.2.1.locks ∙ done.2.1.locks)
-done_writes_what_it_locks (at.Double place) target old new split p may done = held_as_locked old new (IsWrittenIn new) p done.0 (ap is_some (write_writes done.2.0 new done.0 done.2.2.0 done.2.2.1).here) (done.2.2.1.locks ∙ done.2.1.locks)
-done_writes_what_it_locks (at.SecondHalf place) target old new split p may done = held_as_locked old new (IsWrittenIn new) p done.0 (ap is_some (make_makes old new done.0 done.1 may done.2).own_here) done.2.locks
-done_writes_what_it_locks at.Header target old new split p may done = held_as_before old new (IsWrittenIn new) p done.1.locks
+done_writes_what_it_locks SplitPhase.OldBucket target old new split p may done = held_as_before old new (IsWrittenIn new) p done.1.locks
+done_writes_what_it_locks (SplitPhase.InPlace place end) target old new split p may done = held_as_locked old new (IsWrittenIn new) p done.0 (ap is_some (write_writes done.2.0 new done.0 done.2.2.0 done.2.2.1).here) (done.2.2.1.locks ∙ done.2.1.locks)
+done_writes_what_it_locks (SplitPhase.Double place) target old new split p may done = held_as_locked old new (IsWrittenIn new) p done.0 (ap is_some (write_writes done.2.0 new done.0 done.2.2.0 done.2.2.1).here) (done.2.2.1.locks ∙ done.2.1.locks)
+done_writes_what_it_locks (SplitPhase.SecondHalf place) target old new split p may done = held_as_locked old new (IsWrittenIn new) p done.0 (ap is_some (make_makes old new done.0 done.1 may done.2).own_here) done.2.locks
+done_writes_what_it_locks SplitPhase.Header target old new split p may done = held_as_before old new (IsWrittenIn new) p done.1.locks

@@ -1,25 +1,9 @@
 -- Splits in place where one page of the directory has all entries of the bucket
-use Rattle.std.proofs.Common.{ℕ, zero, suc, ◌≡◌, ◌<◌, ◌≤◌, ◌+◌, ◌-◌, ◌*◌, ◌/◌, ◌^◌, slice_index, Option, Some, sym, ◌∙◌, ap, subst, arith}
-use Rattle.std.specs.Ordering.{nat_cmp}
+use Rattle.std.proofs.Common.{ℕ, zero, suc, ◌≡◌, ◌<◌, ◌≤◌, ◌+◌, ◌-◌, ◌*◌, ◌/◌, ◌^◌, slice_index, Option, Some, sym, ◌∙◌, ap, subst, arith, nat_cmp}
 use Rattle.std.specs.FinSet as set
-use Rattle.mlt_page.specs.Bits.{first_bits}
-use Rattle.mlt_types.specs.declared.mode.Mode.TheVariants.{Exclusive}
-use Rattle.mlt_page.specs.Values.{BucketFields, HeadFields}
-use Rattle.mlt_page.specs.declared.page.Page.{Page}
-use Rattle.mlt_page.specs.declared.page.Page.TheVariants as page
-use Rattle.mlt_hash_form.specs.File.{HasForm}
-use Rattle.mlt_hash_form.specs.Held.{Agrees, over}
-use Rattle.mlt_hash_form.proofs.Bits.{first_bits-first_bits}
-use Rattle.mlt_hash_access.specs.LocalStates.{MayStep, LocalState}
-use Rattle.mlt_hash_access.specs.PageSteps.{LocksPage, WritesHeldPage}
-use Rattle.mlt_hash_access.specs.Views.{View, view_over}
+use Rattle.mlt_hash_split.proofs.Names.{first_bits, Exclusive, BucketFields, HeadFields, Page, HasForm, Agrees, over, first_bits-first_bits, MayStep, LocalState, LocksPage, WritesHeldPage, View, view_over, write_writes, SplitTarget, held_page, Begins, HaveNewPlaces, IsInPlace, IsUnderWay, SplitFields, StandsAt, IsDone, IsMaking, IsNextPage, SplitPhase}
 use Rattle.mlt_hash_access.proofs.OwnSteps.{lock_reads_some}
-use Rattle.mlt_hash_access.proofs.Views.{write_writes}
-use Rattle.mlt_hash_split.specs.Rests.{SplitTarget, held_page}
-use Rattle.mlt_hash_split.specs.Splits.{Begins, HaveNewPlaces, IsInPlace, IsUnderWay, SplitFields, StandsAt}
-use Rattle.mlt_hash_split.specs.Steps.{IsDirectoryPage, IsDone, IsKeysPage, IsMaking, IsNextPage}
-use Rattle.mlt_hash_split.specs.declared.phase.SplitPhase.{SplitPhase}
-use Rattle.mlt_hash_split.specs.declared.phase.SplitPhase.TheVariants as at
+use Rattle.mlt_hash_split.specs.Steps.{IsDirectoryPage, IsKeysPage}
 use Rattle.mlt_hash_split.proofs.OldBucket.{depths_are_small, header_is_elsewhere}
 use Rattle.mlt_hash_split.proofs.Closing.{held_page_over}
 use Rattle.mlt_hash_split.proofs.InPlace.{same_depth}
@@ -56,7 +40,7 @@ own_page seed l g place end deep narrow small have =
     (is_on_page (g - (l + 1)) (omega (arith, deep, narrow)) (first_bits g seed) (first_bits l seed) place front have.first last, one)
 
 module _ (target : SplitTarget) (splitters : set.FinSet nat_cmp) (base pages : ℕ → Option Page) (split : SplitFields) (bucket : BucketFields) (view : View) (n : ℕ) (begins : Begins target base split bucket) (deep : split.depth < split.directory_depth) (narrow : split.directory_depth ≤ split.depth + 8)
-    (head_over : (header : HeadFields) → held_page view target.root ≡ Some (page.Head header) → pages target.root ≡ Some (page.Head header)) where
+    (head_over : (header : HeadFields) → held_page view target.root ≡ Some (Page.Head header) → pages target.root ≡ Some (Page.Head header)) where
   in_place : (place end : ℕ) → IsInPlace target splitters base pages split place end → IsDirectoryPage target view place n → IsKeysPage target view n
   in_place place end stands next =
       let small = depths_are_small target base split bucket begins in
@@ -67,11 +51,11 @@ module _ (target : SplitTarget) (splitters : set.FinSet nat_cmp) (base pages : �
 
   -- so is the next page of a split in place, at any phase
   next_is_own : (phase : SplitPhase) → StandsAt phase target splitters base pages split bucket → IsNextPage phase target view n → IsKeysPage target view n
-  next_is_own at.OldBucket stands next = absurd next
-  next_is_own (at.InPlace place end) stands next = in_place place end stands next
-  next_is_own (at.Double place) stands next = absurd (let same = stands.deep in omega (arith, deep, same))
-  next_is_own (at.SecondHalf place) stands next = absurd next
-  next_is_own at.Header stands next = absurd next
+  next_is_own SplitPhase.OldBucket stands next = absurd next
+  next_is_own (SplitPhase.InPlace place end) stands next = in_place place end stands next
+  next_is_own (SplitPhase.Double place) stands next = absurd (let same = stands.deep in omega (arith, deep, same))
+  next_is_own (SplitPhase.SecondHalf place) stands next = absurd next
+  next_is_own SplitPhase.Header stands next = absurd next
 
 -- **Where one page has all entries of the bucket, a split in place locks and writes the key's own page and no other.**
 pub narrow_next_page : (target : SplitTarget) (view : View) (split : SplitFields) (n : ℕ) (clean : ℕ → Option Page) → Agrees view.seen clean → HasForm target.bits clean target.root → IsUnderWay target view split
@@ -82,11 +66,11 @@ narrow_next_page target view split n clean agree form way deep narrow next =
 
 -- and it makes no page
 makes_none : (phase : SplitPhase) (target : SplitTarget) (splitters : set.FinSet nat_cmp) (base pages : ℕ → Option Page) (split : SplitFields) (bucket : BucketFields) → split.depth < split.directory_depth → StandsAt phase target splitters base pages split bucket → IsMaking phase → ⊥
-makes_none at.OldBucket target splitters base pages split bucket deep stands making = making
-makes_none (at.InPlace place end) target splitters base pages split bucket deep stands making = making
-makes_none (at.Double place) target splitters base pages split bucket deep stands making = making
-makes_none (at.SecondHalf place) target splitters base pages split bucket deep stands making = let same = stands.deep in omega (arith, deep, same)
-makes_none at.Header target splitters base pages split bucket deep stands making = making
+makes_none SplitPhase.OldBucket target splitters base pages split bucket deep stands making = making
+makes_none (SplitPhase.InPlace place end) target splitters base pages split bucket deep stands making = making
+makes_none (SplitPhase.Double place) target splitters base pages split bucket deep stands making = making
+makes_none (SplitPhase.SecondHalf place) target splitters base pages split bucket deep stands making = let same = stands.deep in omega (arith, deep, same)
+makes_none SplitPhase.Header target splitters base pages split bucket deep stands making = making
 
 pub narrow_makes_none : (target : SplitTarget) (view : View) (split : SplitFields) (clean : ℕ → Option Page) → Agrees view.seen clean → HasForm target.bits clean target.root → IsUnderWay target view split → split.depth < split.directory_depth → IsMaking split.phase → ⊥
 narrow_makes_none target view split clean agree form way deep = makes_none split.phase target way.splitters (over clean way.rest) (over clean view.own) split way.bucket deep (way.stands clean agree form)
@@ -98,11 +82,11 @@ module _ (target : SplitTarget) (old new : LocalState) (split : SplitFields) (ma
 
   leaves_header : (phase : SplitPhase) → StandsAt phase target way.splitters (over clean way.rest) (over clean (view_over target.before old).own) split way.bucket → ((n : ℕ) → IsNextPage phase target (view_over target.before old) n → target.root ≡ n → ⊥)
       → IsDone phase target old new split → (view_over target.before new).own target.root ≡ (view_over target.before old).own target.root
-  leaves_header at.OldBucket stands elsewhere done = (write_writes old new split.old_page done.0 done.1).others target.root (header_is_elsewhere target (over clean way.rest) split way.bucket (way.begins clean agree form))
-  leaves_header (at.InPlace place end) stands elsewhere done = rewritten done.0 (elsewhere done.0 done.1) done.2
-  leaves_header (at.Double place) stands elsewhere done = absurd (let same = stands.deep in omega (arith, deep, same))
-  leaves_header (at.SecondHalf place) stands elsewhere done = absurd (let same = stands.deep in omega (arith, deep, same))
-  leaves_header at.Header stands elsewhere done = absurd (let same = stands.deep in omega (arith, deep, same))
+  leaves_header SplitPhase.OldBucket stands elsewhere done = (write_writes old new split.old_page done.0 done.1).others target.root (header_is_elsewhere target (over clean way.rest) split way.bucket (way.begins clean agree form))
+  leaves_header (SplitPhase.InPlace place end) stands elsewhere done = rewritten done.0 (elsewhere done.0 done.1) done.2
+  leaves_header (SplitPhase.Double place) stands elsewhere done = absurd (let same = stands.deep in omega (arith, deep, same))
+  leaves_header (SplitPhase.SecondHalf place) stands elsewhere done = absurd (let same = stands.deep in omega (arith, deep, same))
+  leaves_header SplitPhase.Header stands elsewhere done = absurd (let same = stands.deep in omega (arith, deep, same))
 
   pub narrow_leaves_header : ((n : ℕ) → IsNextPage split.phase target (view_over target.before old) n → target.root ≡ n → ⊥) → IsDone split.phase target old new split → (view_over target.before new).own target.root ≡ (view_over target.before old).own target.root
   narrow_leaves_header = leaves_header split.phase (way.stands clean agree form)

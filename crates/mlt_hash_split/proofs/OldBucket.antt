@@ -1,35 +1,14 @@
 -- The step that writes the old bucket
-use Rattle.std.proofs.Common.{ℕ, ◌≡◌, ◌<◌, ◌≤◌, ◌+◌, ◌-◌, ◌*◌, ◌/◌, ◌^◌, true, false, List, Option, Some, nat_eq, nat_lt, refl, sym, ◌∙◌, ap, subst, inl, inr, arith}
-use Rattle.std.specs.Prelude.{if◌then◌else◌}
-use Rattle.std.specs.Ordering.{nat_cmp}
+use Rattle.std.proofs.Common.{ℕ, ◌≡◌, ◌<◌, ◌≤◌, ◌+◌, ◌-◌, ◌*◌, ◌/◌, ◌^◌, true, false, List, Option, Some, nat_eq, nat_lt, refl, sym, ◌∙◌, ap, subst, inl, inr, arith, if◌then◌else◌, nat_cmp, eq-eqb, ne_eqb, lt-ltb, le-ltb, pow_pos, pow-add}
 use Rattle.std.specs.FinMap as map
 use Rattle.std.specs.FinSet as set
-use Rattle.std.proofs.lemmas.Bool.{cases_lt, cond-true, cond-false, eq-eqb, ne_eqb, lt-ltb, le-ltb}
-use Rattle.std.proofs.lemmas.Nat.{pow_pos, pow-add}
-use Rattle.std.proofs.Math.Nat.{pow-le-pow_right}
-use Rattle.mlt_page.specs.Bits.{first_bits}
-use Rattle.mlt_page.specs.Values.{BucketFields, HeadFields}
-use Rattle.mlt_page.specs.declared.page.Page.{Page}
-use Rattle.mlt_page.specs.declared.page.Page.TheVariants as page
-use Rattle.mlt_hash_form.specs.File.{Writes, bucket_of, buckets_of, depth_of, dirs_of, header_of, lead_of}
-use Rattle.mlt_hash_form.specs.Form.{half_of}
-use Rattle.mlt_hash_form.specs.Held.{over}
-use Rattle.mlt_hash_form.specs.Splits.{IsMidway, bucket_split}
+use Rattle.mlt_hash_split.proofs.Names.{cases_lt, cond-true, cond-false, pow-le-pow_right, first_bits, BucketFields, HeadFields, Page, Writes, bucket_of, buckets_of, depth_of, dirs_of, header_of, lead_of, half_of, over, IsMidway, bucket_split, IsFirstPhase, MayStep, LocalState, View, WritesPage, view_over, SplitTarget, HoldsAmong, most_held, seed_of, Begins, HaveNewPlaces, HoldsAmongAt, IsAtOldBucket, IsUnderWay, SplitFields, StandsAt, steps_left_at, GoesOn, SplitPhase, writes_over_clean}
 use Rattle.mlt_hash_form.proofs.FillEnds.{page_listed}
 use Rattle.mlt_hash_form.proofs.InPlace.{one_page, whole_pages}
 use Rattle.mlt_hash_form.proofs.SplitSteps.{begins_in_place, begins_to_double}
 use Rattle.mlt_hash_split.proofs.Closing.{HasClean}
-use Rattle.mlt_hash_split.specs.FirstPhases.{IsFirstPhase}
-use Rattle.mlt_hash_access.specs.LocalStates.{MayStep, LocalState}
-use Rattle.mlt_hash_access.specs.Views.{View, WritesPage, view_over}
-use Rattle.mlt_hash_split.specs.Rests.{SplitTarget, HoldsAmong, most_held, seed_of}
-use Rattle.mlt_hash_split.specs.Splits.{Begins, HaveNewPlaces, HoldsAmongAt, IsAtOldBucket, IsUnderWay, SplitFields, StandsAt, steps_left_at}
-use Rattle.mlt_hash_split.specs.Tells.{GoesOn}
-use Rattle.mlt_hash_split.specs.declared.phase.SplitPhase.{SplitPhase}
-use Rattle.mlt_hash_split.specs.declared.phase.SplitPhase.TheVariants as at
 use Rattle.mlt_hash_split.proofs.Among.{among_still}
 use Rattle.mlt_hash_split.proofs.Later.{IsLater, agreed_before, begins_now, stays_under_way}
-use Rattle.mlt_hash_access.proofs.Views.{writes_over_clean}
 
 -- the pages with the new bucket's places, on one page or on whole pages
 pub new_pages : (seed l g : ℕ) (first count pages : ℕ) → l < g → first ≡ (2 * first_bits l seed + 1) * 2 ^ (g - (l + 1)) → count ≡ 2 ^ (g - (l + 1)) → first + count ≤ 2 ^ g
@@ -84,18 +63,18 @@ depths_are_small target base split bucket b =
 -- the header is not on the page of the bucket that is split
 pub header_is_elsewhere : (target : SplitTarget) (base : ℕ → Option Page) (split : SplitFields) (bucket : BucketFields) → Begins target base split bucket → target.root ≡ split.old_page → ⊥
 header_is_elsewhere target base split bucket b e =
-    let q : Some (page.Head (header_of (base target.root))) ≡ Some (page.Bucket bucket) = sym b.may.form.head ∙ ap base e ∙ b.was in
+    let q : Some (Page.Head (header_of (base target.root))) ≡ Some (Page.Bucket bucket) = sym b.may.form.head ∙ ap base e ∙ b.was in
     cc
 
-module _ (target : SplitTarget) (splitters : set.FinSet nat_cmp) (base one two : ℕ → Option Page) (split : SplitFields) (bucket : BucketFields) (b : Begins target base split bucket) (stands : IsAtOldBucket target splitters base one split bucket) (writes : Writes one two split.old_page (page.Bucket split.zeros)) where
+module _ (target : SplitTarget) (splitters : set.FinSet nat_cmp) (base one two : ℕ → Option Page) (split : SplitFields) (bucket : BucketFields) (b : Begins target base split bucket) (stands : IsAtOldBucket target splitters base one split bucket) (writes : Writes one two split.old_page (Page.Bucket split.zeros)) where
   bucket_is : buckets_of base split.old_page ≡ bucket
   bucket_is = ap bucket_of b.was
 
-  first_write : Writes base one split.new_page (page.Bucket (half_of target.bits splitters (buckets_of base split.old_page) 1))
-  first_write = subst (λ (c : BucketFields). Writes base one split.new_page (page.Bucket (half_of target.bits splitters c 1))) (sym bucket_is) stands.ones
+  first_write : Writes base one split.new_page (Page.Bucket (half_of target.bits splitters (buckets_of base split.old_page) 1))
+  first_write = subst (λ (c : BucketFields). Writes base one split.new_page (Page.Bucket (half_of target.bits splitters c 1))) (sym bucket_is) stands.ones
 
-  second_write : Writes one two split.old_page (page.Bucket (half_of target.bits splitters (buckets_of base split.old_page) 0))
-  second_write = subst (λ (c : BucketFields). Writes one two split.old_page (page.Bucket c)) (stands.zeros ∙ ap (λ c. half_of target.bits splitters c 0) (sym bucket_is)) writes
+  second_write : Writes one two split.old_page (Page.Bucket (half_of target.bits splitters (buckets_of base split.old_page) 0))
+  second_write = subst (λ (c : BucketFields). Writes one two split.old_page (Page.Bucket c)) (stands.zeros ∙ ap (λ c. half_of target.bits splitters c 0) (sym bucket_is)) writes
 
   -- the places of the new bucket, as the file before the split has them
   pub places_in_base : (place end : ℕ) → HaveNewPlaces split.seed split.depth split.directory_depth place end → HaveNewPlaces (seed_of target) (buckets_of base split.old_page).depth (depth_of base target.root) place end
@@ -104,8 +83,8 @@ module _ (target : SplitTarget) (splitters : set.FinSet nat_cmp) (base one two :
 
   -- once the old bucket is written the split stands in its next phase
   pub old_bucket_written : (phase : SplitPhase) → IsFirstPhase split phase → StandsAt phase target splitters base two (record split { phase = phase }) bucket
-  old_bucket_written at.OldBucket first = absurd first
-  old_bucket_written (at.InPlace place end) first =
+  old_bucket_written SplitPhase.OldBucket first = absurd first
+  old_bucket_written (SplitPhase.InPlace place end) first =
       let have = places_in_base place end first.1 in
       let some : 0 < 2 ^ (split.directory_depth - (split.depth + 9)) = pow_pos (split.directory_depth - (split.depth + 9)) in
       let more : place < end = omega (arith, first.1.count, some) in
@@ -119,41 +98,41 @@ module _ (target : SplitTarget) (splitters : set.FinSet nat_cmp) (base one two :
         more = more;
         last = have.last;
       }
-  old_bucket_written (at.Double place) first = record {
+  old_bucket_written (SplitPhase.Double place) first = record {
     deep = first.0;
     filled = subst (λ k. IsMidway (bucket_split target.bits splitters base target.root split.old_page split.new_page (seed_of target)) split.made.depth two split.made.dirs (2 * k) k) (sym first.1)
         (begins_to_double target.bits splitters base target.root (seed_of target) split.old_page split.new_page b.may one two first_write second_write split.made.depth split.made.dirs);
     more = let some = pow_pos (split.directory_depth - 8) in omega (arith, first.1, some);
     deeper = ap (λ (h : HeadFields). h.depth) (stands.doubles first.0);
   }
-  old_bucket_written (at.SecondHalf place) first = absurd first
-  old_bucket_written at.Header first = absurd first
+  old_bucket_written (SplitPhase.SecondHalf place) first = absurd first
+  old_bucket_written SplitPhase.Header first = absurd first
 
 -- the pages that are held are among those of the next phase
 pub among_in_first_phase : (before : ℕ) (view : View) (dirs : List ℕ) (split : SplitFields) (phase : SplitPhase) → HoldsAmong view dirs dirs 0 (2 ^ (split.directory_depth - 8)) 0 (most_held before (split.depth + 1) split.directory_depth) → IsFirstPhase split phase → HoldsAmongAt phase before view dirs (record split { phase = phase })
-among_in_first_phase before view dirs split at.OldBucket among first = absurd first
-among_in_first_phase before view dirs split (at.InPlace place end) among first = among
-among_in_first_phase before view dirs split (at.Double place) among first = record {
+among_in_first_phase before view dirs split SplitPhase.OldBucket among first = absurd first
+among_in_first_phase before view dirs split (SplitPhase.InPlace place end) among first = among
+among_in_first_phase before view dirs split (SplitPhase.Double place) among first = record {
   pages = among.pages;
   few = omega (arith, among.few);
   all = among.all;
   old_dirs = λ i le lt. among.old_dirs i (omega arith) lt;
   new_dirs = λ i lt. absurd (omega (arith, lt, first.1));
 }
-among_in_first_phase before view dirs split (at.SecondHalf place) among first = absurd first
-among_in_first_phase before view dirs split at.Header among first = absurd first
+among_in_first_phase before view dirs split (SplitPhase.SecondHalf place) among first = absurd first
+among_in_first_phase before view dirs split SplitPhase.Header among first = absurd first
 
 twice_pages : (g : ℕ) → 8 ≤ g → 2 ^ (g - 7) ≡ 2 * 2 ^ (g - 8)
 twice_pages g h = let e : g - 7 ≡ 1 + (g - 8) = omega arith in ap (λ k. 2 ^ k) e ∙ pow-add 2 1 (g - 8)
 
 -- writing the old bucket is one step of those that are left
-pub steps_of_first_phase : (split : SplitFields) (phase : SplitPhase) → IsFirstPhase split phase → steps_left_at split.depth split.directory_depth phase + 1 ≡ steps_left_at split.depth split.directory_depth at.OldBucket
-steps_of_first_phase split at.OldBucket first = absurd first
-steps_of_first_phase split (at.InPlace place end) first =
+pub steps_of_first_phase : (split : SplitFields) (phase : SplitPhase) → IsFirstPhase split phase → steps_left_at split.depth split.directory_depth phase + 1 ≡ steps_left_at split.depth split.directory_depth SplitPhase.OldBucket
+steps_of_first_phase split SplitPhase.OldBucket first = absurd first
+steps_of_first_phase split (SplitPhase.InPlace place end) first =
     let not_same : nat_eq split.depth split.directory_depth ≡ false = ne_eqb _ _ (λ (e : split.depth ≡ split.directory_depth). omega (arith, first.0, e)) in
     let steps : end - place ≡ 2 ^ (split.directory_depth - (split.depth + 9)) = omega (arith, first.1.count) in
     ap (λ n. n + 1) steps ∙ omega (arith, cond-false _ (if nat_lt split.directory_depth 8 then 2 else 2 ^ (split.directory_depth - 7) + 1) (2 ^ (split.directory_depth - (split.depth + 9))) not_same)
-steps_of_first_phase split (at.Double place) first =
+steps_of_first_phase split (SplitPhase.Double place) first =
     let g = split.directory_depth in
     let same : nat_eq split.depth g ≡ true = eq-eqb _ _ first.0 in
     let whole = cond-true _ (if nat_lt g 8 then 2 else 2 ^ (g - 7) + 1) (2 ^ (g - (split.depth + 9))) same in
@@ -161,12 +140,12 @@ steps_of_first_phase split (at.Double place) first =
       | inl lt ↦ let test : nat_lt g 8 ≡ true = lt-ltb _ _ lt in omega (arith, whole, cond-true _ 2 (2 ^ (g - 7) + 1) test, cond-true _ 2 (2 * (2 ^ (g - 8) - place) + 1) test)
       | inr le ↦ let test : nat_lt g 8 ≡ false = le-ltb _ _ le in omega (arith, first.1, twice_pages g le, whole, cond-false _ 2 (2 ^ (g - 7) + 1) test, cond-false _ 2 (2 * (2 ^ (g - 8) - place) + 1) test)
     ]
-steps_of_first_phase split (at.SecondHalf place) first = absurd first
-steps_of_first_phase split at.Header first = absurd first
+steps_of_first_phase split (SplitPhase.SecondHalf place) first = absurd first
+steps_of_first_phase split SplitPhase.Header first = absurd first
 
 -- **Once the old bucket is written, the split goes on with the directory.**
-pub old_bucket_step : (target : SplitTarget) (m : LocalState) (new : LocalState) (split : SplitFields) (phase : SplitPhase) → MayStep m → HasClean target (view_over target.before m) → IsUnderWay target (view_over target.before m) split → split.phase ≡ at.OldBucket
-    → WritesPage (view_over target.before m) (view_over target.before new) split.old_page (page.Bucket split.zeros) → IsFirstPhase split phase → GoesOn target new split (record split { phase = phase })
+pub old_bucket_step : (target : SplitTarget) (m : LocalState) (new : LocalState) (split : SplitFields) (phase : SplitPhase) → MayStep m → HasClean target (view_over target.before m) → IsUnderWay target (view_over target.before m) split → split.phase ≡ SplitPhase.OldBucket
+    → WritesPage (view_over target.before m) (view_over target.before new) split.old_page (Page.Bucket split.zeros) → IsFirstPhase split phase → GoesOn target new split (record split { phase = phase })
 old_bucket_step target m new split phase may file way at_old writes first =
     let view = view_over target.before m in
     let view' = view_over target.before new in
@@ -182,7 +161,7 @@ old_bucket_step target m new split phase may file way at_old writes first =
           (λ clean agrees form.
           let before = agreed_before target.root view view' clean later agrees in
           let stood = subst (λ (p : SplitPhase). StandsAt p target way.splitters (over clean way.rest) (over clean view.own) split way.bucket) at_old (way.stands clean before form) in
-          old_bucket_written target way.splitters (over clean way.rest) (over clean view.own) (over clean view'.own) split way.bucket (way.begins clean before form) stood (writes_over_clean view view' split.old_page (page.Bucket split.zeros) clean writes) phase first)
+          old_bucket_written target way.splitters (over clean way.rest) (over clean view.own) (over clean view'.own) split way.bucket (way.begins clean before form) stood (writes_over_clean view view' split.old_page (Page.Bucket split.zeros) clean writes) phase first)
           (among_in_first_phase target.held_before view' way.header.dirs split phase (among_still view view' way.header.dirs way.header.dirs 0 (2 ^ (split.directory_depth - 8)) 0 (most_held target.held_before (split.depth + 1) split.directory_depth) was_among writes.modes) first);
       fewer = steps_of_first_phase split phase first ∙ ap (steps_left_at split.depth split.directory_depth) (sym at_old);
       depth = refl;

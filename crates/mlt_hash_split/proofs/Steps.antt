@@ -1,14 +1,6 @@
 -- What a step of a split does, at the phase that it is in
 use Rattle.std.proofs.Common.{◌≡◌, ℕ, sym, subst}
-use Rattle.mlt_page.specs.declared.page.Page.{Page}
-use Rattle.mlt_hash_access.specs.LocalStates.{LocalState}
-use Rattle.mlt_hash_access.specs.PageSteps.{WritesHeldPage}
-use Rattle.mlt_hash_access.specs.Views.{view_over}
-use Rattle.mlt_hash_split.specs.Rests.{SplitTarget}
-use Rattle.mlt_hash_split.specs.Splits.{SplitFields}
-use Rattle.mlt_hash_split.specs.Steps.{IsDone, IsLeft, IsMaking, IsNextPage}
-use Rattle.mlt_hash_split.specs.declared.phase.SplitPhase.{SplitPhase}
-use Rattle.mlt_hash_split.specs.declared.phase.SplitPhase.TheVariants as at
+use Rattle.mlt_hash_split.proofs.Names.{Page, LocalState, WritesHeldPage, view_over, SplitTarget, SplitFields, IsDone, IsLeft, IsMaking, IsNextPage, SplitPhase}
 
 module _ (target : SplitTarget) (old new : LocalState) (split : SplitFields) (phase : SplitPhase) (is : split.phase ≡ phase) where
   pub done_at : IsDone phase target old new split → IsDone split.phase target old new split
@@ -21,7 +13,7 @@ module _ (target : SplitTarget) (old new : LocalState) (split : SplitFields) (ph
   next_page_at n next = subst (λ (p : SplitPhase). IsNextPage p target (view_over target.before old) n) (sym is) next
 
 -- only a second half is made
-pub makes_second_half : (phase : SplitPhase) (place : ℕ) → phase ≡ at.SecondHalf place → IsMaking phase
+pub makes_second_half : (phase : SplitPhase) (place : ℕ) → phase ≡ SplitPhase.SecondHalf place → IsMaking phase
 makes_second_half phase place is = subst IsMaking (sym is) tt
 
 -- the header is written where the caller says it is

@@ -1,15 +1,14 @@
 -- Where a split begins to write the directory
 use Rattle.std.specs.Prelude.{◌≡◌, ◌<◌}
 use Rattle.mlt_hash_split.specs.declared.phase.SplitPhase.{SplitPhase}
-use Rattle.mlt_hash_split.specs.declared.phase.SplitPhase.TheVariants as at
 use Rattle.mlt_hash_split.specs.Splits.{HaveNewPlaces, SplitFields}
 
 -- a directory that is as deep as the bucket doubles, from its first page on; another is written in place
 abbrev pub IsFirstPhase : SplitFields → SplitPhase → Type 0
-IsFirstPhase split at.OldBucket = ⊥
-IsFirstPhase split (at.InPlace place end) =
+IsFirstPhase split SplitPhase.OldBucket = ⊥
+IsFirstPhase split (SplitPhase.InPlace place end) =
     (split.depth < split.directory_depth)
     × HaveNewPlaces split.seed split.depth split.directory_depth place end
-IsFirstPhase split (at.Double place) = (split.depth ≡ split.directory_depth) × (place ≡ 0)
-IsFirstPhase split (at.SecondHalf place) = ⊥
-IsFirstPhase split at.Header = ⊥
+IsFirstPhase split (SplitPhase.Double place) = (split.depth ≡ split.directory_depth) × (place ≡ 0)
+IsFirstPhase split (SplitPhase.SecondHalf place) = ⊥
+IsFirstPhase split SplitPhase.Header = ⊥

@@ -9,7 +9,6 @@ use Rattle.mlt_page.specs.Slots.{is_ghost_of, is_live_of}
 use Rattle.mlt_page.specs.declared.slot.Slot.TheVariants.{Free}
 use Rattle.mlt_page.specs.Values.{BucketFields, HeadFields}
 use Rattle.mlt_page.specs.declared.page.Page.{Page}
-use Rattle.mlt_page.specs.declared.page.Page.TheVariants as page
 use Rattle.mlt_hash_form.specs.File.{FilePages, HasForm, bucket_of, lead_of}
 use Rattle.mlt_hash_form.specs.Held.{Agrees, AreKeptToo, KeepsFile, over, own_or_clean}
 use Rattle.mlt_hash_form.specs.Room.{is_crowded}
@@ -77,9 +76,9 @@ pub record IsAtRest (target : SplitTarget) (view : View) (n : ℕ) (header : Hea
   pub leads : (clean : ℕ → Option Page) → Agrees view.seen clean → HasForm target.bits clean target.root
       → lead_of (over clean view.own) target.root (seed_of target) ≡ n
   pub head_held : is_some (view.seen target.root) ≡ true
-  pub head : held_page view target.root ≡ Some (page.Head header)
+  pub head : held_page view target.root ≡ Some (Page.Head header)
   pub bucket_held : is_some (view.seen n) ≡ true
-  pub found : held_page view n ≡ Some (page.Bucket bucket)
+  pub found : held_page view n ≡ Some (Page.Bucket bucket)
   pub exclusive : map.get view.modes n ≡ Some Exclusive
   pub absent : (i : ℕ) → is_live_of target.key (slice_index_or bucket.slots i Free) ≡ false
   pub no_ghost : (i : ℕ)

@@ -9,7 +9,6 @@ use Rattle.mlt_page.specs.Slots.{is_ghost_of, is_live_of}
 use Rattle.mlt_page.specs.declared.slot.Slot.TheVariants.{Free}
 use Rattle.mlt_page.specs.Values.{BucketFields, HeadFields}
 use Rattle.mlt_page.specs.declared.page.Page.{Page}
-use Rattle.mlt_page.specs.declared.page.Page.TheVariants as page
 use Rattle.mlt_page_store.specs.Stores.{Pages, page_at}
 use Rattle.mlt_hash_form.specs.Form.{half_of}
 use Rattle.mlt_hash_form.specs.File.{HasForm, Writes, depth_of, dirs_of}
@@ -21,7 +20,6 @@ use Rattle.mlt_hash_access.specs.LocalStates.{HasFileOver, MayStep, LocalState}
 use Rattle.mlt_hash_access.specs.Views.{HasWritten, View, view_of, view_over}
 use Rattle.mlt_hash_split.specs.Rests.{SplitTarget, IsAtRest, HoldsAmong, held_page, most_held, seed_of}
 use Rattle.mlt_hash_split.specs.declared.phase.SplitPhase.{SplitPhase}
-use Rattle.mlt_hash_split.specs.declared.phase.SplitPhase.TheVariants as at
 
 -- what a contract sees of a split: the pseudokey that asks for room, the two bucket pages, the
 -- depths of the bucket and of the directory, the half that stays, and of a directory that is
@@ -44,11 +42,11 @@ directory_steps l g =
 
 -- how many steps a split still takes, those that wait aside
 abbrev pub steps_left_at : ℕ → ℕ → SplitPhase → ℕ
-steps_left_at l g at.OldBucket = 1 + directory_steps l g
-steps_left_at l g (at.InPlace place end) = end - place
-steps_left_at l g (at.Double place) = if nat_lt g 8 then 2 else 2 * (2 ^ (g - 8) - place) + 1
-steps_left_at l g (at.SecondHalf place) = 2 * (2 ^ (g - 8) - place)
-steps_left_at l g at.Header = 1
+steps_left_at l g SplitPhase.OldBucket = 1 + directory_steps l g
+steps_left_at l g (SplitPhase.InPlace place end) = end - place
+steps_left_at l g (SplitPhase.Double place) = if nat_lt g 8 then 2 else 2 * (2 ^ (g - 8) - place) + 1
+steps_left_at l g (SplitPhase.SecondHalf place) = 2 * (2 ^ (g - 8) - place)
+steps_left_at l g SplitPhase.Header = 1
 
 abbrev pub steps_left : SplitFields → ℕ
 steps_left split = steps_left_at split.depth split.directory_depth split.phase
@@ -57,7 +55,7 @@ steps_left split = steps_left_at split.depth split.directory_depth split.phase
 pub record Begins (target : SplitTarget) (base : ℕ → Option Page) (split : SplitFields) (bucket : BucketFields)
     : Type 0 where
   pub may : MaySplit target.bits base target.root (seed_of target) split.old_page split.new_page
-  pub was : base split.old_page ≡ Some (page.Bucket bucket)
+  pub was : base split.old_page ≡ Some (Page.Bucket bucket)
   pub seed : split.seed ≡ seed_of target
   pub depth : bucket.depth ≡ split.depth
   pub directory_depth : depth_of base target.root ≡ split.directory_depth
@@ -67,7 +65,7 @@ pub record Begins (target : SplitTarget) (base : ℕ → Option Page) (split : S
 pub record HasHalves (target : SplitTarget) (pages : Pages) (bucket : BucketFields) (split : SplitFields)
     : Type 0 where
   pub zeros : split.zeros ≡ half_of target.bits target.active bucket 0
-  pub ones : page_at pages split.new_page ≡ Some (page.Bucket (half_of target.bits target.active bucket 1))
+  pub ones : page_at pages split.new_page ≡ Some (Page.Bucket (half_of target.bits target.active bucket 1))
 
 -- the walk's file is at rest, its bucket is less deep than is needed, and only who holds the header exclusively doubles
 -- the directory
@@ -87,7 +85,7 @@ split_in target splitters base split =
 pub record IsAtOldBucket (target : SplitTarget) (splitters : set.FinSet nat_cmp) (base pages : ℕ → Option Page)
     (split : SplitFields) (bucket : BucketFields) : Type 0 where
   pub zeros : split.zeros ≡ half_of target.bits splitters bucket 0
-  pub ones : Writes base pages split.new_page (page.Bucket (half_of target.bits splitters bucket 1))
+  pub ones : Writes base pages split.new_page (Page.Bucket (half_of target.bits splitters bucket 1))
   pub doubles : split.depth ≡ split.directory_depth
       → split.made ≡ record { depth = split.directory_depth + 1; dirs = dirs_of base target.root }
 
@@ -147,32 +145,32 @@ pub record IsAtHeader (target : SplitTarget) (splitters : set.FinSet nat_cmp) (b
 
 abbrev pub StandsAt : SplitPhase → SplitTarget → set.FinSet nat_cmp → (ℕ → Option Page) → (ℕ → Option Page)
     → SplitFields → BucketFields → Type 0
-StandsAt at.OldBucket target splitters base pages split bucket =
+StandsAt SplitPhase.OldBucket target splitters base pages split bucket =
     IsAtOldBucket target splitters base pages split bucket
-StandsAt (at.InPlace place end) target splitters base pages split bucket =
+StandsAt (SplitPhase.InPlace place end) target splitters base pages split bucket =
     IsInPlace target splitters base pages split place end
-StandsAt (at.Double place) target splitters base pages split bucket =
+StandsAt (SplitPhase.Double place) target splitters base pages split bucket =
     IsAtDouble target splitters base pages split place
-StandsAt (at.SecondHalf place) target splitters base pages split bucket =
+StandsAt (SplitPhase.SecondHalf place) target splitters base pages split bucket =
     IsAtSecondHalf target splitters base pages split place
-StandsAt at.Header target splitters base pages split bucket = IsAtHeader target splitters base pages split
+StandsAt SplitPhase.Header target splitters base pages split bucket = IsAtHeader target splitters base pages split
 
 -- the pages that are held, by how far the split is, and how many buckets were held before
 abbrev pub HoldsAmongAt : SplitPhase → ℕ → View → List ℕ → SplitFields → Type 0
-HoldsAmongAt at.OldBucket before view dirs split =
+HoldsAmongAt SplitPhase.OldBucket before view dirs split =
     HoldsAmong view dirs dirs 0 (2 ^ (split.directory_depth - 8)) 0
     (most_held before (split.depth + 1) split.directory_depth)
-HoldsAmongAt (at.InPlace place end) before view dirs split =
+HoldsAmongAt (SplitPhase.InPlace place end) before view dirs split =
     HoldsAmong view dirs dirs 0 (2 ^ (split.directory_depth - 8)) 0
     (most_held before (split.depth + 1) split.directory_depth)
-HoldsAmongAt (at.Double place) before view dirs split =
+HoldsAmongAt (SplitPhase.Double place) before view dirs split =
     HoldsAmong view dirs split.made.dirs place (2 ^ (split.directory_depth - 8)) (2 * place)
     (most_held before (split.depth + 1) split.directory_depth + place)
-HoldsAmongAt (at.SecondHalf place) before view dirs split =
+HoldsAmongAt (SplitPhase.SecondHalf place) before view dirs split =
     HoldsAmong view dirs split.made.dirs (place + 1) (2 ^ (split.directory_depth - 8))
     (2 * place + 1)
     (most_held before (split.depth + 1) split.directory_depth + place)
-HoldsAmongAt at.Header before view dirs split =
+HoldsAmongAt SplitPhase.Header before view dirs split =
     HoldsAmong view dirs split.made.dirs 0 0 (2 ^ (split.made.depth - 8))
     (most_held before (split.depth + 1) split.made.depth)
 
@@ -186,7 +184,7 @@ pub record IsUnderWay (target : SplitTarget) (view : View) (split : SplitFields)
   pub bucket : BucketFields
   pub keeps : KeepsFile target.bits target.active target.root view.seen rest
   pub head_held : is_some (view.seen target.root) ≡ true
-  pub head : held_page view target.root ≡ Some (page.Head header)
+  pub head : held_page view target.root ≡ Some (Page.Head header)
   pub old_held : is_some (view.seen split.old_page) ≡ true
   pub exclusive : map.get view.modes split.old_page ≡ Some Exclusive
   pub new_exclusive : map.get view.modes split.new_page ≡ Some Exclusive

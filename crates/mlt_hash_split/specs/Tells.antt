@@ -2,13 +2,12 @@
 use Rattle.std.specs.Prelude.{ℕ, ◌≡◌, ◌+◌}
 use Rattle.std.specs.FinMap as map
 use Rattle.mlt_types.specs.declared.mode.Mode.TheVariants.{Exclusive}
-use Rattle.mlt_types.specs.declared.refusal.Refusal.TheVariants as refusal
+use Rattle.mlt_types.specs.declared.refusal.Refusal.{Refusal}
 use Rattle.mlt_page.specs.Values.{BucketFields, HeadFields}
 use Rattle.mlt_page_locks.specs.Requests.{IsLowest, conflicts}
 use Rattle.mlt_hash_access.specs.LocalStates.{LocalState}
 use Rattle.mlt_hash_access.specs.Views.{view_over}
 use Rattle.mlt_hash_split.specs.declared.split.SplitAnswer.{SplitAnswer}
-use Rattle.mlt_hash_split.specs.declared.split.SplitAnswer.TheVariants as answer
 use Rattle.mlt_hash_split.specs.Rests.{SplitTarget, IsAtRest}
 use Rattle.mlt_hash_split.specs.Splits.{IsUnderWay, SplitFields, steps_left}
 use Rattle.mlt_hash_split.specs.Steps.{IsMaking, IsNextPage}
@@ -33,13 +32,13 @@ pub record GoesOn (target : SplitTarget) (new : LocalState) (before after : Spli
 -- lock stands against its own; nothing changed. Refused: NoRoom where a page was to be made and
 -- there may be no more, or OutOfMemory.
 abbrev pub Tells : SplitTarget → LocalState → LocalState → SplitFields → SplitFields → SplitAnswer → Type 0
-Tells target old new before after answer.Going = GoesOn target new before after
-Tells target old new before after (answer.Closed n) = Rests target new before n × (steps_left before ≡ 1)
-Tells target old new before after (answer.Waiting page by) =
+Tells target old new before after SplitAnswer.Going = GoesOn target new before after
+Tells target old new before after (SplitAnswer.Closed n) = Rests target new before n × (steps_left before ≡ 1)
+Tells target old new before after (SplitAnswer.Waiting page by) =
     IsNextPage before.phase target (view_over target.before old) page
     × IsLowest (conflicts old.locks old.running.tx page Exclusive) by
     × (new ≡ old)
     × (after ≡ before)
-Tells target old new before after (answer.Refused refusal.NoRoom) =
+Tells target old new before after (SplitAnswer.Refused Refusal.NoRoom) =
     IsMaking before.phase × (map.len old.store.pages ≡ old.store.max_pages)
-Tells target old new before after (answer.Refused reason) = reason ≡ refusal.OutOfMemory
+Tells target old new before after (SplitAnswer.Refused reason) = reason ≡ Refusal.OutOfMemory

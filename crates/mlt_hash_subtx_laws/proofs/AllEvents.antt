@@ -1,28 +1,18 @@
 -- What a step, an end, a roll back, a begin and a close leave of all running subtransactions
-use Rattle.std.proofs.Common.{◌≡◌, ◌≢◌, ℕ, ◌≤◌, ◌<◌, ◌+◌, Bool, false, true, cond, Option, None, Some, is_some, unwrap_or, refl, sym, ap, subst, ◌∙◌, inl, inr, arith}
-use Rattle.std.specs.Ordering.{nat_cmp}
+use Rattle.std.proofs.Common.{◌≡◌, ◌≢◌, ℕ, ◌≤◌, ◌<◌, ◌+◌, Bool, false, true, cond, Option, None, Some, is_some, unwrap_or, refl, sym, ap, subst, ◌∙◌, inl, inr, arith, nat_cmp}
 use Rattle.std.specs.Cmp.{nat_cmp_total}
 use Rattle.std.specs.FinMap as map
-use Rattle.std.proofs.lemmas.Bool.{cases_eq, false≢true}
-use Rattle.std.proofs.lemmas.Bool.Decides.{nat_tests}
-use Rattle.mlt_types.specs.declared.mode.Mode.{Mode}
-use Rattle.mlt_types.specs.declared.mode.Mode.TheVariants.{Exclusive}
-use Rattle.mlt_page.specs.declared.page.Page.{Page}
-use Rattle.mlt_page_store.specs.Stores.{PageStore, Pages, page_at}
-use Rattle.mlt_page_locks.specs.LockTables.{AreCompatible, KeepsOthers, LockTable, Modes, allows_write, can_read, can_write, is_holder, page_count, pages_of}
-use Rattle.mlt_page_locks.specs.Requests.{granted, released, with_page}
-use Rattle.mlt_page_locks.proofs.LockLaws.{can_write-granted, compatible_released, no_holder-released, page_count-granted, pages_of-released, released_keeps_others, writer_reads}
-use Rattle.mlt_page_locks.proofs.Maps.{get_inserted, get_removed, same_entries}
-use Rattle.mlt_page_subtx.specs.Images.{Images, Running, image_of, or_image, put_back, with_image}
-use Rattle.mlt_page_subtx.proofs.ImageLaws.{fresh_has_no_image, not_there, not_true, page_at-put_back, with_image-absent}
-use Rattle.mlt_hash_form.specs.Held.{Agrees, own_or_clean, over}
-use Rattle.mlt_hash_access.specs.LocalStates.{MayStep, LocalState, page_before}
-use Rattle.mlt_hash_access.specs.PageSteps.{LocksAtMost, TouchesOnePage, WritesAtMost}
-use Rattle.mlt_hash_access.specs.Views.{View, own_at, page_written, seen_at, view_of}
-use Rattle.mlt_hash_access.proofs.LocalStates.{may_after_lock_at_most, may_after_step}
+use Rattle.mlt_hash_subtx_laws.proofs.Names.{cases_eq, false≢true, nat_tests, Mode, Exclusive, Page, PageStore, Pages, page_at, AreCompatible, KeepsOthers, LockTable, Modes, allows_write, can_read, can_write, page_count, pages_of, granted, released, can_write-granted, writer_reads, get_inserted, get_removed, Images, Running, image_of, or_image, put_back, with_image, not_there, not_true, page_at-put_back, Agrees, MayStep, LocalState, page_before, LocksAtMost, TouchesOnePage, WritesAtMost, page_written, view_of, may_after_lock_at_most, DropsImages, ImagesAreApart, ImagesAreLocked, ImagesAreThere, RunningImages, clean_pages, image_at, AllMayStep, AllRunning, clean_of, images_by, is_open, local_of}
+use Rattle.mlt_page_locks.specs.LockTables.{is_holder}
+use Rattle.mlt_page_locks.specs.Requests.{with_page}
+use Rattle.mlt_page_locks.proofs.LockLaws.{compatible_released, no_holder-released, page_count-granted, pages_of-released, released_keeps_others}
+use Rattle.mlt_page_locks.proofs.Maps.{same_entries}
+use Rattle.mlt_page_subtx.proofs.ImageLaws.{fresh_has_no_image, with_image-absent}
+use Rattle.mlt_hash_form.specs.Held.{own_or_clean, over}
+use Rattle.mlt_hash_access.specs.Views.{View, own_at, seen_at}
+use Rattle.mlt_hash_access.proofs.LocalStates.{may_after_step}
 use Rattle.mlt_hash_access.proofs.OwnSteps.{step_keeps_tx}
-use Rattle.mlt_hash_subtx_laws.specs.CleanPages.{DropsImages, ImagesAreApart, ImagesAreLocked, ImagesAreThere, RunningImages, clean_pages, image_at}
-use Rattle.mlt_hash_subtx_laws.specs.Running.{AllMayStep, AllRunning, HoldsNothing, KeepsRunning, after_begin, after_close, after_end, after_roll_back, after_step, clean_of, images_by, is_open, local_of}
+use Rattle.mlt_hash_subtx_laws.specs.Running.{HoldsNothing, KeepsRunning, after_begin, after_close, after_end, after_roll_back, after_step}
 use Rattle.mlt_hash_subtx_laws.proofs.AllRunning.{agrees_with_each, each_may_step}
 use Rattle.mlt_hash_subtx_laws.proofs.CleanLaws.{clean_page-end, clean_pages-roll_back, clean_pages-write, drops_cleared, drops_removed, image_at-insert, images_are_apart, others_stay, same_clean_pages}
 use Rattle.mlt_hash_subtx_laws.proofs.Others.{same_where_held, step_drops_no_page, step_keeps_held_pages, step_keeps_others}

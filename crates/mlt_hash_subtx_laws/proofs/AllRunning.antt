@@ -1,27 +1,14 @@
 -- All running subtransactions at once: each of them may step, and which pages are clean for it
-use Rattle.std.proofs.Common.{◌≡◌, ℕ, ◌≤◌, ◌<◌, true, Option, None, is_some, List, [], ◌∷◌, length, eqb, refl, sym, ap, subst, ◌∙◌, inl, arith}
+use Rattle.std.proofs.Common.{◌≡◌, ℕ, ◌≤◌, ◌<◌, true, Option, None, is_some, List, [], ◌∷◌, length, eqb, refl, sym, ap, subst, ◌∙◌, inl, arith, nat_cmp}
 use Rattle.std.specs.List.{list_any}
-use Rattle.std.specs.Ordering.{nat_cmp}
-use Rattle.std.specs.Cmp.{unsigned_tied}
+use Rattle.mlt_hash_subtx_laws.proofs.Names.{unsigned_tied, find, false≢true, nat_tests, Mode, Page, PageStore, page_at, Modes, page_count, granted, Images, RunningImages, image_at, page_at-put_back, Agrees, MayStep, AllMayStep, AllRunning, clean_of, images_by, is_open, local_of, view_of}
 use Rattle.std.specs.FinMap as map
-use Rattle.std.specs.FinMap.Entries.{find}
-use Rattle.std.proofs.lemmas.Bool.{false≢true}
-use Rattle.std.proofs.lemmas.Bool.Decides.{nat_tests}
-use Rattle.mlt_types.specs.declared.mode.Mode.{Mode}
-use Rattle.mlt_page.specs.declared.page.Page.{Page}
-use Rattle.mlt_page_store.specs.Stores.{PageStore, page_at}
-use Rattle.mlt_page_locks.specs.LockTables.{HasRoom, Modes, page_count}
-use Rattle.mlt_page_locks.specs.Requests.{granted}
+use Rattle.mlt_page_locks.specs.LockTables.{HasRoom}
 use Rattle.mlt_page_locks.proofs.LockLaws.{few_none, room_to_grant}
-use Rattle.mlt_page_subtx.specs.Images.{Images}
-use Rattle.mlt_hash_subtx_laws.specs.CleanPages.{RunningImages, image_at}
 use Rattle.mlt_hash_subtx_laws.proofs.CleanLaws.{clean_page_there, clean_page_unwritten, clean_view}
-use Rattle.mlt_page_subtx.proofs.ImageLaws.{page_at-put_back}
 use Rattle.mlt_page_subtx.proofs.LockedPages.{locks_there-none}
-use Rattle.mlt_hash_form.specs.Held.{Agrees}
-use Rattle.mlt_hash_access.specs.LocalStates.{IsCleanFor, MayStep}
-use Rattle.mlt_hash_subtx_laws.specs.Running.{AllMayStep, AllRunning, clean_of, images_by, is_open, local_of, nobody_running}
-use Rattle.mlt_hash_access.specs.Views.{view_of}
+use Rattle.mlt_hash_access.specs.LocalStates.{IsCleanFor}
+use Rattle.mlt_hash_subtx_laws.specs.Running.{nobody_running}
 use Rattle.mlt_hash_access.proofs.Views.{agrees}
 
 -- the numbers of a list of entries

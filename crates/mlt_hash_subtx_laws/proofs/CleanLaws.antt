@@ -1,20 +1,11 @@
 -- Laws of clean pages: who may write a page, and what writes, ends and roll backs change. Other crates cite them.
-use Rattle.std.proofs.Common.{◌≡◌, ◌≢◌, ℕ, eqb, Bool, true, false, cond, ◌&&◌, ◌⊎◌, T, Option, None, Some, is_some, unwrap_or, List, [], ◌∷◌, refl, sym, ap, subst, ◌∙◌, inl, inr, arith}
-use Rattle.std.specs.Ordering.{nat_cmp, is_lt}
-use Rattle.std.specs.Cmp.{unsigned_tied}
+use Rattle.std.proofs.Common.{◌≡◌, ◌≢◌, ℕ, eqb, Bool, true, false, cond, ◌&&◌, ◌⊎◌, T, Option, None, Some, is_some, unwrap_or, List, [], ◌∷◌, refl, sym, ap, subst, ◌∙◌, inl, inr, arith, nat_cmp, is_lt}
+use Rattle.mlt_hash_subtx_laws.proofs.Names.{unsigned_tied, find, false≢true, cases_eq, nat_tests, Page, Pages, page_at, get_inserted, get_removed, LockTable, can_read, can_write, AreCompatible, writer_reads, Images, image_of, or_image, put_back, with_image, not_there, not_true, page_at-put_back, RunningImages, image_at, clean_pages, ImagesAreLocked, ImagesAreApart, ImagesAreThere, DropsImages}
 use Rattle.std.specs.FinMap as map
-use Rattle.std.specs.FinMap.Entries.{find, is_sorted, below_all}
-use Rattle.std.proofs.lemmas.Bool.{false≢true, cases_eq}
-use Rattle.std.proofs.lemmas.Bool.Decides.{nat_tests}
-use Rattle.mlt_page.specs.declared.page.Page.{Page}
-use Rattle.mlt_page_store.specs.Stores.{Pages, page_at}
+use Rattle.std.specs.FinMap.Entries.{is_sorted, below_all}
 use Rattle.mlt_page_store.proofs.Numbered.{same_pages}
-use Rattle.mlt_page_locks.proofs.Maps.{get_inserted, get_removed}
-use Rattle.mlt_page_locks.specs.LockTables.{LockTable, can_read, can_write, AreCompatible}
-use Rattle.mlt_page_locks.proofs.LockLaws.{writer_reads}
-use Rattle.mlt_page_subtx.specs.Images.{Images, image_of, or_image, put_back, with_image}
-use Rattle.mlt_page_subtx.proofs.ImageLaws.{not_there, not_true, page_at-put_back, image_of-with_image}
-use Rattle.mlt_hash_subtx_laws.specs.CleanPages.{RunningImages, image_at, all_put_back, clean_pages, ImagesAreLocked, ImagesAreApart, ImagesAreThere, DropsImages}
+use Rattle.mlt_page_subtx.proofs.ImageLaws.{image_of-with_image}
+use Rattle.mlt_hash_subtx_laws.specs.CleanPages.{all_put_back}
 
 -- images of different subtransactions are of different pages
 pub images_are_apart : (running : RunningImages) (locks : LockTable) → AreCompatible locks → ImagesAreLocked running locks → ImagesAreApart running

@@ -1,3 +1,4 @@
+mod Names
 pub mod AllEvents
 pub mod AllRunning
 pub mod CleanLaws

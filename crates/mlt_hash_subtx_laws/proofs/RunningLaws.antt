@@ -2,17 +2,9 @@
 -- pages that are locked. Other crates cite these laws.
 use Rattle.std.proofs.Common.{◌≡◌, ◌≢◌, ℕ, true, None, is_some, unwrap_or, sym, ap, ◌∙◌, inl, inr, arith}
 use Rattle.std.specs.FinMap as map
-use Rattle.std.proofs.lemmas.Bool.{cases_eq, false≢true}
-use Rattle.std.proofs.lemmas.Bool.Decides.{nat_tests}
-use Rattle.mlt_types.specs.declared.mode.Mode.{Mode}
-use Rattle.mlt_page_store.specs.Stores.{Pages, page_at}
-use Rattle.mlt_page_locks.specs.LockTables.{LockTable, can_read, AreCompatible}
-use Rattle.mlt_page_locks.specs.Requests.{granted, released}
-use Rattle.mlt_page_locks.proofs.LockLaws.{can_write-granted, can_read-released, can_write-released}
-use Rattle.mlt_page_subtx.specs.Images.{or_image, put_back}
-use Rattle.mlt_page_subtx.proofs.ImageLaws.{not_there, not_true, page_at-put_back}
+use Rattle.mlt_hash_subtx_laws.proofs.Names.{cases_eq, false≢true, nat_tests, Mode, Pages, page_at, LockTable, can_read, AreCompatible, granted, released, can_write-granted, or_image, put_back, not_there, not_true, page_at-put_back, RunningImages, image_at, ImagesAreLocked, ImagesAreApart, ImagesAreThere, DropsImages}
+use Rattle.mlt_page_locks.proofs.LockLaws.{can_read-released, can_write-released}
 use Rattle.mlt_page_subtx.specs.Locking.{LocksPagesThere}
-use Rattle.mlt_hash_subtx_laws.specs.CleanPages.{RunningImages, image_at, ImagesAreLocked, ImagesAreApart, ImagesAreThere, DropsImages}
 
 -- images stay locked where a lock is granted
 pub images_locked-granted : (running : RunningImages) (locks : LockTable) (tx q : ℕ) (mode : Mode) → ImagesAreLocked running locks → ImagesAreLocked running (granted locks tx q mode)

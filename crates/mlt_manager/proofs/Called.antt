@@ -1,25 +1,13 @@
 -- Calls and cancels keep what is always true of a manager
 use Rattle.std.proofs.Common.{◌≡◌, ℕ, length, Some, refl, sym, ap, subst, ◌∙◌, arith}
 use Rattle.std.specs.FinMap as map
-use Rattle.mlt_object_kinds.specs.declared.operation.ObjOp.{ObjOp}
-use Rattle.mlt_object_kinds.specs.Operations.{cell_of}
-use Rattle.mlt_object_locks.specs.Locks.{SameReservations, reservation_of}
-use Rattle.mlt_page_subtx.specs.Images.{Running}
-use Rattle.mlt_hash_subtx_laws.specs.Running.{AllRunning, HoldsNothing, KeepsRunning, clean_of}
-use Rattle.mlt_tx_operation.specs.Operating.{OperationFields}
-use Rattle.mlt_tx.specs.declared.transaction.At.{At}
-use Rattle.mlt_tx.specs.declared.transaction.At.TheVariants as at
-use Rattle.mlt_tx.specs.declared.transaction.Transaction.{Transaction}
-use Rattle.mlt_tx.specs.Transactions.{IsPending}
-use Rattle.mlt_tx_open.specs.Tables.{CallsNone, CancelsOne, Table}
-use Rattle.mlt_manager_invariant.specs.Events.{Calls, KeepsCleanPages, with_transaction}
-use Rattle.mlt_manager_invariant.specs.Sound.{FitsAt}
-use Rattle.mlt_manager_invariant.specs.States.{all_of, images_kept, is_undoing, pending_room}
+use Rattle.mlt_manager.proofs.Names.{ObjOp, cell_of, SameReservations, reservation_of, Running, HoldsNothing, clean_of, OperationFields, At, Transaction, IsPending, Table, KeepsCleanPages, FitsAt, all_of, images_kept, pending_room, ChangesOpen, HasCalled, IsIdleWith, IsOpenAt, MayCall, KeepsWhatCounts, IsManager, ManagerFields, state_of}
+use Rattle.mlt_hash_subtx_laws.specs.Running.{AllRunning, KeepsRunning}
+use Rattle.mlt_tx_open.specs.Tables.{CallsNone, CancelsOne}
+use Rattle.mlt_manager_invariant.specs.Events.{Calls, with_transaction}
+use Rattle.mlt_manager_invariant.specs.States.{is_undoing}
 use Rattle.mlt_manager_invariant.proofs.Calls.{called_sound, cancelled_sound}
 use Rattle.mlt_manager_trace.proofs.Stays.{called_traced}
-use Rattle.mlt_manager.specs.Answers.{ChangesOpen, HasCalled, IsIdleWith, IsOpenAt, MayCall}
-use Rattle.mlt_manager.specs.Bases.{KeepsWhatCounts}
-use Rattle.mlt_manager.specs.Managers.{IsManager, ManagerFields, state_of}
 use Rattle.mlt_manager.proofs.Counts.{cancel_counts, same_counts}
 use Rattle.mlt_manager.proofs.Keeping.{IsStill, changed_keeps, same_manager}
 use Rattle.mlt_manager.proofs.Stepped.{keeps_what_counts, still}
@@ -28,16 +16,16 @@ use Rattle.mlt_manager.proofs.Stepped.{keeps_what_counts, still}
 pub one_there : (txs : Table) (tx : ℕ) (a b : Transaction) → map.get txs tx ≡ Some a → map.get txs tx ≡ Some b → a ≡ b
 one_there txs tx a b is also = let both : Some a ≡ Some b = sym is ∙ also in cc
 
-pub was_idle : (txs : Table) (tx count : ℕ) (before : Transaction) → IsIdleWith txs tx count → map.get txs tx ≡ Some before → before.at ≡ at.Idle
+pub was_idle : (txs : Table) (tx count : ℕ) (before : Transaction) → IsIdleWith txs tx count → map.get txs tx ≡ Some before → before.at ≡ At.Idle
 was_idle txs tx count before idle was = ap (λ (t : Transaction). t.at) (one_there txs tx before idle.one was idle.there) ∙ idle.idle
 
 pub was_with : (txs : Table) (tx count : ℕ) (before : Transaction) → IsIdleWith txs tx count → map.get txs tx ≡ Some before → length before.undo.entries ≡ count
 was_with txs tx count before idle was = ap (λ (t : Transaction). length t.undo.entries) (one_there txs tx before idle.one was idle.there) ∙ idle.counts
 
-pub pending_of : (a : At) → IsPending a → (o : OperationFields) × (a ≡ at.Pending o)
-pending_of at.Idle none = absurd none
-pending_of (at.Pending o) is = (o, refl)
-pending_of (at.Undoing inverting) none = absurd none
+pub pending_of : (a : At) → IsPending a → (o : OperationFields) × (a ≡ At.Pending o)
+pending_of At.Idle none = absurd none
+pending_of (At.Pending o) is = (o, refl)
+pending_of (At.Undoing inverting) none = absurd none
 
 module _ {P : Type 0} (bits_of : P → ℕ → ℕ) (m : ManagerFields P) (h : IsManager bits_of m) (tx : ℕ) (m' : ManagerFields P) (rest : ChangesOpen m m') where
   -- the manager, where the table has this one changed
@@ -83,7 +71,7 @@ module _ {P : Type 0} (bits_of : P → ℕ → ℕ) (m : ManagerFields P) (h : I
       let ch = none.changes in
       let t = none.tells in
       let fits = h.sound.fits tx ch.before ch.was in
-      let was_at : ch.before.at ≡ at.Idle = was_idle m.txs tx count ch.before idle ch.was in
+      let was_at : ch.before.at ≡ At.Idle = was_idle m.txs tx count ch.before idle ch.was in
       let alike : all_of (with_transaction s tx ch.after m'.shared h.images) ≡ all_of s = (λ p. record { images = h.images; locks = (t.makes.pages p).locks; store = (t.makes.pages p).store }) in
       let nothing : HoldsNothing (all_of s) tx = subst (λ (a : At). FitsAt a s tx ch.before) was_at fits.where_at in
       let lengths : length ch.after.undo.entries ≡ length ch.before.undo.entries = ap length t.makes.entries in
@@ -117,7 +105,7 @@ module _ {P : Type 0} (bits_of : P → ℕ → ℕ) (m : ManagerFields P) (h : I
   cancelled_keeps there c =
       let ch = c.changes in
       let o = pending_of there.one.at there.is_at in
-      let was_at : ch.before.at ≡ at.Pending o.0 = ap (λ (t : Transaction). t.at) (one_there m.txs tx ch.before there.one ch.was there.there) ∙ o.1 in
+      let was_at : ch.before.at ≡ At.Pending o.0 = ap (λ (t : Transaction). t.at) (one_there m.txs tx ch.before there.one ch.was there.there) ∙ o.1 in
       let clean = cancelled_sound (state_of bits_of m h.images h.base) tx o.0 ch.before ch.after m'.shared h.sound ch.was was_at c.tells in (
         same_manager bits_of m' (record m { shared = m'.shared; txs = map.insert m.txs tx ch.after }) (changed_core ch.after ch.is)
             (changed_keeps bits_of m h tx ch.before ch.after m'.shared ch.was (cancel_counts ch.before ch.after m.shared m'.shared c.tells) (still bits_of m h tx ch.before ch.after m'.shared ch.was clean)),

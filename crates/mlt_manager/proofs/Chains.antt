@@ -1,14 +1,7 @@
 -- Steps of one transaction, one after another
 use Rattle.std.proofs.Common.{◌≡◌, ℕ, List, [], ◌∷◌, ◌++◌, Some, refl, sym, ap, subst, ◌∙◌}
 use Rattle.std.specs.FinMap as map
-use Rattle.mlt_event.specs.declared.answer.Answer.{Answer}
-use Rattle.mlt_tx.specs.declared.transaction.At.{At}
-use Rattle.mlt_tx.specs.declared.transaction.Transaction.{Transaction}
-use Rattle.mlt_tx_open.specs.Tables.{Table}
-use Rattle.mlt_manager_invariant.proofs.Tables.{inserted_here}
-use Rattle.mlt_manager.specs.Answers.{HasStepped, IsOpenAt, txs_after}
-use Rattle.mlt_manager.specs.Chains.{StepsBy, StepsUpTo}
-use Rattle.mlt_manager.specs.Managers.{IsManager, ManagerFields}
+use Rattle.mlt_manager.proofs.Names.{Answer, At, Transaction, Table, inserted_here, HasStepped, IsOpenAt, txs_after, StepsBy, StepsUpTo, IsManager, ManagerFields}
 use Rattle.mlt_manager.proofs.Called.{one_there}
 use Rattle.mlt_manager.proofs.Stepped.{step_keeps}
 

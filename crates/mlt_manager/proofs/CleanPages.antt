@@ -1,24 +1,15 @@
 -- The clean pages of a manager are those of the invariant, and no others are
-use Rattle.std.proofs.lemmas.Bool.{false≢true, or_cases}
-use Rattle.std.proofs.Common.{◌≡◌, ℕ, eqb, true, ◌⊎◌, Option, None, Some, List, [], ◌∷◌, is_some, unwrap_or, refl, sym, ap, ◌∙◌, inl, inr, arith}
-use Rattle.std.specs.Ordering.{nat_cmp, eq_by_cmp}
-use Rattle.std.specs.Cmp.{nat_cmp_total, unsigned_tied}
-use Rattle.std.proofs.lemmas.Bool.Decides.{nat_tests}
+use Rattle.mlt_manager.proofs.Names.{false≢true, nat_cmp_total, nat_tests, Base, Page, Pages, page_at, Images, image_of, RunningImages, clean_pages, Transaction, KeepsImage, KeepsNoImage, Table, IsSound, images_kept, HasCleanPages, ManagerFields, state_of}
+use Rattle.std.proofs.lemmas.Bool.{or_cases}
+use Rattle.std.proofs.Common.{◌≡◌, ℕ, eqb, true, ◌⊎◌, Option, None, Some, List, [], ◌∷◌, is_some, unwrap_or, refl, sym, ap, ◌∙◌, inl, inr, arith, nat_cmp}
+use Rattle.std.specs.Ordering.{eq_by_cmp}
+use Rattle.std.specs.Cmp.{unsigned_tied}
 use Rattle.std.specs.List.{list_any}
 use Rattle.std.specs.FinMap as map
-use Rattle.mlt_object_kinds.specs.Bases.{Base}
-use Rattle.mlt_page.specs.declared.page.Page.{Page}
-use Rattle.mlt_page_store.specs.Stores.{Pages, page_at}
 use Rattle.mlt_page_locks.proofs.LockLaws.{writer_reads}
-use Rattle.mlt_page_subtx.specs.Images.{Images, image_of, or_image}
-use Rattle.mlt_hash_subtx_laws.specs.CleanPages.{RunningImages, clean_pages, image_at}
+use Rattle.mlt_page_subtx.specs.Images.{or_image}
+use Rattle.mlt_hash_subtx_laws.specs.CleanPages.{image_at}
 use Rattle.mlt_hash_subtx_laws.proofs.CleanLaws.{clean_page_of, clean_page_unwritten, others_have_none}
-use Rattle.mlt_tx.specs.declared.transaction.Transaction.{Transaction}
-use Rattle.mlt_tx_open.specs.Tables.{KeepsImage, KeepsNoImage, Table}
-use Rattle.mlt_manager_invariant.specs.Sound.{IsSound}
-use Rattle.mlt_manager_invariant.specs.States.{images_kept}
-use Rattle.mlt_manager.specs.Bases.{HasCleanPages}
-use Rattle.mlt_manager.specs.Managers.{ManagerFields, state_of}
 
 -- the image of a page that an open transaction keeps, of its images
 abbrev kept_in : Option Images → ℕ → Option (Option Page)

@@ -1,34 +1,20 @@
 -- The base that the clean pages mean, copied from the buckets at the places of the directory
-use Rattle.std.proofs.Common.{◌≡◌, ◌⊎◌, ℕ, ◌+◌, ◌<◌, ◌≤◌, ◌/◌, ◌%◌, ◌^◌, List, slice_index, Option, None, Some, refl, sym, ap, subst, ◌∙◌, inl, inr, arith}
+use Rattle.std.proofs.Common.{◌≡◌, ◌⊎◌, ℕ, ◌+◌, ◌<◌, ◌≤◌, ◌/◌, ◌%◌, ◌^◌, List, slice_index, Option, None, Some, refl, sym, ap, subst, ◌∙◌, inl, inr, arith, nat_cmp}
 use Rattle.std.proofs.lemmas.Bool.{cases_lt}
-use Rattle.std.proofs.Math.Nat.{pow-le-pow_right}
-use Rattle.std.specs.Ordering.{nat_cmp}
+use Rattle.mlt_manager.proofs.Names.{pow-le-pow_right, Cell, Account, Element, Counter, Size, IsInRange, key_number, Base, empty_base, state_at, Means, IsRecord, state_of_record, BucketFields, HeadFields, Page, FilePages, GivesPseudokeys, HasForm, bucket_of, header_of, live_records, clean_pages, AreSlotsOf, CopiesSlots, HasBase, HasCleanPage, HasCleanPages, HasDepth, IsManager, ManagerFields}
 use Rattle.std.specs.FinMap as map
-use Rattle.mlt_types.specs.declared.cell.Cell.{Cell}
-use Rattle.mlt_types.specs.declared.cell.Cell.TheVariants.{Account, Element, Counter, Size}
-use Rattle.mlt_types.specs.Cells.{IsInRange, key_number}
-use Rattle.mlt_object_kinds.specs.Bases.{Base, empty_base, state_at}
 use Rattle.mlt_object_kinds.proofs.BaseLaws.{same_base as one_base}
-use Rattle.mlt_object_base.specs.Meaning.{Means}
-use Rattle.mlt_object_base.specs.Records.{IsRecord, state_of_record}
 use Rattle.mlt_object_base.proofs.Meanings.{below_or_not}
 use Rattle.mlt_page.specs.Bits.{first_bits}
-use Rattle.mlt_page.specs.Values.{BucketFields, HeadFields}
-use Rattle.mlt_page.specs.declared.page.Page.{Page}
-use Rattle.mlt_page.specs.declared.page.Page.TheVariants as page
-use Rattle.mlt_hash_form.specs.File.{FilePages, GivesPseudokeys, HasForm, bucket_of, buckets_of, depth_of, dirs_of, entries_of, entry, header_of, lead_of}
+use Rattle.mlt_hash_form.specs.File.{buckets_of, depth_of, dirs_of, entries_of, entry, lead_of}
 use Rattle.mlt_hash_form.specs.Form.{value_in}
-use Rattle.mlt_hash_form.specs.Records.{live_records}
 use Rattle.mlt_hash_form.proofs.Bits.{first_bits-with_first_bits, first_bits_below, with_first_bits, with_first_bits_below}
 use Rattle.mlt_hash_form.proofs.Lookup.{found as record_found, live_from_value}
 use Rattle.mlt_hash_form.proofs.MapChanges.{map_is_look_up}
 use Rattle.mlt_hash_form.proofs.Paths.{path_of}
-use Rattle.mlt_hash_subtx_laws.specs.CleanPages.{clean_pages}
-use Rattle.mlt_manager_base.specs.Copies.{AreSlotsOf, CopiesSlots, IsPartOf}
+use Rattle.mlt_manager_base.specs.Copies.{IsPartOf}
 use Rattle.mlt_manager_base.proofs.Nothing.{empty_part}
-use Rattle.mlt_manager.specs.Bases.{HasBase, HasCleanPage, HasCleanPages, HasDepth}
 use Rattle.mlt_manager.specs.CleanBuckets.{IsCleanBucket, IsCleanDirectory, IsCleanHead, IsTrueOfClean}
-use Rattle.mlt_manager.specs.Managers.{IsManager, ManagerFields}
 use Rattle.mlt_manager.proofs.CleanPages.{pages_clean, same_clean}
 use Rattle.mlt_manager.proofs.Headline.{contained, record_of_slot}
 
@@ -52,9 +38,9 @@ pub record LeadsAt (pages : FilePages) (root place : ℕ) : Type 0 where
   pub header : HeadFields
   pub dir : List ℕ
   pub bucket : BucketFields
-  pub head : pages root ≡ Some (page.Head header)
-  pub listed : pages (slice_index header.dirs (place / 256)) ≡ Some (page.Dir dir)
-  pub found : pages (slice_index dir (place % 256)) ≡ Some (page.Bucket bucket)
+  pub head : pages root ≡ Some (Page.Head header)
+  pub listed : pages (slice_index header.dirs (place / 256)) ≡ Some (Page.Dir dir)
+  pub found : pages (slice_index dir (place % 256)) ≡ Some (Page.Bucket bucket)
 
 module _ (bits : ℕ → ℕ) (pages : FilePages) (root : ℕ) (form : HasForm bits pages root) where
   leads_at : (place : ℕ) → place < 2 ^ depth_of pages root → LeadsAt pages root place
@@ -70,7 +56,7 @@ module _ (bits : ℕ → ℕ) (pages : FilePages) (root : ℕ) (form : HasForm b
         dir = path.1;
         bucket = path.3;
         head = path.4.head;
-        listed = subst (λ (p : ℕ). pages (slice_index path.0.dirs (p / 256)) ≡ Some (page.Dir path.1)) at path.4.listed;
+        listed = subst (λ (p : ℕ). pages (slice_index path.0.dirs (p / 256)) ≡ Some (Page.Dir path.1)) at path.4.listed;
         found = ap pages (ap (λ (p : ℕ). slice_index path.1 (p % 256)) (sym at) ∙ path.4.at) ∙ path.4.found;
       }
 
@@ -117,15 +103,15 @@ module _ {P : Type 0} (bits_of : P → ℕ → ℕ) (m : ManagerFields P) (h : I
       let most : 2 ^ d ≤ 2 ^ 16 = pow-le-pow_right {n = 2} (omega arith) small in
       omega (arith, most, within)
 
-  pub head_read : (head : HeadFields) (p : Option Page) → HasCleanPage m m.root.page p → p ≡ Some (page.Head head) → IsCleanHead m head
+  pub head_read : (head : HeadFields) (p : Option Page) → HasCleanPage m m.root.page p → p ≡ Some (Page.Head head) → IsCleanHead m head
   head_read head p is read other other_clean = on_each m.root.page p is other other_clean ∙ read
 
-  same_header : (one other : HeadFields) → pages m.root.page ≡ Some (page.Head one) → pages m.root.page ≡ Some (page.Head other) → one ≡ other
+  same_header : (one other : HeadFields) → pages m.root.page ≡ Some (Page.Head one) → pages m.root.page ≡ Some (Page.Head other) → one ≡ other
   same_header one other is also = ap header_of (sym is ∙ also)
 
   -- the page that the header names is one of the directory,
   pub directory_there : (place d : ℕ) → HasDepth m d → place < 2 ^ d → (head : HeadFields) → IsCleanHead m head → (number : ℕ) → number ≡ slice_index head.dirs (place / 256)
-      → (p : Option Page) → HasCleanPage m number p → (dir : List ℕ) × (p ≡ Some (page.Dir dir))
+      → (p : Option Page) → HasCleanPage m number p → (dir : List ℕ) × (p ≡ Some (Page.Dir dir))
   directory_there place d is within head is_head number named p clean_page =
       let way = led place d is within in
       let same : head ≡ way.header = same_header head way.header (is_head clean all_clean) way.head in
@@ -133,7 +119,7 @@ module _ {P : Type 0} (bits_of : P → ℕ → ℕ) (m : ManagerFields P) (h : I
       (way.dir, sym (on_each number p clean_page clean all_clean) ∙ ap pages at ∙ way.listed)
 
   pub directory_read : (place : ℕ) (head : HeadFields) → IsCleanHead m head → (number : ℕ) → number ≡ slice_index head.dirs (place / 256)
-      → (dir : List ℕ) (p : Option Page) → HasCleanPage m number p → p ≡ Some (page.Dir dir) → IsCleanDirectory m place dir
+      → (dir : List ℕ) (p : Option Page) → HasCleanPage m number p → p ≡ Some (Page.Dir dir) → IsCleanDirectory m place dir
   directory_read place head is_head number named dir p is read other other_clean =
       let at : slice_index (dirs_of (map.get other) m.root.page) (place / 256) ≡ number =
       ap (λ (x : Option Page). slice_index (header_of x).dirs (place / 256)) (is_head other other_clean) ∙ sym named in
@@ -141,17 +127,17 @@ module _ {P : Type 0} (bits_of : P → ℕ → ℕ) (m : ManagerFields P) (h : I
 
   -- and the page that this names is a bucket
   pub bucket_there : (place d : ℕ) → HasDepth m d → place < 2 ^ d → (dir : List ℕ) → IsCleanDirectory m place dir → (number : ℕ) → number ≡ slice_index dir (place % 256)
-      → (p : Option Page) → HasCleanPage m number p → (bucket : BucketFields) × (p ≡ Some (page.Bucket bucket))
+      → (p : Option Page) → HasCleanPage m number p → (bucket : BucketFields) × (p ≡ Some (Page.Bucket bucket))
   bucket_there place d is within dir is_dir number named p clean_page =
       let way = led place d is within in
-      let listed : pages (slice_index (dirs_of pages m.root.page) (place / 256)) ≡ Some (page.Dir way.dir) =
+      let listed : pages (slice_index (dirs_of pages m.root.page) (place / 256)) ≡ Some (Page.Dir way.dir) =
       ap (λ (x : Option Page). pages (slice_index (header_of x).dirs (place / 256))) way.head ∙ way.listed in
       let same : dir ≡ way.dir = ap entries_of (sym (is_dir clean all_clean) ∙ listed) in
       let at : number ≡ slice_index way.dir (place % 256) = named ∙ ap (λ (x : List ℕ). slice_index x (place % 256)) same in
       (way.bucket, sym (on_each number p clean_page clean all_clean) ∙ ap pages at ∙ way.found)
 
   pub bucket_read : (place : ℕ) (dir : List ℕ) → IsCleanDirectory m place dir → (number : ℕ) → number ≡ slice_index dir (place % 256)
-      → (bucket : BucketFields) (p : Option Page) → HasCleanPage m number p → p ≡ Some (page.Bucket bucket) → IsCleanBucket m place bucket
+      → (bucket : BucketFields) (p : Option Page) → HasCleanPage m number p → p ≡ Some (Page.Bucket bucket) → IsCleanBucket m place bucket
   bucket_read place dir is_dir number named bucket p is read other other_clean =
       let at : entry (map.get other) (dirs_of (map.get other) m.root.page) place ≡ number =
       ap (λ (x : Option Page). slice_index (entries_of x) (place % 256)) (is_dir other other_clean) ∙ sym named in

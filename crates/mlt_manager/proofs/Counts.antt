@@ -1,31 +1,13 @@
 -- No step changes for how many transactions there are locks, how many pages there may be, or how many have committed
-use Rattle.std.proofs.Common.{◌≡◌, ℕ, List, [], ◌∷◌, ◌++◌, length, arith, Option, None, Some, inl, inr, refl, ap, ◌∙◌}
-use Rattle.mlt_page_subtx.specs.Images.{Running}
-use Rattle.mlt_object_undo.specs.Undo.{Undo}
-use Rattle.mlt_hash_access.specs.LocalStates.{LocalState, local}
+use Rattle.std.proofs.Common.{◌≡◌, ℕ, List, [], ◌∷◌, ◌++◌, length, arith, Option, None, Some, inl, inr, refl, ap, ◌∙◌, length-append}
+use Rattle.mlt_manager.proofs.Names.{Running, Undo, LocalState, local, WalkContext, StepAnswer, TellsOfStep, OperationFields, ObjOp, ObjReply, TraceItem, commit_count, Answer, SharedState, At, Transaction, EndsBack, TellsOfBack, TellsOfPending, TellsAt}
 use Rattle.mlt_hash_access.specs.PageSteps.{LocksAtMost, TouchesOnePage, WritesAtMost}
-use Rattle.mlt_hash.specs.Walks.{WalkContext}
-use Rattle.mlt_tx_operation.specs.declared.answer.StepAnswer.{StepAnswer}
-use Rattle.mlt_tx_operation.specs.declared.answer.StepAnswer.TheVariants as step
-use Rattle.mlt_tx_operation.specs.Answers.{TellsOfStep}
-use Rattle.mlt_tx_operation.specs.Operating.{OperationFields}
 use Rattle.mlt_hash_access.specs.PageTurns.{IsRolledBack, TakesTurn}
-use Rattle.mlt_object_kinds.specs.declared.operation.ObjOp.{ObjOp}
-use Rattle.mlt_object_kinds.specs.declared.operation.ObjReply.{ObjReply}
-use Rattle.mlt_trace.specs.declared.item.TraceItem.{TraceItem}
-use Rattle.mlt_trace.specs.declared.item.TraceItem.TheVariants as trace
-use Rattle.mlt_trace.specs.Numbers.{commit_count, commit_numbers}
+use Rattle.mlt_trace.specs.Numbers.{commit_numbers}
 use Rattle.mlt_trace.proofs.ItemLaws.{commit_numbers-append}
-use Rattle.std.proofs.lemmas.List.{length-append}
-use Rattle.mlt_event.specs.declared.answer.Answer.{Answer}
-use Rattle.mlt_event.specs.declared.answer.Answer.TheVariants as answer
-use Rattle.mlt_tx.specs.declared.shared.SharedState.{SharedState}
-use Rattle.mlt_tx.specs.declared.transaction.At.{At}
-use Rattle.mlt_tx.specs.declared.transaction.At.TheVariants as at
-use Rattle.mlt_tx.specs.declared.transaction.Transaction.{Transaction}
 use Rattle.mlt_tx.specs.Endings.{EndsSubtx, IsDone, RollsBackSubtx, tx_state}
-use Rattle.mlt_tx.specs.Steps.{EndsBack, TakesBack, TellsOfBack, TellsOfPending}
-use Rattle.mlt_tx.specs.Transactions.{LeavesRoom, TellsAt, TellsOfCancel}
+use Rattle.mlt_tx.specs.Steps.{TakesBack}
+use Rattle.mlt_tx.specs.Transactions.{LeavesRoom, TellsOfCancel}
 
 -- the limits of locks and pages are as they were
 pub record KeepsLimits (old new : LocalState) : Type 0 where
@@ -57,11 +39,11 @@ back_limits : (m m' : LocalState) → IsRolledBack m m' → KeepsLimits m m'
 back_limits m m' b = record { locks = λ i. (b.locks i).max_open; pages = λ i. (b.store i).max_pages }
 
 step_limits : (context : WalkContext) (m m' : LocalState) (o o' : OperationFields) (told : StepAnswer) → TellsOfStep context m m' o o' told → KeepsLimits m m'
-step_limits context m m' o o' step.Going (inl goes) = turn_limits m m' goes.turn
-step_limits context m m' o o' step.Going (inr (inl splits)) = turn_limits m m' splits.turn
-step_limits context m m' o o' step.Going (inr (inr again)) = both_limits m again.back.mid m' (turn_limits m again.back.mid again.back.turn) (back_limits again.back.mid m' again.back.back)
-step_limits context m m' o o' (step.Waiting page by) waits = same_limits m m' waits.pages
-step_limits context m m' o o' (step.Refused reason) r = both_limits m r.back.mid m' (turn_limits m r.back.mid r.back.turn) (back_limits r.back.mid m' r.back.back)
+step_limits context m m' o o' StepAnswer.Going (inl goes) = turn_limits m m' goes.turn
+step_limits context m m' o o' StepAnswer.Going (inr (inl splits)) = turn_limits m m' splits.turn
+step_limits context m m' o o' StepAnswer.Going (inr (inr again)) = both_limits m again.back.mid m' (turn_limits m again.back.mid again.back.turn) (back_limits again.back.mid m' again.back.back)
+step_limits context m m' o o' (StepAnswer.Waiting page by) waits = same_limits m m' waits.pages
+step_limits context m m' o o' (StepAnswer.Refused reason) r = both_limits m r.back.mid m' (turn_limits m r.back.mid r.back.turn) (back_limits r.back.mid m' r.back.back)
 
 -- for how many transactions there are locks, how many pages there may be, and how many have committed
 pub record KeepsCounts (old new : SharedState) : Type 0 where
@@ -98,29 +80,29 @@ done_counts : (item : ObjOp × ObjReply) (before after : Running) (undo undo' : 
 done_counts item before after undo undo' old new d = record {
   locks = λ i. (d.ends.locks i).max_open;
   pages = λ i. (d.ends.store i).max_pages;
-  commits = ap commit_count d.items ∙ no_more_commits old.history.items (trace.Op before.tx item ∷ []) refl;
+  commits = ap commit_count d.items ∙ no_more_commits old.history.items (TraceItem.Op before.tx item ∷ []) refl;
 }
 
 pending_counts : (context : WalkContext) (o o' : OperationFields) (running running' : Running) (undo undo' : Undo) (old new : SharedState) (told : Answer)
     → TellsOfPending context o o' (tx_state running undo old) (tx_state running' undo' new) told → KeepsCounts old new
-pending_counts context o o' running running' undo undo' old new answer.Going w =
-    local_counts running running' old new (step_limits context (local running old.pages) (local running' new.pages) o o' step.Going w.tells) w.rest.history
-pending_counts context o o' running running' undo undo' old new (answer.Waiting page by) w =
-    local_counts running running' old new (step_limits context (local running old.pages) (local running' new.pages) o o' (step.Waiting page by) w.tells) w.rest.history
-pending_counts context o o' running running' undo undo' old new (answer.Refused reason) w =
-    local_counts running running' old new (step_limits context (local running old.pages) (local running' new.pages) o o' (step.Refused reason) w.tells) w.rest.history
-pending_counts context o o' running running' undo undo' old new (answer.Blocked by) (e, anew) = rolls_counts running running' old new e.tells.back e.tells.history
-pending_counts context o o' running running' undo undo' old new (answer.Done reply) e = done_counts (e.op, e.reply) running running' undo undo' old new e.tells.1
-pending_counts context o o' running running' undo undo' old new answer.Undone none = absurd none
-pending_counts context o o' running running' undo undo' old new answer.Aborted none = absurd none
+pending_counts context o o' running running' undo undo' old new Answer.Going w =
+    local_counts running running' old new (step_limits context (local running old.pages) (local running' new.pages) o o' StepAnswer.Going w.tells) w.rest.history
+pending_counts context o o' running running' undo undo' old new (Answer.Waiting page by) w =
+    local_counts running running' old new (step_limits context (local running old.pages) (local running' new.pages) o o' (StepAnswer.Waiting page by) w.tells) w.rest.history
+pending_counts context o o' running running' undo undo' old new (Answer.Refused reason) w =
+    local_counts running running' old new (step_limits context (local running old.pages) (local running' new.pages) o o' (StepAnswer.Refused reason) w.tells) w.rest.history
+pending_counts context o o' running running' undo undo' old new (Answer.Blocked by) (e, anew) = rolls_counts running running' old new e.tells.back e.tells.history
+pending_counts context o o' running running' undo undo' old new (Answer.Done reply) e = done_counts (e.op, e.reply) running running' undo undo' old new e.tells.1
+pending_counts context o o' running running' undo undo' old new Answer.Undone none = absurd none
+pending_counts context o o' running running' undo undo' old new Answer.Aborted none = absurd none
 
 leaves_counts : (told : Answer) (between new : SharedState) → LeavesRoom told between new → KeepsCounts between new
-leaves_counts (answer.Refused reason) between new gives = same_counts between new gives.pages gives.items
+leaves_counts (Answer.Refused reason) between new gives = same_counts between new gives.pages gives.items
 leaves_counts other between new same = same_counts between new (λ i. (same i).pages) (λ i. (same i).history.items)
 
 takes_counts : (tx : ℕ) (undo undo' : Undo) (old new : SharedState) (told : Answer) → TakesBack tx undo undo' old new told → KeepsCounts old new
-takes_counts tx undo undo' old new answer.Undone takes = items_counts old new (trace.Back tx ∷ []) takes.off.pages takes.items refl
-takes_counts tx undo undo' old new answer.Aborted takes = items_counts old new (trace.Back tx ∷ trace.Abort tx ∷ []) takes.off.pages takes.items refl
+takes_counts tx undo undo' old new Answer.Undone takes = items_counts old new (TraceItem.Back tx ∷ []) takes.off.pages takes.items refl
+takes_counts tx undo undo' old new Answer.Aborted takes = items_counts old new (TraceItem.Back tx ∷ TraceItem.Abort tx ∷ []) takes.off.pages takes.items refl
 takes_counts tx undo undo' old new other takes = absurd takes
 
 -- with an inverse, by the end of its subtransaction, or without one
@@ -142,20 +124,20 @@ ends_back_counts inverting inverting' running running' undo undo' old new told e
 
 back_counts : (context : WalkContext) (inverting inverting' : Option OperationFields) (running running' : Running) (undo undo' : Undo) (old new : SharedState) (told : Answer)
     → TellsOfBack context inverting inverting' (tx_state running undo old) (tx_state running' undo' new) told → KeepsCounts old new
-back_counts context inverting inverting' running running' undo undo' old new answer.Going s =
+back_counts context inverting inverting' running running' undo undo' old new Answer.Going s =
     local_counts running running' old new (turn_limits (local running old.pages) (local running' new.pages) s.tells.turn) s.rest.history
-back_counts context inverting inverting' running running' undo undo' old new (answer.Waiting page by) s =
+back_counts context inverting inverting' running running' undo undo' old new (Answer.Waiting page by) s =
     local_counts running running' old new (same_limits (local running old.pages) (local running' new.pages) s.tells.pages) s.rest.history
-back_counts context inverting inverting' running running' undo undo' old new answer.Undone e = ends_back_counts inverting inverting' running running' undo undo' old new answer.Undone e
-back_counts context inverting inverting' running running' undo undo' old new answer.Aborted e = ends_back_counts inverting inverting' running running' undo undo' old new answer.Aborted e
+back_counts context inverting inverting' running running' undo undo' old new Answer.Undone e = ends_back_counts inverting inverting' running running' undo undo' old new Answer.Undone e
+back_counts context inverting inverting' running running' undo undo' old new Answer.Aborted e = ends_back_counts inverting inverting' running running' undo undo' old new Answer.Aborted e
 back_counts context inverting inverting' running running' undo undo' old new other none = absurd none
 
 -- **No step of a transaction changes them.**
 pub step_counts : (a : At) (context : WalkContext) (before after : Transaction) (old new : SharedState) (told : Answer) → TellsAt a context before after old new told → KeepsCounts old new
-step_counts at.Idle context before after old new told none = absurd none
-step_counts (at.Pending o) context before after old new told s =
+step_counts At.Idle context before after old new told none = absurd none
+step_counts (At.Pending o) context before after old new told s =
     both_counts old s.between new (pending_counts context o s.next before.subtx after.subtx before.undo after.undo old s.between told s.tells) (leaves_counts told s.between new s.leaves)
-step_counts (at.Undoing inverting) context before after old new told s =
+step_counts (At.Undoing inverting) context before after old new told s =
     back_counts context inverting s.next before.subtx after.subtx before.undo after.undo old new told s.tells
 
 -- **Nor does a cancel.**

@@ -1,14 +1,6 @@
 -- What a page is on the clean pages, and the depth of the directory
 use Rattle.std.proofs.Common.{◌≡◌, ◌≤◌, ℕ, Option, Some, Bor, option_copied, sym, ap, subst, ◌∙◌}
-use Rattle.mlt_page.specs.Values.{HeadFields}
-use Rattle.mlt_page.specs.declared.page.Page.{Page}
-use Rattle.mlt_page.specs.declared.page.Page.TheVariants as page
-use Rattle.mlt_page_store.specs.Stores.{Pages, page_at}
-use Rattle.mlt_hash_form.specs.File.{header_of}
-use Rattle.mlt_hash_subtx_laws.specs.CleanPages.{clean_pages}
-use Rattle.mlt_tx_open.specs.Tables.{KeepsImage, KeepsNoImage}
-use Rattle.mlt_manager.specs.Bases.{HasCleanPage, HasCleanPages, HasDepth}
-use Rattle.mlt_manager.specs.Managers.{IsManager, ManagerFields}
+use Rattle.mlt_manager.proofs.Names.{HeadFields, Page, Pages, page_at, header_of, clean_pages, KeepsImage, KeepsNoImage, HasCleanPage, HasCleanPages, HasDepth, IsManager, ManagerFields}
 use Rattle.mlt_manager.proofs.CleanPages.{pages_clean, same_clean}
 
 module _ {P : Type 0} (bits_of : P → ℕ → ℕ) (m : ManagerFields P) (h : IsManager bits_of m) where
@@ -30,17 +22,17 @@ module _ {P : Type 0} (bits_of : P → ℕ → ℕ) (m : ManagerFields P) (h : I
   clean_as_stored q none = is_clean_page q (page_at stored q) (all_clean.as_stored q none)
 
   -- so their header is there,
-  pub clean_header : (p : Option Page) → HasCleanPage m m.root.page p → p ≡ Some (page.Head (header_of p))
+  pub clean_header : (p : Option Page) → HasCleanPage m m.root.page p → p ≡ Some (Page.Head (header_of p))
   clean_header p is =
       let same = sym is.has ∙ same_clean m is.clean (clean_pages h.images stored) m.root.page is.is_clean all_clean in
-      subst (λ p. p ≡ Some (page.Head (header_of p))) (sym same) h.sound.match.file.form.head
+      subst (λ p. p ≡ Some (Page.Head (header_of p))) (sym same) h.sound.match.file.form.head
 
   -- with the depth of the directory, which is at most 16
   pub has_depth : (p : Option Page) → HasCleanPage m m.root.page p → HasDepth m (header_of p).depth
   has_depth p is = record {
     clean = is.clean;
     is_clean = is.is_clean;
-    header = subst (λ p. p ≡ Some (page.Head (header_of p))) (sym is.has) (clean_header p is);
+    header = subst (λ p. p ≡ Some (Page.Head (header_of p))) (sym is.has) (clean_header p is);
     is_depth = ap (λ p. (header_of p).depth) is.has;
   }
 
@@ -50,5 +42,5 @@ module _ {P : Type 0} (bits_of : P → ℕ → ℕ) (m : ManagerFields P) (h : I
       subst (λ p. (header_of p).depth ≤ 16) (sym same) h.sound.match.file.form.listed.small
 
 -- the header of a page that was read
-pub header_read : (got : Option (Bor Page)) (one : Bor Page) (header : HeadFields) → got ≡ Some one → one.now ≡ page.Head header → header_of (option_copied got) ≡ header
+pub header_read : (got : Option (Bor Page)) (one : Bor Page) (header : HeadFields) → got ≡ Some one → one.now ≡ Page.Head header → header_of (option_copied got) ≡ header
 header_read got one header is is_header = ap header_of (ap option_copied is ∙ ap Some is_header)

@@ -1,21 +1,8 @@
 -- What is true of each open transaction, and what events make of it
-use Rattle.std.proofs.lemmas.Bool.{cases_eq}
+use Rattle.mlt_manager.proofs.Names.{cases_eq, Refusal, ObjOp, Answer, At, Transaction, IsPending, Table, inserted_elsewhere, inserted_here, removed_here, AnswersAbort, AnswersBegin, AnswersCommit, HasCalled, HasStepped, IsOpenAt, txs_after, StepsBy, ManagerFields, AnswersWhole, DropsIfItStands, HasRun, LetsGoOn, Stops}
 use Rattle.std.proofs.Common.{◌≡◌, ◌≢◌, ℕ, List, [], ◌∷◌, Bool, true, false, None, Some, Result, Ok, Err, inl, inr, sym, ap, subst, ◌∙◌}
 use Rattle.std.specs.FinMap as map
-use Rattle.mlt_types.specs.declared.refusal.Refusal.{Refusal}
-use Rattle.mlt_types.specs.declared.refusal.Refusal.TheVariants as refusal
-use Rattle.mlt_object_kinds.specs.declared.operation.ObjOp.{ObjOp}
-use Rattle.mlt_event.specs.declared.answer.Answer.{Answer}
-use Rattle.mlt_event.specs.declared.answer.Answer.TheVariants as answer
-use Rattle.mlt_tx.specs.declared.transaction.At.TheVariants as at
-use Rattle.mlt_tx.specs.declared.transaction.Transaction.{Transaction}
-use Rattle.mlt_tx.specs.Transactions.{IsPending}
-use Rattle.mlt_tx_open.specs.Tables.{Table}
-use Rattle.mlt_manager_invariant.proofs.Tables.{inserted_elsewhere, inserted_here, removed_elsewhere, removed_here}
-use Rattle.mlt_manager.specs.Answers.{AnswersAbort, AnswersBegin, AnswersCommit, HasCalled, HasStepped, IsOpenAt, txs_after}
-use Rattle.mlt_manager.specs.Chains.{StepsBy}
-use Rattle.mlt_manager.specs.Managers.{ManagerFields}
-use Rattle.mlt_manager.specs.Wholes.{AnswersWhole, DropsIfItStands, HasRun, LetsGoOn, Stops}
+use Rattle.mlt_manager_invariant.proofs.Tables.{removed_elsewhere}
 use Rattle.mlt_manager.proofs.RunningOn.{steps_pending}
 use Rattle.mlt_manager.proofs.WholeBases.{called_with, steps_ask, weaker}
 
@@ -59,8 +46,8 @@ module _ (G : ℕ → Transaction → Type 0) where
 -- it is true of those at nothing, and of those whose abort is between two inverses; and it looks at nothing but what they are at
 pub record LooksAt (G : ℕ → Transaction → Type 0) : Type 0 where
   pub by_at : (u : ℕ) (t t' : Transaction) → t'.at ≡ t.at → G u t → G u t'
-  pub idle : (u : ℕ) (t : Transaction) → t.at ≡ at.Idle → G u t
-  pub turned : (u : ℕ) (t : Transaction) → t.at ≡ at.Undoing None → G u t
+  pub idle : (u : ℕ) (t : Transaction) → t.at ≡ At.Idle → G u t
+  pub turned : (u : ℕ) (t : Transaction) → t.at ≡ At.Undoing None → G u t
 
 module _ {P : Type 0} (G : ℕ → Transaction → Type 0) (looks : LooksAt G) where
   abbrev All : ManagerFields P → Type 0
@@ -92,13 +79,13 @@ module _ {P : Type 0} (G : ℕ → Transaction → Type 0) (looks : LooksAt G) w
   -- steps
   module _ (bits_of : P → ℕ → ℕ) (tx : ℕ) where
     pub after_step : (told : Answer) (d txs : Table) (after : Transaction) → d ≡ map.insert txs tx after → EachOther G tx txs → EachOther G tx (txs_after told tx d)
-    after_step answer.Aborted d txs after is each = others_without G d tx (subst (EachOther G tx) (sym is) (others_with G txs tx after each))
-    after_step answer.Going d txs after is each = subst (EachOther G tx) (sym is) (others_with G txs tx after each)
-    after_step (answer.Waiting page by) d txs after is each = subst (EachOther G tx) (sym is) (others_with G txs tx after each)
-    after_step (answer.Blocked by) d txs after is each = subst (EachOther G tx) (sym is) (others_with G txs tx after each)
-    after_step (answer.Done reply) d txs after is each = subst (EachOther G tx) (sym is) (others_with G txs tx after each)
-    after_step answer.Undone d txs after is each = subst (EachOther G tx) (sym is) (others_with G txs tx after each)
-    after_step (answer.Refused reason) d txs after is each = subst (EachOther G tx) (sym is) (others_with G txs tx after each)
+    after_step Answer.Aborted d txs after is each = others_without G d tx (subst (EachOther G tx) (sym is) (others_with G txs tx after each))
+    after_step Answer.Going d txs after is each = subst (EachOther G tx) (sym is) (others_with G txs tx after each)
+    after_step (Answer.Waiting page by) d txs after is each = subst (EachOther G tx) (sym is) (others_with G txs tx after each)
+    after_step (Answer.Blocked by) d txs after is each = subst (EachOther G tx) (sym is) (others_with G txs tx after each)
+    after_step (Answer.Done reply) d txs after is each = subst (EachOther G tx) (sym is) (others_with G txs tx after each)
+    after_step Answer.Undone d txs after is each = subst (EachOther G tx) (sym is) (others_with G txs tx after each)
+    after_step (Answer.Refused reason) d txs after is each = subst (EachOther G tx) (sym is) (others_with G txs tx after each)
 
     pub step_each : (m m' : ManagerFields P) (told : Answer) → HasStepped bits_of m m' tx told → EachOther G tx m.txs → EachOther G tx m'.txs
     step_each m m' told d each =
@@ -111,23 +98,23 @@ module _ {P : Type 0} (G : ℕ → Transaction → Type 0) (looks : LooksAt G) w
     -- a whole operation ends at nothing
     ends_still : (op : ObjOp) (told : Answer) (before stopped m' : ManagerFields P) → IsOpenAt before.txs tx IsPending → HasStepped bits_of before stopped tx told → Stops told → DropsIfItStands told stopped m' tx
         → EachOther G tx before.txs → All m'
-    ends_still op (answer.Waiting page by) before stopped m' pending d stops drops each =
+    ends_still op (Answer.Waiting page by) before stopped m' pending d stops drops each =
         table_is m' (map.insert stopped.txs tx drops.cancels.changes.after) drops.cancels.changes.is
-        (each_with G stopped.txs tx drops.cancels.changes.after (step_each before stopped (answer.Waiting page by) d each) (looks.idle tx drops.cancels.changes.after drops.cancels.tells.idle))
-    ends_still op (answer.Blocked by) before stopped m' pending d stops drops each =
+        (each_with G stopped.txs tx drops.cancels.changes.after (step_each before stopped (Answer.Waiting page by) d each) (looks.idle tx drops.cancels.changes.after drops.cancels.tells.idle))
+    ends_still op (Answer.Blocked by) before stopped m' pending d stops drops each =
         table_is m' (map.insert stopped.txs tx drops.cancels.changes.after) drops.cancels.changes.is
-        (each_with G stopped.txs tx drops.cancels.changes.after (step_each before stopped (answer.Blocked by) d each) (looks.idle tx drops.cancels.changes.after drops.cancels.tells.idle))
-    ends_still op (answer.Done reply) before stopped m' pending d stops same each =
-        let s = steps_pending bits_of before stopped tx (answer.Done reply) pending d in
+        (each_with G stopped.txs tx drops.cancels.changes.after (step_each before stopped (Answer.Blocked by) d each) (looks.idle tx drops.cancels.changes.after drops.cancels.tells.idle))
+    ends_still op (Answer.Done reply) before stopped m' pending d stops same each =
+        let s = steps_pending bits_of before stopped tx (Answer.Done reply) pending d in
         table_is m' (map.insert before.txs tx d.steps.changes.after) (ap (λ (n : ManagerFields P). n.txs) (same ∙ d.rest) ∙ d.steps.changes.is)
         (each_with G before.txs tx d.steps.changes.after each (looks.idle tx d.steps.changes.after s.now_at))
-    ends_still op (answer.Refused reason) before stopped m' pending d stops same each =
-        let s = steps_pending bits_of before stopped tx (answer.Refused reason) pending d in
+    ends_still op (Answer.Refused reason) before stopped m' pending d stops same each =
+        let s = steps_pending bits_of before stopped tx (Answer.Refused reason) pending d in
         table_is m' (map.insert before.txs tx d.steps.changes.after) (ap (λ (n : ManagerFields P). n.txs) (same ∙ d.rest) ∙ d.steps.changes.is)
         (each_with G before.txs tx d.steps.changes.after each (looks.idle tx d.steps.changes.after s.now_at))
-    ends_still op answer.Going before stopped m' pending d none drops each = absurd none
-    ends_still op answer.Undone before stopped m' pending d none drops each = absurd none
-    ends_still op answer.Aborted before stopped m' pending d none drops each = absurd none
+    ends_still op Answer.Going before stopped m' pending d none drops each = absurd none
+    ends_still op Answer.Undone before stopped m' pending d none drops each = absurd none
+    ends_still op Answer.Aborted before stopped m' pending d none drops each = absurd none
 
     called_each : (op : ObjOp) (m m' : ManagerFields P) → HasCalled m m' tx op → All m → EachOther G tx m'.txs
     called_each op m m' c each = subst (EachOther G tx) (sym c.calls.changes.is) (others_with G m.txs tx c.calls.changes.after (others_of G m.txs tx each))
@@ -140,7 +127,7 @@ module _ {P : Type 0} (G : ℕ → Transaction → Type 0) (looks : LooksAt G) w
         up.ends up.stops r.runs.drops (steps_each LetsGoOn r.called up.before up.steps up.goes (called_each op m r.called r.calls each))
 
     pub not_called_each : (op : ObjOp) (m m' : ManagerFields P) (reason : Refusal) → AnswersWhole bits_of m m' tx op (Err reason) → All m → All m'
-    not_called_each op m m' refusal.OutOfMemory a each =
+    not_called_each op m m' Refusal.OutOfMemory a each =
         let ch = a.1.changes in
         table_is m' (map.insert m.txs tx ch.after) ch.is (each_with G m.txs tx ch.after (others_of G m.txs tx each) (looks.by_at tx ch.before ch.after a.1.tells.idle (each tx ch.before ch.was)))
     not_called_each op m m' reason a each = same_each m m' a.1 each

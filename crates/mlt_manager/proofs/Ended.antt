@@ -2,24 +2,16 @@
 use Rattle.std.proofs.Common.{◌≡◌, ◌<◌, ℕ, ◌+◌, false, List, [], ◌∷◌, ◌++◌, length, refl, sym, ap, subst, ◌∙◌, arith}
 use Rattle.std.specs.FinMap as map
 use Rattle.std.specs.FinSet as set
-use Rattle.mlt_page_subtx.proofs.ImageLaws.{not_true}
-use Rattle.mlt_object_kinds.specs.declared.operation.ObjOp.{ObjOp}
-use Rattle.mlt_object_kinds.specs.declared.operation.ObjReply.{ObjReply}
-use Rattle.mlt_trace.specs.declared.item.TraceItem.{TraceItem}
-use Rattle.mlt_trace.specs.declared.item.TraceItem.TheVariants as trace
-use Rattle.mlt_trace.specs.Numbers.{commit_count}
+use Rattle.mlt_manager.proofs.Names.{not_true, ObjOp, ObjReply, TraceItem, commit_count, Transaction, State, pending_room, HasEnded, IsManager, ManagerFields, state_of}
 use Rattle.mlt_trace.proofs.ItemLaws.{commits_counted}
 use Rattle.mlt_page_subtx.specs.Images.{started}
-use Rattle.mlt_tx.specs.declared.transaction.Transaction.{Transaction}
-use Rattle.mlt_manager_invariant.specs.States.{State, pending_room}
 use Rattle.mlt_manager_invariant.specs.Transactions.{Begins, BeginsAbort, Ends}
 use Rattle.mlt_manager_invariant.proofs.Aborts.{abort_sound}
 use Rattle.mlt_manager_invariant.proofs.Begins.{begin_sound}
 use Rattle.mlt_manager_invariant.proofs.Ends.{close_sound, commit_sound}
 use Rattle.mlt_manager_trace.proofs.Items.{begin_traced, close_traced, commit_traced}
 use Rattle.mlt_manager_trace.proofs.Stays.{abort_traced}
-use Rattle.mlt_manager.specs.Answers.{HasBegun, HasBegunAbort, HasClosed, HasCommitted, HasEnded}
-use Rattle.mlt_manager.specs.Managers.{IsManager, ManagerFields, state_of}
+use Rattle.mlt_manager.specs.Answers.{HasBegun, HasBegunAbort, HasClosed, HasCommitted}
 use Rattle.mlt_manager.proofs.Called.{was_idle, was_with}
 use Rattle.mlt_manager.proofs.Counts.{no_more_commits}
 use Rattle.mlt_manager.proofs.Keeping.{changed_keeps, len_added, removed_keeps, same_manager, set_added}
@@ -49,9 +41,9 @@ module _ {P : Type 0} (bits_of : P → ℕ → ℕ) (m : ManagerFields P) (h : I
   committed_keeps number c =
       let e = c.ends in
       let next : number ≡ commit_count m.shared.history.items + 1 = c.next ∙ ap (λ n. n + 1) h.limits.counted in
-      let ends = subst (λ (n : ℕ). Ends now tx e.one m'.shared (trace.Commit tx n)) next (ends_by (trace.Commit tx number) e) in
+      let ends = subst (λ (n : ℕ). Ends now tx e.one m'.shared (TraceItem.Commit tx n)) next (ends_by (TraceItem.Commit tx number) e) in
       let count : number ≡ commit_count m'.shared.history.items = next ∙ sym (ap commit_count e.items ∙ commits_counted m.shared.history.items tx number) in
-      same_manager bits_of m' (record m { shared = m'.shared; txs = map.remove m.txs tx; active = set.remove m.active tx; commits = number }) (same_ends number (trace.Commit tx number) e c.rest)
+      same_manager bits_of m' (record m { shared = m'.shared; txs = map.remove m.txs tx; active = set.remove m.active tx; commits = number }) (same_ends number (TraceItem.Commit tx number) e c.rest)
       (removed_keeps bits_of m h tx number e.one m'.shared e.there (λ i. (e.pages i).locks.max_open) (λ i. (e.pages i).store.max_pages) count (omega (arith, c.next)) (record {
         images = map.remove h.images tx;
         base = h.base;
@@ -66,10 +58,10 @@ module _ {P : Type 0} (bits_of : P → ℕ → ℕ) (m : ManagerFields P) (h : I
   pub closed_keeps : HasClosed m m' tx → IsManager bits_of m'
   closed_keeps c =
       let e = c.ends in
-      let ends = ends_by (trace.Abort tx) e in
+      let ends = ends_by (TraceItem.Abort tx) e in
       let none : e.one.undo.entries ≡ [] = nothing_left e.one.undo.entries (was_with m.txs tx 0 e.one c.nothing e.there) in
-      let count = h.limits.counted ∙ sym (ap commit_count e.items ∙ no_more_commits m.shared.history.items (trace.Abort tx ∷ []) refl) in
-      same_manager bits_of m' (record m { shared = m'.shared; txs = map.remove m.txs tx; active = set.remove m.active tx; commits = m.commits }) (same_ends m.commits (trace.Abort tx) e c.rest)
+      let count = h.limits.counted ∙ sym (ap commit_count e.items ∙ no_more_commits m.shared.history.items (TraceItem.Abort tx ∷ []) refl) in
+      same_manager bits_of m' (record m { shared = m'.shared; txs = map.remove m.txs tx; active = set.remove m.active tx; commits = m.commits }) (same_ends m.commits (TraceItem.Abort tx) e c.rest)
       (removed_keeps bits_of m h tx m.commits e.one m'.shared e.there (λ i. (e.pages i).locks.max_open) (λ i. (e.pages i).store.max_pages) count (omega arith) (record {
         images = map.remove h.images tx;
         base = h.base;
@@ -107,7 +99,7 @@ module _ {P : Type 0} (bits_of : P → ℕ → ℕ) (m : ManagerFields P) (h : I
         idle = b.idle;
         pages = b.pages;
         objects = b.objects;
-        items = b.items ∙ ap (λ (n : ℕ). m.shared.history.items ++ trace.Begin n ∷ []) b.number;
+        items = b.items ∙ ap (λ (n : ℕ). m.shared.history.items ++ TraceItem.Begin n ∷ []) b.number;
         room = b.room;
       } in
       let few : map.len m.txs < m.shared.pages.locks.max_open = subst (λ (n : ℕ). map.len m.txs < n) (sym h.limits.locks_for) b.free in
@@ -131,6 +123,6 @@ module _ {P : Type 0} (bits_of : P → ℕ → ℕ) (m : ManagerFields P) (h : I
           ids_fit = h.limits.ids_fit;
           ops_fit = h.limits.ops_fit;
           ended = omega (arith, h.limits.ended, more);
-          counted = h.limits.counted ∙ sym (ap commit_count begins.items ∙ no_more_commits m.shared.history.items (trace.Begin (m.begun + 1) ∷ []) refl);
+          counted = h.limits.counted ∙ sym (ap commit_count begins.items ∙ no_more_commits m.shared.history.items (TraceItem.Begin (m.begun + 1) ∷ []) refl);
         };
       })

@@ -1,10 +1,6 @@
 -- What a transaction that ends has room for, and leaves
 use Rattle.std.proofs.Common.{◌≡◌, ◌≤◌, ℕ, ◌+◌, ap, arith}
-use Rattle.mlt_trace.specs.declared.item.TraceItem.{TraceItem}
-use Rattle.mlt_trace.proofs.RoomLaws.{room_within_total}
-use Rattle.mlt_manager_invariant.specs.States.{pending_room, room_of}
-use Rattle.mlt_manager.specs.Answers.{HasEnded, IsIdleWith}
-use Rattle.mlt_manager.specs.Managers.{IsManager, ManagerFields}
+use Rattle.mlt_manager.proofs.Names.{TraceItem, room_within_total, pending_room, room_of, HasEnded, IsIdleWith, IsManager, ManagerFields}
 
 -- the history has room for the end of one that is idle, and for each of its operations
 pub room_to_end : {P : Type 0} (bits_of : P → ℕ → ℕ) (m : ManagerFields P) (tx count : ℕ) → IsManager bits_of m → IsIdleWith m.txs tx count → 1 + count ≤ m.shared.history.room

@@ -1,39 +1,13 @@
 -- A whole operation whose steps are taken at once
-use Rattle.std.proofs.Common.{◌≡◌, ℕ, ◌≤◌, ◌+◌, List, [], ◌∷◌, true, None, Option, Some, is_some, refl, sym, ap, subst, ◌∙◌, inl, inr, arith}
-use Rattle.std.specs.Ordering.{nat_cmp}
+use Rattle.std.proofs.Common.{◌≡◌, ℕ, ◌≤◌, ◌+◌, List, [], ◌∷◌, true, None, Option, Some, is_some, refl, sym, ap, subst, ◌∙◌, inl, inr, arith, nat_cmp}
 use Rattle.std.specs.FinMap as map
-use Rattle.std.proofs.lemmas.Bool.{cases_eq, false≢true}
-use Rattle.std.proofs.lemmas.Bool.Decides.{nat_tests}
-use Rattle.mlt_types.specs.declared.cell.Cell.{Cell}
-use Rattle.mlt_object_kinds.specs.declared.operation.ObjOp.{ObjOp}
-use Rattle.mlt_object_kinds.specs.declared.operation.ObjReply.{ObjReply}
-use Rattle.mlt_object_kinds.specs.Operations.{cell_of}
-use Rattle.mlt_object_base.specs.declared.request.Request.TheVariants.{Do}
-use Rattle.mlt_object_locks.specs.Locks.{SameReservations, reservation_of}
-use Rattle.mlt_page_locks.specs.LockTables.{is_holder}
+use Rattle.mlt_manager.proofs.Names.{cases_eq, false≢true, nat_tests, Cell, ObjOp, ObjReply, cell_of, Do, SameReservations, reservation_of, is_holder, not_true, HoldsNothing, local, context_by, started_for, IsOpInRange, Answer, SharedState, At, Transaction, CallsOneFast, Table, may_step, inserted_here, FitsAt, all_of, images_kept, HasCalled, IsBusy, MayCall, IsManager, ManagerFields, state_of, HasRun, StepsOnUpTo}
 use Rattle.mlt_page_locks.proofs.Maps.{get_removed}
-use Rattle.mlt_page_subtx.proofs.ImageLaws.{not_true}
-use Rattle.mlt_hash_subtx_laws.specs.Running.{HoldsNothing}
-use Rattle.mlt_hash_access.specs.LocalStates.{local}
-use Rattle.mlt_hash.specs.Walks.{context_by}
-use Rattle.mlt_tx_operation.specs.Operating.{MayOperate, started_for}
+use Rattle.mlt_tx_operation.specs.Operating.{MayOperate}
 use Rattle.mlt_tx_operation.specs.Fast.{NobodyHolds}
-use Rattle.mlt_tx_meaning.specs.Presences.{IsOpInRange}
-use Rattle.mlt_event.specs.declared.answer.Answer.TheVariants as answer
 use Rattle.mlt_tx.specs.Fast.{MayCallFast}
 use Rattle.mlt_tx.specs.Transactions.{MayStepAt}
-use Rattle.mlt_tx.specs.declared.shared.SharedState.{SharedState}
-use Rattle.mlt_tx.specs.declared.transaction.At.{At}
-use Rattle.mlt_tx.specs.declared.transaction.At.TheVariants as at
-use Rattle.mlt_tx.specs.declared.transaction.Transaction.{Transaction}
-use Rattle.mlt_tx_open.specs.Tables.{CallsOneFast, DoesOneFast, StepsOneFast, Table}
-use Rattle.mlt_manager_invariant.proofs.MaySteps.{may_step}
-use Rattle.mlt_manager_invariant.proofs.Tables.{inserted_here}
-use Rattle.mlt_manager_invariant.specs.Sound.{FitsAt}
-use Rattle.mlt_manager_invariant.specs.States.{all_of, images_kept}
-use Rattle.mlt_manager.specs.Answers.{HasCalled, IsBusy, MayCall}
-use Rattle.mlt_manager.specs.Managers.{IsManager, ManagerFields, state_of}
-use Rattle.mlt_manager.specs.Wholes.{HasRun, StepsOnUpTo}
+use Rattle.mlt_tx_open.specs.Tables.{DoesOneFast, StepsOneFast}
 use Rattle.mlt_manager.proofs.Called.{called_keeps}
 use Rattle.mlt_manager.proofs.Keeping.{len_removed, nobody}
 use Rattle.mlt_manager.proofs.Stepping.{stepped}
@@ -86,7 +60,7 @@ module _ {P : Type 0} (bits_of : P → ℕ → ℕ) (m : ManagerFields P) (tx : 
 
   -- what a call would make of it, and of what all share
   abbrev called : Transaction
-  called = record { subtx = t.subtx; undo = record { entries = t.undo.entries; spare = 1 }; at = at.Pending (started_for (Do op)) }
+  called = record { subtx = t.subtx; undo = record { entries = t.undo.entries; spare = 1 }; at = At.Pending (started_for (Do op)) }
 
   abbrev with_room : SharedState
   with_room = record m.shared {
@@ -125,7 +99,7 @@ module _ {P : Type 0} (bits_of : P → ℕ → ℕ) (m : ManagerFields P) (tx : 
   may_operate : MayOperate (context_by bits_of m.root m.active t.subtx.tx) (local t.subtx m.shared.pages) (started_for (Do op))
   may_operate =
       let then : IsManager bits_of were_called = called_keeps bits_of m h tx were_called refl op would_call in
-      let steps : MayStepAt (at.Pending (started_for (Do op))) (context_by bits_of m.root m.active tx) called with_room =
+      let steps : MayStepAt (At.Pending (started_for (Do op))) (context_by bits_of m.root m.active tx) called with_room =
       may_step (state_of bits_of were_called then.images then.base) tx called then.sound (inserted_here m.txs tx called) (λ is. subst IsBusy is tt) in
       subst (λ (n : ℕ). MayOperate (context_by bits_of m.root m.active n) (local t.subtx m.shared.pages) (started_for (Do op))) (sym number) (steps.0.goes refl)
 
@@ -146,30 +120,30 @@ module _ {P : Type 0} (bits_of : P → ℕ → ℕ) (m : ManagerFields P) (tx : 
 
 -- **Steps at once are steps one after another, up to the end.**
 pub fast_up_to : {P : Type 0} (bits_of : P → ℕ → ℕ) (m : ManagerFields P) (tx : ℕ) (txs : Table) (shared : SharedState) (reply : ObjReply)
-    → StepsOneFast (context_by bits_of m.root m.active) tx m.txs txs m.shared shared reply → StepsOnUpTo bits_of m (record m { shared = shared; txs = txs }) tx (answer.Done reply)
+    → StepsOneFast (context_by bits_of m.root m.active) tx m.txs txs m.shared shared reply → StepsOnUpTo bits_of m (record m { shared = shared; txs = txs }) tx (Answer.Done reply)
 fast_up_to bits_of m tx txs shared reply steps =
     let headed : ManagerFields _ = record m { shared = steps.with_header; txs = steps.headed } in
     let placed : ManagerFields _ = record m { shared = steps.with_directory; txs = steps.placed } in
     let told : ManagerFields _ = record m { shared = steps.with_bucket; txs = steps.told } in
     record {
-      steps = (headed, answer.Going) ∷ (placed, answer.Going) ∷ (told, answer.Going) ∷ [];
+      steps = (headed, Answer.Going) ∷ (placed, Answer.Going) ∷ (told, Answer.Going) ∷ [];
       before = told;
       goes = (
-        stepped bits_of m tx steps.with_header steps.headed _ _ answer.Going steps.first refl refl,
+        stepped bits_of m tx steps.with_header steps.headed _ _ Answer.Going steps.first refl refl,
         tt,
         (
-          stepped bits_of headed tx steps.with_directory steps.placed _ _ answer.Going steps.second refl refl,
+          stepped bits_of headed tx steps.with_directory steps.placed _ _ Answer.Going steps.second refl refl,
           tt,
-          (stepped bits_of placed tx steps.with_bucket steps.told _ _ answer.Going steps.third refl refl, tt, refl),
+          (stepped bits_of placed tx steps.with_bucket steps.told _ _ Answer.Going steps.third refl refl, tt, refl),
         ),
       );
-      ends = stepped bits_of told tx shared txs _ _ (answer.Done reply) steps.ends refl refl;
+      ends = stepped bits_of told tx shared txs _ _ (Answer.Done reply) steps.ends refl refl;
       stops = tt;
     }
 
 -- **An operation that is done at once was called, and took its steps.**
 pub done_fast : {P : Type 0} (bits_of : P → ℕ → ℕ) (m : ManagerFields P) (tx : ℕ) (op : ObjOp) (txs : Table) (shared : SharedState) (reply : ObjReply) → MayCall m tx → IsOpInRange op
-    → DoesOneFast (context_by bits_of m.root m.active) tx op m.txs txs m.shared shared reply → HasRun bits_of m (record m { shared = shared; txs = txs }) tx op (answer.Done reply)
+    → DoesOneFast (context_by bits_of m.root m.active) tx op m.txs txs m.shared shared reply → HasRun bits_of m (record m { shared = shared; txs = txs }) tx op (Answer.Done reply)
 done_fast bits_of m tx op txs shared reply may range does =
     let called : ManagerFields _ = record m { shared = does.with_room; txs = does.called } in
     record {

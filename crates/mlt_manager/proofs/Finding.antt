@@ -1,13 +1,8 @@
 -- What an open transaction is at
-use Rattle.std.proofs.Common.{◌≡◌, ℕ, Option, Some, Bor, sym, ap, subst, ◌∙◌}
+use Rattle.std.proofs.Common.{◌≡◌, ℕ, Option, Some, Bor, sym, ap, subst, ◌∙◌, option_copied}
 use Rattle.std.specs.FinMap as map
-use Rattle.std.specs.Option.{option_copied}
-use Rattle.mlt_tx.specs.declared.transaction.At.{At}
-use Rattle.mlt_tx.specs.declared.transaction.At.TheVariants as at
-use Rattle.mlt_tx.specs.declared.transaction.Transaction.{Transaction}
-use Rattle.mlt_tx.specs.Transactions.{IsPending}
-use Rattle.mlt_manager.specs.Answers.{IsBusy, IsIdle, IsIdleWith, IsOpenAt, IsUndoing}
-use Rattle.mlt_tx_open.specs.Tables.{Table}
+use Rattle.mlt_manager.proofs.Names.{At, Transaction, IsPending, IsBusy, IsIdleWith, IsOpenAt, IsUndoing, Table}
+use Rattle.mlt_manager.specs.Answers.{IsIdle}
 use Rattle.mlt_manager.specs.Undoings.{IsNotUndoing}
 
 -- one that was found is open at what it is at
@@ -19,14 +14,14 @@ pub idle_at : (txs : Table) (tx count : ℕ) → IsIdleWith txs tx count → IsO
 idle_at txs tx count h = record { one = h.one; there = h.there; is_at = subst IsIdle (sym h.idle) tt }
 
 busy_if : (a : At) → IsPending a → IsBusy a
-busy_if at.Idle none = absurd none
-busy_if (at.Pending o) is = tt
-busy_if (at.Undoing inverting) none = absurd none
+busy_if At.Idle none = absurd none
+busy_if (At.Pending o) is = tt
+busy_if (At.Undoing inverting) none = absurd none
 
 busy_if_undoing : (a : At) → IsUndoing a → IsBusy a
-busy_if_undoing at.Idle none = absurd none
-busy_if_undoing (at.Pending o) none = absurd none
-busy_if_undoing (at.Undoing inverting) is = tt
+busy_if_undoing At.Idle none = absurd none
+busy_if_undoing (At.Pending o) none = absurd none
+busy_if_undoing (At.Undoing inverting) is = tt
 
 pub pending_is_busy : (txs : Table) (tx : ℕ) → IsOpenAt txs tx IsPending → IsOpenAt txs tx IsBusy
 pending_is_busy txs tx h = record { one = h.one; there = h.there; is_at = busy_if h.one.at h.is_at }
@@ -35,9 +30,9 @@ pub undoing_is_busy : (txs : Table) (tx : ℕ) → IsOpenAt txs tx IsUndoing →
 undoing_is_busy txs tx h = record { one = h.one; there = h.there; is_at = busy_if_undoing h.one.at h.is_at }
 
 not_undoing_if : (a : At) → IsPending a → IsNotUndoing a
-not_undoing_if at.Idle none = absurd none
-not_undoing_if (at.Pending o) is = tt
-not_undoing_if (at.Undoing inverting) none = absurd none
+not_undoing_if At.Idle none = absurd none
+not_undoing_if (At.Pending o) is = tt
+not_undoing_if (At.Undoing inverting) none = absurd none
 
 pub pending_is_not_undoing : (txs : Table) (tx : ℕ) → IsOpenAt txs tx IsPending → IsOpenAt txs tx IsNotUndoing
 pending_is_not_undoing txs tx h = record { one = h.one; there = h.there; is_at = not_undoing_if h.one.at h.is_at }

@@ -1,14 +1,9 @@
 -- A manager stays one where items of its history are handed out.
 use Rattle.std.proofs.Common.{ℕ, List, None, Some, sym, subst}
-use Rattle.mlt_trace.specs.declared.item.TraceItem.{TraceItem}
-use Rattle.mlt_tx.specs.declared.transaction.At.{At}
-use Rattle.mlt_tx.specs.declared.transaction.At.TheVariants as at
-use Rattle.mlt_tx.specs.declared.transaction.Transaction.{Transaction}
-use Rattle.mlt_manager_invariant.specs.Sound.{Fits, FitsAt, IsSound}
-use Rattle.mlt_manager_invariant.specs.States.{State}
-use Rattle.mlt_manager_trace.specs.Traced.{IsTraced}
+use Rattle.mlt_manager.proofs.Names.{TraceItem, At, Transaction, FitsAt, IsSound, State, IsTraced, IsManager, ManagerFields}
+use Rattle.mlt_manager_invariant.specs.Sound.{Fits}
 use Rattle.mlt_manager.specs.HandingOut.{HandsOut, with_handed}
-use Rattle.mlt_manager.specs.Managers.{IsManager, IsWithinLimits, ManagerFields}
+use Rattle.mlt_manager.specs.Managers.{IsWithinLimits}
 
 -- the state, with these items of its history handed out
 abbrev state_with : List TraceItem → State → State
@@ -18,11 +13,11 @@ state_with handed s = record s {
 
 module _ (handed : List TraceItem) where
   fits_at : (where_at : At) (s : State) (i : ℕ) (t : Transaction) → FitsAt where_at s i t → FitsAt where_at (state_with handed s) i t
-  fits_at at.Idle s i t f = f
-  fits_at (at.Pending o) s i t f =
+  fits_at At.Idle s i t f = f
+  fits_at (At.Pending o) s i t f =
       record { op = f.op; asked = f.asked; in_range = f.in_range; operates = f.operates; reserved = f.reserved; spare = f.spare; fewer = f.fewer }
-  fits_at (at.Undoing None) s i t f = f
-  fits_at (at.Undoing (Some o)) s i t f = record { front = f.front; last = f.last; entries = f.entries; inverts = f.inverts; has = f.has; operates = f.operates }
+  fits_at (At.Undoing None) s i t f = f
+  fits_at (At.Undoing (Some o)) s i t f = record { front = f.front; last = f.last; entries = f.entries; inverts = f.inverts; has = f.has; operates = f.operates }
 
   fits : (s : State) (i : ℕ) (t : Transaction) → Fits s i t → Fits (state_with handed s) i t
   fits s i t f = record { number = f.number; stands = f.stands; few = f.few; where_at = fits_at t.at s i t f.where_at }

@@ -1,31 +1,17 @@
 -- Every manager keeps the main promise. What it says is what the invariant says, in other words
-use Prim.Native.Nat.{zero}
-use Rattle.std.proofs.Common.{suc, ◌≡◌, ◌<◌, ℕ, Bool, false, List, [], ◌∷◌, length, get_or, Option, None, Some, Contains, fold, unwrap_or, ◌↔◌, refl, sym, ap, subst, ◌∙◌, arith}
-use Rattle.std.proofs.lemmas.Bool.{false≢true}
-use Rattle.std.specs.Ordering.{nat_cmp}
+use Rattle.mlt_manager.proofs.Names.{zero, false≢true, Cell, Account, Element, Counter, Size, IsInRange, key_number, Base, state_at, ObjOp, ObjReply, Means, IsRecord, state_of_record, entries_of, TraceItem, Page, Slot, bucket_of, IsRecordMap, live_records, Transcripts, transcripts_of}
+use Rattle.std.proofs.Common.{suc, ◌≡◌, ◌<◌, ℕ, Bool, false, List, [], ◌∷◌, length, get_or, Option, None, Some, Contains, fold, unwrap_or, ◌↔◌, refl, sym, ap, subst, ◌∙◌, arith, nat_cmp}
 use Rattle.std.specs.FinMap as map
-use Rattle.mlt_types.specs.declared.cell.Cell.{Cell}
-use Rattle.mlt_types.specs.declared.cell.Cell.TheVariants.{Account, Element, Counter, Size}
-use Rattle.mlt_types.specs.Cells.{IsInRange, key_number}
 use Rattle.mlt_order.specs.Histories.{Entry, Lists, after_entries, after_entry, lists_of, no_lists}
-use Rattle.mlt_object_kinds.specs.Bases.{Base, element_at, size_at, state_at}
+use Rattle.mlt_object_kinds.specs.Bases.{element_at, size_at}
 use Rattle.mlt_object_kinds.specs.Cells.{CellState}
 use Rattle.mlt_object_kinds.specs.Cells.CellState.{AccountState, ElementState, CounterState}
-use Rattle.mlt_object_kinds.specs.declared.operation.ObjOp.{ObjOp}
-use Rattle.mlt_object_kinds.specs.declared.operation.ObjReply.{ObjReply}
 use Rattle.mlt_object_kinds.proofs.Sizes.{size_below}
-use Rattle.mlt_object_base.specs.Meaning.{Means}
-use Rattle.mlt_object_base.specs.Records.{IsRecord, counter_of_record, state_of_record}
-use Rattle.mlt_trace.specs.Entries.{entries_of}
-use Rattle.mlt_trace.specs.declared.item.TraceItem.{TraceItem}
+use Rattle.mlt_object_base.specs.Records.{counter_of_record}
 use Rattle.mlt_trace.specs.declared.item.TraceItem.TheVariants.{Begin, Op, Back, Commit, Abort}
-use Rattle.mlt_page.specs.declared.page.Page.{Page}
-use Rattle.mlt_page.specs.declared.page.Page.TheVariants as page
-use Rattle.mlt_page.specs.declared.slot.Slot.{Slot}
 use Rattle.mlt_page.specs.declared.slot.Slot.TheVariants.{Free, Live}
-use Rattle.mlt_hash_form.specs.File.{HasRecord, bucket_of}
-use Rattle.mlt_hash_form.specs.Records.{IsRecordMap, live_records}
-use Rattle.mlt_manager.specs.Headline.{HasLiveSlot, HoldsIn, IsRecordOf, PagesMean, Transcripts, after_item, transcripts_of}
+use Rattle.mlt_hash_form.specs.File.{HasRecord}
+use Rattle.mlt_manager.specs.Headline.{HasLiveSlot, HoldsIn, IsRecordOf, PagesMean, after_item}
 
 -- ## The transcripts are the lists of the laws of commit order
 
@@ -61,9 +47,9 @@ same_slot (slot ∷ slots) (suc i) one other within = same_slot slots i one othe
 module _ (pages : map.FinMap nat_cmp Page) (key value : ℕ) where
   on_page : (number i : ℕ) (p : Option Page) → map.get pages number ≡ p → get_or (bucket_of p).slots i Free ≡ Live key value → HasLiveSlot pages key value
   on_page number i None there is = (let none : Free ≡ Live key value = is in cc)
-  on_page number i (Some (page.Head header)) there is = (let none : Free ≡ Live key value = is in cc)
-  on_page number i (Some (page.Dir dir)) there is = (let none : Free ≡ Live key value = is in cc)
-  on_page number i (Some (page.Bucket bucket)) there is = (number, bucket, there, contained bucket.slots i key value is)
+  on_page number i (Some (Page.Head header)) there is = (let none : Free ≡ Live key value = is in cc)
+  on_page number i (Some (Page.Dir dir)) there is = (let none : Free ≡ Live key value = is in cc)
+  on_page number i (Some (Page.Bucket bucket)) there is = (number, bucket, there, contained bucket.slots i key value is)
 
   slot_of_record : HasRecord (map.get pages) key value → HasLiveSlot pages key value
   slot_of_record (number, i, is) = on_page number i (map.get pages number) refl is

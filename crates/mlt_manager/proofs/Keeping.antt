@@ -1,20 +1,8 @@
 -- What is always true of a manager stays so, where one transaction changes
-use Prim.Native.Nat.{zero}
-use Rattle.std.proofs.lemmas.Bool.{false≢true}
-use Rattle.std.proofs.Common.{suc, ◌≡◌, ◌≤◌, ℕ, ◌+◌, ◌-◌, true, false, Some, is_some, refl, sym, ap, subst, ◌∙◌, arith}
+use Rattle.mlt_manager.proofs.Names.{zero, false≢true, nat_cmp_total, Base, commit_count, RunningImages, SharedState, Transaction, IsSound, IsTraced, IsManager, ManagerFields, state_of, counted}
+use Rattle.std.proofs.Common.{suc, ◌≡◌, ◌≤◌, ℕ, ◌+◌, ◌-◌, true, false, Some, is_some, refl, sym, ap, subst, ◌∙◌, arith, nat_cmp}
 use Rattle.std.specs.FinMap as map
 use Rattle.std.specs.FinSet as set
-use Rattle.std.specs.Ordering.{nat_cmp}
-use Rattle.std.specs.Cmp.{nat_cmp_total}
-use Rattle.mlt_object_kinds.specs.Bases.{Base}
-use Rattle.mlt_trace.specs.Numbers.{commit_count}
-use Rattle.mlt_hash_subtx_laws.specs.CleanPages.{RunningImages}
-use Rattle.mlt_tx.specs.declared.shared.SharedState.{SharedState}
-use Rattle.mlt_tx.specs.declared.transaction.Transaction.{Transaction}
-use Rattle.mlt_manager_invariant.specs.Sound.{IsSound}
-use Rattle.mlt_manager_trace.specs.Traced.{IsTraced}
-use Rattle.mlt_manager.specs.Managers.{IsManager, ManagerFields, state_of}
-use Rattle.mlt_manager.specs.Answers.{counted}
 use Rattle.mlt_manager.proofs.Counts.{KeepsCounts}
 
 -- a table with one entry more, changed or fewer

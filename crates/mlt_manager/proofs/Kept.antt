@@ -1,31 +1,14 @@
 -- What each event answers keeps what is always true of a manager
-use Rattle.std.proofs.Common.{◌≡◌, ◌≤◌, ℕ, ◌^◌, Bool, true, false, Result, Ok, Err, IfOk, sym, ap, subst, ◌∙◌, arith}
+use Rattle.std.proofs.Common.{◌≡◌, ◌≤◌, ℕ, ◌^◌, Bool, true, false, Result, Ok, Err, IfOk, sym, ap, subst, ◌∙◌, arith, nat_cmp}
 use Rattle.std.specs.FinMap as map
 use Rattle.std.specs.FinSet as set
-use Rattle.mlt_types.specs.declared.limits.Limits.{Limits}
-use Rattle.mlt_types.specs.declared.refusal.Refusal.{Refusal}
-use Rattle.mlt_types.specs.declared.refusal.Refusal.TheVariants as refusal
-use Rattle.mlt_object_kinds.specs.Bases.{empty_base}
-use Rattle.mlt_object_kinds.specs.declared.operation.ObjOp.{ObjOp}
-use Rattle.mlt_trace.specs.Numbers.{commit_count}
-use Rattle.mlt_hash_form.specs.File.{GivesPseudokeys}
-use Rattle.mlt_event.specs.declared.answer.Answer.{Answer}
-use Rattle.mlt_manager_invariant.specs.Sound.{IsSound}
-use Rattle.std.specs.Ordering.{nat_cmp}
-use Rattle.mlt_tx.specs.declared.transaction.Transaction.{Transaction}
+use Rattle.mlt_manager.proofs.Names.{Limits, Refusal, empty_base, ObjOp, commit_count, GivesPseudokeys, Answer, IsSound, Transaction, IsTraced, AnswersAbort, AnswersBegin, AnswersCall, AnswersCancel, AnswersCommit, AnswersStep, LeavesBase, IsManager, ManagerFields, state_of, IsNew, AnswersWholeUndo, GoesOnBack, StopsBack, AnswersWhole}
 use Rattle.mlt_manager_invariant.specs.Opening.{opening_state}
 use Rattle.mlt_manager_invariant.proofs.Opening.{opening_sound}
-use Rattle.mlt_manager_trace.specs.Traced.{IsTraced}
 use Rattle.mlt_manager_trace.proofs.Stays.{opening_traced}
-use Rattle.mlt_manager.specs.Answers.{AnswersAbort, AnswersBegin, AnswersCall, AnswersCancel, AnswersCommit, AnswersStep}
-use Rattle.mlt_manager.specs.Bases.{LeavesBase}
-use Rattle.mlt_manager.specs.Managers.{IsManager, ManagerFields, state_of}
-use Rattle.mlt_manager.specs.Openings.{IsNew}
 use Rattle.mlt_manager.proofs.Called.{called_keeps, cancelled_keeps, not_called_keeps}
 use Rattle.mlt_manager.proofs.Ended.{abort_begun_keeps, begun_keeps, closed_keeps, committed_keeps}
 use Rattle.mlt_manager.proofs.Keeping.{same_manager}
-use Rattle.mlt_manager.specs.Undoings.{AnswersWholeUndo, GoesOnBack, StopsBack}
-use Rattle.mlt_manager.specs.Wholes.{AnswersWhole}
 use Rattle.mlt_manager.proofs.RunningOn.{run_keeps}
 use Rattle.mlt_manager.proofs.Stepped.{step_keeps}
 use Rattle.mlt_manager.proofs.Chains.{up_to_keeps}
@@ -37,7 +20,7 @@ module _ {P : Type 0} (bits_of : P → ℕ → ℕ) (m m' : ManagerFields P) (h 
 
   pub call_kept : (tx : ℕ) (op : ObjOp) (r : Result (Unit {0}) Refusal) → AnswersCall m m' tx op r → IsManager bits_of m'
   call_kept tx op (Ok done) a = called_keeps bits_of m h tx m' a.rest op a
-  call_kept tx op (Err refusal.OutOfMemory) a = (not_called_keeps bits_of m h tx m' a.2 a.0 a.1).0
+  call_kept tx op (Err Refusal.OutOfMemory) a = (not_called_keeps bits_of m h tx m' a.2 a.0 a.1).0
   call_kept tx op (Err reason) a = same_manager bits_of m' m a.1 h
 
   pub step_kept : (tx : ℕ) (r : Result Answer Refusal) → AnswersStep bits_of m m' tx r → IsManager bits_of m'

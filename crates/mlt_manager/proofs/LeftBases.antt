@@ -1,17 +1,11 @@
 -- What is left when all that stands is taken back is the base of the committed transactions
 use Rattle.std.proofs.Common.{◌≡◌, ℕ, true, false, Option, None, Some, is_some, refl, sym, ap, subst, ◌∙◌}
 use Rattle.std.specs.FinMap as map
-use Rattle.mlt_object_kinds.specs.Bases.{Base, Step}
+use Rattle.mlt_manager.proofs.Names.{Base, Step, UndoneTo, Transaction, with_base, HasBase, IsManager, ManagerFields, state_of, IsCommittedBaseOf, lists_by}
 use Rattle.mlt_order.specs.Histories.Stage.{Running}
-use Rattle.mlt_order.specs.Interleavings.{UndoneTo}
 use Rattle.mlt_order.proofs.UndoLaws.{undone_to_same}
 use Rattle.mlt_trace_laws.proofs.Histories.{nothing_of_others}
-use Rattle.mlt_tx.specs.declared.transaction.Transaction.{Transaction}
 use Rattle.mlt_tx_open.specs.Standing.{entries_of, standing_in}
-use Rattle.mlt_manager_trace.proofs.CommittedBases.{with_base}
-use Rattle.mlt_manager.specs.Bases.{HasBase}
-use Rattle.mlt_manager.specs.Managers.{IsManager, ManagerFields, state_of}
-use Rattle.mlt_manager.specs.Promises.{IsCommittedBaseOf, lists_by}
 use Rattle.mlt_manager.proofs.Promises.{committed_of}
 use Rattle.mlt_manager.proofs.Stepped.{same_base}
 

@@ -1,46 +1,18 @@
 -- Whom an answer names
-use Rattle.std.proofs.lemmas.Bool.{false≢true}
-use Rattle.std.proofs.lemmas.Bool.Decides.{nat_tests}
-use Rattle.std.proofs.lemmas.Bool.{cases_eq}
+use Rattle.mlt_manager.proofs.Names.{false≢true, nat_tests, cases_eq, Mode, Refusal, ObjOp, ObjReply, Modes, is_holder, Held, WalkContext, context_by, OperationFields, Answer, At, Transaction, SharedState, TellsOfBack, TellsOfPending, TellsAt, tx_state_of, Table, FitsAt, State, images_kept, abstract_state_of, inserted_elsewhere, AnswersStep, HasStepped, IsByAnother, IsOpenAt, IsRunning, txs_after, StepsUpTo, IsManager, ManagerFields, state_of, AnswersWholeUndo, GoesOnBack, StopsBack, AnswersWhole, DropsIfItStands, LetsGoOn, Stops}
 use Rattle.std.proofs.lemmas.List.Elements.{Contains-append_cases}
-use Rattle.std.proofs.Common.{inl, inr, ◌≡◌, ◌≢◌, ℕ, true, List, [], ◌∷◌, Option, None, Some, is_some, Contains, Result, Ok, Err, IfOk, refl, sym, ap, subst, ◌∙◌, arith}
-use Rattle.std.specs.Option.{IsSome}
+use Rattle.std.proofs.Common.{inl, inr, ◌≡◌, ◌≢◌, ℕ, true, List, [], ◌∷◌, Option, None, Some, is_some, Contains, Result, Ok, Err, IfOk, refl, sym, ap, subst, ◌∙◌, arith, IsSome, nat_cmp}
 use Rattle.std.specs.FinMap as map
-use Rattle.std.specs.Ordering.{nat_cmp}
-use Rattle.mlt_types.specs.declared.mode.Mode.{Mode}
-use Rattle.mlt_types.specs.declared.refusal.Refusal.{Refusal}
-use Rattle.mlt_object_kinds.specs.declared.operation.ObjOp.{ObjOp}
-use Rattle.mlt_object_kinds.specs.declared.operation.ObjReply.{ObjReply}
 use Rattle.mlt_order.specs.Histories.{Stage}
 use Rattle.mlt_order.specs.Histories.Stage.{Ended, Fresh, Running}
 use Rattle.mlt_order.specs.Interleavings.{items_of}
 use Rattle.mlt_order.proofs.Parts.{items_of-other, items_of-same}
 use Rattle.mlt_order.proofs.RunLemmas.{contains-first, contains-later, contains-nothing}
 use Rattle.mlt_order.proofs.Stages.{contains-one}
-use Rattle.mlt_page_locks.specs.LockTables.{LockTable, Modes, is_holder}
+use Rattle.mlt_page_locks.specs.LockTables.{LockTable}
 use Rattle.mlt_page_locks.specs.Requests.{IsLowest, conflicts}
-use Rattle.mlt_object_locks.specs.Locks.{Held}
 use Rattle.mlt_tx_meaning.specs.AbstractStates.{lists_in}
 use Rattle.mlt_tx_meaning.proofs.Matches.{lists_kept}
-use Rattle.mlt_hash.specs.Walks.{WalkContext, context_by}
-use Rattle.mlt_tx_operation.specs.Operating.{OperationFields}
-use Rattle.mlt_event.specs.declared.answer.Answer.{Answer}
-use Rattle.mlt_event.specs.declared.answer.Answer.TheVariants as answer
-use Rattle.mlt_tx.specs.declared.transaction.At.{At}
-use Rattle.mlt_tx.specs.declared.transaction.At.TheVariants as at
-use Rattle.mlt_tx.specs.declared.transaction.Transaction.{Transaction}
-use Rattle.mlt_tx.specs.declared.shared.SharedState.{SharedState}
-use Rattle.mlt_tx.specs.Steps.{TellsOfBack, TellsOfPending}
-use Rattle.mlt_tx.specs.Transactions.{TellsAt, tx_state_of}
-use Rattle.mlt_tx_open.specs.Tables.{Table}
-use Rattle.mlt_manager_invariant.specs.Sound.{FitsAt}
-use Rattle.mlt_manager_invariant.specs.States.{State, images_kept, abstract_state_of}
-use Rattle.mlt_manager_invariant.proofs.Tables.{inserted_elsewhere}
-use Rattle.mlt_manager.specs.Answers.{AnswersStep, HasStepped, IsByAnother, IsOpenAt, IsRunning, txs_after}
-use Rattle.mlt_manager.specs.Chains.{StepsUpTo}
-use Rattle.mlt_manager.specs.Managers.{IsManager, ManagerFields, state_of}
-use Rattle.mlt_manager.specs.Undoings.{AnswersWholeUndo, GoesOnBack, StopsBack}
-use Rattle.mlt_manager.specs.Wholes.{AnswersWhole, DropsIfItStands, LetsGoOn, Stops}
 use Rattle.mlt_manager.proofs.Called.{called_keeps}
 use Rattle.mlt_manager.proofs.Chains.{steps_keep}
 
@@ -77,10 +49,10 @@ module _ {P : Type 0} (bits_of : P → ℕ → ℕ) (m : ManagerFields P) (h : I
 
   -- who holds pages runs
   runs_at : (a : At) (by : ℕ) (t : Transaction) → FitsAt a now by t → is_holder m.shared.pages.locks by ≡ true → IsRunning a
-  runs_at at.Idle by t nothing holds = absurd (false≢true (sym nothing.no_locks ∙ holds))
-  runs_at (at.Pending o) by t fits holds = tt
-  runs_at (at.Undoing None) by t (nothing, some) holds = absurd (false≢true (sym nothing.no_locks ∙ holds))
-  runs_at (at.Undoing (Some o)) by t fits holds = tt
+  runs_at At.Idle by t nothing holds = absurd (false≢true (sym nothing.no_locks ∙ holds))
+  runs_at (At.Pending o) by t fits holds = tt
+  runs_at (At.Undoing None) by t (nothing, some) holds = absurd (false≢true (sym nothing.no_locks ∙ holds))
+  runs_at (At.Undoing (Some o)) by t fits holds = tt
 
   open_of : (by : ℕ) (e : Option Transaction) → map.get m.txs by ≡ e → is_some (map.get h.images by) ≡ true → is_some e ≡ true
   open_of by None is holds = absurd (false≢true (sym (ap is_some (h.sound.kept by ∙ ap images_kept is)) ∙ holds))
@@ -112,13 +84,13 @@ module _ {P : Type 0} (bits_of : P → ℕ → ℕ) (m : ManagerFields P) (h : I
 
 -- who is named is another transaction, where the one that changes is left aside
 still_another : (told : Answer) (txs : Table) (tx : ℕ) (after : Transaction) → IsByAnother told txs tx → IsByAnother told (map.insert txs tx after) tx
-still_another (answer.Waiting page by) txs tx after (ne, there) = (ne, record { one = there.one; there = inserted_elsewhere txs tx after by ne ∙ there.there; is_at = there.is_at })
-still_another (answer.Blocked by) txs tx after (ne, there) = (ne, subst IsSome (sym (inserted_elsewhere txs tx after by ne)) there)
-still_another answer.Going txs tx after none = tt
-still_another (answer.Done reply) txs tx after none = tt
-still_another answer.Undone txs tx after none = tt
-still_another answer.Aborted txs tx after none = tt
-still_another (answer.Refused reason) txs tx after none = tt
+still_another (Answer.Waiting page by) txs tx after (ne, there) = (ne, record { one = there.one; there = inserted_elsewhere txs tx after by ne ∙ there.there; is_at = there.is_at })
+still_another (Answer.Blocked by) txs tx after (ne, there) = (ne, subst IsSome (sym (inserted_elsewhere txs tx after by ne)) there)
+still_another Answer.Going txs tx after none = tt
+still_another (Answer.Done reply) txs tx after none = tt
+still_another Answer.Undone txs tx after none = tt
+still_another Answer.Aborted txs tx after none = tt
+still_another (Answer.Refused reason) txs tx after none = tt
 
 -- one step
 module _ {P : Type 0} (bits_of : P → ℕ → ℕ) (m : ManagerFields P) (h : IsManager bits_of m) (tx : ℕ) where
@@ -132,38 +104,38 @@ module _ {P : Type 0} (bits_of : P → ℕ → ℕ) (m : ManagerFields P) (h : I
         (λ same. other.0 (same ∙ sym number), holder_runs bits_of m h by other.1)
 
     named_pending : (context : WalkContext) (o next : OperationFields) (between : SharedState) (told : Answer) → TellsOfPending context o next (tx_state_of before m.shared) (tx_state_of after between) told → IsByAnother told m.txs tx
-    named_pending context o next between (answer.Waiting page by) w = by_lowest page by w.tells.mode w.tells.lowest
-    named_pending context o next between (answer.Blocked by) (e, anew) =
+    named_pending context o next between (Answer.Waiting page by) w = by_lowest page by w.tells.mode w.tells.lowest
+    named_pending context o next between (Answer.Blocked by) (e, anew) =
         let clash = e.tells.lowest.0 in
         (λ same. clash.0 (same ∙ sym number), owner_open bits_of m h by clash.1.0 clash.1.1)
-    named_pending context o next between answer.Going w = tt
-    named_pending context o next between (answer.Done reply) w = tt
-    named_pending context o next between (answer.Refused reason) w = tt
-    named_pending context o next between answer.Undone none = tt
-    named_pending context o next between answer.Aborted none = tt
+    named_pending context o next between Answer.Going w = tt
+    named_pending context o next between (Answer.Done reply) w = tt
+    named_pending context o next between (Answer.Refused reason) w = tt
+    named_pending context o next between Answer.Undone none = tt
+    named_pending context o next between Answer.Aborted none = tt
 
     named_back : (context : WalkContext) (inverting next : Option OperationFields) (told : Answer) → TellsOfBack context inverting next (tx_state_of before m.shared) (tx_state_of after shared) told → IsByAnother told m.txs tx
-    named_back context inverting next (answer.Waiting page by) w = by_lowest page by w.tells.mode w.tells.lowest
-    named_back context inverting next (answer.Blocked by) none = absurd none
-    named_back context inverting next answer.Going w = tt
-    named_back context inverting next (answer.Done reply) w = tt
-    named_back context inverting next (answer.Refused reason) w = tt
-    named_back context inverting next answer.Undone none = tt
-    named_back context inverting next answer.Aborted none = tt
+    named_back context inverting next (Answer.Waiting page by) w = by_lowest page by w.tells.mode w.tells.lowest
+    named_back context inverting next (Answer.Blocked by) none = absurd none
+    named_back context inverting next Answer.Going w = tt
+    named_back context inverting next (Answer.Done reply) w = tt
+    named_back context inverting next (Answer.Refused reason) w = tt
+    named_back context inverting next Answer.Undone none = tt
+    named_back context inverting next Answer.Aborted none = tt
 
     named_at : (a : At) (context : WalkContext) (told : Answer) → TellsAt a context before after m.shared shared told → IsByAnother told m.txs tx
-    named_at at.Idle context told none = absurd none
-    named_at (at.Pending o) context told s = named_pending context o s.next s.between told s.tells
-    named_at (at.Undoing inverting) context told s = named_back context inverting s.next told s.tells
+    named_at At.Idle context told none = absurd none
+    named_at (At.Pending o) context told s = named_pending context o s.next s.between told s.tells
+    named_at (At.Undoing inverting) context told s = named_back context inverting s.next told s.tells
 
   in_table : (told : Answer) (d : Table) (after : Transaction) → d ≡ map.insert m.txs tx after → IsByAnother told m.txs tx → IsByAnother told (txs_after told tx d) tx
-  in_table (answer.Waiting page by) d after is named = subst (λ (t : Table). IsByAnother (answer.Waiting page by) t tx) (sym is) (still_another (answer.Waiting page by) m.txs tx after named)
-  in_table (answer.Blocked by) d after is named = subst (λ (t : Table). IsByAnother (answer.Blocked by) t tx) (sym is) (still_another (answer.Blocked by) m.txs tx after named)
-  in_table answer.Going d after is none = tt
-  in_table (answer.Done reply) d after is none = tt
-  in_table answer.Undone d after is none = tt
-  in_table answer.Aborted d after is none = tt
-  in_table (answer.Refused reason) d after is none = tt
+  in_table (Answer.Waiting page by) d after is named = subst (λ (t : Table). IsByAnother (Answer.Waiting page by) t tx) (sym is) (still_another (Answer.Waiting page by) m.txs tx after named)
+  in_table (Answer.Blocked by) d after is named = subst (λ (t : Table). IsByAnother (Answer.Blocked by) t tx) (sym is) (still_another (Answer.Blocked by) m.txs tx after named)
+  in_table Answer.Going d after is none = tt
+  in_table (Answer.Done reply) d after is none = tt
+  in_table Answer.Undone d after is none = tt
+  in_table Answer.Aborted d after is none = tt
+  in_table (Answer.Refused reason) d after is none = tt
 
   -- **Whom a step names is another transaction: one that runs, or that is open.**
   pub step_names : (m' : ManagerFields P) (told : Answer) → HasStepped bits_of m m' tx told → IsByAnother told m'.txs tx
@@ -179,15 +151,15 @@ module _ {P : Type 0} (bits_of : P → ℕ → ℕ) (LetsGoOn Stops : Answer →
 
 -- an operation that is dropped
 dropped_names : {P : Type 0} (told : Answer) (m m' : ManagerFields P) (tx : ℕ) → DropsIfItStands told m m' tx → IsByAnother told m.txs tx → IsByAnother told m'.txs tx
-dropped_names (answer.Waiting page by) m m' tx d named =
-    subst (λ (t : Table). IsByAnother (answer.Waiting page by) t tx) (sym d.cancels.changes.is) (still_another (answer.Waiting page by) m.txs tx d.cancels.changes.after named)
-dropped_names (answer.Blocked by) m m' tx d named =
-    subst (λ (t : Table). IsByAnother (answer.Blocked by) t tx) (sym d.cancels.changes.is) (still_another (answer.Blocked by) m.txs tx d.cancels.changes.after named)
-dropped_names answer.Going m m' tx d none = tt
-dropped_names (answer.Done reply) m m' tx d none = tt
-dropped_names answer.Undone m m' tx d none = tt
-dropped_names answer.Aborted m m' tx d none = tt
-dropped_names (answer.Refused reason) m m' tx d none = tt
+dropped_names (Answer.Waiting page by) m m' tx d named =
+    subst (λ (t : Table). IsByAnother (Answer.Waiting page by) t tx) (sym d.cancels.changes.is) (still_another (Answer.Waiting page by) m.txs tx d.cancels.changes.after named)
+dropped_names (Answer.Blocked by) m m' tx d named =
+    subst (λ (t : Table). IsByAnother (Answer.Blocked by) t tx) (sym d.cancels.changes.is) (still_another (Answer.Blocked by) m.txs tx d.cancels.changes.after named)
+dropped_names Answer.Going m m' tx d none = tt
+dropped_names (Answer.Done reply) m m' tx d none = tt
+dropped_names Answer.Undone m m' tx d none = tt
+dropped_names Answer.Aborted m m' tx d none = tt
+dropped_names (Answer.Refused reason) m m' tx d none = tt
 
 -- what each call answers
 module _ {P : Type 0} (bits_of : P → ℕ → ℕ) (m m' : ManagerFields P) (h : IsManager bits_of m) (tx : ℕ) where

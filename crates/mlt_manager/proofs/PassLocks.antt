@@ -1,56 +1,40 @@
 -- Each transaction holds the page locks of its pass
-use Rattle.std.proofs.Common.{◌≡◌, ◌≢◌, ◌⊎◌, ℕ, Bool, true, false, Option, None, Some, is_some, unwrap_or, slice_index, refl, sym, ap, subst, ◌∙◌, inl, inr, arith}
-use Rattle.std.specs.Ordering.{nat_cmp}
+use Rattle.std.proofs.Common.{◌≡◌, ◌≢◌, ◌⊎◌, ℕ, Bool, true, false, Option, None, Some, is_some, unwrap_or, slice_index, refl, sym, ap, subst, ◌∙◌, inl, inr, arith, nat_cmp}
 use Rattle.std.specs.FinMap as map
-use Rattle.std.proofs.lemmas.Bool.{cases_Bool, false≢true}
-use Rattle.mlt_types.specs.declared.mode.Mode.{Mode}
+use Rattle.mlt_manager.proofs.Names.{false≢true, Mode, ObjReply, Request, Page, Modes, is_holder, Images, image_of, not_true, FilePages, LocalState, View, view_of, WalkContext, OperationFields, clean_of, context_of, At, Transaction, FitsAt, IsSound, State, all_of, images_kept, abstract_state_of}
+use Rattle.std.proofs.lemmas.Bool.{cases_Bool}
 use Rattle.mlt_types.specs.declared.mode.Mode.TheVariants.{Exclusive}
-use Rattle.mlt_object_kinds.specs.declared.operation.ObjReply.{ObjReply}
-use Rattle.mlt_object_base.specs.declared.request.Request.{Request}
 use Rattle.mlt_object_base.specs.Requests.{target_of}
-use Rattle.mlt_page.specs.declared.page.Page.{Page}
-use Rattle.mlt_page.specs.declared.page.Page.TheVariants as page
-use Rattle.mlt_page_locks.specs.LockTables.{Modes, is_holder, mode_held}
+use Rattle.mlt_page_locks.specs.LockTables.{mode_held}
 use Rattle.mlt_page_locks.specs.Requests.{stronger}
 use Rattle.mlt_page_locks.proofs.LockLaws.{stronger_exclusive}
-use Rattle.mlt_page_subtx.specs.Images.{Images, image_of}
-use Rattle.mlt_page_subtx.proofs.ImageLaws.{not_true}
-use Rattle.mlt_hash_form.specs.File.{FilePages, dir_of, row_of}
+use Rattle.mlt_hash_form.specs.File.{dir_of, row_of}
 use Rattle.mlt_hash_form.specs.Held.{Agrees, over}
-use Rattle.mlt_hash_access.specs.LocalStates.{LocalState, page_before}
+use Rattle.mlt_hash_access.specs.LocalStates.{page_before}
 use Rattle.mlt_hash_access.specs.Reading.{HasReadPlace}
-use Rattle.mlt_hash_access.specs.Views.{View, rebased, view_of}
+use Rattle.mlt_hash_access.specs.Views.{rebased}
 use Rattle.mlt_hash_access.proofs.Rebased.{rebased_agrees}
 use Rattle.mlt_hash_access.proofs.Views.{exclusive_stays, holds_exclusively, mode_of_others, mode_of_page, own_has_image, seen_held}
 use Rattle.mlt_hash_pair.specs.Pairs.{HoldsDescents, PairFields}
 use Rattle.mlt_hash_pair.specs.Descents as pair_read
 use Rattle.mlt_hash_pair.specs.declared.descent.Descent.{Descent}
-use Rattle.mlt_hash_pair.specs.declared.descent.Descent.TheVariants as way
 use Rattle.mlt_hash.specs.Changes.{IsChangedPhase}
 use Rattle.mlt_hash.specs.Passes.{MayHoldMore, bucket_mode, directory_held, directory_mode, header_held, header_mode}
 use Rattle.mlt_hash.specs.Splitting.{IsUnderWay}
-use Rattle.mlt_hash.specs.Walks.{WalkContext, Before, HasRead, HoldsByPass, IsAtBucket, IsHeaded, IsPlaced, IsStanding, Stands, WalkFields, context_after, nothing_before, one_key}
+use Rattle.mlt_hash.specs.Walks.{Before, HasRead, HoldsByPass, IsAtBucket, IsHeaded, IsPlaced, IsStanding, Stands, WalkFields, context_after, nothing_before, one_key}
 use Rattle.mlt_hash.specs.declared.pass.Pass.{Pass}
-use Rattle.mlt_hash.specs.declared.pass.Pass.TheVariants as pass
 use Rattle.mlt_hash.specs.declared.pass.Phase.{Phase}
-use Rattle.mlt_hash.specs.declared.pass.Phase.TheVariants as phase
 use Rattle.mlt_hash.proofs.Passed.{read_at_bucket}
 use Rattle.mlt_tx_two_records.specs.declared.two_records.TwoRecordWalk.{TwoRecordWalk}
 use Rattle.mlt_tx_two_records.specs.declared.two_records.TwoRecordWalk.TheVariants.{First, Owing, Wide}
-use Rattle.mlt_tx_two_records.specs.declared.two_records.WideStage.TheVariants as wide_stage
+use Rattle.mlt_tx_two_records.specs.declared.two_records.WideStage.{WideStage}
 use Rattle.mlt_tx_two_records.specs.FirstPass.{HasKeys}
 use Rattle.mlt_tx_two_records.specs.WidePass.{HasPutOwn}
 use Rattle.mlt_tx_operation.specs.declared.access_path.AccessPath.{AccessPath}
 use Rattle.mlt_tx_operation.specs.declared.access_path.AccessPath.TheVariants.{One, Two}
-use Rattle.mlt_tx_operation.specs.Operating.{OperatesBy, OperationFields, StandsOrTold}
+use Rattle.mlt_tx_operation.specs.Operating.{OperatesBy, StandsOrTold}
 use Rattle.mlt_tx_operation.specs.Walking.{FitsPhase, WalkingFields, walking}
-use Rattle.mlt_hash_subtx_laws.specs.Running.{clean_of, images_by, local_of}
-use Rattle.mlt_tx_meaning.specs.AbstractStates.{context_of}
-use Rattle.mlt_tx.specs.declared.transaction.At.{At}
-use Rattle.mlt_tx.specs.declared.transaction.At.TheVariants as at
-use Rattle.mlt_tx.specs.declared.transaction.Transaction.{Transaction}
-use Rattle.mlt_manager_invariant.specs.Sound.{FitsAt, IsSound}
-use Rattle.mlt_manager_invariant.specs.States.{State, all_of, images_kept, abstract_state_of}
+use Rattle.mlt_hash_subtx_laws.specs.Running.{images_by, local_of}
 use Rattle.mlt_manager_invariant.proofs.Openness.{agrees_in}
 use Rattle.mlt_manager.specs.PassLocks.{HoldsBoth, HoldsOver, HoldsPair, HoldsWay, IsOnWay, KeysWay, LocksAt, LocksBy, LocksOf, LocksOfTwo, LocksOverAt, images_at, running_at, running_of}
 
@@ -62,19 +46,19 @@ clean_is_seen m clean agree q held =
 
 -- a page that a pass may hold beside its way is seen so, and one that is written has an image
 more_as : (p : Pass) (seen clean : Option (Option Page)) (own image : Bool) → seen ≡ clean → (own ≡ true → image ≡ true) → MayHoldMore p seen own → MayHoldMore p clean image
-more_as pass.First seen clean own image same kept more = more
-more_as pass.Narrow seen clean own image same kept more = (sym same ∙ more.0, kept more.1)
-more_as pass.Wide seen clean own image same kept more = kept more
+more_as Pass.First seen clean own image same kept more = more
+more_as Pass.Narrow seen clean own image same kept more = (sym same ∙ more.0, kept more.1)
+more_as Pass.Wide seen clean own image same kept more = kept more
 
 -- what is read of the way to a key is that way, on pages that agree with what was seen
 abbrev keys_way : (context : WalkContext) (key : ℕ) (view : View) (pages : FilePages) → Agrees view.seen pages → (dir bucket : ℕ) → HasReadPlace context.bits context.root key view dir bucket → KeysWay (one_key context) pages key
 keys_way context key view pages agree dir bucket read = record {
   header = read.header;
-  head = agree context.root (Some (page.Head read.header)) read.head;
+  head = agree context.root (Some (Page.Head read.header)) read.head;
   dir = dir;
   dir_is = read.dir_is;
   entries = read.entries;
-  listed = agree dir (Some (page.Dir read.entries)) read.listed;
+  listed = agree dir (Some (Page.Dir read.entries)) read.listed;
   bucket = bucket;
   bucket_is = read.bucket_is;
 }
@@ -85,13 +69,13 @@ placed_read context walk view bucket depth placed = record { header = placed.hea
 
 -- the locks of a walk on this state, whose view the clean pages agree with
 module _ (context : WalkContext) (walk : WalkFields) (m : LocalState) (clean : FilePages) (agree : Agrees (view_of m).seen clean) where
-  placed_way : (bucket depth : ℕ) → IsPlaced (one_key context) walk (view_of m) bucket depth → LocksAt (phase.Placed bucket depth) (one_key context) clean walk m.running.images (view_of m).modes
+  placed_way : (bucket depth : ℕ) → IsPlaced (one_key context) walk (view_of m) bucket depth → LocksAt (Phase.Placed bucket depth) (one_key context) clean walk m.running.images (view_of m).modes
   placed_way bucket depth placed = (
     keys_way context walk.key (view_of m) clean agree (dir_of placed.header (context.bits walk.key)) bucket (placed_read (one_key context) walk (view_of m) bucket depth placed),
     placed.held,
   )
 
-  bucket_way : (bucket depth : ℕ) (found : Option ℕ) → IsAtBucket (one_key context) walk (view_of m) bucket depth found → LocksAt (phase.AtBucket bucket depth found) (one_key context) clean walk m.running.images (view_of m).modes
+  bucket_way : (bucket depth : ℕ) (found : Option ℕ) → IsAtBucket (one_key context) walk (view_of m) bucket depth found → LocksAt (Phase.AtBucket bucket depth found) (one_key context) clean walk m.running.images (view_of m).modes
   bucket_way bucket depth found here = let read = read_at_bucket (one_key context) walk (view_of m) bucket depth found here in (keys_way context walk.key (view_of m) clean agree read.dir bucket read.way.placed, here.held)
 
   -- a walk that has read its way holds it by its pass
@@ -111,49 +95,49 @@ module _ (context : WalkContext) (walk : WalkFields) (m : LocalState) (clean : F
 
 -- a walk between two steps of its pass has not just found its bucket full
 abbrev IsNotFull : Phase → Type 0
-IsNotFull (phase.Full next) = ⊥
+IsNotFull (Phase.Full next) = ⊥
 IsNotFull other = Unit {0}
 
 fits_not_full : (p : Phase) (context : WalkContext) (o : WalkingFields) (view : View) → FitsPhase p context o view → IsNotFull p
-fits_not_full (phase.Full next) context o view fits = absurd fits
-fits_not_full phase.Start context o view fits = tt
-fits_not_full (phase.Headed dir row depth) context o view fits = tt
-fits_not_full (phase.Placed bucket depth) context o view fits = tt
-fits_not_full (phase.AtBucket bucket depth found) context o view fits = tt
-fits_not_full (phase.Adding value bucket room_depth unsplit) context o view fits = tt
-fits_not_full (phase.Splitting value room_depth) context o view fits = tt
-fits_not_full (phase.Changed bucket done) context o view fits = tt
+fits_not_full (Phase.Full next) context o view fits = absurd fits
+fits_not_full Phase.Start context o view fits = tt
+fits_not_full (Phase.Headed dir row depth) context o view fits = tt
+fits_not_full (Phase.Placed bucket depth) context o view fits = tt
+fits_not_full (Phase.AtBucket bucket depth found) context o view fits = tt
+fits_not_full (Phase.Adding value bucket room_depth unsplit) context o view fits = tt
+fits_not_full (Phase.Splitting value room_depth) context o view fits = tt
+fits_not_full (Phase.Changed bucket done) context o view fits = tt
 
 under_way_not_full : (p : Phase) → IsUnderWay p → IsNotFull p
-under_way_not_full (phase.Full next) under = absurd under
-under_way_not_full phase.Start under = tt
-under_way_not_full (phase.Headed dir row depth) under = tt
-under_way_not_full (phase.Placed bucket depth) under = tt
-under_way_not_full (phase.AtBucket bucket depth found) under = tt
-under_way_not_full (phase.Adding value bucket room_depth unsplit) under = tt
-under_way_not_full (phase.Splitting value room_depth) under = tt
-under_way_not_full (phase.Changed bucket done) under = tt
+under_way_not_full (Phase.Full next) under = absurd under
+under_way_not_full Phase.Start under = tt
+under_way_not_full (Phase.Headed dir row depth) under = tt
+under_way_not_full (Phase.Placed bucket depth) under = tt
+under_way_not_full (Phase.AtBucket bucket depth found) under = tt
+under_way_not_full (Phase.Adding value bucket room_depth unsplit) under = tt
+under_way_not_full (Phase.Splitting value room_depth) under = tt
+under_way_not_full (Phase.Changed bucket done) under = tt
 
 -- **A walk that stands holds the locks of its pass.**
 locks_at : (p : Phase) (context : WalkContext) (walk : WalkFields) (m : LocalState) (clean : FilePages) → Agrees (view_of m).seen clean → Stands p (one_key context) walk (view_of m) → IsNotFull p → LocksAt p (one_key context) clean walk m.running.images (view_of m).modes
-locks_at phase.Start context walk m clean agree stands full = stands.0.unheld
-locks_at (phase.Headed dir row depth) context walk m clean agree stands full = stands.held
-locks_at (phase.Placed bucket depth) context walk m clean agree stands full = placed_way (one_key context) walk m clean agree bucket depth stands
-locks_at (phase.AtBucket bucket depth found) context walk m clean agree stands full = bucket_way (one_key context) walk m clean agree bucket depth found stands
-locks_at (phase.Full next) context walk m clean agree stands full = absurd full
-locks_at (phase.Adding value bucket room_depth unsplit) context walk m clean agree stands full = read_way (one_key context) walk m clean agree None stands.read stands.holds
-locks_at (phase.Splitting value room_depth) context walk m clean agree stands full = read_way (one_key context) walk m clean agree None stands.read stands.holds
-locks_at (phase.Changed bucket done) context walk m clean agree stands full = read_way (one_key context) walk m clean agree stands.found stands.read stands.holds
+locks_at Phase.Start context walk m clean agree stands full = stands.0.unheld
+locks_at (Phase.Headed dir row depth) context walk m clean agree stands full = stands.held
+locks_at (Phase.Placed bucket depth) context walk m clean agree stands full = placed_way (one_key context) walk m clean agree bucket depth stands
+locks_at (Phase.AtBucket bucket depth found) context walk m clean agree stands full = bucket_way (one_key context) walk m clean agree bucket depth found stands
+locks_at (Phase.Full next) context walk m clean agree stands full = absurd full
+locks_at (Phase.Adding value bucket room_depth unsplit) context walk m clean agree stands full = read_way (one_key context) walk m clean agree None stands.read stands.holds
+locks_at (Phase.Splitting value room_depth) context walk m clean agree stands full = read_way (one_key context) walk m clean agree None stands.read stands.holds
+locks_at (Phase.Changed bucket done) context walk m clean agree stands full = read_way (one_key context) walk m clean agree stands.found stands.read stands.holds
 
 -- ---- two keys
 
 -- the locks of a pair are those of its two ways
 module _ (context : WalkContext) (m : LocalState) (clean : FilePages) (agree : Agrees (view_of m).seen clean) where
   pair_way : (key : ℕ) (on : Descent) → pair_read.HasRead context.bits context.root key (view_of m) on → IsOnWay on (one_key context) clean key
-  pair_way key way.Start read = tt
-  pair_way key (way.Headed place dir row) read = (read.header, agree context.root (Some (page.Head read.header)) read.head, read.dir_is)
-  pair_way key (way.Placed dir bucket) read = (keys_way context key (view_of m) clean agree dir bucket read, refl, refl)
-  pair_way key (way.AtBucket dir bucket found) read = (keys_way context key (view_of m) clean agree dir bucket read.placed, refl, refl)
+  pair_way key Descent.Start read = tt
+  pair_way key (Descent.Headed place dir row) read = (read.header, agree context.root (Some (Page.Head read.header)) read.head, read.dir_is)
+  pair_way key (Descent.Placed dir bucket) read = (keys_way context key (view_of m) clean agree dir bucket read, refl, refl)
+  pair_way key (Descent.AtBucket dir bucket found) read = (keys_way context key (view_of m) clean agree dir bucket read.placed, refl, refl)
 
   pair_locks : (request : Request) (pair : PairFields) → HasKeys request pair.left pair.right → pair_read.HasRead context.bits context.root pair.left (view_of m) pair.left_descent → pair_read.HasRead context.bits context.root pair.right (view_of m) pair.right_descent
       → HoldsDescents context.root pair.left_descent pair.right_descent (view_of m) → HoldsPair (one_key context) clean request pair (view_of m).modes
@@ -166,7 +150,7 @@ module _ (context : WalkContext) (m : LocalState) (clean : FilePages) (agree : A
 
 -- a wide pass that has gone on to the key of the size
 module _ (context : WalkContext) (request : Request) (walk : WalkFields) (m : LocalState) (clean : FilePages) (agree : Agrees (view_of m).seen clean) (since : Before) (put : HasPutOwn (one_key context) request (view_of m) since)
-    (wide : walk.pass ≡ pass.Wide) where
+    (wide : walk.pass ≡ Pass.Wide) where
   abbrev read : HasRead (one_key context) put.walk.key put.then_view put.changed.found
   read = put.changed.read
 
@@ -174,11 +158,11 @@ module _ (context : WalkContext) (request : Request) (walk : WalkFields) (m : Lo
   abbrev own_way : KeysWay (one_key context) clean (target_of request).0
   own_way = record {
     header = read.way.placed.header;
-    head = agree context.root (Some (page.Head read.way.placed.header)) (put.seen context.root (Some (page.Head read.way.placed.header)) read.way.placed.head);
+    head = agree context.root (Some (Page.Head read.way.placed.header)) (put.seen context.root (Some (Page.Head read.way.placed.header)) read.way.placed.head);
     dir = read.dir;
     dir_is = read.way.placed.dir_is ∙ ap (λ key. dir_of read.way.placed.header (context.bits key)) put.to_key.key_is;
     entries = read.way.placed.entries;
-    listed = agree read.dir (Some (page.Dir read.way.placed.entries)) (put.seen read.dir (Some (page.Dir read.way.placed.entries)) read.way.placed.listed);
+    listed = agree read.dir (Some (Page.Dir read.way.placed.entries)) (put.seen read.dir (Some (Page.Dir read.way.placed.entries)) read.way.placed.listed);
     bucket = read.bucket;
     bucket_is = read.way.placed.bucket_is ∙ ap (λ key. slice_index read.way.placed.entries (row_of read.way.placed.header (context.bits key))) put.to_key.key_is;
   }
@@ -203,7 +187,7 @@ module _ (context : WalkContext) (request : Request) (walk : WalkFields) (m : Lo
   on_others : (q : ℕ) → q ≢ context.root → q ≢ read.dir → q ≢ read.bucket → is_some (map.get since.held q) ≡ true → (map.get since.held q ≡ Some Exclusive) × (is_some (since.written q) ≡ true)
   on_others q away further last held =
       let more = put.changed.holds.others q away further last (ap is_some (map.get-empty {X = Mode} nat_cmp q)) (ap (λ (modes : Modes). is_some (map.get modes q)) (sym was_held) ∙ held) in
-      let own : MayHoldMore pass.Wide (put.then_view.seen q) (is_some (put.then_view.own q)) = subst (λ (p : Pass). MayHoldMore p (put.then_view.seen q) (is_some (put.then_view.own q))) put.to_key.wide more.1 in
+      let own : MayHoldMore Pass.Wide (put.then_view.seen q) (is_some (put.then_view.own q)) = subst (λ (p : Pass). MayHoldMore p (put.then_view.seen q) (is_some (put.then_view.own q))) put.to_key.wide more.1 in
       (ap (λ (modes : Modes). map.get modes q) was_held ∙ more.0, ap (λ (own : FilePages). is_some (own q)) was_written ∙ own)
 
   -- what it had written it keeps first images of
@@ -255,7 +239,7 @@ module _ (context : WalkContext) (request : Request) (walk : WalkFields) (m : Lo
       ])
       (λ q away not none held.
       let more = holds.others q away (λ is. not (inl is)) (λ is. not (inr is)) none held in
-      let own : MayHoldMore pass.Wide ((rebased since.written (view_of m)).seen q) (is_some ((view_of m).own q)) = subst (λ (p : Pass). MayHoldMore p ((rebased since.written (view_of m)).seen q) (is_some ((view_of m).own q))) wide more.1 in
+      let own : MayHoldMore Pass.Wide ((rebased since.written (view_of m)).seen q) (is_some ((view_of m).own q)) = subst (λ (p : Pass). MayHoldMore p ((rebased since.written (view_of m)).seen q) (is_some ((view_of m).own q))) wide more.1 in
       (more.0, own_has_image m q own))
 
   -- what is read of the way to the size's key
@@ -272,19 +256,19 @@ module _ (context : WalkContext) (request : Request) (walk : WalkFields) (m : Lo
 
   over_at : (p : Phase) → Stands p (context_after since context) walk (rebased since.written (view_of m)) → (IsUnderWay p ⊎ IsChangedPhase p)
       → LocksOverAt p (one_key context) (over clean since.written) walk.key (λ IsOfSize. HoldsBoth context.root read.dir read.bucket IsOfSize m.running.images (view_of m).modes)
-  over_at phase.Start stands which = not_anew stands.1
-  over_at (phase.Headed dir row depth) stands which = headed dir row depth stands
-  over_at (phase.Placed bucket depth) stands which = (
+  over_at Phase.Start stands which = not_anew stands.1
+  over_at (Phase.Headed dir row depth) stands which = headed dir row depth stands
+  over_at (Phase.Placed bucket depth) stands which = (
     keys_way context walk.key (rebased since.written (view_of m)) (over clean since.written) agrees_since (dir_of stands.header (context.bits walk.key)) bucket (placed_read (context_after since context) walk (rebased since.written (view_of m)) bucket depth stands),
     placed bucket depth stands,
   )
-  over_at (phase.AtBucket bucket depth found) stands (inl none) = absurd none
-  over_at (phase.AtBucket bucket depth found) stands (inr none) = absurd none
-  over_at (phase.Full next) stands (inl none) = absurd none
-  over_at (phase.Full next) stands (inr none) = absurd none
-  over_at (phase.Adding value bucket room_depth unsplit) stands which = passed_way None stands.read stands.holds
-  over_at (phase.Splitting value room_depth) stands which = passed_way None stands.read stands.holds
-  over_at (phase.Changed bucket done) stands which = passed_way stands.found stands.read stands.holds
+  over_at (Phase.AtBucket bucket depth found) stands (inl none) = absurd none
+  over_at (Phase.AtBucket bucket depth found) stands (inr none) = absurd none
+  over_at (Phase.Full next) stands (inl none) = absurd none
+  over_at (Phase.Full next) stands (inr none) = absurd none
+  over_at (Phase.Adding value bucket room_depth unsplit) stands which = passed_way None stands.read stands.holds
+  over_at (Phase.Splitting value room_depth) stands which = passed_way None stands.read stands.holds
+  over_at (Phase.Changed bucket done) stands which = passed_way stands.found stands.read stands.holds
 
   over_locks : HasKeys request (target_of request).0 walk.key → IsStanding (context_after since context) walk (rebased since.written (view_of m)) → (IsUnderWay walk.phase ⊎ IsChangedPhase walk.phase)
       → HoldsOver (one_key context) clean request walk m.running.images (view_of m).modes
@@ -301,12 +285,12 @@ two_locks : (reply : Option ObjReply) (two_records : TwoRecordWalk) (context : W
     → LocksOfTwo two_records (one_key context) clean request m.running.images (view_of m).modes
 two_locks None (First pair) context request m clean agree s = pair_locks context m clean agree request pair s.keys s.finding.left s.finding.right s.finding.holds
 two_locks None (Owing pair told) context request m clean agree s = pair_locks context m clean agree request pair s.keys s.changed.holding.left s.changed.holding.right s.changed.holding.holds
-two_locks None (Wide wide_stage.Own walk) context request m clean agree s = locks_at walk.phase context walk m clean agree s.stands (under_way_not_full walk.phase s.under_way)
-two_locks None (Wide wide_stage.Size walk) context request m clean agree s = over_locks context request walk m clean agree s.since s.put s.to_key.wide s.keys s.stands (inl s.under_way)
+two_locks None (Wide WideStage.Own walk) context request m clean agree s = locks_at walk.phase context walk m clean agree s.stands (under_way_not_full walk.phase s.under_way)
+two_locks None (Wide WideStage.Size walk) context request m clean agree s = over_locks context request walk m clean agree s.since s.put s.to_key.wide s.keys s.stands (inl s.under_way)
 two_locks (Some told) (First pair) context request m clean agree s = pair_locks context m clean agree request pair s.keys s.holding.left s.holding.right s.holding.holds
 two_locks (Some told) (Owing pair told') context request m clean agree s = pair_locks context m clean agree request pair s.keys s.holding.left s.holding.right s.holding.holds
-two_locks (Some told) (Wide wide_stage.Own walk) context request m clean agree s = locks_at walk.phase context walk m clean agree s.stands (subst IsNotFull (sym s.at_bucket) tt)
-two_locks (Some told) (Wide wide_stage.Size walk) context request m clean agree s = over_locks context request walk m clean agree s.since s.put s.to_key.wide s.keys s.stands (inr (subst IsChangedPhase (sym s.phase) tt))
+two_locks (Some told) (Wide WideStage.Own walk) context request m clean agree s = locks_at walk.phase context walk m clean agree s.stands (subst IsNotFull (sym s.at_bucket) tt)
+two_locks (Some told) (Wide WideStage.Size walk) context request m clean agree s = over_locks context request walk m clean agree s.since s.put s.to_key.wide s.keys s.stands (inr (subst IsChangedPhase (sym s.phase) tt))
 
 -- **So does any operation.**
 access_path_locks : (access_path : AccessPath) (context : WalkContext) (o : OperationFields) (m : LocalState) (clean : FilePages) → Agrees (view_of m).seen clean → OperatesBy access_path (one_key context) o (view_of m)
@@ -318,10 +302,10 @@ access_path_locks (Two two_records) context o m clean agree operates = two_locks
 module _ (s : State) (i : ℕ) where
   -- the locks of an open transaction, by where it is
   fitting_locks : (a : At) (t : Transaction) → Agrees (view_of (local_of (all_of s) i)).seen (clean_of (all_of s)) → FitsAt a s i t → LocksOf (running_at a) s.shared.pages.locks (context_of (abstract_state_of s) i) (clean_of (all_of s)) (images_by (all_of s) i)
-  fitting_locks at.Idle t agree fits = fits.no_locks
-  fitting_locks (at.Pending o) t agree fits = access_path_locks o.access_path (context_of (abstract_state_of s) i) o (local_of (all_of s) i) (clean_of (all_of s)) agree fits.operates
-  fitting_locks (at.Undoing None) t agree fits = fits.0.no_locks
-  fitting_locks (at.Undoing (Some o)) t agree fits = access_path_locks o.access_path (context_of (abstract_state_of s) i) o (local_of (all_of s) i) (clean_of (all_of s)) agree fits.operates
+  fitting_locks At.Idle t agree fits = fits.no_locks
+  fitting_locks (At.Pending o) t agree fits = access_path_locks o.access_path (context_of (abstract_state_of s) i) o (local_of (all_of s) i) (clean_of (all_of s)) agree fits.operates
+  fitting_locks (At.Undoing None) t agree fits = fits.0.no_locks
+  fitting_locks (At.Undoing (Some o)) t agree fits = access_path_locks o.access_path (context_of (abstract_state_of s) i) o (local_of (all_of s) i) (clean_of (all_of s)) agree fits.operates
 
   locks_by : IsSound s → (there : Option Transaction) → map.get s.txs i ≡ there → LocksOf (running_of there) s.shared.pages.locks (context_of (abstract_state_of s) i) (clean_of (all_of s)) (images_by (all_of s) i)
   locks_by sound None is = not_true (is_holder s.shared.pages.locks i) (λ holds. false≢true (sym (ap is_some (sound.kept i ∙ ap images_kept is)) ∙ sound.running.holders_open i holds))

@@ -1,14 +1,7 @@
 -- A run of events, one after another
-use Prim.Native.Nat.{zero}
+use Rattle.mlt_manager.proofs.Names.{zero, Limits, Event, Told, counted, IsRun, Meets, ManagerFields, IsNew, KeepsPromises}
 use Rattle.std.proofs.Common.{suc, ◌≡◌, ◌<◌, ◌≤◌, ℕ, ◌+◌, List, [], ◌∷◌, ◌++◌, length, take, get_or, refl, sym, ap, subst, ◌∙◌, arith}
-use Rattle.mlt_types.specs.declared.limits.Limits.{Limits}
-use Rattle.mlt_event.specs.declared.event.Event.{Event}
-use Rattle.mlt_event.specs.declared.told.Told.{Told}
-use Rattle.mlt_manager.specs.Answers.{counted}
-use Rattle.mlt_manager.specs.Events.{IsRun, Meets, Plays}
-use Rattle.mlt_manager.specs.Managers.{ManagerFields}
-use Rattle.mlt_manager.specs.Openings.{IsNew}
-use Rattle.mlt_manager.specs.Promises.{KeepsPromises}
+use Rattle.mlt_manager.specs.Events.{Plays}
 use Rattle.mlt_manager.proofs.Tolds.{history_told}
 
 -- the events so far, and what they were told

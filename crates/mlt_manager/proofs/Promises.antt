@@ -1,33 +1,21 @@
 -- Every manager keeps its promises
-use Rattle.std.proofs.Common.{◌≡◌, ℕ, List, sym, subst}
+use Rattle.std.proofs.Common.{◌≡◌, ℕ, List, sym, subst, nat_cmp}
 use Rattle.std.specs.FinMap as map
-use Rattle.mlt_object_kinds.specs.Bases.{Base, Step, empty_base}
-use Rattle.mlt_order.specs.Interleavings.{UndoneTo}
-use Rattle.mlt_trace.specs.declared.item.TraceItem.{TraceItem}
-use Rattle.mlt_trace.specs.declared.item.TraceItem.TheVariants as trace
+use Rattle.mlt_manager.proofs.Names.{Base, Step, empty_base, UndoneTo, TraceItem, FilePages, GivesPseudokeys, HasForm, IsRecordMap, live_records, Page, clean_pages, AreBegunInOrder, ArePlaced, abstract_state_of, with_base, IsManager, ManagerFields, state_of, Transcripts, transcripts_of, IsCommittedBaseOf, KeepsPromises, PassesTheChecker, lists_by}
 use Rattle.std.specs.FinSet as set
-use Rattle.std.specs.Ordering.{nat_cmp}
-use Rattle.mlt_hash_form.specs.File.{FilePages, GivesPseudokeys, HasForm}
 use Rattle.mlt_hash_form.specs.Prefixes.{IsExtendibleHashFile}
-use Rattle.mlt_hash_form.specs.Records.{IsRecordMap, live_records}
-use Rattle.mlt_page.specs.declared.page.Page.{Page}
 use Rattle.mlt_hash_ghosts.proofs.Transactions.{kept_by_match}
-use Rattle.mlt_hash_subtx_laws.specs.CleanPages.{clean_pages}
 use Rattle.mlt_trace.specs.Ranges.{AllFit}
 use Rattle.mlt_trace_laws.specs.Writable.{AreWritable}
 use Rattle.mlt_order.specs.Histories.{IsCommitOrderSerializable}
 use Rattle.mlt_order.specs.Runs.{IsSerialBase}
 use Rattle.mlt_trace.specs.Items.{trace_text}
-use Rattle.mlt_trace.specs.Numbers.{AreBegunInOrder, committed_txs}
-use Rattle.mlt_trace_check.specs.Traces.{ArePlaced, IsAcceptedTrace, told}
+use Rattle.mlt_trace.specs.Numbers.{committed_txs}
+use Rattle.mlt_trace_check.specs.Traces.{IsAcceptedTrace, told}
 use Rattle.mlt_trace_laws.proofs.Histories.{serializable}
 use Rattle.mlt_tx_meaning.specs.AbstractStates.{ledger_of}
-use Rattle.mlt_manager_invariant.specs.States.{abstract_state_of}
 use Rattle.mlt_manager_trace.specs.Traced.{IsCommittedBase}
-use Rattle.mlt_manager_trace.proofs.CommittedBases.{with_base}
-use Rattle.mlt_manager.specs.Managers.{IsManager, ManagerFields, state_of}
-use Rattle.mlt_manager.specs.Headline.{KeepsMainPromise, Transcripts, transcripts_of}
-use Rattle.mlt_manager.specs.Promises.{IsCommittedBaseOf, KeepsPromises, PassesTheChecker, lists_by}
+use Rattle.mlt_manager.specs.Headline.{KeepsMainPromise}
 use Rattle.mlt_manager.proofs.CleanPages.{pages_clean}
 use Rattle.mlt_manager.proofs.Headline.{pages_mean, same_transcripts}
 use Rattle.mlt_manager.proofs.PassLocks.{pass_locks, written_locks}
@@ -50,7 +38,7 @@ module _ {P : Type 0} (bits_of : P → ℕ → ℕ) (m : ManagerFields P) (h : I
   -- **Every manager keeps the main promise.**
   abbrev main_kept : IsRecordMap (live_records pages) (map.get pages) → KeepsMainPromise m
   main_kept is_map = record {
-    none_back = λ before later tx number is. (h.traced.placed before later (trace.Commit tx number) is).1;
+    none_back = λ before later tx number is. (h.traced.placed before later (TraceItem.Commit tx number) is).1;
     base = serial.0;
     alone = committed_alone;
     clean = pages;

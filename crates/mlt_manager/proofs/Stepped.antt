@@ -1,30 +1,10 @@
 -- A step keeps what is always true of a manager
 use Rattle.std.proofs.Common.{◌≡◌, ℕ, List, [], ◌∷◌, ◌++◌, Option, None, Some, refl, sym, ap, subst, ◌∙◌, arith}
 use Rattle.std.specs.FinMap as map
-use Rattle.mlt_page.specs.declared.page.Page.{Page}
-use Rattle.mlt_object_kinds.specs.Bases.{Base, Step}
-use Rattle.mlt_object_kinds.specs.declared.operation.ObjOp.{ObjOp}
-use Rattle.mlt_object_kinds.specs.declared.operation.ObjReply.{ObjReply}
-use Rattle.mlt_object_locks.specs.Locks.{IsLowestClash}
-use Rattle.mlt_trace.specs.declared.item.TraceItem.{TraceItem}
-use Rattle.mlt_trace.specs.declared.item.TraceItem.TheVariants as trace
-use Rattle.mlt_hash_subtx_laws.specs.CleanPages.{clean_pages}
-use Rattle.mlt_hash.specs.Walks.{context_by}
-use Rattle.mlt_tx_operation.specs.Operating.{OperationFields}
-use Rattle.mlt_object_base.specs.declared.request.Request.TheVariants.{Do}
-use Rattle.mlt_tx_meaning.specs.AbstractStates.{context_of}
+use Rattle.mlt_manager.proofs.Names.{Page, Base, Step, ObjOp, ObjReply, IsLowestClash, TraceItem, clean_pages, context_by, OperationFields, Do, context_of, Answer, SharedState, At, Transaction, EndsBack, StepsBack, StepsPending, TellsAt, tx_state_of, KeepsImage, KeepsNoImage, Table, KeepsCleanPages, State, abstract_state_of, inserted_here, removed_here, HasStepped, IsOpenAt, active_after, txs_after, HasBase, IsPendingWith, KeepsWhatCounts, LeavesBase, TakesStepBack, IsManager, ManagerFields, state_of}
 use Rattle.mlt_tx_meaning.proofs.Fixed.{history_fixes}
-use Rattle.mlt_event.specs.declared.answer.Answer.{Answer}
-use Rattle.mlt_event.specs.declared.answer.Answer.TheVariants as answer
-use Rattle.mlt_tx.specs.declared.shared.SharedState.{SharedState}
-use Rattle.mlt_tx.specs.declared.transaction.At.{At}
-use Rattle.mlt_tx.specs.declared.transaction.At.TheVariants as at
-use Rattle.mlt_tx.specs.declared.transaction.Transaction.{Transaction}
-use Rattle.mlt_tx.specs.Steps.{EndsBack, Ends}
-use Rattle.mlt_tx.specs.Transactions.{StepsBack, StepsPending, TellsAt, tx_state_of}
-use Rattle.mlt_tx_open.specs.Tables.{KeepsImage, KeepsNoImage, Table}
-use Rattle.mlt_manager_invariant.specs.Events.{EndsPending, KeepsCleanPages}
-use Rattle.mlt_manager_invariant.specs.States.{State, abstract_state_of}
+use Rattle.mlt_tx.specs.Steps.{Ends}
+use Rattle.mlt_manager_invariant.specs.Events.{EndsPending}
 use Rattle.mlt_manager_invariant.specs.Undoing.{LedBack, TakesLastBack, with_aborted, with_undone}
 use Rattle.mlt_manager_invariant.proofs.Aborting.{aborted_sound}
 use Rattle.mlt_manager_invariant.proofs.Done.{done_sound}
@@ -32,13 +12,11 @@ use Rattle.mlt_manager_invariant.proofs.Inverting.{inverse_sound}
 use Rattle.mlt_manager_invariant.proofs.Pending.{not_done_sound}
 use Rattle.mlt_manager_invariant.proofs.Replied.{reply_is_step}
 use Rattle.mlt_manager_invariant.proofs.Stays.{stays_sound}
-use Rattle.mlt_manager_invariant.proofs.Tables.{inserted_here, removed_here, removed_inserted}
+use Rattle.mlt_manager_invariant.proofs.Tables.{removed_inserted}
 use Rattle.mlt_manager_invariant.proofs.Undoing.{undone_sound}
 use Rattle.mlt_manager_trace.proofs.Items.{done_traced, last_undone_traced, undone_traced}
 use Rattle.mlt_manager_trace.proofs.Stays.{clean_traced}
-use Rattle.mlt_manager.specs.Answers.{HasStepped, IsOpenAt, active_after, txs_after}
-use Rattle.mlt_manager.specs.Bases.{HasBase, IsPendingWith, KeepsWhatCounts, LeavesBase, MakesStep, TakesStepBack}
-use Rattle.mlt_manager.specs.Managers.{IsManager, ManagerFields, state_of}
+use Rattle.mlt_manager.specs.Bases.{MakesStep}
 use Rattle.mlt_manager.proofs.CleanPages.{clean_alike, pages_clean, same_clean}
 use Rattle.mlt_manager.proofs.Counts.{KeepsCounts, step_counts}
 use Rattle.mlt_manager.proofs.Keeping.{IsStill, changed_keeps, removed_keeps, same_manager}
@@ -89,51 +67,51 @@ module _ {P : Type 0} (bits_of : P → ℕ → ℕ) (m : ManagerFields P) (h : I
     StillBy told = IsStill bits_of (record m { shared = shared; txs = txs_after told tx (map.insert m.txs tx after); active = active_after told tx m.active })
 
     -- the operation that is pending
-    asked_here : (o : OperationFields) (op : ObjOp) → before.at ≡ at.Pending o → o.request ≡ Do op → IsOpenAt m.txs tx (IsPendingWith op)
+    asked_here : (o : OperationFields) (op : ObjOp) → before.at ≡ At.Pending o → o.request ≡ Do op → IsOpenAt m.txs tx (IsPendingWith op)
     asked_here o op pending_at asked = record { one = before; there = was; is_at = subst (IsPendingWith op) (sym pending_at) asked }
 
-    done : (o : OperationFields) (reply : ObjReply) → EndsPending now tx o before after shared reply → StillBy (answer.Done reply) × LeavesBase (answer.Done reply) m (core (answer.Done reply)) tx
+    done : (o : OperationFields) (reply : ObjReply) → EndsPending now tx o before after shared reply → StillBy (Answer.Done reply) × LeavesBase (Answer.Done reply) m (core (Answer.Done reply)) tx
     done o reply e =
         let d = done_sound now tx o before after shared reply h.sound was e in
         let number = (h.sound.fits tx before was).number in
-        let makes : MakesStep m (core (answer.Done reply)) tx (e.ends.op, e.ends.reply) = record {
+        let makes : MakesStep m (core (Answer.Done reply)) tx (e.ends.op, e.ends.reply) = record {
           pending = asked_here o e.ends.op e.pending e.ends.asked;
           adds = record {
-            items = e.ends.tells.1.items ∙ ap (λ (n : ℕ). m.shared.history.items ++ trace.Op n (e.ends.op, e.ends.reply) ∷ []) number;
+            items = e.ends.tells.1.items ∙ ap (λ (n : ℕ). m.shared.history.items ++ TraceItem.Op n (e.ends.op, e.ends.reply) ∷ []) number;
             leads = λ base leads. (d.0, subst (λ (b : Base). Step b (e.ends.op, e.ends.reply) d.0) (sym (same_base base leads)) d.1, d.2.match.records.history);
           };
         } in (
           record { images = map.insert h.images tx map.empty; base = d.0; sound = d.2; traced = done_traced now tx o before after shared reply d.0 h.sound h.traced was e },
-          (e.ends.op, subst (λ (r : ObjReply). MakesStep m (core (answer.Done reply)) tx (e.ends.op, r)) (sym e.ends.tells.0) makes),
+          (e.ends.op, subst (λ (r : ObjReply). MakesStep m (core (Answer.Done reply)) tx (e.ends.op, r)) (sym e.ends.tells.0) makes),
         )
 
-    ends_pending : (o next : OperationFields) (reply : ObjReply) (between : SharedState) → before.at ≡ at.Pending o → after.at ≡ at.Idle → shared ≡ between
-        → Ends o (tx_state_of before m.shared) (tx_state_of after between) (answer.Done reply) → EndsPending now tx o before after shared reply
+    ends_pending : (o next : OperationFields) (reply : ObjReply) (between : SharedState) → before.at ≡ At.Pending o → after.at ≡ At.Idle → shared ≡ between
+        → Ends o (tx_state_of before m.shared) (tx_state_of after between) (Answer.Done reply) → EndsPending now tx o before after shared reply
     ends_pending o next reply between pending_at idle same ends = record {
       pending = pending_at;
-      ends = subst (λ (k : SharedState). Ends o (tx_state_of before m.shared) (tx_state_of after k) (answer.Done reply)) (sym same) ends;
+      ends = subst (λ (k : SharedState). Ends o (tx_state_of before m.shared) (tx_state_of after k) (Answer.Done reply)) (sym same) ends;
       idle = idle;
     }
 
     -- it is not done, and this may be told
-    not_done : (o : OperationFields) (told : Answer) → before.at ≡ at.Pending o → StepsPending (context_of (abstract_state_of now) tx) o before after m.shared shared told
-        → ((reply : ObjReply) → told ≡ answer.Done reply → ⊥) → KeepsCleanPages now tx before after shared
+    not_done : (o : OperationFields) (told : Answer) → before.at ≡ At.Pending o → StepsPending (context_of (abstract_state_of now) tx) o before after m.shared shared told
+        → ((reply : ObjReply) → told ≡ Answer.Done reply → ⊥) → KeepsCleanPages now tx before after shared
     not_done o told pending_at steps not = not_done_sound now tx o before after shared told h.sound was pending_at steps not
 
-    by_pending : (o : OperationFields) (told : Answer) → before.at ≡ at.Pending o → StepsPending (context_of (abstract_state_of now) tx) o before after m.shared shared told → StillBy told × LeavesBase told m (core told) tx
-    by_pending o answer.Going pending_at steps =
-        let k = not_done o answer.Going pending_at steps (λ reply is. cc) in (still k, keeps_what_counts (core answer.Going) refl refl k)
-    by_pending o (answer.Waiting page by) pending_at steps =
-        let k = not_done o (answer.Waiting page by) pending_at steps (λ reply is. cc) in (still k, keeps_what_counts (core (answer.Waiting page by)) refl refl k)
-    by_pending o (answer.Refused reason) pending_at steps =
-        let k = not_done o (answer.Refused reason) pending_at steps (λ reply is. cc) in (still k, keeps_what_counts (core (answer.Refused reason)) refl refl k)
-    by_pending o (answer.Blocked by) pending_at steps =
-        let k = not_done o (answer.Blocked by) pending_at steps (λ reply is. cc) in
+    by_pending : (o : OperationFields) (told : Answer) → before.at ≡ At.Pending o → StepsPending (context_of (abstract_state_of now) tx) o before after m.shared shared told → StillBy told × LeavesBase told m (core told) tx
+    by_pending o Answer.Going pending_at steps =
+        let k = not_done o Answer.Going pending_at steps (λ reply is. cc) in (still k, keeps_what_counts (core Answer.Going) refl refl k)
+    by_pending o (Answer.Waiting page by) pending_at steps =
+        let k = not_done o (Answer.Waiting page by) pending_at steps (λ reply is. cc) in (still k, keeps_what_counts (core (Answer.Waiting page by)) refl refl k)
+    by_pending o (Answer.Refused reason) pending_at steps =
+        let k = not_done o (Answer.Refused reason) pending_at steps (λ reply is. cc) in (still k, keeps_what_counts (core (Answer.Refused reason)) refl refl k)
+    by_pending o (Answer.Blocked by) pending_at steps =
+        let k = not_done o (Answer.Blocked by) pending_at steps (λ reply is. cc) in
         let ends = steps.tells.0 in
         let there = reply_is_step now tx o before ends.op ends.reply h.sound was pending_at ends.asked ends.ready in (
           still k,
           (
-            keeps_what_counts (core (answer.Blocked by)) refl refl k,
+            keeps_what_counts (core (Answer.Blocked by)) refl refl k,
             (
               (ends.op, ends.reply),
               record {
@@ -146,16 +124,16 @@ module _ {P : Type 0} (bits_of : P → ℕ → ℕ) (m : ManagerFields P) (h : I
             ),
           ),
         )
-    by_pending o (answer.Done reply) pending_at steps = done o reply (ends_pending o steps.next reply steps.between pending_at steps.now_at steps.leaves steps.tells)
-    by_pending o answer.Undone pending_at steps = absurd steps.tells
-    by_pending o answer.Aborted pending_at steps = absurd steps.tells
+    by_pending o (Answer.Done reply) pending_at steps = done o reply (ends_pending o steps.next reply steps.between pending_at steps.now_at steps.leaves steps.tells)
+    by_pending o Answer.Undone pending_at steps = absurd steps.tells
+    by_pending o Answer.Aborted pending_at steps = absurd steps.tells
 
     -- the last operation is taken back
-    takes_back : (inverting next : Option OperationFields) (told : Answer) → before.at ≡ at.Undoing inverting → after.at ≡ at.Undoing next
+    takes_back : (inverting next : Option OperationFields) (told : Answer) → before.at ≡ At.Undoing inverting → after.at ≡ At.Undoing next
         → EndsBack inverting next (tx_state_of before m.shared) (tx_state_of after shared) told → TakesLastBack now inverting before after shared told
     takes_back inverting next told back_at now_at ends = record {
       was_at = back_at;
-      is_at = now_at ∙ ap at.Undoing ends.none;
+      is_at = now_at ∙ ap At.Undoing ends.none;
       ends = subst (λ (n : Option OperationFields). EndsBack inverting n (tx_state_of before m.shared) (tx_state_of after shared) told) ends.none ends;
     }
 
@@ -183,56 +161,56 @@ module _ {P : Type 0} (bits_of : P → ℕ → ℕ) (m : ManagerFields P) (h : I
     nothing_after : (left : List (ObjOp × ObjReply)) (next : Transaction) → map.get (map.remove (map.insert m.txs tx after) tx) tx ≡ Some next → next.undo.entries ≡ left
     nothing_after left next there = let none : None ≡ Some next = sym (removed_here (map.insert m.txs tx after) tx) ∙ there in absurd cc
 
-    undone : (inverting : Option OperationFields) → TakesLastBack now inverting before after shared answer.Undone → StillBy answer.Undone × LeavesBase answer.Undone m (core answer.Undone) tx
+    undone : (inverting : Option OperationFields) → TakesLastBack now inverting before after shared Answer.Undone → StillBy Answer.Undone × LeavesBase Answer.Undone m (core Answer.Undone) tx
     undone inverting takes =
         let led = undone_sound now tx inverting before after shared h.sound was takes in
         let number : before.subtx.tx ≡ tx = (h.sound.fits tx before was).number in
-        let history = history_between inverting None answer.Undone takes.ends in (
+        let history = history_between inverting None Answer.Undone takes.ends in (
           record { images = map.insert h.images tx map.empty; base = led.base; sound = led.sound; traced = undone_traced now tx inverting before after shared led.base h.sound h.traced was takes },
           (
             after.undo.entries,
             led.last,
-            led_back answer.Undone (with_undone now tx after shared) after.undo.entries (trace.Back tx ∷ []) led refl led.sound.match.records.history (takes.ends.takes.items ∙ (λ p. (history p).items ++ trace.Back (number p) ∷ [])) stands_after,
+            led_back Answer.Undone (with_undone now tx after shared) after.undo.entries (TraceItem.Back tx ∷ []) led refl led.sound.match.records.history (takes.ends.takes.items ∙ (λ p. (history p).items ++ TraceItem.Back (number p) ∷ [])) stands_after,
           ),
         )
 
-    aborted : (inverting : Option OperationFields) → TakesLastBack now inverting before after shared answer.Aborted → StillBy answer.Aborted × LeavesBase answer.Aborted m (core answer.Aborted) tx
+    aborted : (inverting : Option OperationFields) → TakesLastBack now inverting before after shared Answer.Aborted → StillBy Answer.Aborted × LeavesBase Answer.Aborted m (core Answer.Aborted) tx
     aborted inverting takes =
         let led = aborted_sound now tx inverting before after shared h.sound was takes in
         let number : before.subtx.tx ≡ tx = (h.sound.fits tx before was).number in
-        let history = history_between inverting None answer.Aborted takes.ends in (
-          subst (λ (t : Table). IsStill bits_of (record m { shared = shared; txs = t; active = active_after answer.Aborted tx m.active })) (sym (removed_inserted m.txs tx after))
+        let history = history_between inverting None Answer.Aborted takes.ends in (
+          subst (λ (t : Table). IsStill bits_of (record m { shared = shared; txs = t; active = active_after Answer.Aborted tx m.active })) (sym (removed_inserted m.txs tx after))
               (record { images = map.remove h.images tx; base = led.base; sound = led.sound; traced = last_undone_traced now tx inverting before after shared led.base h.sound h.traced was takes }),
           (
             led.last,
-            led_back answer.Aborted (with_aborted now tx shared) [] (trace.Back tx ∷ trace.Abort tx ∷ []) led takes.ends.takes.none led.sound.match.records.history
-                (takes.ends.takes.items ∙ (λ p. (history p).items ++ trace.Back (number p) ∷ trace.Abort (number p) ∷ [])) (nothing_after []),
+            led_back Answer.Aborted (with_aborted now tx shared) [] (TraceItem.Back tx ∷ TraceItem.Abort tx ∷ []) led takes.ends.takes.none led.sound.match.records.history
+                (takes.ends.takes.items ∙ (λ p. (history p).items ++ TraceItem.Back (number p) ∷ TraceItem.Abort (number p) ∷ [])) (nothing_after []),
           ),
         )
 
-    by_undoing : (inverting : Option OperationFields) (told : Answer) → before.at ≡ at.Undoing inverting → StepsBack (context_of (abstract_state_of now) tx) inverting before after m.shared shared told
+    by_undoing : (inverting : Option OperationFields) (told : Answer) → before.at ≡ At.Undoing inverting → StepsBack (context_of (abstract_state_of now) tx) inverting before after m.shared shared told
         → StillBy told × LeavesBase told m (core told) tx
-    by_undoing inverting answer.Going back_at steps =
-        let k = inverse_sound now tx inverting before after shared answer.Going h.sound was back_at steps (λ is. cc) (λ is. cc) in (still k, keeps_what_counts (core answer.Going) refl refl k)
-    by_undoing inverting (answer.Waiting page by) back_at steps =
-        let k = inverse_sound now tx inverting before after shared (answer.Waiting page by) h.sound was back_at steps (λ is. cc) (λ is. cc) in
-        (still k, keeps_what_counts (core (answer.Waiting page by)) refl refl k)
-    by_undoing inverting answer.Undone back_at steps = undone inverting (takes_back inverting steps.next answer.Undone back_at steps.now_at steps.tells)
-    by_undoing inverting answer.Aborted back_at steps = aborted inverting (takes_back inverting steps.next answer.Aborted back_at steps.now_at steps.tells)
+    by_undoing inverting Answer.Going back_at steps =
+        let k = inverse_sound now tx inverting before after shared Answer.Going h.sound was back_at steps (λ is. cc) (λ is. cc) in (still k, keeps_what_counts (core Answer.Going) refl refl k)
+    by_undoing inverting (Answer.Waiting page by) back_at steps =
+        let k = inverse_sound now tx inverting before after shared (Answer.Waiting page by) h.sound was back_at steps (λ is. cc) (λ is. cc) in
+        (still k, keeps_what_counts (core (Answer.Waiting page by)) refl refl k)
+    by_undoing inverting Answer.Undone back_at steps = undone inverting (takes_back inverting steps.next Answer.Undone back_at steps.now_at steps.tells)
+    by_undoing inverting Answer.Aborted back_at steps = aborted inverting (takes_back inverting steps.next Answer.Aborted back_at steps.now_at steps.tells)
     by_undoing inverting other back_at steps = absurd steps.tells
 
     by_at : (a : At) (told : Answer) → before.at ≡ a → TellsAt a (context_of (abstract_state_of now) tx) before after m.shared shared told → StillBy told × LeavesBase told m (core told) tx
-    by_at at.Idle told is tells = absurd tells
-    by_at (at.Pending o) told is tells = by_pending o told is tells
-    by_at (at.Undoing inverting) told is tells = by_undoing inverting told is tells
+    by_at At.Idle told is tells = absurd tells
+    by_at (At.Pending o) told is tells = by_pending o told is tells
+    by_at (At.Undoing inverting) told is tells = by_undoing inverting told is tells
 
     -- it is a manager again
     manager_by : (told : Answer) → KeepsCounts m.shared shared → StillBy told → IsManager bits_of (core told)
-    manager_by answer.Aborted counts is =
+    manager_by Answer.Aborted counts is =
         let same = removed_inserted m.txs tx after in
-        subst (λ (t : Table). IsManager bits_of (record m { shared = shared; txs = t; active = active_after answer.Aborted tx m.active })) (sym same)
+        subst (λ (t : Table). IsManager bits_of (record m { shared = shared; txs = t; active = active_after Answer.Aborted tx m.active })) (sym same)
         (removed_keeps bits_of m h tx m.commits before shared was counts.locks counts.pages (h.limits.counted ∙ sym counts.commits) (omega arith)
-        (subst (λ (t : Table). IsStill bits_of (record m { shared = shared; txs = t; active = active_after answer.Aborted tx m.active })) same is))
+        (subst (λ (t : Table). IsStill bits_of (record m { shared = shared; txs = t; active = active_after Answer.Aborted tx m.active })) same is))
     manager_by other counts is = changed_keeps bits_of m h tx before after shared was counts is
 
     pub all_by : (told : Answer) → TellsAt before.at (context_by bits_of m.root m.active before.subtx.tx) before after m.shared shared told → IsManager bits_of (core told) × LeavesBase told m (core told) tx

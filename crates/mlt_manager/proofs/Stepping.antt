@@ -1,27 +1,14 @@
 -- What a step and a cancel ask of a transaction
-use Rattle.std.proofs.Common.{◌≡◌, ◌≢◌, ◌≤◌, ℕ, Option, Some, Err, unwrap_or, refl, ap, subst, sym, ◌∙◌, arith}
+use Rattle.std.proofs.Common.{◌≡◌, ◌≢◌, ◌≤◌, ℕ, Option, Some, Err, unwrap_or, refl, ap, subst, sym, ◌∙◌, arith, nat_cmp}
 use Rattle.std.specs.FinMap as map
-use Rattle.mlt_trace.proofs.RoomLaws.{room_within_total}
-use Rattle.mlt_types.specs.declared.refusal.Refusal.{Refusal}
-use Rattle.mlt_hash.specs.Walks.{WalkContext, context_by}
-use Rattle.mlt_page_subtx.specs.Images.{AreThere, Images}
-use Rattle.mlt_tx.specs.declared.transaction.At.{At}
-use Rattle.mlt_tx.specs.declared.transaction.At.TheVariants as at
-use Rattle.mlt_tx.specs.declared.transaction.Transaction.{Transaction}
-use Rattle.mlt_tx.specs.Transactions.{IsPending, MayStepIn, TellsAt}
-use Rattle.mlt_manager_invariant.specs.States.{images_kept, pending_room, room_of}
-use Rattle.mlt_manager_invariant.proofs.MaySteps.{may_step}
+use Rattle.mlt_manager.proofs.Names.{room_within_total, Refusal, WalkContext, context_by, Images, At, Transaction, IsPending, TellsAt, images_kept, pending_room, room_of, may_step, Answer, SharedState, Table, AnswersStep, HasStepped, IsBusy, IsOpenAt, active_after, txs_after, IsManager, ManagerFields, state_of}
+use Rattle.mlt_page_subtx.specs.Images.{AreThere}
+use Rattle.mlt_tx.specs.Transactions.{MayStepIn}
 use Rattle.std.specs.FinSet as set
-use Rattle.std.specs.Ordering.{nat_cmp}
-use Rattle.mlt_event.specs.declared.answer.Answer.{Answer}
-use Rattle.mlt_event.specs.declared.answer.Answer.TheVariants as answer
-use Rattle.mlt_tx.specs.declared.shared.SharedState.{SharedState}
 use Rattle.mlt_tx_open.specs.OpenAt.{MayStepIfBusy, TriesStep}
-use Rattle.mlt_tx_open.specs.Tables.{StepsOne, Table}
-use Rattle.mlt_manager.specs.Answers.{AnswersStep, HasStepped, IsBusy, IsOpenAt, active_after, txs_after}
-use Rattle.mlt_manager.specs.Managers.{IsManager, ManagerFields, state_of}
+use Rattle.mlt_tx_open.specs.Tables.{StepsOne}
 
-not_idle : (a : At) → IsBusy a → a ≢ at.Idle
+not_idle : (a : At) → IsBusy a → a ≢ At.Idle
 not_idle a busy is = subst IsBusy is busy
 
 -- one that is not idle may take a step
@@ -35,9 +22,9 @@ pub may_step_here : {P : Type 0} (bits_of : P → ℕ → ℕ) (m : ManagerField
 may_step_here bits_of m tx h busy = (busy.one, busy.there, may_step_one bits_of m tx h busy.one busy.there busy.is_at)
 
 two_for : (a : At) → IsPending a → pending_room a ≡ 2
-two_for at.Idle none = absurd none
-two_for (at.Pending o) is = refl
-two_for (at.Undoing inverting) none = absurd none
+two_for At.Idle none = absurd none
+two_for (At.Pending o) is = refl
+two_for (At.Undoing inverting) none = absurd none
 
 -- the pending operation of one may be dropped
 pub may_cancel : {P : Type 0} (bits_of : P → ℕ → ℕ) (m : ManagerFields P) (tx : ℕ) → IsManager bits_of m → IsOpenAt m.txs tx IsPending
@@ -54,17 +41,17 @@ may_cancel bits_of m tx h pending =
     )
 
 busy_by : (a : At) (context : WalkContext) (t u : Transaction) (old new : SharedState) (told : Answer) → TellsAt a context t u old new told → IsBusy a
-busy_by at.Idle context t u old new told none = absurd none
-busy_by (at.Pending o) context t u old new told tells = tt
-busy_by (at.Undoing inverting) context t u old new told tells = tt
+busy_by At.Idle context t u old new told none = absurd none
+busy_by (At.Pending o) context t u old new told tells = tt
+busy_by (At.Undoing inverting) context t u old new told tells = tt
 
 -- whoever is not told `Aborted` stays open
-pub stays : (told : Answer) (tx : ℕ) (txs : Table) → (told ≡ answer.Aborted → ⊥) → txs ≡ txs_after told tx txs
-stays answer.Aborted tx txs not = absurd (not refl)
+pub stays : (told : Answer) (tx : ℕ) (txs : Table) → (told ≡ Answer.Aborted → ⊥) → txs ≡ txs_after told tx txs
+stays Answer.Aborted tx txs not = absurd (not refl)
 stays other tx txs not = refl
 
-pub stays_open : (told : Answer) (tx : ℕ) (active : set.FinSet nat_cmp) → (told ≡ answer.Aborted → ⊥) → active ≡ active_after told tx active
-stays_open answer.Aborted tx active not = absurd (not refl)
+pub stays_open : (told : Answer) (tx : ℕ) (active : set.FinSet nat_cmp) → (told ≡ Answer.Aborted → ⊥) → active ≡ active_after told tx active
+stays_open Answer.Aborted tx active not = absurd (not refl)
 stays_open other tx active not = refl
 
 -- a step in the table of open transactions is one of the manager

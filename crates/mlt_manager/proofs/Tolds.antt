@@ -1,39 +1,10 @@
 -- The history has what the events were told
-use Rattle.std.proofs.lemmas.List.{append_assoc, append-nil}
-use Rattle.std.proofs.Common.{◌≡◌, ℕ, List, [], ◌∷◌, ◌++◌, length, replicate, true, false, Option, None, Some, Ok, Err, refl, sym, ap, subst, ◌∙◌}
+use Rattle.std.proofs.Common.{◌≡◌, ℕ, List, [], ◌∷◌, ◌++◌, length, replicate, true, false, Option, None, Some, Ok, Err, refl, sym, ap, subst, ◌∙◌, append_assoc, append-nil, nat_cmp}
 use Rattle.std.specs.FinMap as map
-use Rattle.std.specs.Ordering.{nat_cmp}
-use Rattle.mlt_types.specs.declared.limits.Limits.{Limits}
-use Rattle.mlt_types.specs.declared.refusal.Refusal.TheVariants as refusal
-use Rattle.mlt_object_kinds.specs.declared.operation.ObjOp.{ObjOp}
+use Rattle.mlt_manager.proofs.Names.{Limits, Refusal, ObjOp, TraceItem, Answer, Event, Told, WalkContext, context_by, local, OperationFields, Do, SharedState, At, Transaction, TellsAt, Table, HasStepped, counted, txs_after, IsPendingWith, LeavesBase, WholeLeavesBase, StepsBy, StepsUpTo, IsRun, Meets, ManagerFields, IsNew, GoesOnBack, StopsBack}
 use Rattle.mlt_order.specs.Tables.{table_with}
 use Rattle.mlt_order.proofs.Tables.{with_entry-other, with_entry-same}
-use Rattle.mlt_trace.specs.declared.item.TraceItem.{TraceItem}
-use Rattle.mlt_trace.specs.declared.item.TraceItem.TheVariants as trace
-use Rattle.mlt_event.specs.declared.answer.Answer.{Answer}
-use Rattle.mlt_event.specs.declared.answer.Answer.TheVariants as answer
-use Rattle.mlt_event.specs.declared.event.Event.{Event}
-use Rattle.mlt_event.specs.declared.event.Event.TheVariants as event
-use Rattle.mlt_event.specs.declared.told.Told.{Told}
-use Rattle.mlt_event.specs.declared.told.Told.TheVariants as told
-use Rattle.mlt_hash.specs.Walks.{WalkContext, context_by}
-use Rattle.mlt_hash_access.specs.LocalStates.{local}
-use Rattle.mlt_tx_operation.specs.Operating.{OperationFields}
-use Rattle.mlt_object_base.specs.declared.request.Request.TheVariants.{Do}
-use Rattle.mlt_tx.specs.declared.shared.SharedState.{SharedState}
-use Rattle.mlt_tx.specs.declared.transaction.At.{At}
-use Rattle.mlt_tx.specs.declared.transaction.At.TheVariants as at
-use Rattle.mlt_tx.specs.declared.transaction.Transaction.{Transaction}
-use Rattle.mlt_tx.specs.Transactions.{TellsAt}
-use Rattle.mlt_tx_open.specs.Tables.{Table}
-use Rattle.mlt_manager.specs.Answers.{HasStepped, counted, txs_after}
-use Rattle.mlt_manager.specs.Bases.{IsPendingWith, LeavesBase, WholeLeavesBase}
-use Rattle.mlt_manager.specs.Chains.{StepsBy, StepsUpTo}
-use Rattle.mlt_manager.specs.Events.{IsRun, Meets}
-use Rattle.mlt_manager.specs.Managers.{ManagerFields}
-use Rattle.mlt_manager.specs.Openings.{IsNew}
 use Rattle.mlt_manager.specs.Tolds.{AddsItems, AreToldBy, CalledOps, called_after, none_called}
-use Rattle.mlt_manager.specs.Undoings.{GoesOnBack, StopsBack}
 use Rattle.mlt_manager.proofs.EachOpen.{Each, EachOther, LooksAt, abort_each, begin_each, commit_each, each_with, each_without, others_of, others_with, same_each, table_is, whole_each}
 use Rattle.mlt_manager.proofs.WholeBases.{same_request}
 
@@ -58,8 +29,8 @@ others_called called tx entry txs each u one ne there op pending = with_entry-ot
 
 -- an answer that leaves the operation pending
 abbrev LeavesCalled : Answer → Type 0
-LeavesCalled (answer.Done reply) = ⊥
-LeavesCalled (answer.Refused reason) = ⊥
+LeavesCalled (Answer.Done reply) = ⊥
+LeavesCalled (Answer.Refused reason) = ⊥
 LeavesCalled other = Unit {0}
 
 not_pending : (op : ObjOp) (a b : At) → a ≡ b → (IsPendingWith op b → ⊥) → IsPendingWith op a → ⊥
@@ -67,21 +38,21 @@ not_pending op a b same not pending = not (subst (IsPendingWith op) same pending
 
 -- what is pending after a step was pending before it
 asked_before : (a : At) (context : WalkContext) (before after : Transaction) (old new : SharedState) (told : Answer) → TellsAt a context before after old new told → (op : ObjOp) → IsPendingWith op after.at → IsPendingWith op a × LeavesCalled told
-asked_before at.Idle context before after old new told none op pending = absurd none
-asked_before (at.Undoing inverting) context before after old new told s op pending = absurd (not_pending op after.at (at.Undoing s.next) s.now_at (λ none. none) pending)
-asked_before (at.Pending o) context before after old new answer.Going s op pending =
+asked_before At.Idle context before after old new told none op pending = absurd none
+asked_before (At.Undoing inverting) context before after old new told s op pending = absurd (not_pending op after.at (At.Undoing s.next) s.now_at (λ none. none) pending)
+asked_before (At.Pending o) context before after old new Answer.Going s op pending =
     let is : s.next.request ≡ Do op = subst (IsPendingWith op) s.now_at pending in
     (sym (same_request context (local before.subtx old.pages) (local after.subtx s.between.pages) o s.next s.tells.tells) ∙ is, tt)
-asked_before (at.Pending o) context before after old new (answer.Waiting page by) s op pending =
+asked_before (At.Pending o) context before after old new (Answer.Waiting page by) s op pending =
     let is : s.next.request ≡ Do op = subst (IsPendingWith op) s.now_at pending in
     (sym (ap (λ (p : OperationFields). p.request) s.tells.tells.stays) ∙ is, tt)
-asked_before (at.Pending o) context before after old new (answer.Blocked by) s op pending =
+asked_before (At.Pending o) context before after old new (Answer.Blocked by) s op pending =
     let is : s.next.request ≡ Do op = subst (IsPendingWith op) s.now_at pending in
     (sym (ap (λ (p : OperationFields). p.request) s.tells.1) ∙ is, tt)
-asked_before (at.Pending o) context before after old new (answer.Done reply) s op pending = absurd (not_pending op after.at at.Idle s.now_at (λ none. none) pending)
-asked_before (at.Pending o) context before after old new (answer.Refused reason) s op pending = absurd (not_pending op after.at at.Idle s.now_at (λ none. none) pending)
-asked_before (at.Pending o) context before after old new answer.Undone s op pending = absurd s.tells
-asked_before (at.Pending o) context before after old new answer.Aborted s op pending = absurd s.tells
+asked_before (At.Pending o) context before after old new (Answer.Done reply) s op pending = absurd (not_pending op after.at At.Idle s.now_at (λ none. none) pending)
+asked_before (At.Pending o) context before after old new (Answer.Refused reason) s op pending = absurd (not_pending op after.at At.Idle s.now_at (λ none. none) pending)
+asked_before (At.Pending o) context before after old new Answer.Undone s op pending = absurd s.tells
+asked_before (At.Pending o) context before after old new Answer.Aborted s op pending = absurd s.tells
 
 module _ {P : Type 0} (bits_of : P → ℕ → ℕ) where
   -- what an event adds, and that what is pending is what was called
@@ -103,21 +74,21 @@ module _ {P : Type 0} (bits_of : P → ℕ → ℕ) where
     refused : m' ≡ m → (m'.shared.history.items ≡ m.shared.history.items ++ []) × Agree called m'
     refused same = (same_items m m' (items_of_same m m' same), same_each G (looks called) m m' same agree)
 
-    begin_tells : (t : Told) → Meets bits_of event.Begin t m m' → Tells event.Begin t called m m'
-    begin_tells (told.Begun tx) b = (trace.Begin tx ∷ [], b.items, refl, begin_each G (looks called) m m' (Ok tx) b agree)
-    begin_tells (told.Refused reason) a = let same = refused a.1 in ([], same.0, refl, same.1)
+    begin_tells : (t : Told) → Meets bits_of Event.Begin t m m' → Tells Event.Begin t called m m'
+    begin_tells (Told.Begun tx) b = (TraceItem.Begin tx ∷ [], b.items, refl, begin_each G (looks called) m m' (Ok tx) b agree)
+    begin_tells (Told.Refused reason) a = let same = refused a.1 in ([], same.0, refl, same.1)
     begin_tells other none = absurd none
 
     called_with : (tx : ℕ) (op : ObjOp) (after : Transaction) → IsPendingWith op after.at → IsCalled (table_with called tx (Some op)) tx after
     called_with tx op after asked other pending = with_entry-same called tx tx (Some op) refl ∙ same after.at asked pending
       where
         same : (a : At) → IsPendingWith op a → IsPendingWith other a → Some op ≡ Some other
-        same at.Idle none also = absurd none
-        same (at.Pending o) is also = let one : Do op ≡ Do other = sym is ∙ also in cc
-        same (at.Undoing inverting) none also = absurd none
+        same At.Idle none also = absurd none
+        same (At.Pending o) is also = let one : Do op ≡ Do other = sym is ∙ also in cc
+        same (At.Undoing inverting) none also = absurd none
 
-    call_tells : (tx : ℕ) (op : ObjOp) (t : Told) → Meets bits_of (event.Call tx op) t m m' → Tells (event.Call tx op) t called m m'
-    call_tells tx op told.Called c =
+    call_tells : (tx : ℕ) (op : ObjOp) (t : Told) → Meets bits_of (Event.Call tx op) t m m' → Tells (Event.Call tx op) t called m m'
+    call_tells tx op Told.Called c =
         let ch = c.calls.changes in
         let called' = table_with called tx (Some op) in (
           [],
@@ -126,7 +97,7 @@ module _ {P : Type 0} (bits_of : P → ℕ → ℕ) where
           table_is (IsCalled called') (looks called') m' (map.insert m.txs tx ch.after) ch.is
               (each_with (IsCalled called') m.txs tx ch.after (others_called called tx (Some op) m.txs (others_of G m.txs tx agree)) (called_with tx op ch.after (subst (IsPendingWith op) (sym c.calls.tells.pending) refl))),
         )
-    call_tells tx op (told.Refused refusal.OutOfMemory) a =
+    call_tells tx op (Told.Refused Refusal.OutOfMemory) a =
         let ch = a.1.changes in (
           [],
           same_items m m' a.1.tells.makes.items,
@@ -134,11 +105,11 @@ module _ {P : Type 0} (bits_of : P → ℕ → ℕ) where
           table_is G (looks called) m' (map.insert m.txs tx ch.after) ch.is
               (each_with G m.txs tx ch.after (others_of G m.txs tx agree) ((looks called).by_at tx ch.before ch.after a.1.tells.idle (agree tx ch.before ch.was))),
         )
-    call_tells tx op (told.Refused reason) a = let same = refused a.1 in ([], same.0, refl, same.1)
+    call_tells tx op (Told.Refused reason) a = let same = refused a.1 in ([], same.0, refl, same.1)
     call_tells tx op other none = absurd none
 
-    cancel_tells : (tx : ℕ) (t : Told) → Meets bits_of (event.Cancel tx) t m m' → Tells (event.Cancel tx) t called m m'
-    cancel_tells tx told.Cancelled (a, keeps) =
+    cancel_tells : (tx : ℕ) (t : Told) → Meets bits_of (Event.Cancel tx) t m m' → Tells (Event.Cancel tx) t called m m'
+    cancel_tells tx Told.Cancelled (a, keeps) =
         let ch = a.1.changes in
         let called' = table_with called tx None in (
           [],
@@ -147,19 +118,19 @@ module _ {P : Type 0} (bits_of : P → ℕ → ℕ) where
           table_is (IsCalled called') (looks called') m' (map.insert m.txs tx ch.after) ch.is
               (each_with (IsCalled called') m.txs tx ch.after (others_called called tx None m.txs (others_of G m.txs tx agree)) ((looks called').idle tx ch.after a.1.tells.idle)),
         )
-    cancel_tells tx (told.Refused reason) a = let same = refused a.1 in ([], same.0, refl, same.1)
+    cancel_tells tx (Told.Refused reason) a = let same = refused a.1 in ([], same.0, refl, same.1)
     cancel_tells tx other none = absurd none
 
-    commit_tells : (tx : ℕ) (t : Told) → Meets bits_of (event.Commit tx) t m m' → Tells (event.Commit tx) t called m m'
-    commit_tells tx (told.Committed number) c = (trace.Commit tx number ∷ [], c.ends.items, refl, commit_each G (looks called) m m' tx (Ok number) c agree)
-    commit_tells tx (told.Refused reason) a = let same = refused a.1 in ([], same.0, refl, same.1)
+    commit_tells : (tx : ℕ) (t : Told) → Meets bits_of (Event.Commit tx) t m m' → Tells (Event.Commit tx) t called m m'
+    commit_tells tx (Told.Committed number) c = (TraceItem.Commit tx number ∷ [], c.ends.items, refl, commit_each G (looks called) m m' tx (Ok number) c agree)
+    commit_tells tx (Told.Refused reason) a = let same = refused a.1 in ([], same.0, refl, same.1)
     commit_tells tx other none = absurd none
 
-    abort_tells : (tx : ℕ) (t : Told) → Meets bits_of (event.Abort tx) t m m' → Tells (event.Abort tx) t called m m'
-    abort_tells tx (told.Aborting true) c = (trace.Abort tx ∷ [], c.ends.items, refl, abort_each G (looks called) m m' tx (Ok true) c agree)
-    abort_tells tx (told.Aborting false) a =
+    abort_tells : (tx : ℕ) (t : Told) → Meets bits_of (Event.Abort tx) t m m' → Tells (Event.Abort tx) t called m m'
+    abort_tells tx (Told.Aborting true) c = (TraceItem.Abort tx ∷ [], c.ends.items, refl, abort_each G (looks called) m m' tx (Ok true) c agree)
+    abort_tells tx (Told.Aborting false) a =
         ([], same_items m m' (ap (λ (n : ManagerFields P). n.shared.history.items) a.rest), refl, abort_each G (looks called) m m' tx (Ok false) a agree)
-    abort_tells tx (told.Refused reason) a = let same = refused a.1 in ([], same.0, refl, same.1)
+    abort_tells tx (Told.Refused reason) a = let same = refused a.1 in ([], same.0, refl, same.1)
     abort_tells tx other none = absurd none
 
     -- a step: who is called stays so where the operation stays pending, and else is called no more
@@ -188,90 +159,90 @@ module _ {P : Type 0} (bits_of : P → ℕ → ℕ) where
           table_is G (looks called) m' (map.remove d.txs tx) (ap (λ (n : ManagerFields P). n.txs) d.rest ∙ gone)
           (each_without G d.txs tx (subst (EachOther G tx) (sym d.steps.changes.is) (others_with G m.txs tx d.steps.changes.after others_here)))
 
-    answer_tells : (tx : ℕ) (said : Answer) → HasStepped bits_of m m' tx said → LeavesBase said m m' tx → Tells (event.Step tx) (told.Answered said) called m m'
-    answer_tells tx answer.Going d keeps = ([], same_items m m' keeps.items, refl, stays_called tx answer.Going d refl)
-    answer_tells tx (answer.Waiting page by) d keeps = ([], same_items m m' keeps.items, refl, stays_called tx (answer.Waiting page by) d refl)
-    answer_tells tx (answer.Blocked by) d (keeps, found) = ([], same_items m m' keeps.items, refl, stays_called tx (answer.Blocked by) d refl)
-    answer_tells tx (answer.Refused reason) d keeps = ([], same_items m m' keeps.items, refl, ends_called tx (answer.Refused reason) d refl (λ none. none))
-    answer_tells tx (answer.Done reply) d (op, makes) = (
-      trace.Op tx (op, reply) ∷ [],
+    answer_tells : (tx : ℕ) (said : Answer) → HasStepped bits_of m m' tx said → LeavesBase said m m' tx → Tells (Event.Step tx) (Told.Answered said) called m m'
+    answer_tells tx Answer.Going d keeps = ([], same_items m m' keeps.items, refl, stays_called tx Answer.Going d refl)
+    answer_tells tx (Answer.Waiting page by) d keeps = ([], same_items m m' keeps.items, refl, stays_called tx (Answer.Waiting page by) d refl)
+    answer_tells tx (Answer.Blocked by) d (keeps, found) = ([], same_items m m' keeps.items, refl, stays_called tx (Answer.Blocked by) d refl)
+    answer_tells tx (Answer.Refused reason) d keeps = ([], same_items m m' keeps.items, refl, ends_called tx (Answer.Refused reason) d refl (λ none. none))
+    answer_tells tx (Answer.Done reply) d (op, makes) = (
+      TraceItem.Op tx (op, reply) ∷ [],
       makes.adds.items,
       (op, agree tx makes.pending.one makes.pending.there op makes.pending.is_at, refl),
-      ends_called tx (answer.Done reply) d refl (λ none. none),
+      ends_called tx (Answer.Done reply) d refl (λ none. none),
     )
-    answer_tells tx answer.Undone d takes = (trace.Back tx ∷ [], takes.2.items, refl, stays_called tx answer.Undone d refl)
-    answer_tells tx answer.Aborted d takes = (trace.Back tx ∷ trace.Abort tx ∷ [], takes.1.items, refl, closes_called tx answer.Aborted d refl)
+    answer_tells tx Answer.Undone d takes = (TraceItem.Back tx ∷ [], takes.2.items, refl, stays_called tx Answer.Undone d refl)
+    answer_tells tx Answer.Aborted d takes = (TraceItem.Back tx ∷ TraceItem.Abort tx ∷ [], takes.1.items, refl, closes_called tx Answer.Aborted d refl)
 
-    step_tells : (tx : ℕ) (t : Told) → Meets bits_of (event.Step tx) t m m' → Tells (event.Step tx) t called m m'
-    step_tells tx (told.Answered said) (d, leaves, named) = answer_tells tx said d leaves
-    step_tells tx (told.Refused reason) a = let same = refused a.1 in ([], same.0, refl, same.1)
+    step_tells : (tx : ℕ) (t : Told) → Meets bits_of (Event.Step tx) t m m' → Tells (Event.Step tx) t called m m'
+    step_tells tx (Told.Answered said) (d, leaves, named) = answer_tells tx said d leaves
+    step_tells tx (Told.Refused reason) a = let same = refused a.1 in ([], same.0, refl, same.1)
     step_tells tx other none = absurd none
 
     -- whole operations
-    whole_items : (tx : ℕ) (op : ObjOp) (said : Answer) → WholeLeavesBase said m m' tx op → (here : List TraceItem) × (m'.shared.history.items ≡ m.shared.history.items ++ here) × AddsItems (event.Whole tx op) (told.Answered said) called here
-    whole_items tx op (answer.Done reply) adds = (trace.Op tx (op, reply) ∷ [], adds.items, refl)
-    whole_items tx op (answer.Blocked by) (keeps, found) = ([], same_items m m' keeps.items, refl)
-    whole_items tx op answer.Going keeps = ([], same_items m m' keeps.items, refl)
-    whole_items tx op (answer.Waiting page by) keeps = ([], same_items m m' keeps.items, refl)
-    whole_items tx op answer.Undone keeps = ([], same_items m m' keeps.items, refl)
-    whole_items tx op answer.Aborted keeps = ([], same_items m m' keeps.items, refl)
-    whole_items tx op (answer.Refused reason) keeps = ([], same_items m m' keeps.items, refl)
+    whole_items : (tx : ℕ) (op : ObjOp) (said : Answer) → WholeLeavesBase said m m' tx op → (here : List TraceItem) × (m'.shared.history.items ≡ m.shared.history.items ++ here) × AddsItems (Event.Whole tx op) (Told.Answered said) called here
+    whole_items tx op (Answer.Done reply) adds = (TraceItem.Op tx (op, reply) ∷ [], adds.items, refl)
+    whole_items tx op (Answer.Blocked by) (keeps, found) = ([], same_items m m' keeps.items, refl)
+    whole_items tx op Answer.Going keeps = ([], same_items m m' keeps.items, refl)
+    whole_items tx op (Answer.Waiting page by) keeps = ([], same_items m m' keeps.items, refl)
+    whole_items tx op Answer.Undone keeps = ([], same_items m m' keeps.items, refl)
+    whole_items tx op Answer.Aborted keeps = ([], same_items m m' keeps.items, refl)
+    whole_items tx op (Answer.Refused reason) keeps = ([], same_items m m' keeps.items, refl)
 
-    whole_tells : (tx : ℕ) (op : ObjOp) (t : Told) → Meets bits_of (event.Whole tx op) t m m' → Tells (event.Whole tx op) t called m m'
-    whole_tells tx op (told.Answered said) (a, leaves, named) =
+    whole_tells : (tx : ℕ) (op : ObjOp) (t : Told) → Meets bits_of (Event.Whole tx op) t m m' → Tells (Event.Whole tx op) t called m m'
+    whole_tells tx op (Told.Answered said) (a, leaves, named) =
         let adds = whole_items tx op said leaves in
         (adds.0, adds.1, adds.2, whole_each G (looks called) bits_of tx op m m' (Ok said) a agree)
-    whole_tells tx op (told.Refused refusal.OutOfMemory) a = ([], same_items m m' a.1.tells.makes.items, refl, whole_each G (looks called) bits_of tx op m m' (Err refusal.OutOfMemory) a agree)
-    whole_tells tx op (told.Refused reason) a = let same = refused a.1 in ([], same.0, refl, same.1)
+    whole_tells tx op (Told.Refused Refusal.OutOfMemory) a = ([], same_items m m' a.1.tells.makes.items, refl, whole_each G (looks called) bits_of tx op m m' (Err Refusal.OutOfMemory) a agree)
+    whole_tells tx op (Told.Refused reason) a = let same = refused a.1 in ([], same.0, refl, same.1)
     whole_tells tx op other none = absurd none
 
   -- whole undoings
   module _ (called : CalledOps) (tx : ℕ) where
     back_agrees : (m m' : ManagerFields P) (told : Answer) → GoesOnBack told → HasStepped bits_of m m' tx told → Agree called m → Agree called m'
-    back_agrees m m' answer.Going goes d agree = stays_called called m m' agree tx answer.Going d refl
-    back_agrees m m' answer.Undone goes d agree = stays_called called m m' agree tx answer.Undone d refl
-    back_agrees m m' (answer.Waiting page by) none d agree = absurd none
-    back_agrees m m' (answer.Blocked by) none d agree = absurd none
-    back_agrees m m' (answer.Done reply) none d agree = absurd none
-    back_agrees m m' answer.Aborted none d agree = absurd none
-    back_agrees m m' (answer.Refused reason) none d agree = absurd none
+    back_agrees m m' Answer.Going goes d agree = stays_called called m m' agree tx Answer.Going d refl
+    back_agrees m m' Answer.Undone goes d agree = stays_called called m m' agree tx Answer.Undone d refl
+    back_agrees m m' (Answer.Waiting page by) none d agree = absurd none
+    back_agrees m m' (Answer.Blocked by) none d agree = absurd none
+    back_agrees m m' (Answer.Done reply) none d agree = absurd none
+    back_agrees m m' Answer.Aborted none d agree = absurd none
+    back_agrees m m' (Answer.Refused reason) none d agree = absurd none
 
     steps_agree : (m last : ManagerFields P) (steps : List (ManagerFields P × Answer)) → StepsBy bits_of GoesOnBack m steps last tx → Agree called m → Agree called last
     steps_agree m last [] same agree = same_each (IsCalled called) (looks called) m last same agree
     steps_agree m last (one ∷ more) (first, on, rest) agree = steps_agree one.0 last more rest (back_agrees m one.0 one.1 on first agree)
 
     undoing_agrees : (m m' : ManagerFields P) (told : Answer) → StepsUpTo bits_of GoesOnBack StopsBack m m' tx told → Agree called m → Agree called m'
-    undoing_agrees m m' answer.Aborted s agree = closes_called called s.before m' (steps_agree m s.before s.steps s.goes agree) tx answer.Aborted s.ends refl
-    undoing_agrees m m' (answer.Waiting page by) s agree = stays_called called s.before m' (steps_agree m s.before s.steps s.goes agree) tx (answer.Waiting page by) s.ends refl
+    undoing_agrees m m' Answer.Aborted s agree = closes_called called s.before m' (steps_agree m s.before s.steps s.goes agree) tx Answer.Aborted s.ends refl
+    undoing_agrees m m' (Answer.Waiting page by) s agree = stays_called called s.before m' (steps_agree m s.before s.steps s.goes agree) tx (Answer.Waiting page by) s.ends refl
     undoing_agrees m m' other s agree = absurd s.stops
 
   module _ (called : CalledOps) (m m' : ManagerFields P) (agree : Agree called m) where
-    undoing_tells : (tx : ℕ) (t : Told) → Meets bits_of (event.WholeUndo tx) t m m' → Tells (event.WholeUndo tx) t called m m'
-    undoing_tells tx (told.Answered answer.Aborted) (a, takes, named) = (
-      replicate (length takes.taken) (trace.Back tx) ++ trace.Abort tx ∷ [],
+    undoing_tells : (tx : ℕ) (t : Told) → Meets bits_of (Event.WholeUndo tx) t m m' → Tells (Event.WholeUndo tx) t called m m'
+    undoing_tells tx (Told.Answered Answer.Aborted) (a, takes, named) = (
+      replicate (length takes.taken) (TraceItem.Back tx) ++ TraceItem.Abort tx ∷ [],
       takes.items,
       (length takes.taken, refl),
-      undoing_agrees called tx m m' answer.Aborted a.1 agree,
+      undoing_agrees called tx m m' Answer.Aborted a.1 agree,
     )
-    undoing_tells tx (told.Answered (answer.Waiting page by)) (a, takes, named) = (
-      replicate (length takes.1.taken) (trace.Back tx),
-      takes.1.items ∙ ap (λ (l : List TraceItem). m.shared.history.items ++ l) (append-nil (replicate (length takes.1.taken) (trace.Back tx))),
+    undoing_tells tx (Told.Answered (Answer.Waiting page by)) (a, takes, named) = (
+      replicate (length takes.1.taken) (TraceItem.Back tx),
+      takes.1.items ∙ ap (λ (l : List TraceItem). m.shared.history.items ++ l) (append-nil (replicate (length takes.1.taken) (TraceItem.Back tx))),
       (length takes.1.taken, refl),
-      undoing_agrees called tx m m' (answer.Waiting page by) a.1 agree,
+      undoing_agrees called tx m m' (Answer.Waiting page by) a.1 agree,
     )
-    undoing_tells tx (told.Answered other) (a, none, named) = absurd none
-    undoing_tells tx (told.Refused reason) a = let same = refused called m m' agree a.1 in ([], same.0, refl, same.1)
+    undoing_tells tx (Told.Answered other) (a, none, named) = absurd none
+    undoing_tells tx (Told.Refused reason) a = let same = refused called m m' agree a.1 in ([], same.0, refl, same.1)
     undoing_tells tx other none = absurd none
 
     pub event_tells : (e : Event) (t : Told) → Meets bits_of e t m m' → Tells e t called m m'
-    event_tells event.Begin t meets = begin_tells called m m' agree t meets
-    event_tells (event.Call tx op) t meets = call_tells called m m' agree tx op t meets
-    event_tells (event.Step tx) t meets = step_tells called m m' agree tx t meets
-    event_tells (event.Cancel tx) t meets = cancel_tells called m m' agree tx t meets
-    event_tells (event.Commit tx) t meets = commit_tells called m m' agree tx t meets
-    event_tells (event.Abort tx) t meets = abort_tells called m m' agree tx t meets
-    event_tells (event.Whole tx op) t meets = whole_tells called m m' agree tx op t meets
-    event_tells (event.WholeUndo tx) t meets = undoing_tells tx t meets
+    event_tells Event.Begin t meets = begin_tells called m m' agree t meets
+    event_tells (Event.Call tx op) t meets = call_tells called m m' agree tx op t meets
+    event_tells (Event.Step tx) t meets = step_tells called m m' agree tx t meets
+    event_tells (Event.Cancel tx) t meets = cancel_tells called m m' agree tx t meets
+    event_tells (Event.Commit tx) t meets = commit_tells called m m' agree tx t meets
+    event_tells (Event.Abort tx) t meets = abort_tells called m m' agree tx t meets
+    event_tells (Event.Whole tx op) t meets = whole_tells called m m' agree tx op t meets
+    event_tells (Event.WholeUndo tx) t meets = undoing_tells tx t meets
 
   -- **The items that a run adds are those that its events were told.**
   run_tells : (called : CalledOps) (events : List Event) (tolds : List Told) (m m' : ManagerFields P) → Agree called m → IsRun bits_of m events tolds m'

@@ -1,26 +1,11 @@
 -- The steps of an abort, one after another, come to an end
-use Rattle.std.proofs.Common.{◌≡◌, ◌<◌, ◌≤◌, ℕ, ◌+◌, ◌*◌, [], ◌∷◌, length, Option, None, Some, refl, sym, ap, subst, ◌∙◌, ◌⊎◌, inl, inr, arith}
+use Rattle.std.proofs.Common.{◌≡◌, ◌<◌, ◌≤◌, ℕ, ◌+◌, ◌*◌, [], ◌∷◌, length, Option, None, Some, refl, sym, ap, subst, ◌∙◌, ◌⊎◌, inl, inr, arith, length-append}
 use Rattle.std.specs.FinMap as map
-use Rattle.std.proofs.lemmas.List.{length-append}
-use Rattle.mlt_object_undo.specs.Undo.{Undo}
-use Rattle.mlt_hash_access.specs.LocalStates.{local}
-use Rattle.mlt_hash_access.specs.Views.{View, view_of}
-use Rattle.mlt_hash.specs.Walks.{WalkContext, context_by}
-use Rattle.mlt_object_base.specs.declared.request.Request.{Request}
+use Rattle.mlt_manager.proofs.Names.{Undo, local, View, view_of, WalkContext, context_by, Request, OperationFields, started_for, Answer, SharedState, At, Transaction, TellsOfBack, StepsBack, TellsAt, tx_state_of, HasStepped, IsOpenAt, IsUndoing, txs_after, ManagerFields, GoesOnBack, StopsBack}
 use Rattle.mlt_object_base.specs.declared.request.Request.TheVariants.{TakeBack}
 use Rattle.mlt_object_base.specs.Requests.{size_key_of}
-use Rattle.mlt_tx_operation.specs.Operating.{OperationFields, access_path_for, started_for, steps_by, steps_left}
-use Rattle.mlt_event.specs.declared.answer.Answer.{Answer}
-use Rattle.mlt_event.specs.declared.answer.Answer.TheVariants as answer
-use Rattle.mlt_tx.specs.declared.shared.SharedState.{SharedState}
-use Rattle.mlt_tx.specs.declared.transaction.At.{At}
-use Rattle.mlt_tx.specs.declared.transaction.At.TheVariants as at
-use Rattle.mlt_tx.specs.declared.transaction.Transaction.{Transaction}
-use Rattle.mlt_tx.specs.Steps.{TellsOfBack}
-use Rattle.mlt_tx.specs.Transactions.{StepsBack, TellsAt, tx_state_of}
-use Rattle.mlt_manager.specs.Answers.{HasStepped, IsOpenAt, IsUndoing, txs_after}
-use Rattle.mlt_manager.specs.Managers.{ManagerFields}
-use Rattle.mlt_manager.specs.Undoings.{GoesOnBack, StepsBackUpTo, StopsBack}
+use Rattle.mlt_tx_operation.specs.Operating.{access_path_for, steps_by, steps_left}
+use Rattle.mlt_manager.specs.Undoings.{StepsBackUpTo}
 use Rattle.mlt_manager.proofs.Chains.{IsUnderWay, found_before, last_taken, one_taken, there_after}
 
 -- How many steps an abort still takes at most, those that wait aside: as many for each operation as one on two records takes
@@ -30,7 +15,7 @@ left_of None root t shared = 1165
 left_of (Some o) root t shared = steps_left root o (view_of (local t.subtx shared.pages))
 
 abbrev pub left_at : At → ℕ → Transaction → SharedState → ℕ
-left_at (at.Undoing inverting) root t shared = 1166 * length t.undo.entries + left_of inverting root t shared
+left_at (At.Undoing inverting) root t shared = 1166 * length t.undo.entries + left_of inverting root t shared
 left_at other root t shared = 0
 
 abbrev pub left_for : Option Transaction → ℕ → SharedState → ℕ
@@ -48,10 +33,10 @@ first_by (Some size) root request view = omega arith
 first_steps : (root : ℕ) (request : Request) (view : View) → steps_left root (started_for request) view ≤ 1165
 first_steps root request view = first_by (size_key_of request) root request view
 
-undoing_of_at : (a : At) → IsUndoing a → (inverting : Option OperationFields) × (a ≡ at.Undoing inverting)
-undoing_of_at at.Idle none = absurd none
-undoing_of_at (at.Pending o) none = absurd none
-undoing_of_at (at.Undoing inverting) is = (inverting, refl)
+undoing_of_at : (a : At) → IsUndoing a → (inverting : Option OperationFields) × (a ≡ At.Undoing inverting)
+undoing_of_at At.Idle none = absurd none
+undoing_of_at (At.Pending o) none = absurd none
+undoing_of_at (At.Undoing inverting) is = (inverting, refl)
 
 -- one step of an abort
 module _ {P : Type 0} (bits_of : P → ℕ → ℕ) (m m' : ManagerFields P) (tx : ℕ) (told : Answer) (undoing : IsOpenAt m.txs tx IsUndoing) (d : HasStepped bits_of m m' tx told) where
@@ -61,7 +46,7 @@ module _ {P : Type 0} (bits_of : P → ℕ → ℕ) (m m' : ManagerFields P) (tx
   abbrev after : Transaction
   after = d.steps.changes.after
 
-  inverse_at : (inverting : Option OperationFields) × (before.at ≡ at.Undoing inverting)
+  inverse_at : (inverting : Option OperationFields) × (before.at ≡ At.Undoing inverting)
   inverse_at = undoing_of_at d.steps.changes.before.at (found_before bits_of GoesOnBack m m m' tx told IsUndoing undoing d)
 
   context_here : WalkContext
@@ -76,13 +61,13 @@ module _ {P : Type 0} (bits_of : P → ℕ → ℕ) (m m' : ManagerFields P) (tx
 
   -- where it goes on, it is there still
   on_txs : (t : Answer) → GoesOnBack t → txs_after t tx d.txs ≡ d.txs
-  on_txs answer.Going goes = refl
-  on_txs answer.Undone goes = refl
-  on_txs (answer.Waiting page by) none = absurd none
-  on_txs (answer.Blocked by) none = absurd none
-  on_txs (answer.Done reply) none = absurd none
-  on_txs answer.Aborted none = absurd none
-  on_txs (answer.Refused reason) none = absurd none
+  on_txs Answer.Going goes = refl
+  on_txs Answer.Undone goes = refl
+  on_txs (Answer.Waiting page by) none = absurd none
+  on_txs (Answer.Blocked by) none = absurd none
+  on_txs (Answer.Done reply) none = absurd none
+  on_txs Answer.Aborted none = absurd none
+  on_txs (Answer.Refused reason) none = absurd none
 
   pub there_now : GoesOnBack told → map.get m'.txs tx ≡ Some d.steps.changes.after
   there_now goes = there_after bits_of GoesOnBack m m m' tx told d (on_txs told goes)
@@ -97,26 +82,26 @@ module _ {P : Type 0} (bits_of : P → ℕ → ℕ) (m m' : ManagerFields P) (tx
 
   fewer_by : (inverting next : Option OperationFields) (t : Answer) → TellsOfBack (context_by bits_of m.root m.active d.steps.changes.before.subtx.tx) inverting next (tx_state_of d.steps.changes.before m.shared) (tx_state_of d.steps.changes.after m'.shared) t
       → GoesOnBack t → 1166 * length d.steps.changes.after.undo.entries + left_of next m.root.page d.steps.changes.after m'.shared < 1166 * length d.steps.changes.before.undo.entries + left_of inverting m.root.page d.steps.changes.before m.shared
-  fewer_by None next answer.Going s goes =
+  fewer_by None next Answer.Going s goes =
       let same : length d.steps.changes.after.undo.entries ≡ length d.steps.changes.before.undo.entries = ap (λ (u : Undo). length u.entries) s.rest.undo_kept in
       let fewer = s.tells.fewer in
       let first = first_steps m.root.page (TakeBack s.last) (view_of (local d.steps.changes.before.subtx m.shared.pages)) in
       let here : left_of next m.root.page d.steps.changes.after m'.shared ≡ left_of (Some s.after) m.root.page d.steps.changes.after m'.shared = ap (λ (o : Option OperationFields). left_of o m.root.page d.steps.changes.after m'.shared) s.is in
       omega (arith, same, fewer, first, here)
-  fewer_by (Some o) next answer.Going s goes =
+  fewer_by (Some o) next Answer.Going s goes =
       let same : length d.steps.changes.after.undo.entries ≡ length d.steps.changes.before.undo.entries = ap (λ (u : Undo). length u.entries) s.rest.undo_kept in
       let fewer = s.tells.fewer in
       let here : left_of next m.root.page d.steps.changes.after m'.shared ≡ left_of (Some s.after) m.root.page d.steps.changes.after m'.shared = ap (λ (o : Option OperationFields). left_of o m.root.page d.steps.changes.after m'.shared) s.is in
       omega (arith, same, fewer, here)
-  fewer_by inverting next answer.Undone s goes =
+  fewer_by inverting next Answer.Undone s goes =
       let off : length d.steps.changes.before.undo.entries ≡ length d.steps.changes.after.undo.entries + 1 = ap length s.takes.off.entries ∙ length-append d.steps.changes.after.undo.entries (s.takes.off.last ∷ []) in
       let here : left_of next m.root.page d.steps.changes.after m'.shared ≡ 1165 = ap (λ (o : Option OperationFields). left_of o m.root.page d.steps.changes.after m'.shared) s.none in
       omega (arith, off, here)
-  fewer_by inverting next (answer.Waiting page by) s none = absurd none
-  fewer_by inverting next answer.Aborted s none = absurd none
-  fewer_by inverting next (answer.Blocked by) s none = absurd none
-  fewer_by inverting next (answer.Done reply) s none = absurd none
-  fewer_by inverting next (answer.Refused reason) s none = absurd none
+  fewer_by inverting next (Answer.Waiting page by) s none = absurd none
+  fewer_by inverting next Answer.Aborted s none = absurd none
+  fewer_by inverting next (Answer.Blocked by) s none = absurd none
+  fewer_by inverting next (Answer.Done reply) s none = absurd none
+  fewer_by inverting next (Answer.Refused reason) s none = absurd none
 
   -- **Fewer are left.**
   pub fewer_left : GoesOnBack told → back_left m' tx < back_left m tx
@@ -126,26 +111,26 @@ module _ {P : Type 0} (bits_of : P → ℕ → ℕ) (m m' : ManagerFields P) (tx
       let fewer = fewer_by inverse_at.0 steps_back.next told steps_back.tells goes in
       omega (arith, was, is, fewer)
 
-  kept_by : (inverting next : Option OperationFields) → TellsOfBack (context_by bits_of m.root m.active d.steps.changes.before.subtx.tx) inverting next (tx_state_of d.steps.changes.before m.shared) (tx_state_of d.steps.changes.after m'.shared) answer.Going
+  kept_by : (inverting next : Option OperationFields) → TellsOfBack (context_by bits_of m.root m.active d.steps.changes.before.subtx.tx) inverting next (tx_state_of d.steps.changes.before m.shared) (tx_state_of d.steps.changes.after m'.shared) Answer.Going
       → d.steps.changes.after.undo.entries ≡ d.steps.changes.before.undo.entries
   kept_by inverting next s = ap (λ (u : Undo). u.entries) s.rest.undo_kept
 
   -- a step that only goes on leaves what stands
-  pub going_entries : told ≡ answer.Going → d.steps.changes.after.undo.entries ≡ d.steps.changes.before.undo.entries
+  pub going_entries : told ≡ Answer.Going → d.steps.changes.after.undo.entries ≡ d.steps.changes.before.undo.entries
   going_entries is =
       kept_by inverse_at.0 steps_back.next
       (subst (λ (t : Answer). TellsOfBack (context_by bits_of m.root m.active d.steps.changes.before.subtx.tx) inverse_at.0 steps_back.next (tx_state_of d.steps.changes.before m.shared) (tx_state_of d.steps.changes.after m'.shared) t) is steps_back.tells)
 
   stops_by : (inverting next : Option OperationFields) (t : Answer) → TellsOfBack (context_by bits_of m.root m.active d.steps.changes.before.subtx.tx) inverting next (tx_state_of d.steps.changes.before m.shared) (tx_state_of d.steps.changes.after m'.shared) t
-      → (t ≡ answer.Going → ⊥) → (t ≡ answer.Undone → ⊥) → StopsBack t
-  stops_by inverting next answer.Going s going undone = absurd (going refl)
-  stops_by inverting next answer.Undone s going undone = absurd (undone refl)
-  stops_by inverting next (answer.Waiting page by) s going undone = tt
-  stops_by inverting next answer.Aborted s going undone = tt
+      → (t ≡ Answer.Going → ⊥) → (t ≡ Answer.Undone → ⊥) → StopsBack t
+  stops_by inverting next Answer.Going s going undone = absurd (going refl)
+  stops_by inverting next Answer.Undone s going undone = absurd (undone refl)
+  stops_by inverting next (Answer.Waiting page by) s going undone = tt
+  stops_by inverting next Answer.Aborted s going undone = tt
   stops_by inverting next other s going undone = absurd s
 
   -- **An abort that does not go on waits, or is at its end.**
-  pub stops_here : (told ≡ answer.Going → ⊥) → (told ≡ answer.Undone → ⊥) → StopsBack told
+  pub stops_here : (told ≡ Answer.Going → ⊥) → (told ≡ Answer.Undone → ⊥) → StopsBack told
   stops_here going undone = stops_by inverse_at.0 steps_back.next told steps_back.tells going undone
 
 -- **One more step.**
@@ -155,9 +140,9 @@ back_on bits_of old m m' tx told w d goes = one_taken bits_of GoesOnBack old m m
 
 -- **The step that stops.**
 pub back_ends : {P : Type 0} (bits_of : P → ℕ → ℕ) (old m m' : ManagerFields P) (tx : ℕ) (told : Answer) → IsUnderWay bits_of GoesOnBack IsUndoing old m tx → HasStepped bits_of m m' tx told
-    → (told ≡ answer.Going → ⊥) → (told ≡ answer.Undone → ⊥) → StepsBackUpTo bits_of old m' tx told
+    → (told ≡ Answer.Going → ⊥) → (told ≡ Answer.Undone → ⊥) → StepsBackUpTo bits_of old m' tx told
 back_ends bits_of old m m' tx told w d going undone = last_taken bits_of GoesOnBack old m m' tx told IsUndoing StopsBack w d (stops_here bits_of m m' tx told w.is_at d going undone)
 
-pub goes_by : (told : Answer) → (told ≡ answer.Going) ⊎ (told ≡ answer.Undone) → GoesOnBack told
+pub goes_by : (told : Answer) → (told ≡ Answer.Going) ⊎ (told ≡ Answer.Undone) → GoesOnBack told
 goes_by told (inl is) = subst GoesOnBack (sym is) tt
 goes_by told (inr is) = subst GoesOnBack (sym is) tt

@@ -1,23 +1,9 @@
 -- What a whole undoing does to the base and the history
-use Rattle.std.proofs.lemmas.List.{append_assoc, append-nil}
-use Rattle.std.proofs.Common.{zero, suc, ◌≡◌, ℕ, List, [], ◌∷◌, ◌++◌, length, replicate, Some, Result, Ok, Err, IfOk, refl, sym, ap, subst, ◌∙◌}
+use Rattle.std.proofs.Common.{zero, suc, ◌≡◌, ℕ, List, [], ◌∷◌, ◌++◌, length, replicate, Some, Result, Ok, Err, IfOk, refl, sym, ap, subst, ◌∙◌, append_assoc, append-nil}
 use Rattle.std.specs.FinMap as map
-use Rattle.mlt_types.specs.declared.refusal.Refusal.{Refusal}
-use Rattle.mlt_object_kinds.specs.Bases.{Base, Step}
-use Rattle.mlt_object_kinds.specs.declared.operation.ObjOp.{ObjOp}
-use Rattle.mlt_object_kinds.specs.declared.operation.ObjReply.{ObjReply}
+use Rattle.mlt_manager.proofs.Names.{Refusal, Base, Step, ObjOp, ObjReply, TraceItem, Answer, Transaction, HasStepped, IsOpenAt, IsUndoing, HasBase, KeepsWhatCounts, LeavesBase, TakesStepBack, UndoingLeavesBase, StepsBy, StepsUpTo, IsManager, ManagerFields, AnswersWholeUndo, GoesOnBack, StopsBack}
 use Rattle.mlt_order.specs.Runs.{Runs}
 use Rattle.mlt_order.proofs.RunLemmas.{runs_append}
-use Rattle.mlt_trace.specs.declared.item.TraceItem.{TraceItem}
-use Rattle.mlt_trace.specs.declared.item.TraceItem.TheVariants as trace
-use Rattle.mlt_event.specs.declared.answer.Answer.{Answer}
-use Rattle.mlt_event.specs.declared.answer.Answer.TheVariants as answer
-use Rattle.mlt_tx.specs.declared.transaction.Transaction.{Transaction}
-use Rattle.mlt_manager.specs.Answers.{HasStepped, IsOpenAt, IsUndoing}
-use Rattle.mlt_manager.specs.Bases.{HasBase, KeepsWhatCounts, LeavesBase, TakesStepBack, UndoingLeavesBase}
-use Rattle.mlt_manager.specs.Chains.{StepsBy, StepsUpTo}
-use Rattle.mlt_manager.specs.Managers.{IsManager, ManagerFields}
-use Rattle.mlt_manager.specs.Undoings.{AnswersWholeUndo, GoesOnBack, StopsBack}
 use Rattle.mlt_manager.proofs.Called.{one_there}
 use Rattle.mlt_manager.proofs.Stepped.{step_keeps}
 use Rattle.mlt_manager.proofs.UndoingAll.{going_entries, still_undoing, there_now}
@@ -47,7 +33,7 @@ module _ {P : Type 0} (bits_of : P → ℕ → ℕ) (tx : ℕ) where
     taken : List (ObjOp × ObjReply)
     parts : entries ≡ left ++ taken
     stand : HasEntries last left
-    items : last.shared.history.items ≡ old.shared.history.items ++ replicate (length taken) (trace.Back tx)
+    items : last.shared.history.items ≡ old.shared.history.items ++ replicate (length taken) (TraceItem.Back tx)
     leads : (base : Base) → HasBase old base → (before : Base) × Runs Step before taken base × HasBase last before
 
   nothing_taken : (old last : ManagerFields P) (entries : List (ObjOp × ObjReply)) → last ≡ old → IsManager bits_of old → IsOpenAt old.txs tx IsUndoing → HasEntries old entries → Unwinds old last entries
@@ -73,15 +59,15 @@ module _ {P : Type 0} (bits_of : P → ℕ → ℕ) (tx : ℕ) where
     taken = u.taken;
     parts = u.parts;
     stand = u.stand;
-    items = u.items ∙ ap (λ (l : List TraceItem). l ++ replicate (length u.taken) (trace.Back tx)) keeps.items;
+    items = u.items ∙ ap (λ (l : List TraceItem). l ++ replicate (length u.taken) (TraceItem.Back tx)) keeps.items;
     leads = λ base leads. u.leads base (base_by old mid keeps.items base leads);
   }
 
   -- one that takes an operation back, and then these
-  taken_unwinds : (old mid last : ManagerFields P) (entries left : List (ObjOp × ObjReply)) (item : ObjOp × ObjReply) → HasEntries old entries → TakesStepBack old mid tx left item (trace.Back tx ∷ []) → Unwinds mid last left → Unwinds old last entries
+  taken_unwinds : (old mid last : ManagerFields P) (entries left : List (ObjOp × ObjReply)) (item : ObjOp × ObjReply) → HasEntries old entries → TakesStepBack old mid tx left item (TraceItem.Back tx ∷ []) → Unwinds mid last left → Unwinds old last entries
   taken_unwinds old mid last entries left item stand takes u =
       let same : entries ≡ left ++ item ∷ [] = sym stand.is ∙ ap (λ (t : Transaction). t.undo.entries) (one_there old.txs tx stand.one takes.one stand.there takes.there) ∙ takes.entries in
-      let back = trace.Back tx in
+      let back = TraceItem.Back tx in
       record {
         manager = u.manager;
         undoing = u.undoing;
@@ -99,17 +85,17 @@ module _ {P : Type 0} (bits_of : P → ℕ → ℕ) (tx : ℕ) where
 
   step_unwinds : (old mid last : ManagerFields P) (told : Answer) (entries : List (ObjOp × ObjReply)) → IsManager bits_of old → IsOpenAt old.txs tx IsUndoing → HasEntries old entries → (d : HasStepped bits_of old mid tx told) → GoesOnBack told → LeavesBase told old mid tx
       → ((rest : List (ObjOp × ObjReply)) → HasEntries mid rest → Unwinds mid last rest) → Unwinds old last entries
-  step_unwinds old mid last answer.Going entries h undoing stand d goes keeps more =
-      let is : d.steps.changes.after.undo.entries ≡ entries = going_entries bits_of old mid tx answer.Going undoing d refl ∙ ap (λ (t : Transaction). t.undo.entries) (one_there old.txs tx d.steps.changes.before stand.one d.steps.changes.was stand.there) ∙ stand.is in
-      then_unwinds old mid last entries keeps (more entries (record { one = d.steps.changes.after; there = there_now bits_of old mid tx answer.Going undoing d goes; is = is }))
-  step_unwinds old mid last answer.Undone entries h undoing stand d goes takes more =
-      let there = there_now bits_of old mid tx answer.Undone undoing d goes in
+  step_unwinds old mid last Answer.Going entries h undoing stand d goes keeps more =
+      let is : d.steps.changes.after.undo.entries ≡ entries = going_entries bits_of old mid tx Answer.Going undoing d refl ∙ ap (λ (t : Transaction). t.undo.entries) (one_there old.txs tx d.steps.changes.before stand.one d.steps.changes.was stand.there) ∙ stand.is in
+      then_unwinds old mid last entries keeps (more entries (record { one = d.steps.changes.after; there = there_now bits_of old mid tx Answer.Going undoing d goes; is = is }))
+  step_unwinds old mid last Answer.Undone entries h undoing stand d goes takes more =
+      let there = there_now bits_of old mid tx Answer.Undone undoing d goes in
       taken_unwinds old mid last entries takes.0 takes.1 stand takes.2 (more takes.0 (record { one = d.steps.changes.after; there = there; is = takes.2.stands d.steps.changes.after there }))
-  step_unwinds old mid last (answer.Waiting page by) entries h undoing stand d none leaves more = absurd none
-  step_unwinds old mid last (answer.Blocked by) entries h undoing stand d none leaves more = absurd none
-  step_unwinds old mid last (answer.Done reply) entries h undoing stand d none leaves more = absurd none
-  step_unwinds old mid last answer.Aborted entries h undoing stand d none leaves more = absurd none
-  step_unwinds old mid last (answer.Refused reason) entries h undoing stand d none leaves more = absurd none
+  step_unwinds old mid last (Answer.Waiting page by) entries h undoing stand d none leaves more = absurd none
+  step_unwinds old mid last (Answer.Blocked by) entries h undoing stand d none leaves more = absurd none
+  step_unwinds old mid last (Answer.Done reply) entries h undoing stand d none leaves more = absurd none
+  step_unwinds old mid last Answer.Aborted entries h undoing stand d none leaves more = absurd none
+  step_unwinds old mid last (Answer.Refused reason) entries h undoing stand d none leaves more = absurd none
 
   steps_unwind : (old last : ManagerFields P) (steps : List (ManagerFields P × Answer)) (entries : List (ObjOp × ObjReply)) → IsManager bits_of old → IsOpenAt old.txs tx IsUndoing → HasEntries old entries → StepsBy bits_of GoesOnBack old steps last tx → Unwinds old last entries
   steps_unwind old last [] entries h undoing stand same = nothing_taken old last entries same h undoing stand
@@ -120,40 +106,40 @@ module _ {P : Type 0} (bits_of : P → ℕ → ℕ) (tx : ℕ) where
 
   -- the step that stops
   last_unwinds : (old before new : ManagerFields P) (one : Transaction) (told : Answer) → map.get old.txs tx ≡ Some one → Unwinds old before one.undo.entries → StopsBack told → LeavesBase told before new tx → UndoingLeavesBase told old new tx
-  last_unwinds old before new one answer.Aborted there u stops (item, takes) =
+  last_unwinds old before new one Answer.Aborted there u stops (item, takes) =
       let same : u.left ≡ item ∷ [] = sym u.stand.is ∙ ap (λ (t : Transaction). t.undo.entries) (one_there before.txs tx u.stand.one takes.one u.stand.there takes.there) ∙ takes.entries in
-      let back = trace.Back tx in
+      let back = TraceItem.Back tx in
       record {
         one = one;
         there = there;
         taken = item ∷ u.taken;
         entries = u.parts ∙ ap (λ (l : List (ObjOp × ObjReply)). l ++ u.taken) same;
-        items = takes.items ∙ ap (λ (l : List TraceItem). l ++ back ∷ trace.Abort tx ∷ []) u.items
-            ∙ append_assoc old.shared.history.items (replicate (length u.taken) back) (back ∷ trace.Abort tx ∷ [])
-            ∙ ap (λ (l : List TraceItem). old.shared.history.items ++ l) (one_more (length u.taken) back (trace.Abort tx ∷ []));
+        items = takes.items ∙ ap (λ (l : List TraceItem). l ++ back ∷ TraceItem.Abort tx ∷ []) u.items
+            ∙ append_assoc old.shared.history.items (replicate (length u.taken) back) (back ∷ TraceItem.Abort tx ∷ [])
+            ∙ ap (λ (l : List TraceItem). old.shared.history.items ++ l) (one_more (length u.taken) back (TraceItem.Abort tx ∷ []));
         leads = λ base leads.
             let more = u.leads base leads in
             let first = takes.leads more.0 more.2 in
             (first.0, (more.0, first.1, more.1), first.2);
       }
-  last_unwinds old before new one (answer.Waiting page by) there u stops keeps = (
+  last_unwinds old before new one (Answer.Waiting page by) there u stops keeps = (
     u.left,
     record {
       one = one;
       there = there;
       taken = u.taken;
       entries = u.parts;
-      items = keeps.items ∙ u.items ∙ ap (λ (l : List TraceItem). old.shared.history.items ++ l) (sym (append-nil (replicate (length u.taken) (trace.Back tx))));
+      items = keeps.items ∙ u.items ∙ ap (λ (l : List TraceItem). old.shared.history.items ++ l) (sym (append-nil (replicate (length u.taken) (TraceItem.Back tx))));
       leads = λ base leads.
           let more = u.leads base leads in
           (more.0, more.1, base_by before new keeps.items more.0 more.2);
     },
   )
-  last_unwinds old before new one answer.Going there u none leaves = absurd none
-  last_unwinds old before new one (answer.Blocked by) there u none leaves = absurd none
-  last_unwinds old before new one (answer.Done reply) there u none leaves = absurd none
-  last_unwinds old before new one answer.Undone there u none leaves = absurd none
-  last_unwinds old before new one (answer.Refused reason) there u none leaves = absurd none
+  last_unwinds old before new one Answer.Going there u none leaves = absurd none
+  last_unwinds old before new one (Answer.Blocked by) there u none leaves = absurd none
+  last_unwinds old before new one (Answer.Done reply) there u none leaves = absurd none
+  last_unwinds old before new one Answer.Undone there u none leaves = absurd none
+  last_unwinds old before new one (Answer.Refused reason) there u none leaves = absurd none
 
   up_to_unwinds : (old new : ManagerFields P) (told : Answer) → IsManager bits_of old → IsOpenAt old.txs tx IsUndoing → StepsUpTo bits_of GoesOnBack StopsBack old new tx told → UndoingLeavesBase told old new tx
   up_to_unwinds old new told h undoing s =

@@ -1,37 +1,9 @@
 -- What a whole operation does to the base
-use Rattle.std.proofs.lemmas.Bool.{cases_eq}
+use Rattle.mlt_manager.proofs.Names.{cases_eq, Refusal, Base, Step, empty_base, entries_of, ObjOp, ObjReply, Held, IsLowestClash, TraceItem, Running, Do, OperationFields, Answer, LocalState, local, WalkContext, context_by, TellsOfStep, StepAnswer, At, Transaction, IsPending, Table, images_kept, inserted_elsewhere, inserted_here, AnswersCancel, HasCalled, HasStepped, IsOpenAt, HasBase, IsPendingWith, KeepsWhatCounts, LeavesBase, WholeLeavesBase, StepsBy, IsManager, ManagerFields, AnswersWhole, DropsIfItStands, HasRun, LetsGoOn, Stops}
 use Rattle.std.proofs.Common.{◌≡◌, ℕ, List, [], ◌∷◌, ◌++◌, Some, Result, Ok, Err, IfOk, OnOk, inl, inr, refl, sym, ap, subst, ◌∙◌}
 use Rattle.std.specs.FinMap as map
-use Rattle.mlt_types.specs.declared.refusal.Refusal.{Refusal}
-use Rattle.mlt_object_kinds.specs.Bases.{Base, Step, empty_base}
 use Rattle.mlt_order.specs.Histories.{IsHistory}
-use Rattle.mlt_trace.specs.Entries.{entries_of}
-use Rattle.mlt_object_kinds.specs.declared.operation.ObjOp.{ObjOp}
-use Rattle.mlt_object_kinds.specs.declared.operation.ObjReply.{ObjReply}
-use Rattle.mlt_object_locks.specs.Locks.{Held, IsLowestClash}
-use Rattle.mlt_trace.specs.declared.item.TraceItem.{TraceItem}
-use Rattle.mlt_trace.specs.declared.item.TraceItem.TheVariants as trace
-use Rattle.mlt_page_subtx.specs.Images.{Running}
-use Rattle.mlt_object_base.specs.declared.request.Request.TheVariants.{Do}
-use Rattle.mlt_tx_operation.specs.Operating.{OperationFields}
-use Rattle.mlt_event.specs.declared.answer.Answer.{Answer}
-use Rattle.mlt_event.specs.declared.answer.Answer.TheVariants as answer
-use Rattle.mlt_hash_access.specs.LocalStates.{LocalState, local}
-use Rattle.mlt_hash.specs.Walks.{WalkContext, context_by}
-use Rattle.mlt_tx_operation.specs.Answers.{TellsOfStep}
-use Rattle.mlt_tx_operation.specs.declared.answer.StepAnswer.TheVariants as step
-use Rattle.mlt_tx.specs.declared.transaction.At.{At}
-use Rattle.mlt_tx.specs.declared.transaction.At.TheVariants as at
-use Rattle.mlt_tx.specs.declared.transaction.Transaction.{Transaction}
-use Rattle.mlt_tx.specs.Transactions.{IsPending}
-use Rattle.mlt_tx_open.specs.Tables.{Table}
-use Rattle.mlt_manager_invariant.specs.States.{images_kept}
-use Rattle.mlt_manager_invariant.proofs.Tables.{inserted_elsewhere, inserted_here}
-use Rattle.mlt_manager.specs.Answers.{AnswersCancel, HasCalled, HasStepped, IsOpenAt}
-use Rattle.mlt_manager.specs.Bases.{AddsStep, HasBase, IsBlockedBy, IsPendingWith, KeepsWhatCounts, LeavesBase, WholeLeavesBase}
-use Rattle.mlt_manager.specs.Chains.{StepsBy}
-use Rattle.mlt_manager.specs.Managers.{IsManager, ManagerFields}
-use Rattle.mlt_manager.specs.Wholes.{AnswersWhole, DropsIfItStands, HasRun, LetsGoOn, Stops}
+use Rattle.mlt_manager.specs.Bases.{AddsStep, IsBlockedBy}
 use Rattle.mlt_manager.proofs.Called.{called_keeps, cancelled_keeps, one_there}
 use Rattle.mlt_manager.proofs.Chains.{found_before, steps_keep}
 use Rattle.mlt_manager.proofs.CleanPages.{still_clean}
@@ -82,23 +54,23 @@ module _ {P : Type 0} (m m' : ManagerFields P) (tx : ℕ) (op : ObjOp) (c : HasC
 
 -- steps of a pending operation that goes on
 on_counts : {P : Type 0} (told : Answer) (m m' : ManagerFields P) (tx : ℕ) → LetsGoOn told → LeavesBase told m m' tx → KeepsWhatCounts m m'
-on_counts answer.Going m m' tx goes leaves = leaves
-on_counts (answer.Waiting page by) m m' tx none leaves = absurd none
-on_counts (answer.Blocked by) m m' tx none leaves = absurd none
-on_counts (answer.Done reply) m m' tx none leaves = absurd none
-on_counts answer.Undone m m' tx none leaves = absurd none
-on_counts answer.Aborted m m' tx none leaves = absurd none
-on_counts (answer.Refused reason) m m' tx none leaves = absurd none
+on_counts Answer.Going m m' tx goes leaves = leaves
+on_counts (Answer.Waiting page by) m m' tx none leaves = absurd none
+on_counts (Answer.Blocked by) m m' tx none leaves = absurd none
+on_counts (Answer.Done reply) m m' tx none leaves = absurd none
+on_counts Answer.Undone m m' tx none leaves = absurd none
+on_counts Answer.Aborted m m' tx none leaves = absurd none
+on_counts (Answer.Refused reason) m m' tx none leaves = absurd none
 
 asked_pending : (op : ObjOp) (a : At) → IsPendingWith op a → IsPending a
-asked_pending op at.Idle none = none
-asked_pending op (at.Pending o) asked = tt
-asked_pending op (at.Undoing inverting) none = none
+asked_pending op At.Idle none = none
+asked_pending op (At.Pending o) asked = tt
+asked_pending op (At.Undoing inverting) none = none
 
 pub weaker : (txs : Table) (tx : ℕ) (op : ObjOp) → IsOpenAt txs tx (IsPendingWith op) → IsOpenAt txs tx IsPending
 weaker txs tx op p = record { one = p.one; there = p.there; is_at = asked_pending op p.one.at p.is_at }
 
-pub same_request : (context : WalkContext) (old new : LocalState) (o next : OperationFields) → TellsOfStep context old new o next step.Going → next.request ≡ o.request
+pub same_request : (context : WalkContext) (old new : LocalState) (o next : OperationFields) → TellsOfStep context old new o next StepAnswer.Going → next.request ≡ o.request
 same_request context old new o next (inl on) = on.request
 same_request context old new o next (inr (inl begins)) = begins.request
 same_request context old new o next (inr (inr restarts)) = restarts.request
@@ -106,20 +78,20 @@ same_request context old new o next (inr (inr restarts)) = restarts.request
 module _ {P : Type 0} (bits_of : P → ℕ → ℕ) (tx : ℕ) (op : ObjOp) where
   -- the operation stays the same
   asked_on : (m m' : ManagerFields P) (told : Answer) → LetsGoOn told → IsOpenAt m.txs tx (IsPendingWith op) → HasStepped bits_of m m' tx told → IsOpenAt m'.txs tx (IsPendingWith op)
-  asked_on m m' answer.Going goes pending d =
+  asked_on m m' Answer.Going goes pending d =
       let there = weaker m.txs tx op pending in
-      let o = operation_at bits_of m m' tx answer.Going there d in
-      let s = steps_pending bits_of m m' tx answer.Going there d in
-      let was : o.0.request ≡ Do op = subst (IsPendingWith op) o.1 (found_before bits_of LetsGoOn m m m' tx answer.Going (IsPendingWith op) pending d) in
+      let o = operation_at bits_of m m' tx Answer.Going there d in
+      let s = steps_pending bits_of m m' tx Answer.Going there d in
+      let was : o.0.request ≡ Do op = subst (IsPendingWith op) o.1 (found_before bits_of LetsGoOn m m m' tx Answer.Going (IsPendingWith op) pending d) in
       let is : s.next.request ≡ Do op =
       same_request (context_by bits_of m.root m.active d.steps.changes.before.subtx.tx) (local d.steps.changes.before.subtx m.shared.pages) (local d.steps.changes.after.subtx s.between.pages) o.0 s.next s.tells.tells ∙ was in
-      record { one = d.steps.changes.after; there = there_by bits_of m m' tx answer.Going there d answer.Going refl refl; is_at = subst (IsPendingWith op) (sym s.now_at) is }
-  asked_on m m' (answer.Waiting page by) none pending d = absurd none
-  asked_on m m' (answer.Blocked by) none pending d = absurd none
-  asked_on m m' (answer.Done reply) none pending d = absurd none
-  asked_on m m' answer.Undone none pending d = absurd none
-  asked_on m m' answer.Aborted none pending d = absurd none
-  asked_on m m' (answer.Refused reason) none pending d = absurd none
+      record { one = d.steps.changes.after; there = there_by bits_of m m' tx Answer.Going there d Answer.Going refl refl; is_at = subst (IsPendingWith op) (sym s.now_at) is }
+  asked_on m m' (Answer.Waiting page by) none pending d = absurd none
+  asked_on m m' (Answer.Blocked by) none pending d = absurd none
+  asked_on m m' (Answer.Done reply) none pending d = absurd none
+  asked_on m m' Answer.Undone none pending d = absurd none
+  asked_on m m' Answer.Aborted none pending d = absurd none
+  asked_on m m' (Answer.Refused reason) none pending d = absurd none
 
   pub steps_ask : (old last : ManagerFields P) (steps : List (ManagerFields P × Answer)) → StepsBy bits_of LetsGoOn old steps last tx → IsOpenAt old.txs tx (IsPendingWith op) → IsOpenAt last.txs tx (IsPendingWith op)
   steps_ask old last [] same pending = subst (λ (n : ManagerFields P). IsOpenAt n.txs tx (IsPendingWith op)) (sym same) pending
@@ -136,9 +108,9 @@ same_asked : (txs : Table) (tx : ℕ) (op other : ObjOp) → IsOpenAt txs tx (Is
 same_asked txs tx op other a b = both b.one.at (subst (λ (t : Transaction). IsPendingWith op t.at) (one_there txs tx a.one b.one a.there b.there) a.is_at) b.is_at
   where
     both : (at : At) → IsPendingWith op at → IsPendingWith other at → other ≡ op
-    both at.Idle none also = absurd none
-    both (at.Pending o) is also = let one : Do other ≡ Do op = sym also ∙ is in cc
-    both (at.Undoing inverting) none also = absurd none
+    both At.Idle none also = absurd none
+    both (At.Pending o) is also = let one : Do other ≡ Do op = sym also ∙ is in cc
+    both (At.Undoing inverting) none also = absurd none
 
 module _ {P : Type 0} (bits_of : P → ℕ → ℕ) (m m' : ManagerFields P) (tx : ℕ) (op : ObjOp) (h : IsManager bits_of m) where
   -- what is blocked after steps that change nothing that counts would have been before them
@@ -151,23 +123,23 @@ module _ {P : Type 0} (bits_of : P → ℕ → ℕ) (m m' : ManagerFields P) (tx
   -- up to the step that stops nothing that counts has changed; and this is what it leaves
   by_told : (told : Answer) (before stopped : ManagerFields P) → KeepsWhatCounts m before → IsOpenAt before.txs tx (IsPendingWith op) → IsManager bits_of stopped → LeavesBase told before stopped tx → Stops told → DropsIfItStands told stopped m' tx
       → WholeLeavesBase told m m' tx op
-  by_told (answer.Done reply) before stopped keeps asked hs (other, makes) stops same =
+  by_told (Answer.Done reply) before stopped keeps asked hs (other, makes) stops same =
       let is = same_asked before.txs tx op other asked makes.pending in
       let adds : AddsStep before m' tx (op, reply) = subst (λ (n : ManagerFields P). AddsStep before n tx (op, reply)) (sym same) (subst (λ (o : ObjOp). AddsStep before stopped tx (o, reply)) is makes.adds) in
       record {
-        items = adds.items ∙ ap (λ (l : List TraceItem). l ++ trace.Op tx (op, reply) ∷ []) keeps.items;
+        items = adds.items ∙ ap (λ (l : List TraceItem). l ++ TraceItem.Op tx (op, reply) ∷ []) keeps.items;
         leads = λ base leads. adds.leads base (base_by m before keeps.items base leads);
       }
-  by_told (answer.Blocked by) before stopped keeps asked hs (stays, found) stops drops = (
+  by_told (Answer.Blocked by) before stopped keeps asked hs (stays, found) stops drops = (
     then_keeps m stopped m' (then_keeps m before stopped keeps stays) (cancelled_keeps bits_of stopped hs tx m' drops.rest drops.pending drops.cancels).1,
     (found.0.1, blocked_still before by found.0.1 keeps (subst (λ (o : ObjOp). IsBlockedBy before tx (o, found.0.1) by) (same_asked before.txs tx op found.0.0 asked found.1.pending) found.1.blocked)),
   )
-  by_told (answer.Waiting page by) before stopped keeps asked hs stays stops drops =
+  by_told (Answer.Waiting page by) before stopped keeps asked hs stays stops drops =
       then_keeps m stopped m' (then_keeps m before stopped keeps stays) (cancelled_keeps bits_of stopped hs tx m' drops.rest drops.pending drops.cancels).1
-  by_told (answer.Refused reason) before stopped keeps asked hs stays stops same = then_keeps m stopped m' (then_keeps m before stopped keeps stays) (same_keeps stopped m' same)
-  by_told answer.Going before stopped keeps asked hs stays none same = absurd none
-  by_told answer.Undone before stopped keeps asked hs takes none same = absurd none
-  by_told answer.Aborted before stopped keeps asked hs takes none same = absurd none
+  by_told (Answer.Refused reason) before stopped keeps asked hs stays stops same = then_keeps m stopped m' (then_keeps m before stopped keeps stays) (same_keeps stopped m' same)
+  by_told Answer.Going before stopped keeps asked hs stays none same = absurd none
+  by_told Answer.Undone before stopped keeps asked hs takes none same = absurd none
+  by_told Answer.Aborted before stopped keeps asked hs takes none same = absurd none
 
   -- **What a whole operation does to the base is one step of it, or nothing.**
   run_leads : (told : Answer) → HasRun bits_of m m' tx op told → WholeLeavesBase told m m' tx op

@@ -1,20 +1,15 @@
 -- What each event of a manager answers, why, and what it leaves
-use Rattle.std.specs.Prelude.{ℕ, ◌≡◌, ◌≢◌, ◌<◌, ◌≤◌, ◌+◌, ◌-◌, ◌^◌, Bool, true, false, [], ◌∷◌, ◌++◌, length, min, None, Some, IsSome, Result, Ok, Err}
+use Rattle.std.specs.Prelude.{ℕ, ◌≡◌, ◌≢◌, ◌<◌, ◌≤◌, ◌+◌, ◌-◌, ◌^◌, Bool, true, false, [], ◌∷◌, ◌++◌, length, min, None, Some, IsSome, Result, Ok, Err, filter}
 use Rattle.std.specs.Ordering.{nat_cmp}
 use Rattle.std.specs.FinMap as map
 use Rattle.std.specs.FinSet as set
-use Rattle.std.specs.List.{filter}
 use Rattle.mlt_types.specs.declared.refusal.Refusal.{Refusal}
-use Rattle.mlt_types.specs.declared.refusal.Refusal.TheVariants as refusal
 use Rattle.mlt_object_kinds.specs.declared.operation.ObjOp.{ObjOp}
 use Rattle.mlt_object_locks.specs.Locks.{SameReservations, is_of_other, reservation_of}
 use Rattle.mlt_page_subtx.specs.Images.{started}
 use Rattle.mlt_trace.specs.declared.item.TraceItem.{TraceItem}
-use Rattle.mlt_trace.specs.declared.item.TraceItem.TheVariants as trace
 use Rattle.mlt_event.specs.declared.answer.Answer.{Answer}
-use Rattle.mlt_event.specs.declared.answer.Answer.TheVariants as answer
 use Rattle.mlt_tx.specs.declared.transaction.At.{At}
-use Rattle.mlt_tx.specs.declared.transaction.At.TheVariants as at
 use Rattle.mlt_tx.specs.declared.transaction.Transaction.{Transaction}
 use Rattle.mlt_tx.specs.Transactions.{IsPending}
 pub use Rattle.mlt_tx.specs.Transactions.{IsUndoing}
@@ -34,15 +29,15 @@ counted m = record m { events = next_count m.events }
 
 -- an operation or an inverse of it runs, and holds what pages it has locked
 abbrev pub IsRunning : At → Type 0
-IsRunning (at.Pending o) = Unit {0}
-IsRunning (at.Undoing (Some o)) = Unit {0}
+IsRunning (At.Pending o) = Unit {0}
+IsRunning (At.Undoing (Some o)) = Unit {0}
 IsRunning other = ⊥
 
 -- why no transaction begins: as many are open as may be; else all numbers are given out; else there is no memory
 abbrev pub IsCauseAtBegin : {P : Type 0} → Refusal → ManagerFields P → Type 0
-IsCauseAtBegin refusal.TooManyOpen m = m.max_open ≤ map.len m.txs
-IsCauseAtBegin refusal.IdsSpent m = (map.len m.txs < m.max_open) × (m.max_ids ≤ m.begun)
-IsCauseAtBegin refusal.OutOfMemory m = (map.len m.txs < m.max_open) × (m.begun < m.max_ids)
+IsCauseAtBegin Refusal.TooManyOpen m = m.max_open ≤ map.len m.txs
+IsCauseAtBegin Refusal.IdsSpent m = (map.len m.txs < m.max_open) × (m.max_ids ≤ m.begun)
+IsCauseAtBegin Refusal.OutOfMemory m = (map.len m.txs < m.max_open) × (m.begun < m.max_ids)
 IsCauseAtBegin other m = ⊥
 
 -- A transaction begins: it has the next number and has done nothing. The history has it, and room for its end.
@@ -53,10 +48,10 @@ pub record HasBegun {P : Type 0} (old new : ManagerFields P) (tx : ℕ) : Type 0
   pub one : Transaction
   pub subtx : one.subtx ≡ started tx
   pub entries : one.undo.entries ≡ []
-  pub idle : one.at ≡ at.Idle
+  pub idle : one.at ≡ At.Idle
   pub pages : new.shared.pages ≡ old.shared.pages
   pub objects : new.shared.objects ≡ old.shared.objects
-  pub items : new.shared.history.items ≡ old.shared.history.items ++ trace.Begin tx ∷ []
+  pub items : new.shared.history.items ≡ old.shared.history.items ++ TraceItem.Begin tx ∷ []
   pub room : new.shared.history.room ≡ old.shared.history.room + 1
   pub rest : new ≡ record old {
     shared = new.shared;
@@ -95,17 +90,17 @@ pub record HasCalled {P : Type 0} (old new : ManagerFields P) (tx : ℕ) (op : O
 abbrev pub AnswersCall : {P : Type 0} → ManagerFields P → ManagerFields P → ℕ → ObjOp
     → Result (Unit {0}) Refusal → Type 0
 AnswersCall old new tx op (Ok done) = HasCalled old new tx op
-AnswersCall old new tx op (Err refusal.OutOfMemory) =
+AnswersCall old new tx op (Err Refusal.OutOfMemory) =
     MayCall old tx × CallsNone tx old.txs new.txs old.shared new.shared × ChangesOpen old new
 AnswersCall old new tx op (Err reason) = IsCauseAtCall reason old tx × (new ≡ old)
 
 -- a transaction that is told `Aborted` is open no more
 abbrev pub txs_after : Answer → ℕ → Table → Table
-txs_after answer.Aborted tx txs = map.remove txs tx
+txs_after Answer.Aborted tx txs = map.remove txs tx
 txs_after other tx txs = txs
 
 abbrev pub active_after : Answer → ℕ → set.FinSet nat_cmp → set.FinSet nat_cmp
-active_after answer.Aborted tx active = set.remove active tx
+active_after Answer.Aborted tx active = set.remove active tx
 active_after other tx active = active
 
 -- a transaction takes a step, and is open no more if it is told `Aborted`
@@ -123,8 +118,8 @@ pub record HasStepped {P : Type 0} (bits_of : P → ℕ → ℕ) (old new : Mana
 
 -- whoever it waits for is another transaction, which runs; and whoever blocks it is another, which is open
 abbrev pub IsByAnother : Answer → Table → ℕ → Type 0
-IsByAnother (answer.Waiting page by) txs tx = (by ≢ tx) × IsOpenAt txs by IsRunning
-IsByAnother (answer.Blocked by) txs tx = (by ≢ tx) × IsSome (map.get txs by)
+IsByAnother (Answer.Waiting page by) txs tx = (by ≢ tx) × IsOpenAt txs by IsRunning
+IsByAnother (Answer.Blocked by) txs tx = (by ≢ tx) × IsSome (map.get txs by)
 IsByAnother other txs tx = Unit {0}
 
 -- A step answers what the transaction tells of it; or why there is none.
@@ -135,9 +130,9 @@ AnswersStep bits_of old new tx (Err reason) = IsCauseAtStep reason old.txs tx ×
 
 -- why no operation is cancelled: there is none of this number; or its abort has begun; or it is at nothing
 abbrev pub IsCauseAtCancel : Refusal → Table → ℕ → Type 0
-IsCauseAtCancel refusal.NoSuchTx txs tx = IsNotOpen txs tx
-IsCauseAtCancel refusal.Undoing txs tx = IsOpenAt txs tx IsUndoing
-IsCauseAtCancel refusal.NotRunning txs tx = IsOpenAt txs tx IsIdle
+IsCauseAtCancel Refusal.NoSuchTx txs tx = IsNotOpen txs tx
+IsCauseAtCancel Refusal.Undoing txs tx = IsOpenAt txs tx IsUndoing
+IsCauseAtCancel Refusal.NotRunning txs tx = IsOpenAt txs tx IsIdle
 IsCauseAtCancel other txs tx = ⊥
 
 -- A cancel drops the pending operation; or it answers why not.
@@ -153,7 +148,7 @@ pub record HasEnded {P : Type 0} (old new : ManagerFields P) (tx : ℕ) (item : 
     : Type 0 where
   pub one : Transaction
   pub there : map.get old.txs tx ≡ Some one
-  pub idle : one.at ≡ at.Idle
+  pub idle : one.at ≡ At.Idle
   pub pages : new.shared.pages ≡ old.shared.pages
   pub held : new.shared.objects.held ≡ filter (is_of_other tx) old.shared.objects.held
   pub unreserved : reservation_of new.shared.objects.reserved tx ≡ None
@@ -166,7 +161,7 @@ pub record HasEnded {P : Type 0} (old new : ManagerFields P) (tx : ℕ) (item : 
 -- a transaction commits, under the next number
 pub record HasCommitted {P : Type 0} (old new : ManagerFields P) (tx number : ℕ) : Type 0 where
   pub next : number ≡ old.commits + 1
-  pub ends : HasEnded old new tx (trace.Commit tx number)
+  pub ends : HasEnded old new tx (TraceItem.Commit tx number)
   pub rest : new ≡ record old {
     shared = new.shared;
     txs = new.txs;
@@ -184,7 +179,7 @@ AnswersCommit old new tx (Err reason) = IsNotIdle reason old.txs tx × (new ≡ 
 -- a transaction that has nothing to take back is closed
 pub record HasClosed {P : Type 0} (old new : ManagerFields P) (tx : ℕ) : Type 0 where
   pub nothing : IsIdleWith old.txs tx 0
-  pub ends : HasEnded old new tx (trace.Abort tx)
+  pub ends : HasEnded old new tx (TraceItem.Abort tx)
   pub rest : new ≡ record old {
     shared = new.shared;
     txs = new.txs;
@@ -196,7 +191,7 @@ pub record HasBegunAbort {P : Type 0} (old new : ManagerFields P) (tx : ℕ) : T
   pub count : ℕ
   pub idle : IsIdleWith old.txs tx count
   pub some : 0 < count
-  pub puts : PutsOneAt tx (at.Undoing None) old.txs new.txs
+  pub puts : PutsOneAt tx (At.Undoing None) old.txs new.txs
   pub rest : new ≡ record old { txs = new.txs }
 
 -- An abort closes a transaction that has nothing to take back, and begins to take back what any

@@ -3,7 +3,6 @@ use Rattle.std.specs.Prelude.{ℕ, ◌≡◌, List, [], ◌∷◌, ◌++◌, Opt
 use Rattle.std.specs.Ordering.{nat_cmp}
 use Rattle.std.specs.FinMap as map
 use Rattle.mlt_page.specs.declared.page.Page.{Page}
-use Rattle.mlt_page.specs.declared.page.Page.TheVariants as page
 use Rattle.mlt_object_kinds.specs.Bases.{Base, Step, empty_base}
 use Rattle.mlt_object_kinds.specs.declared.operation.ObjOp.{ObjOp}
 use Rattle.mlt_object_kinds.specs.declared.operation.ObjReply.{ObjReply}
@@ -13,12 +12,9 @@ use Rattle.mlt_trace.specs.Entries.{entries_of}
 use Rattle.mlt_object_locks.specs.Locks.{IsLowestClash}
 use Rattle.mlt_trace.specs.declared.item.TraceItem.{TraceItem}
 use Rattle.mlt_hash_form.specs.File.{depth_of, header_of}
-use Rattle.mlt_trace.specs.declared.item.TraceItem.TheVariants as trace
 use Rattle.mlt_object_base.specs.declared.request.Request.TheVariants.{Do}
 use Rattle.mlt_event.specs.declared.answer.Answer.{Answer}
-use Rattle.mlt_event.specs.declared.answer.Answer.TheVariants as answer
 use Rattle.mlt_tx.specs.declared.transaction.At.{At}
-use Rattle.mlt_tx.specs.declared.transaction.At.TheVariants as at
 use Rattle.mlt_tx.specs.declared.transaction.Transaction.{Transaction}
 use Rattle.mlt_tx_open.specs.Tables.{KeepsImage, KeepsNoImage}
 use Rattle.mlt_manager.specs.Answers.{IsOpenAt}
@@ -48,7 +44,7 @@ pub record HasCleanPage {P : Type 0} (m : ManagerFields P) (number : ℕ) (page 
 pub record HasDepth {P : Type 0} (m : ManagerFields P) (depth : ℕ) : Type 0 where
   pub clean : map.FinMap nat_cmp Page
   pub is_clean : HasCleanPages m clean
-  pub header : map.get clean m.root.page ≡ Some (page.Head (header_of (map.get clean m.root.page)))
+  pub header : map.get clean m.root.page ≡ Some (Page.Head (header_of (map.get clean m.root.page)))
   pub is_depth : depth_of (map.get clean) m.root.page ≡ depth
 
 -- what is clean stays clean, and the history and what is held stay
@@ -59,7 +55,7 @@ pub record KeepsWhatCounts {P : Type 0} (old new : ManagerFields P) : Type 0 whe
 
 -- this operation is pending
 abbrev pub IsPendingWith : ObjOp → At → Type 0
-IsPendingWith op (at.Pending o) = o.request ≡ Do op
+IsPendingWith op (At.Pending o) = o.request ≡ Do op
 IsPendingWith op other = ⊥
 
 -- the item would be a step of the base, and clashes with what another transaction holds: this is the lowest such one
@@ -77,7 +73,7 @@ pub record BlocksPending {P : Type 0} (m : ManagerFields P) (tx : ℕ) (item : O
 -- the base has made this step, and the history has it
 pub record AddsStep {P : Type 0} (old new : ManagerFields P) (tx : ℕ) (item : ObjOp × ObjReply)
     : Type 0 where
-  pub items : new.shared.history.items ≡ old.shared.history.items ++ trace.Op tx item ∷ []
+  pub items : new.shared.history.items ≡ old.shared.history.items ++ TraceItem.Op tx item ∷ []
   pub leads : (base : Base) → HasBase old base
       → (next : Base) × Step base item next × HasBase new next
 
@@ -105,15 +101,15 @@ pub record TakesStepBack {P : Type 0} (old new : ManagerFields P) (tx : ℕ)
 -- one from which the last operation leads to what it was. Else, and where Blocked: what is clean,
 -- the history and what is held stay.
 abbrev pub LeavesBase : {P : Type 0} → Answer → ManagerFields P → ManagerFields P → ℕ → Type 0
-LeavesBase (answer.Done reply) old new tx = (op : ObjOp) × MakesStep old new tx (op, reply)
-LeavesBase (answer.Blocked by) old new tx =
+LeavesBase (Answer.Done reply) old new tx = (op : ObjOp) × MakesStep old new tx (op, reply)
+LeavesBase (Answer.Blocked by) old new tx =
     KeepsWhatCounts old new × ((item : ObjOp × ObjReply) × BlocksPending old tx item by)
-LeavesBase answer.Undone old new tx =
+LeavesBase Answer.Undone old new tx =
     (left : List (ObjOp × ObjReply)) × (last : ObjOp × ObjReply)
-    × TakesStepBack old new tx left last (trace.Back tx ∷ [])
-LeavesBase answer.Aborted old new tx =
+    × TakesStepBack old new tx left last (TraceItem.Back tx ∷ [])
+LeavesBase Answer.Aborted old new tx =
     (last : ObjOp × ObjReply)
-    × TakesStepBack old new tx [] last (trace.Back tx ∷ trace.Abort tx ∷ [])
+    × TakesStepBack old new tx [] last (TraceItem.Back tx ∷ TraceItem.Abort tx ∷ [])
 LeavesBase other old new tx = KeepsWhatCounts old new
 
 -- What a whole operation does that was told this. Done: the base makes its step. Blocked: it would
@@ -121,8 +117,8 @@ LeavesBase other old new tx = KeepsWhatCounts old new
 -- is held stay.
 abbrev pub WholeLeavesBase : {P : Type 0} → Answer → ManagerFields P → ManagerFields P → ℕ → ObjOp
     → Type 0
-WholeLeavesBase (answer.Done reply) old new tx op = AddsStep old new tx (op, reply)
-WholeLeavesBase (answer.Blocked by) old new tx op =
+WholeLeavesBase (Answer.Done reply) old new tx op = AddsStep old new tx (op, reply)
+WholeLeavesBase (Answer.Blocked by) old new tx op =
     KeepsWhatCounts old new × ((reply : ObjReply) × IsBlockedBy old tx (op, reply) by)
 WholeLeavesBase other old new tx op = KeepsWhatCounts old new
 
@@ -135,14 +131,14 @@ pub record TakesStepsBack {P : Type 0} (old new : ManagerFields P) (tx : ℕ)
   pub taken : List (ObjOp × ObjReply)
   pub entries : one.undo.entries ≡ left ++ taken
   pub items : new.shared.history.items
-      ≡ old.shared.history.items ++ (replicate (length taken) (trace.Back tx) ++ added)
+      ≡ old.shared.history.items ++ (replicate (length taken) (TraceItem.Back tx) ++ added)
   pub leads : (base : Base) → HasBase old base
       → (before : Base) × Runs Step before taken base × HasBase new before
 
 -- What a whole undoing does that was told this: the last operations of the transaction are taken
 -- back, one after another, and all of them where it is Aborted.
 abbrev pub UndoingLeavesBase : {P : Type 0} → Answer → ManagerFields P → ManagerFields P → ℕ → Type 0
-UndoingLeavesBase answer.Aborted old new tx = TakesStepsBack old new tx [] (trace.Abort tx ∷ [])
-UndoingLeavesBase (answer.Waiting page by) old new tx =
+UndoingLeavesBase Answer.Aborted old new tx = TakesStepsBack old new tx [] (TraceItem.Abort tx ∷ [])
+UndoingLeavesBase (Answer.Waiting page by) old new tx =
     (left : List (ObjOp × ObjReply)) × TakesStepsBack old new tx left []
 UndoingLeavesBase other old new tx = ⊥

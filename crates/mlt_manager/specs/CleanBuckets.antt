@@ -4,7 +4,6 @@ use Rattle.std.specs.Ordering.{nat_cmp}
 use Rattle.std.specs.FinMap as map
 use Rattle.mlt_page.specs.Values.{BucketFields, HeadFields}
 use Rattle.mlt_page.specs.declared.page.Page.{Page}
-use Rattle.mlt_page.specs.declared.page.Page.TheVariants as page
 use Rattle.mlt_hash_form.specs.File.{FilePages, dirs_of, entry}
 use Rattle.mlt_manager.specs.Bases.{HasCleanPages}
 use Rattle.mlt_manager.specs.Managers.{ManagerFields}
@@ -16,14 +15,14 @@ IsTrueOfClean m Is =
 
 -- the header of the clean pages
 abbrev pub IsCleanHead : {P : Type 0} → ManagerFields P → HeadFields → Type 0
-IsCleanHead m head = IsTrueOfClean m (λ pages. pages m.root.page ≡ Some (page.Head head))
+IsCleanHead m head = IsTrueOfClean m (λ pages. pages m.root.page ≡ Some (Page.Head head))
 
 -- the page of the directory that has this place, on the clean pages
 abbrev pub IsCleanDirectory : {P : Type 0} → ManagerFields P → ℕ → List ℕ → Type 0
 IsCleanDirectory m place dir = IsTrueOfClean m (λ pages.
-    pages (slice_index (dirs_of pages m.root.page) (place / 256)) ≡ Some (page.Dir dir))
+    pages (slice_index (dirs_of pages m.root.page) (place / 256)) ≡ Some (Page.Dir dir))
 
 -- the bucket to which this place leads, on the clean pages
 abbrev pub IsCleanBucket : {P : Type 0} → ManagerFields P → ℕ → BucketFields → Type 0
 IsCleanBucket m place bucket = IsTrueOfClean m (λ pages.
-    pages (entry pages (dirs_of pages m.root.page) place) ≡ Some (page.Bucket bucket))
+    pages (entry pages (dirs_of pages m.root.page) place) ≡ Some (Page.Bucket bucket))

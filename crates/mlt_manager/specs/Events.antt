@@ -2,11 +2,8 @@
 use Rattle.std.specs.Prelude.{ℕ, ◌≡◌, List, [], ◌∷◌, Result, Ok, Err}
 use Rattle.mlt_types.specs.declared.refusal.Refusal.{Refusal}
 use Rattle.mlt_event.specs.declared.answer.Answer.{Answer}
-use Rattle.mlt_event.specs.declared.answer.Answer.TheVariants as answer
 use Rattle.mlt_event.specs.declared.event.Event.{Event}
-use Rattle.mlt_event.specs.declared.event.Event.TheVariants as event
 use Rattle.mlt_event.specs.declared.told.Told.{Told}
-use Rattle.mlt_event.specs.declared.told.Told.TheVariants as told
 use Rattle.mlt_manager.specs.Answers.{AnswersAbort, AnswersBegin, AnswersCall, AnswersCancel, AnswersCommit, AnswersStep, IsByAnother, counted}
 use Rattle.mlt_manager.specs.Bases.{KeepsWhatCounts, LeavesBase, UndoingLeavesBase, WholeLeavesBase}
 use Rattle.mlt_manager.specs.Managers.{ManagerFields}
@@ -19,35 +16,35 @@ use Rattle.mlt_manager.specs.Wholes.{AnswersWhole}
 
 -- the answer to a step, or to the last of several, as an event is told it
 abbrev pub told_of : Result Answer Refusal → Told
-told_of (Ok answer) = told.Answered answer
-told_of (Err reason) = told.Refused reason
+told_of (Ok answer) = Told.Answered answer
+told_of (Err reason) = Told.Refused reason
 
 -- an event that was told this meets the contract of its call, from this manager to that one
 abbrev pub Meets : {P : Type 0} → (P → ℕ → ℕ) → Event → Told → ManagerFields P → ManagerFields P → Type 0
-Meets bits_of event.Begin (told.Begun tx) old new = AnswersBegin old new (Ok tx)
-Meets bits_of event.Begin (told.Refused reason) old new = AnswersBegin old new (Err reason)
-Meets bits_of (event.Call tx op) told.Called old new = AnswersCall old new tx op (Ok tt)
-Meets bits_of (event.Call tx op) (told.Refused reason) old new = AnswersCall old new tx op (Err reason)
-Meets bits_of (event.Step tx) (told.Answered answer) old new =
+Meets bits_of Event.Begin (Told.Begun tx) old new = AnswersBegin old new (Ok tx)
+Meets bits_of Event.Begin (Told.Refused reason) old new = AnswersBegin old new (Err reason)
+Meets bits_of (Event.Call tx op) Told.Called old new = AnswersCall old new tx op (Ok tt)
+Meets bits_of (Event.Call tx op) (Told.Refused reason) old new = AnswersCall old new tx op (Err reason)
+Meets bits_of (Event.Step tx) (Told.Answered answer) old new =
     AnswersStep bits_of old new tx (Ok answer) × LeavesBase answer old new tx
     × IsByAnother answer new.txs tx
-Meets bits_of (event.Step tx) (told.Refused reason) old new = AnswersStep bits_of old new tx (Err reason)
-Meets bits_of (event.Cancel tx) told.Cancelled old new =
+Meets bits_of (Event.Step tx) (Told.Refused reason) old new = AnswersStep bits_of old new tx (Err reason)
+Meets bits_of (Event.Cancel tx) Told.Cancelled old new =
     AnswersCancel old new tx (Ok tt) × KeepsWhatCounts old new
-Meets bits_of (event.Cancel tx) (told.Refused reason) old new = AnswersCancel old new tx (Err reason)
-Meets bits_of (event.Commit tx) (told.Committed number) old new = AnswersCommit old new tx (Ok number)
-Meets bits_of (event.Commit tx) (told.Refused reason) old new = AnswersCommit old new tx (Err reason)
-Meets bits_of (event.Abort tx) (told.Aborting closed) old new = AnswersAbort old new tx (Ok closed)
-Meets bits_of (event.Abort tx) (told.Refused reason) old new = AnswersAbort old new tx (Err reason)
-Meets bits_of (event.Whole tx op) (told.Answered answer) old new =
+Meets bits_of (Event.Cancel tx) (Told.Refused reason) old new = AnswersCancel old new tx (Err reason)
+Meets bits_of (Event.Commit tx) (Told.Committed number) old new = AnswersCommit old new tx (Ok number)
+Meets bits_of (Event.Commit tx) (Told.Refused reason) old new = AnswersCommit old new tx (Err reason)
+Meets bits_of (Event.Abort tx) (Told.Aborting closed) old new = AnswersAbort old new tx (Ok closed)
+Meets bits_of (Event.Abort tx) (Told.Refused reason) old new = AnswersAbort old new tx (Err reason)
+Meets bits_of (Event.Whole tx op) (Told.Answered answer) old new =
     AnswersWhole bits_of old new tx op (Ok answer) × WholeLeavesBase answer old new tx op
     × IsByAnother answer new.txs tx
-Meets bits_of (event.Whole tx op) (told.Refused reason) old new =
+Meets bits_of (Event.Whole tx op) (Told.Refused reason) old new =
     AnswersWhole bits_of old new tx op (Err reason)
-Meets bits_of (event.WholeUndo tx) (told.Answered answer) old new =
+Meets bits_of (Event.WholeUndo tx) (Told.Answered answer) old new =
     AnswersWholeUndo bits_of old new tx (Ok answer) × UndoingLeavesBase answer old new tx
     × IsByAnother answer new.txs tx
-Meets bits_of (event.WholeUndo tx) (told.Refused reason) old new =
+Meets bits_of (Event.WholeUndo tx) (Told.Refused reason) old new =
     AnswersWholeUndo bits_of old new tx (Err reason)
 Meets bits_of event other old new = ⊥
 
@@ -72,11 +69,11 @@ pub record Plays {P : Type 0} (bits_of : P → ℕ → ℕ) (limits : Limits) (p
 
 -- an event that leaves no operation and no inverse running, where none ran
 abbrev pub IsWholeEvent : Event → Type 0
-IsWholeEvent event.Begin = Unit {0}
-IsWholeEvent (event.Whole tx op) = Unit {0}
-IsWholeEvent (event.Commit tx) = Unit {0}
-IsWholeEvent (event.Abort tx) = Unit {0}
-IsWholeEvent (event.WholeUndo tx) = Unit {0}
+IsWholeEvent Event.Begin = Unit {0}
+IsWholeEvent (Event.Whole tx op) = Unit {0}
+IsWholeEvent (Event.Commit tx) = Unit {0}
+IsWholeEvent (Event.Abort tx) = Unit {0}
+IsWholeEvent (Event.WholeUndo tx) = Unit {0}
 IsWholeEvent other = ⊥
 
 -- whole events alone: begins, whole operations, commits, aborts and whole undoings
@@ -86,7 +83,7 @@ AreWholeEvents (event ∷ events) = IsWholeEvent event × AreWholeEvents events
 
 -- no answer is that one waits
 abbrev pub IsNoWait : Told → Type 0
-IsNoWait (told.Answered (answer.Waiting page by)) = ⊥
+IsNoWait (Told.Answered (Answer.Waiting page by)) = ⊥
 IsNoWait other = Unit {0}
 
 -- none is told that it waits

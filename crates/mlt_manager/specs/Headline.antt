@@ -13,7 +13,6 @@ use Rattle.mlt_object_kinds.specs.Bases.{Base, Step, account_at, counter_at, ele
 use Rattle.mlt_object_kinds.specs.declared.operation.ObjOp.{ObjOp}
 use Rattle.mlt_object_kinds.specs.declared.operation.ObjReply.{ObjReply}
 use Rattle.mlt_trace.specs.declared.item.TraceItem.{TraceItem}
-use Rattle.mlt_trace.specs.declared.item.TraceItem.TheVariants as trace
 use Rattle.mlt_page.specs.Values.{BucketFields}
 use Rattle.mlt_page.specs.declared.page.Page.{Page}
 use Rattle.mlt_page.specs.declared.page.Page.TheVariants.{Bucket}
@@ -29,14 +28,14 @@ pub record Transcripts : Type 0 where
 
 -- the transcripts after one more item of the history
 abbrev pub after_item : Transcripts → TraceItem → Transcripts
-after_item t (trace.Begin tx) = t
-after_item t (trace.Op tx done) =
+after_item t (TraceItem.Begin tx) = t
+after_item t (TraceItem.Op tx done) =
     record t { of_open = table_with t.of_open tx (t.of_open tx ++ done ∷ []) }
-after_item t (trace.Back tx) =
+after_item t (TraceItem.Back tx) =
     record t { of_open = table_with t.of_open tx (but_last (t.of_open tx)) }
-after_item t (trace.Commit tx number) =
+after_item t (TraceItem.Commit tx number) =
     record { committed = t.committed ++ t.of_open tx ∷ []; of_open = table_with t.of_open tx [] }
-after_item t (trace.Abort tx) = record t { of_open = table_with t.of_open tx [] }
+after_item t (TraceItem.Abort tx) = record t { of_open = table_with t.of_open tx [] }
 
 -- the transcripts that a whole history tells of
 abbrev pub transcripts_of : List TraceItem → Transcripts
@@ -73,8 +72,8 @@ pub record PagesMean (pages : map.FinMap nat_cmp Page) (base : Base) : Type 0 wh
 -- so `base` is what is left when they are taken back.
 pub record KeepsMainPromise {P : Type 0} (m : ManagerFields P) : Type 0 where
   pub none_back : (before later : List TraceItem) (tx number : ℕ)
-      → m.shared.history.items ≡ before ++ trace.Commit tx number ∷ later
-      → Contains before (trace.Back tx) → ⊥
+      → m.shared.history.items ≡ before ++ TraceItem.Commit tx number ∷ later
+      → Contains before (TraceItem.Back tx) → ⊥
   pub base : Base
   pub alone : IsSerialBase Step empty_base (transcripts_of m.shared.history.items).committed base
   pub clean : map.FinMap nat_cmp Page

@@ -3,7 +3,6 @@ use Rattle.std.specs.Prelude.{ℕ}
 use Rattle.mlt_tx.specs.Transactions.{IsPending}
 use Rattle.mlt_manager.specs.declared.parts.Parts.{Parts}
 use Rattle.mlt_manager.specs.declared.parts.TxStage.{TxStage}
-use Rattle.mlt_manager.specs.declared.parts.TxStage.TheVariants as stage
 use Rattle.mlt_manager.specs.Answers.{IsIdleWith, IsNotOpen, IsOpenAt, IsUndoing}
 use Rattle.mlt_tx_open.specs.Tables.{Table}
 use Rattle.mlt_manager.specs.Managers.{ManagerFields}
@@ -26,7 +25,7 @@ fields_of parts = record {
 
 -- what the transaction of this number is at
 abbrev pub IsStageOf : TxStage → Table → ℕ → Type 0
-IsStageOf stage.NotOpen txs tx = IsNotOpen txs tx
-IsStageOf (stage.Idle count) txs tx = IsIdleWith txs tx count
-IsStageOf stage.Pending txs tx = IsOpenAt txs tx IsPending
-IsStageOf stage.Undoing txs tx = IsOpenAt txs tx IsUndoing
+IsStageOf TxStage.NotOpen txs tx = IsNotOpen txs tx
+IsStageOf (TxStage.Idle count) txs tx = IsIdleWith txs tx count
+IsStageOf TxStage.Pending txs tx = IsOpenAt txs tx IsPending
+IsStageOf TxStage.Undoing txs tx = IsOpenAt txs tx IsUndoing

@@ -1,12 +1,11 @@
 -- Which page locks a transaction holds between two events: those of its operation's pass, or none
-use Rattle.std.specs.Prelude.{ℕ, ◌≡◌, ◌≢◌, ◌⊎◌, ◌↔◌, true, false, is_some, unwrap_or, List}
-use Rattle.std.specs.Prelude.{Option, None, Some, slice_index}
+use Rattle.std.specs.Prelude.{ℕ, ◌≡◌, ◌≢◌, ◌⊎◌, ◌↔◌, true, false, is_some, unwrap_or, List, Option, None, Some, slice_index}
 use Rattle.std.specs.FinMap as map
 use Rattle.mlt_types.specs.declared.mode.Mode.{Mode}
 use Rattle.mlt_types.specs.declared.mode.Mode.TheVariants.{Exclusive}
 use Rattle.mlt_object_base.specs.declared.request.Request.{Request}
 use Rattle.mlt_object_base.specs.Requests.{target_of}
-use Rattle.mlt_page.specs.declared.page.Page.TheVariants as page
+use Rattle.mlt_page.specs.declared.page.Page.{Page}
 use Rattle.mlt_page.specs.Values.{HeadFields}
 use Rattle.mlt_page_locks.specs.LockTables.{LockTable, Modes, is_holder, mode_held, pages_of}
 use Rattle.mlt_page_subtx.specs.Images.{Images, image_of}
@@ -15,21 +14,18 @@ use Rattle.mlt_hash_form.specs.Held.{over}
 use Rattle.mlt_hash_pair.specs.Pairs.{PairFields}
 use Rattle.mlt_hash_pair.specs.Descents.{IsLocked}
 use Rattle.mlt_hash_pair.specs.declared.descent.Descent.{Descent}
-use Rattle.mlt_hash_pair.specs.declared.descent.Descent.TheVariants as way
 use Rattle.mlt_hash.specs.Passes.{MayHoldMore, bucket_held, bucket_mode, directory_held}
 use Rattle.mlt_hash.specs.Passes.{directory_mode, header_held, header_mode}
 use Rattle.mlt_hash.specs.Walks.{WalkContext, WalkFields, context_by}
 use Rattle.mlt_hash.specs.declared.pass.Phase.{Phase}
-use Rattle.mlt_hash.specs.declared.pass.Phase.TheVariants as phase
 use Rattle.mlt_tx_two_records.specs.declared.two_records.TwoRecordWalk.{TwoRecordWalk}
 use Rattle.mlt_tx_two_records.specs.declared.two_records.TwoRecordWalk.TheVariants.{First, Owing, Wide}
-use Rattle.mlt_tx_two_records.specs.declared.two_records.WideStage.TheVariants as wide_stage
+use Rattle.mlt_tx_two_records.specs.declared.two_records.WideStage.{WideStage}
 use Rattle.mlt_tx_two_records.specs.FirstPass.{HasKeys}
 use Rattle.mlt_tx_operation.specs.declared.access_path.AccessPath.{AccessPath}
 use Rattle.mlt_tx_operation.specs.declared.access_path.AccessPath.TheVariants.{One, Two}
 use Rattle.mlt_tx_operation.specs.Operating.{OperationFields}
 use Rattle.mlt_tx.specs.declared.transaction.At.{At}
-use Rattle.mlt_tx.specs.declared.transaction.At.TheVariants as at
 use Rattle.mlt_tx.specs.declared.transaction.Transaction.{Transaction}
 use Rattle.mlt_manager_invariant.specs.States.{images_kept}
 use Rattle.mlt_manager.specs.Managers.{ManagerFields}
@@ -37,9 +33,9 @@ use Rattle.mlt_manager.specs.Managers.{ManagerFields}
 -- The operation that a transaction runs that is at this, if it runs one: the pending one, or the
 -- inverse by which its abort takes one back.
 abbrev pub running_at : At → Option OperationFields
-running_at at.Idle = None
-running_at (at.Pending o) = Some o
-running_at (at.Undoing inverting) = inverting
+running_at At.Idle = None
+running_at (At.Pending o) = Some o
+running_at (At.Undoing inverting) = inverting
 
 -- the operation that a transaction runs, if it is open and runs one
 abbrev pub running_of : Option Transaction → Option OperationFields
@@ -54,12 +50,12 @@ images_at there = unwrap_or (images_kept there) map.empty
 pub record KeysWay (context : WalkContext) (clean : FilePages) (key : ℕ) : Type 0 where
   -- the header, at the root
   pub header : HeadFields
-  pub head : clean context.root ≡ Some (page.Head header)
+  pub head : clean context.root ≡ Some (Page.Head header)
   -- the directory page that the header names for the key, and its entries
   pub dir : ℕ
   pub dir_is : dir ≡ dir_of header (context.bits key)
   pub entries : List ℕ
-  pub listed : clean dir ≡ Some (page.Dir entries)
+  pub listed : clean dir ≡ Some (Page.Dir entries)
   -- the bucket that the key's entry there names
   pub bucket : ℕ
   pub bucket_is : bucket ≡ slice_index entries (row_of header (context.bits key))
@@ -80,12 +76,12 @@ pub record HoldsWay (walk : WalkFields) (clean : FilePages) (images : Images)
 -- has come to, and no other: none, the header, the directory page too, the bucket too. From then on
 -- it holds all three, and what else its pass has written or made.
 abbrev pub LocksAt : Phase → WalkContext → FilePages → WalkFields → Images → Modes → Type 0
-LocksAt phase.Start context clean walk images modes = modes ≡ map.empty
-LocksAt (phase.Headed dir row depth) context clean walk images modes =
+LocksAt Phase.Start context clean walk images modes = modes ≡ map.empty
+LocksAt (Phase.Headed dir row depth) context clean walk images modes =
     modes ≡ header_held map.empty walk.pass context.root
-LocksAt (phase.Placed bucket depth) context clean walk images modes =
+LocksAt (Phase.Placed bucket depth) context clean walk images modes =
     (way : KeysWay context clean walk.key) × (modes ≡ directory_held map.empty walk.pass context.root way.dir)
-LocksAt (phase.AtBucket bucket depth found) context clean walk images modes =
+LocksAt (Phase.AtBucket bucket depth found) context clean walk images modes =
     (way : KeysWay context clean walk.key)
     × (modes ≡ bucket_held map.empty walk.pass walk.mode context.root way.dir way.bucket)
 LocksAt later context clean walk images modes =
@@ -95,13 +91,13 @@ LocksAt later context clean walk images modes =
 -- The way of a key on the clean pages, as far as a first pass to two keys has come on it: none, the
 -- header, the directory page too, the bucket too.
 abbrev pub IsOnWay : Descent → WalkContext → FilePages → ℕ → Type 0
-IsOnWay way.Start context clean key = Unit {0}
-IsOnWay (way.Headed place dir row) context clean key =
-    (header : HeadFields) × (clean context.root ≡ Some (page.Head header))
+IsOnWay Descent.Start context clean key = Unit {0}
+IsOnWay (Descent.Headed place dir row) context clean key =
+    (header : HeadFields) × (clean context.root ≡ Some (Page.Head header))
     × (dir ≡ dir_of header (context.bits key))
-IsOnWay (way.Placed dir bucket) context clean key =
+IsOnWay (Descent.Placed dir bucket) context clean key =
     (on : KeysWay context clean key) × (dir ≡ on.dir) × (bucket ≡ on.bucket)
-IsOnWay (way.AtBucket dir bucket found) context clean key =
+IsOnWay (Descent.AtBucket dir bucket found) context clean key =
     (on : KeysWay context clean key) × (dir ≡ on.dir) × (bucket ≡ on.bucket)
 
 -- The page locks of a first pass to two keys, those of the records that the request changes: a page
@@ -131,9 +127,9 @@ pub record HoldsBoth (root dir bucket : ℕ) (IsOfSize : ℕ → Type 0) (images
 -- By the walk's phase, those pages of the way to the size's key that it has come to, beside the
 -- header, on these pages: none, the directory page, the bucket too.
 abbrev pub LocksOverAt : Phase → WalkContext → FilePages → ℕ → ((ℕ → Type 0) → Type 0) → Type 0
-LocksOverAt phase.Start context pages key Holds = ⊥
-LocksOverAt (phase.Headed dir row depth) context pages key Holds = Holds (λ q. ⊥)
-LocksOverAt (phase.Placed bucket depth) context pages key Holds =
+LocksOverAt Phase.Start context pages key Holds = ⊥
+LocksOverAt (Phase.Headed dir row depth) context pages key Holds = Holds (λ q. ⊥)
+LocksOverAt (Phase.Placed bucket depth) context pages key Holds =
     (way : KeysWay context pages key) × Holds (λ q. q ≡ way.dir)
 LocksOverAt later context pages key Holds =
     (way : KeysWay context pages key) × Holds (λ q. (q ≡ way.dir) ⊎ (q ≡ way.bucket))
@@ -154,9 +150,9 @@ abbrev pub LocksOfTwo : TwoRecordWalk → WalkContext → FilePages → Request 
 LocksOfTwo (First pair) context clean request images modes = HoldsPair context clean request pair modes
 LocksOfTwo (Owing pair reply) context clean request images modes =
     HoldsPair context clean request pair modes
-LocksOfTwo (Wide wide_stage.Own walk) context clean request images modes =
+LocksOfTwo (Wide WideStage.Own walk) context clean request images modes =
     LocksAt walk.phase context clean walk images modes
-LocksOfTwo (Wide wide_stage.Size walk) context clean request images modes =
+LocksOfTwo (Wide WideStage.Size walk) context clean request images modes =
     HoldsOver context clean request walk images modes
 
 -- and of any operation

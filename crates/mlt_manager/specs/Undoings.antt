@@ -1,11 +1,8 @@
 -- A whole undoing: the steps of an abort, one after another
 use Rattle.std.specs.Prelude.{ℕ, ◌≡◌, Result, Ok, Err}
 use Rattle.mlt_types.specs.declared.refusal.Refusal.{Refusal}
-use Rattle.mlt_types.specs.declared.refusal.Refusal.TheVariants as refusal
 use Rattle.mlt_event.specs.declared.answer.Answer.{Answer}
-use Rattle.mlt_event.specs.declared.answer.Answer.TheVariants as answer
 use Rattle.mlt_tx.specs.declared.transaction.At.{At}
-use Rattle.mlt_tx.specs.declared.transaction.At.TheVariants as at
 use Rattle.mlt_tx_open.specs.Tables.{Table}
 use Rattle.mlt_manager.specs.Answers.{IsNotOpen, IsOpenAt, IsUndoing}
 use Rattle.mlt_manager.specs.Chains.{StepsUpTo}
@@ -13,14 +10,14 @@ use Rattle.mlt_manager.specs.Managers.{ManagerFields}
 
 -- an abort goes on, with the same inverse or with the next one
 abbrev pub GoesOnBack : Answer → Type 0
-GoesOnBack answer.Going = Unit {0}
-GoesOnBack answer.Undone = Unit {0}
+GoesOnBack Answer.Going = Unit {0}
+GoesOnBack Answer.Undone = Unit {0}
 GoesOnBack other = ⊥
 
 -- it waits, or is at its end
 abbrev pub StopsBack : Answer → Type 0
-StopsBack (answer.Waiting page by) = Unit {0}
-StopsBack answer.Aborted = Unit {0}
+StopsBack (Answer.Waiting page by) = Unit {0}
+StopsBack Answer.Aborted = Unit {0}
 StopsBack other = ⊥
 
 -- the steps of an abort, up to one that waits or is the last
@@ -30,13 +27,13 @@ StepsBackUpTo bits_of old new tx told = StepsUpTo bits_of GoesOnBack StopsBack o
 
 -- the abort of the transaction has not begun
 abbrev pub IsNotUndoing : At → Type 0
-IsNotUndoing (at.Undoing inverting) = ⊥
+IsNotUndoing (At.Undoing inverting) = ⊥
 IsNotUndoing other = Unit {0}
 
 -- why nothing is undone: there is none of this number, or its abort has not begun
 abbrev pub IsCauseAtUndo : Refusal → Table → ℕ → Type 0
-IsCauseAtUndo refusal.NoSuchTx txs tx = IsNotOpen txs tx
-IsCauseAtUndo refusal.NotRunning txs tx = IsOpenAt txs tx IsNotUndoing
+IsCauseAtUndo Refusal.NoSuchTx txs tx = IsNotOpen txs tx
+IsCauseAtUndo Refusal.NotRunning txs tx = IsOpenAt txs tx IsNotUndoing
 IsCauseAtUndo other txs tx = ⊥
 
 -- A whole undoing is the steps of an abort, up to one that waits or is told Aborted; or it answers

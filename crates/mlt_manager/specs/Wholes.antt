@@ -3,7 +3,6 @@ use Rattle.std.specs.Prelude.{ℕ, ◌≡◌, Result, Ok, Err}
 use Rattle.mlt_types.specs.declared.refusal.Refusal.{Refusal}
 use Rattle.mlt_object_kinds.specs.declared.operation.ObjOp.{ObjOp}
 use Rattle.mlt_event.specs.declared.answer.Answer.{Answer}
-use Rattle.mlt_event.specs.declared.answer.Answer.TheVariants as answer
 use Rattle.mlt_tx.specs.Transactions.{IsPending}
 use Rattle.mlt_tx_open.specs.Tables.{CancelsOne}
 use Rattle.mlt_manager.specs.Answers.{AnswersCall, ChangesOpen, HasCalled, IsOpenAt}
@@ -12,15 +11,15 @@ use Rattle.mlt_manager.specs.Managers.{ManagerFields}
 
 -- an operation goes on
 abbrev pub LetsGoOn : Answer → Type 0
-LetsGoOn answer.Going = Unit {0}
+LetsGoOn Answer.Going = Unit {0}
 LetsGoOn other = ⊥
 
 -- an operation is at its end, or stands
 abbrev pub Stops : Answer → Type 0
-Stops (answer.Waiting page by) = Unit {0}
-Stops (answer.Blocked by) = Unit {0}
-Stops (answer.Done reply) = Unit {0}
-Stops (answer.Refused reason) = Unit {0}
+Stops (Answer.Waiting page by) = Unit {0}
+Stops (Answer.Blocked by) = Unit {0}
+Stops (Answer.Done reply) = Unit {0}
+Stops (Answer.Refused reason) = Unit {0}
 Stops other = ⊥
 
 -- the steps of a pending operation, up to the first that does not go on
@@ -30,8 +29,8 @@ StepsOnUpTo bits_of old new tx told = StepsUpTo bits_of LetsGoOn Stops old new t
 
 -- where it stands, it is pending
 abbrev pub StandsIn : {P : Type 0} → ManagerFields P → ℕ → Answer → Type 0
-StandsIn m tx (answer.Waiting page by) = IsOpenAt m.txs tx IsPending
-StandsIn m tx (answer.Blocked by) = IsOpenAt m.txs tx IsPending
+StandsIn m tx (Answer.Waiting page by) = IsOpenAt m.txs tx IsPending
+StandsIn m tx (Answer.Blocked by) = IsOpenAt m.txs tx IsPending
 StandsIn m tx other = Unit {0}
 
 -- its pending operation is dropped
@@ -42,8 +41,8 @@ pub record IsDropped {P : Type 0} (old new : ManagerFields P) (tx : ℕ) : Type 
 
 -- an operation that waits or is blocked is dropped
 abbrev pub DropsIfItStands : {P : Type 0} → Answer → ManagerFields P → ManagerFields P → ℕ → Type 0
-DropsIfItStands (answer.Waiting page by) old new tx = IsDropped old new tx
-DropsIfItStands (answer.Blocked by) old new tx = IsDropped old new tx
+DropsIfItStands (Answer.Waiting page by) old new tx = IsDropped old new tx
+DropsIfItStands (Answer.Blocked by) old new tx = IsDropped old new tx
 DropsIfItStands other old new tx = new ≡ old
 
 -- its steps, and that it is dropped if it stands

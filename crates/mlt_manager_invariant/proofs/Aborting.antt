@@ -1,48 +1,14 @@
 -- An abort takes the last operation back that stands, and the transaction is closed
-use Rattle.std.proofs.Common.{◌≡◌, ◌≢◌, ℕ, ◌++◌, ◌∷◌, [], List, Option, Some, length, is_some, refl, sym, ap, subst, ◌∙◌, append_assoc, inl, inr, arith}
+use Rattle.std.proofs.Common.{◌≡◌, ◌≢◌, ℕ, ◌++◌, ◌∷◌, [], List, Option, Some, length, is_some, refl, sym, ap, subst, ◌∙◌, append_assoc, inl, inr, arith, filter, nat_cmp}
 use Rattle.std.specs.FinMap as map
 use Rattle.std.specs.FinSet as set
-use Rattle.std.specs.List.{filter}
-use Rattle.std.specs.Ordering.{nat_cmp}
-use Rattle.std.proofs.lemmas.Bool.{cases_eq}
-use Rattle.std.proofs.lemmas.Option.{none-some}
-use Rattle.mlt_page.specs.declared.page.Page.{Page}
-use Rattle.mlt_object_kinds.specs.Bases.{Base, Step}
-use Rattle.mlt_object_kinds.specs.declared.operation.ObjOp.{ObjOp}
-use Rattle.mlt_object_kinds.specs.declared.operation.ObjReply.{ObjReply}
-use Rattle.mlt_order.specs.Histories.{Entry, Lists, after_entry, but_last, lists_of, no_lists}
-use Rattle.mlt_order.specs.Histories.Entry.{Closed, TookBack}
-use Rattle.mlt_order.specs.Interleavings.{items_of}
-use Rattle.mlt_order.specs.Tables.{SameElsewhere}
-use Rattle.mlt_order.proofs.Growing.{after_entries-push, but_last-push}
-use Rattle.mlt_order.proofs.Tables.{changed}
-use Rattle.mlt_object_locks.specs.Locks.{Locks, SameReservations, is_of_other, reservation_of}
-use Rattle.mlt_trace.specs.declared.item.TraceItem.{TraceItem}
-use Rattle.mlt_trace.specs.declared.item.TraceItem.TheVariants as trace
-use Rattle.mlt_trace.specs.Entries.{entries_of}
-use Rattle.mlt_trace.specs.HistoryItems.{ItemsWithRoom}
-use Rattle.mlt_trace.specs.Numbers.{CountsFrom, begun_txs, commit_numbers}
-use Rattle.mlt_trace.specs.Rooms.{total_room}
-use Rattle.mlt_trace.proofs.ItemLaws.{entries_of-append, no_begin, no_commit}
-use Rattle.mlt_trace.proofs.RoomLaws.{total_room-remove}
-use Rattle.mlt_hash_subtx_laws.specs.CleanPages.{clean_pages}
-use Rattle.mlt_hash_access.specs.Views.{view_of}
-use Rattle.mlt_hash_subtx_laws.specs.Running.{KeepsRunning, after_close, clean_of, local_of}
-use Rattle.mlt_hash_subtx_laws.proofs.AllEvents.{close_clean, close_keeps}
+use Rattle.mlt_manager_invariant.proofs.Names.{cases_eq, none-some, Page, Base, Step, ObjOp, ObjReply, Entry, Lists, after_entry, but_last, lists_of, no_lists, TookBack, items_of, SameElsewhere, after_entries-push, but_last-push, changed, Locks, SameReservations, is_of_other, reservation_of, TraceItem, entries_of, ItemsWithRoom, CountsFrom, begun_txs, commit_numbers, total_room, entries_of-append, no_begin, no_commit, total_room-remove, clean_pages, view_of, KeepsRunning, after_close, clean_of, local_of, close_clean, close_keeps, PagesMeanHistory, lists_in, same_pages_match, no_more_by_end, OperationFields, Answer, SharedState, Transaction, Fits, IsSound, State, all_of, images_kept, is_undoing_at, room_of, undoing_of, abstract_state_of, LedBack, TakesLastBack}
+use Rattle.mlt_order.specs.Histories.Entry.{Closed}
 use Rattle.mlt_tx_meaning.specs.Events.{with_closed, with_undone as state_undone}
-use Rattle.mlt_tx_meaning.specs.AbstractStates.{PagesMeanHistory, lists_in}
 use Rattle.mlt_tx_meaning.proofs.OpenNumbers.{removed_beside, removed_here as closed_here}
 use Rattle.mlt_tx_meaning.proofs.Transactions.{close_keeps as close_keeps_match}
-use Rattle.mlt_tx_meaning.proofs.Matches.{same_pages_match}
-use Rattle.mlt_tx_meaning.proofs.Walks.{no_more_by_end}
-use Rattle.mlt_tx_operation.specs.Operating.{OperationFields}
-use Rattle.mlt_event.specs.declared.answer.Answer.TheVariants as answer
-use Rattle.mlt_tx.specs.declared.shared.SharedState.{SharedState}
-use Rattle.mlt_tx.specs.declared.transaction.Transaction.{Transaction}
 use Rattle.mlt_tx.specs.Steps.{TakesLast}
-use Rattle.mlt_manager_invariant.specs.Sound.{Fits, IsSound}
-use Rattle.mlt_manager_invariant.specs.States.{State, all_of, images_kept, is_undoing_at, room_of, undoing_of, abstract_state_of}
-use Rattle.mlt_manager_invariant.specs.Undoing.{LedBack, TakesLastBack, with_aborted}
+use Rattle.mlt_manager_invariant.specs.Undoing.{with_aborted}
 use Rattle.mlt_manager_invariant.proofs.Closing.{all_of_others, nothing_of, one_after_another}
 use Rattle.mlt_manager_invariant.proofs.InverseEnds.{cleared}
 use Rattle.mlt_manager_invariant.proofs.LastBack.{IsLeft, led_back, left, may_undo, pages_now, room_before}
@@ -50,15 +16,15 @@ use Rattle.mlt_manager_invariant.proofs.Openness.{agrees_in, keeps_fewer, active
 use Rattle.mlt_manager_invariant.proofs.Tables.{removed_elsewhere, removed_here, removed_inserted}
 
 module _ (s : State) (i : ℕ) (inverting : Option OperationFields) (before after : Transaction) (shared : SharedState)
-    (sound : IsSound s) (was : map.get s.txs i ≡ Some before) (takes : TakesLastBack s inverting before after shared answer.Aborted) where
+    (sound : IsSound s) (was : map.get s.txs i ≡ Some before) (takes : TakesLastBack s inverting before after shared Answer.Aborted) where
   abbrev last : TakesLast before.subtx.tx before.undo after.undo takes.ends.between shared
   last = takes.ends.takes
 
-  abbrev led : (base : Base) × Step base last.off.last s.base × PagesMeanHistory (state_undone (abstract_state_of s) i (pages_now s i before after shared answer.Aborted sound was inverting takes last.off) base)
-  led = led_back s i before after shared answer.Aborted sound was inverting takes last.off
+  abbrev led : (base : Base) × Step base last.off.last s.base × PagesMeanHistory (state_undone (abstract_state_of s) i (pages_now s i before after shared Answer.Aborted sound was inverting takes last.off) base)
+  led = led_back s i before after shared Answer.Aborted sound was inverting takes last.off
 
   abbrev rest : IsLeft s i after takes.ends.between shared last.off.last
-  rest = left s i before after shared answer.Aborted sound was inverting takes last.off
+  rest = left s i before after shared Answer.Aborted sound was inverting takes last.off
 
   abbrev now : State
   now = with_aborted s i shared led.0
@@ -74,15 +40,15 @@ module _ (s : State) (i : ℕ) (inverting : Option OperationFields) (before afte
 
   -- ---- the history
 
-  items_now : shared.history.items ≡ (old_items ++ trace.Back i ∷ []) ++ trace.Abort i ∷ []
+  items_now : shared.history.items ≡ (old_items ++ TraceItem.Back i ∷ []) ++ TraceItem.Abort i ∷ []
   items_now =
-      last.items ∙ ap (λ (h : ItemsWithRoom). h.items ++ trace.Back before.subtx.tx ∷ trace.Abort before.subtx.tx ∷ []) rest.history
-      ∙ ap (λ n. old_items ++ trace.Back n ∷ trace.Abort n ∷ []) number ∙ sym (append_assoc old_items (trace.Back i ∷ []) (trace.Abort i ∷ []))
+      last.items ∙ ap (λ (h : ItemsWithRoom). h.items ++ TraceItem.Back before.subtx.tx ∷ TraceItem.Abort before.subtx.tx ∷ []) rest.history
+      ∙ ap (λ n. old_items ++ TraceItem.Back n ∷ TraceItem.Abort n ∷ []) number ∙ sym (append_assoc old_items (TraceItem.Back i ∷ []) (TraceItem.Abort i ∷ []))
 
   history_now : entries_of shared.history.items ≡ (entries_of old_items ++ TookBack i ∷ []) ++ Closed i ∷ []
   history_now =
-      ap entries_of items_now ∙ entries_of-append (old_items ++ trace.Back i ∷ []) (trace.Abort i ∷ [])
-      ∙ ap (λ (h : List (Entry (ObjOp × ObjReply))). h ++ Closed i ∷ []) (entries_of-append old_items (trace.Back i ∷ []))
+      ap entries_of items_now ∙ entries_of-append (old_items ++ TraceItem.Back i ∷ []) (TraceItem.Abort i ∷ [])
+      ∙ ap (λ (h : List (Entry (ObjOp × ObjReply))). h ++ Closed i ∷ []) (entries_of-append old_items (TraceItem.Back i ∷ []))
 
   lists_between : lists_of (entries_of old_items ++ TookBack i ∷ []) ≡ after_entry old_lists (TookBack i)
   lists_between = after_entries-push (entries_of old_items) no_lists (TookBack i)
@@ -93,10 +59,10 @@ module _ (s : State) (i : ℕ) (inverting : Option OperationFields) (before afte
       ∙ ap (λ (l : Lists (ObjOp × ObjReply)). after_entry l (Closed i)) lists_between
 
   same_begun : begun_txs shared.history.items ≡ begun_txs old_items
-  same_begun = ap begun_txs items_now ∙ no_begin (old_items ++ trace.Back i ∷ []) (trace.Abort i) refl ∙ no_begin old_items (trace.Back i) refl
+  same_begun = ap begun_txs items_now ∙ no_begin (old_items ++ TraceItem.Back i ∷ []) (TraceItem.Abort i) refl ∙ no_begin old_items (TraceItem.Back i) refl
 
   same_commits : commit_numbers shared.history.items ≡ commit_numbers old_items
-  same_commits = ap commit_numbers items_now ∙ no_commit (old_items ++ trace.Back i ∷ []) (trace.Abort i) refl ∙ no_commit old_items (trace.Back i) refl
+  same_commits = ap commit_numbers items_now ∙ no_commit (old_items ++ TraceItem.Back i ∷ []) (TraceItem.Abort i) refl ∙ no_commit old_items (TraceItem.Back i) refl
 
   abbrev shorter : ℕ → List (ObjOp × ObjReply)
   shorter = (after_entry old_lists (TookBack i)).transcripts
@@ -120,11 +86,11 @@ module _ (s : State) (i : ℕ) (inverting : Option OperationFields) (before afte
   -- ---- the match
 
   abbrev pages : map.FinMap nat_cmp Page
-  pages = pages_now s i before after shared answer.Aborted sound was inverting takes last.off
+  pages = pages_now s i before after shared Answer.Aborted sound was inverting takes last.off
 
   closes : PagesMeanHistory (with_closed (state_undone (abstract_state_of s) i pages led.0) i (undoing_of now.txs))
   closes =
-      let may = may_undo s i before after shared answer.Aborted sound was inverting takes last.off in
+      let may = may_undo s i before after shared Answer.Aborted sound was inverting takes last.off in
       let same : SameElsewhere (undoing_of s.txs) (undoing_of now.txs) i = λ j ne. ap is_undoing_at (removed_elsewhere s.txs i j ne) in
       close_keeps_match (state_undone (abstract_state_of s) i pages led.0) i (undoing_of now.txs) led.2 may.is_open same (ap (λ (l : Lists (ObjOp × ObjReply)). l.transcripts i) lists_between ∙ none_left)
 
@@ -196,7 +162,7 @@ module _ (s : State) (i : ℕ) (inverting : Option OperationFields) (before afte
       let was_room = sound.room in
       let less = last.room ∙ ap (λ (h : ItemsWithRoom). h.room) rest.history in
       let total = total_room-remove room_of s.txs i before was in
-      let old = room_before s i before after shared answer.Aborted sound was inverting takes last.off in
+      let old = room_before s i before after shared Answer.Aborted sound was inverting takes last.off in
       let none = ap length last.none in
       omega (arith, was_room, less, total, old, none)
 

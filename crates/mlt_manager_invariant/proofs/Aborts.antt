@@ -2,20 +2,8 @@
 use Rattle.std.proofs.Common.{◌≡◌, ◌≢◌, ℕ, ◌≤◌, false, List, length, Some, is_some, refl, sym, ap, subst, ◌∙◌, inl, inr, arith}
 use Rattle.std.specs.FinMap as map
 use Rattle.std.specs.FinSet as set
-use Rattle.std.proofs.lemmas.Bool.{cases_eq}
-use Rattle.mlt_object_kinds.specs.declared.operation.ObjOp.{ObjOp}
-use Rattle.mlt_object_kinds.specs.declared.operation.ObjReply.{ObjReply}
-use Rattle.mlt_trace.proofs.RoomLaws.{total_room-insert}
-use Rattle.mlt_hash_subtx_laws.specs.Running.{HoldsNothing, KeepsRunning}
-use Rattle.mlt_object_undo.specs.Undo.{Undo}
-use Rattle.mlt_tx_meaning.specs.AbstractStates.{PagesMeanHistory}
+use Rattle.mlt_manager_invariant.proofs.Names.{cases_eq, ObjOp, ObjReply, total_room-insert, HoldsNothing, KeepsRunning, Undo, PagesMeanHistory, Running, At, Transaction, with_transaction, Fits, FitsAt, IsSound, State, all_of, images_kept, is_undoing, is_undoing_at, pending_room, room_of, undoing_of, abstract_state_of}
 use Rattle.mlt_tx_meaning.proofs.Transactions.{abort_keeps}
-use Rattle.mlt_page_subtx.specs.Images.{Running}
-use Rattle.mlt_tx.specs.declared.transaction.At.{At}
-use Rattle.mlt_tx.specs.declared.transaction.Transaction.{Transaction}
-use Rattle.mlt_manager_invariant.specs.Events.{with_transaction}
-use Rattle.mlt_manager_invariant.specs.Sound.{Fits, FitsAt, IsSound}
-use Rattle.mlt_manager_invariant.specs.States.{State, all_of, images_kept, is_undoing, is_undoing_at, pending_room, room_of, undoing_of, abstract_state_of}
 use Rattle.mlt_manager_invariant.specs.Transactions.{BeginsAbort}
 use Rattle.mlt_manager_invariant.proofs.Others.{still_fits}
 use Rattle.mlt_manager_invariant.proofs.Tables.{inserted_elsewhere, inserted_here}

@@ -2,37 +2,18 @@
 use Rattle.std.proofs.Common.{◌≡◌, ◌≢◌, ℕ, ◌≤◌, ◌<◌, ◌+◌, false, List, [], ◌∷◌, ◌++◌, length, None, Some, is_some, refl, sym, ap, subst, ◌∙◌, inl, inr, arith}
 use Rattle.std.specs.FinMap as map
 use Rattle.std.specs.FinSet as set
-use Rattle.std.proofs.lemmas.Bool.{cases_eq, false≢true}
-use Rattle.mlt_object_kinds.specs.declared.operation.ObjOp.{ObjOp}
-use Rattle.mlt_object_kinds.specs.declared.operation.ObjReply.{ObjReply}
-use Rattle.mlt_order.specs.Histories.{Entry, Lists, after_entry, lists_of, no_lists}
+use Rattle.mlt_manager_invariant.proofs.Names.{cases_eq, false≢true, ObjOp, ObjReply, Entry, Lists, after_entry, lists_of, no_lists, items_of, after_entries-push, TraceItem, Locks, reservation_of, entries_of, AreBegunInOrder, AreCounted, CountsFrom, begin_count, entries_of-append, no_commit, Running, LockedStore, clean_pages, view_of, AllRunning, HoldsNothing, KeepsRunning, clean_of, is_open, local_of, PagesMeanHistory, lists_in, same_pages_match, SharedState, At, Transaction, Fits, FitsAt, IsSound, State, all_of, images_kept, is_undoing_at, pending_room, room_of, undoing_of, abstract_state_of}
 use Rattle.mlt_order.specs.Histories.Entry.{Begun}
-use Rattle.mlt_order.specs.Interleavings.{items_of}
-use Rattle.mlt_order.proofs.Growing.{after_entries-push}
-use Rattle.mlt_trace.specs.declared.item.TraceItem.TheVariants as trace
-use Rattle.mlt_object_locks.specs.Locks.{Locks, reservation_of}
-use Rattle.mlt_trace.specs.Entries.{entries_of}
-use Rattle.mlt_trace.specs.Numbers.{AreBegunInOrder, AreCounted, CountsFrom, begin_count}
-use Rattle.mlt_trace.proofs.ItemLaws.{begin_keeps_order, begins_counted, entries_of-append, no_commit}
+use Rattle.mlt_trace.proofs.ItemLaws.{begin_keeps_order, begins_counted}
 use Rattle.mlt_trace.proofs.RoomLaws.{total_room-insert_new}
-use Rattle.mlt_page_subtx.specs.Images.{Running}
 use Rattle.mlt_page_subtx.proofs.ImageLaws.{not_there, not_true}
-use Rattle.mlt_hash_access.specs.declared.locked_store.LockedStore.{LockedStore}
-use Rattle.mlt_hash_subtx_laws.specs.CleanPages.{clean_pages}
-use Rattle.mlt_hash_access.specs.Views.{view_of}
-use Rattle.mlt_hash_subtx_laws.specs.Running.{AllRunning, HoldsNothing, KeepsRunning, after_begin, clean_of, is_open, local_of}
+use Rattle.mlt_hash_subtx_laws.specs.Running.{after_begin}
 use Rattle.mlt_hash_subtx_laws.proofs.AllEvents.{begin_clean, begin_keeps, nothing_at_begin}
 use Rattle.mlt_tx_meaning.specs.Events.{with_begun}
-use Rattle.mlt_tx_meaning.specs.AbstractStates.{PagesMeanHistory, lists_in}
 use Rattle.mlt_tx_meaning.proofs.OpenNumbers as numbers
 use Rattle.mlt_tx_meaning.proofs.Transactions as meeting
-use Rattle.mlt_tx_meaning.proofs.Matches.{lists_kept, same_pages_match}
+use Rattle.mlt_tx_meaning.proofs.Matches.{lists_kept}
 use Rattle.mlt_tx_meaning.proofs.Walks.{no_more_by_begin}
-use Rattle.mlt_tx.specs.declared.shared.SharedState.{SharedState}
-use Rattle.mlt_tx.specs.declared.transaction.At.{At}
-use Rattle.mlt_tx.specs.declared.transaction.Transaction.{Transaction}
-use Rattle.mlt_manager_invariant.specs.Sound.{Fits, FitsAt, IsSound}
-use Rattle.mlt_manager_invariant.specs.States.{State, all_of, images_kept, is_undoing_at, pending_room, room_of, undoing_of, abstract_state_of}
 use Rattle.mlt_manager_invariant.specs.Transactions.{Begins, with_next}
 use Rattle.mlt_manager_invariant.proofs.Lengths.{as_many_images}
 use Rattle.mlt_manager_invariant.proofs.Openness.{agrees_in, keeps_fewer, active_fits}
@@ -67,7 +48,7 @@ module _ (s : State) (t : Transaction) (shared : SharedState) (sound : IsSound s
   same_clean = ap clean_of same_all ∙ begin_clean (all_of s) i sound.running closed
 
   entries_now : entries_of shared.history.items ≡ entries_of s.shared.history.items ++ Begun i ∷ []
-  entries_now = ap entries_of k.items ∙ entries_of-append s.shared.history.items (trace.Begin i ∷ [])
+  entries_now = ap entries_of k.items ∙ entries_of-append s.shared.history.items (TraceItem.Begin i ∷ [])
 
   same_lists : lists_in (abstract_state_of now) ≡ after_entry (lists_in (abstract_state_of s)) (Begun i)
   same_lists = ap lists_of entries_now ∙ after_entries-push (entries_of s.shared.history.items) no_lists (Begun i)
@@ -140,8 +121,8 @@ module _ (s : State) (t : Transaction) (shared : SharedState) (sound : IsSound s
   in_order : AreBegunInOrder shared.history.items
   in_order =
       let items = s.shared.history.items in
-      let next : AreBegunInOrder (items ++ trace.Begin (begin_count items + 1) ∷ []) = begin_keeps_order items sound.begun in
-      let named : AreBegunInOrder (items ++ trace.Begin i ∷ []) = subst (λ (n : ℕ). AreBegunInOrder (items ++ trace.Begin (n + 1) ∷ [])) (sym sound.count) next in
+      let next : AreBegunInOrder (items ++ TraceItem.Begin (begin_count items + 1) ∷ []) = begin_keeps_order items sound.begun in
+      let named : AreBegunInOrder (items ++ TraceItem.Begin i ∷ []) = subst (λ (n : ℕ). AreBegunInOrder (items ++ TraceItem.Begin (n + 1) ∷ [])) (sym sound.count) next in
       subst AreBegunInOrder (sym k.items) named
 
   count : i ≡ begin_count shared.history.items
@@ -150,7 +131,7 @@ module _ (s : State) (t : Transaction) (shared : SharedState) (sound : IsSound s
   commits : AreCounted shared.history.items
   commits =
       let items = s.shared.history.items in
-      subst AreCounted (sym k.items) (subst (CountsFrom 1) (sym (no_commit items (trace.Begin i) refl)) sound.commits)
+      subst AreCounted (sym k.items) (subst (CountsFrom 1) (sym (no_commit items (TraceItem.Begin i) refl)) sound.commits)
 
   room_of_new : room_of t ≡ 1
   room_of_new =

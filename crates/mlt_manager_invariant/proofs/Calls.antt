@@ -1,27 +1,9 @@
 -- Calls, and the cancels of what was called
 use Rattle.std.proofs.Common.{◌≡◌, ℕ, length, Some, refl, sym, ap, subst, ◌∙◌, arith}
 use Rattle.std.specs.FinMap as map
-use Rattle.mlt_page_locks.specs.Requests.{released}
-use Rattle.mlt_trace.specs.HistoryItems.{ItemsWithRoom}
-use Rattle.mlt_page_subtx.specs.Images.{Running, put_back, started}
-use Rattle.mlt_object_undo.specs.Undo.{Undo}
-use Rattle.mlt_hash_access.specs.declared.locked_store.LockedStore.{LockedStore}
-use Rattle.mlt_hash_access.specs.LocalStates.{LocalState}
-use Rattle.mlt_hash_access.specs.Views.{view_of}
-use Rattle.mlt_hash_subtx_laws.specs.Running.{AllRunning, HoldsNothing, KeepsRunning, after_roll_back, clean_of, images_by, local_of}
-use Rattle.mlt_hash_subtx_laws.proofs.AllEvents.{nothing_after_roll_back}
-use Rattle.mlt_tx_meaning.specs.AbstractStates.{context_of}
-use Rattle.mlt_tx_operation.specs.Operating.{IsOperating, OperationFields, started_for}
-use Rattle.mlt_object_base.specs.declared.request.Request.TheVariants.{Do}
-use Rattle.mlt_tx_operation.proofs.Operations.{starts}
-use Rattle.mlt_tx.specs.declared.shared.SharedState.{SharedState}
-use Rattle.mlt_tx.specs.declared.transaction.At.{At}
-use Rattle.mlt_tx.specs.declared.transaction.At.TheVariants as at
-use Rattle.mlt_tx.specs.declared.transaction.Transaction.{Transaction}
+use Rattle.mlt_manager_invariant.proofs.Names.{released, ItemsWithRoom, Running, put_back, started, Undo, LockedStore, LocalState, view_of, AllRunning, HoldsNothing, KeepsRunning, after_roll_back, clean_of, images_by, local_of, nothing_after_roll_back, context_of, IsOperating, OperationFields, started_for, Do, starts, SharedState, At, Transaction, KeepsCleanPages, with_transaction, FitsAt, HasPending, IsSound, State, all_of, images_kept, is_undoing, pending_room, abstract_state_of}
 use Rattle.mlt_tx.specs.Transactions.{TellsOfCancel}
-use Rattle.mlt_manager_invariant.specs.Events.{Calls, KeepsCleanPages, with_transaction}
-use Rattle.mlt_manager_invariant.specs.Sound.{FitsAt, HasPending, IsSound}
-use Rattle.mlt_manager_invariant.specs.States.{State, all_of, images_kept, is_undoing, pending_room, abstract_state_of}
+use Rattle.mlt_manager_invariant.specs.Events.{Calls}
 use Rattle.mlt_manager_invariant.proofs.MaySteps.{is_open_now, same_local, unheld}
 use Rattle.mlt_manager_invariant.proofs.Pending.{back_to}
 use Rattle.mlt_manager_invariant.proofs.Stays.{stays_sound}
@@ -63,7 +45,7 @@ called_sound s i before after shared sound was c =
     })
 
 -- **So does a cancel.**
-pub cancelled_sound : (s : State) (i : ℕ) (o : OperationFields) (before after : Transaction) (shared : SharedState) → IsSound s → map.get s.txs i ≡ Some before → before.at ≡ at.Pending o
+pub cancelled_sound : (s : State) (i : ℕ) (o : OperationFields) (before after : Transaction) (shared : SharedState) → IsSound s → map.get s.txs i ≡ Some before → before.at ≡ At.Pending o
     → TellsOfCancel before after s.shared shared → KeepsCleanPages s i before after shared
 cancelled_sound s i o before after shared sound was pending_at c =
     let fits = sound.fits i before was in

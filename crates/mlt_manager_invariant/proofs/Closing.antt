@@ -1,10 +1,7 @@
 -- What is held and what runs once a transaction is closed
-use Rattle.std.proofs.Common.{◌≡◌, ◌≢◌, ℕ, List, [], ◌∷◌, true, false, not, nat_eq, cond, refl, ap, ◌∙◌}
-use Rattle.std.specs.List.{filter}
-use Rattle.mlt_order.specs.Interleavings.{items_of}
+use Rattle.std.proofs.Common.{◌≡◌, ◌≢◌, ℕ, List, [], ◌∷◌, true, false, not, nat_eq, cond, refl, ap, ◌∙◌, filter}
+use Rattle.mlt_manager_invariant.proofs.Names.{items_of, is_of_other, AllRunning, KeepsRunning}
 use Rattle.mlt_order.proofs.Parts.{items_of-without_other, items_of-without_same, without}
-use Rattle.mlt_object_locks.specs.Locks.{is_of_other}
-use Rattle.mlt_hash_subtx_laws.specs.Running.{AllRunning, KeepsRunning}
 
 filter_is_without : {P : Type 0} (i : ℕ) (xs : List (ℕ × P)) → filter (is_of_other i) xs ≡ without i xs
 filter_is_without i [] = refl

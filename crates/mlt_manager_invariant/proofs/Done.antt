@@ -1,47 +1,12 @@
 -- The end of an operation
-use Rattle.std.proofs.Common.{◌≡◌, ◌≢◌, ℕ, ◌+◌, Bool, true, false, List, [], ◌∷◌, ◌++◌, length, Option, Some, is_some, refl, sym, ap, subst, ◌∙◌, inl, inr, arith}
+use Rattle.std.proofs.Common.{◌≡◌, ◌≢◌, ℕ, ◌+◌, Bool, true, false, List, [], ◌∷◌, ◌++◌, length, Option, Some, is_some, refl, sym, ap, subst, ◌∙◌, inl, inr, arith, nat_cmp, length-append, Contains}
 use Rattle.std.specs.FinMap as map
-use Rattle.std.specs.Ordering.{nat_cmp}
-use Rattle.std.proofs.lemmas.Bool.{cases_eq}
-use Rattle.std.proofs.lemmas.List.{length-append}
-use Rattle.mlt_object_kinds.specs.Bases.{Base, Step}
-use Rattle.mlt_object_kinds.specs.declared.operation.ObjOp.{ObjOp}
-use Rattle.mlt_object_kinds.specs.declared.operation.ObjReply.{ObjReply}
-use Rattle.mlt_page.specs.declared.page.Page.{Page}
-use Rattle.mlt_page_locks.specs.Requests.{released}
-use Rattle.mlt_order.specs.Histories.{Entry, Lists, after_entry, lists_of, no_lists}
+use Rattle.mlt_manager_invariant.proofs.Names.{cases_eq, Base, Step, ObjOp, ObjReply, Page, released, Entry, Lists, after_entry, lists_of, no_lists, items_of, after_entries-push, Held, HoldsClash, SameReservations, TraceItem, entries_of, AreBegunInOrder, AreCounted, CountsFrom, begin_count, entries_of-append, no_begin, no_commit, total_room-insert, Running, view_of, AllRunning, HoldsNothing, KeepsRunning, after_end, clean_of, is_open, local_of, clean_pages, clashes, agrees_with_each, end_clean, end_keeps, nothing_at_end, EndsWith, sees_held_alone, IsOpInRange, PagesMeanHistory, lists_in, Do, OperationFields, SharedState, At, Transaction, Fits, FitsAt, HasPending, IsSound, State, all_of, images_kept, is_undoing, is_undoing_at, pending_room, room_of, undoing_of, abstract_state_of}
 use Rattle.mlt_order.specs.Histories.Entry.{Did}
-use Rattle.mlt_order.specs.Interleavings.{items_of}
-use Rattle.mlt_order.proofs.Growing.{after_entries-push}
 use Rattle.mlt_order.proofs.Tables.{with_entry-other, with_entry-same}
-use Rattle.mlt_object_locks.specs.Locks.{Held, HoldsClash, SameReservations}
-use Rattle.mlt_trace.specs.declared.item.TraceItem.TheVariants as trace
-use Rattle.mlt_trace.specs.Entries.{entries_of}
-use Rattle.mlt_trace.specs.Numbers.{AreBegunInOrder, AreCounted, CountsFrom, begin_count}
-use Rattle.mlt_trace.proofs.ItemLaws.{entries_of-append, no_begin, no_commit}
-use Rattle.mlt_trace.proofs.RoomLaws.{total_room-insert}
-use Rattle.mlt_page_subtx.specs.Images.{Running}
-use Rattle.mlt_hash_access.specs.Views.{view_of}
-use Rattle.mlt_hash_subtx_laws.specs.Running.{AllRunning, HoldsNothing, KeepsRunning, after_end, clean_of, is_open, local_of}
-use Rattle.mlt_hash_subtx_laws.specs.CleanPages.{clean_pages}
-use Rattle.mlt_object_conflicts.specs.Clashes.{clashes}
-use Rattle.std.specs.List.{Contains}
-use Rattle.mlt_hash_subtx_laws.proofs.AllRunning.{agrees_with_each}
-use Rattle.mlt_hash_subtx_laws.proofs.AllEvents.{end_clean, end_keeps, nothing_at_end}
-use Rattle.mlt_tx_meaning.specs.Ends.{EndsWith}
 use Rattle.mlt_tx_meaning.specs.Events.{MayDo, with_done}
-use Rattle.mlt_tx_meaning.proofs.TwoEnds.{sees_held_alone}
-use Rattle.mlt_tx_meaning.specs.Presences.{IsOpInRange}
-use Rattle.mlt_tx_meaning.specs.AbstractStates.{PagesMeanHistory, lists_in}
 use Rattle.mlt_tx_meaning.proofs.Operations.{operation_keeps}
-use Rattle.mlt_object_base.specs.declared.request.Request.TheVariants.{Do}
-use Rattle.mlt_tx_operation.specs.Operating.{OperationFields}
-use Rattle.mlt_tx.specs.declared.shared.SharedState.{SharedState}
-use Rattle.mlt_tx.specs.declared.transaction.At.{At}
-use Rattle.mlt_tx.specs.declared.transaction.Transaction.{Transaction}
 use Rattle.mlt_manager_invariant.specs.Events.{EndsPending, with_end}
-use Rattle.mlt_manager_invariant.specs.Sound.{Fits, FitsAt, HasPending, IsSound}
-use Rattle.mlt_manager_invariant.specs.States.{State, all_of, images_kept, is_undoing, is_undoing_at, pending_room, room_of, undoing_of, abstract_state_of}
 use Rattle.mlt_manager_invariant.proofs.Found.{IsAnswered, is_answered}
 use Rattle.mlt_manager_invariant.proofs.Grants.{granted_elsewhere, granted_here, nothing_clashes}
 use Rattle.mlt_manager_invariant.proofs.Others.{still_fits}
@@ -108,11 +73,11 @@ module _ (s : State) (i : ℕ) (o : OperationFields) (before after : Transaction
       let keeps = operation_keeps (abstract_state_of s) i e.ends.op pages sound.match (subst (λ (r : ObjReply). MayDo (abstract_state_of s) i (e.ends.op, r)) (sym answered.told) may_do) answered.changes in
       (keeps.0, subst (λ (r : ObjReply). Step s.base (e.ends.op, r) keeps.0) answered.told keeps.1, subst (λ (r : ObjReply). PagesMeanHistory (with_done (abstract_state_of s) i (e.ends.op, r) pages keeps.0)) answered.told keeps.2)
 
-  new_items : shared.history.items ≡ s.shared.history.items ++ trace.Op i (e.ends.op, e.ends.reply) ∷ []
-  new_items = e.ends.tells.1.items ∙ ap (λ (t : ℕ). s.shared.history.items ++ trace.Op t (e.ends.op, e.ends.reply) ∷ []) own.number
+  new_items : shared.history.items ≡ s.shared.history.items ++ TraceItem.Op i (e.ends.op, e.ends.reply) ∷ []
+  new_items = e.ends.tells.1.items ∙ ap (λ (t : ℕ). s.shared.history.items ++ TraceItem.Op t (e.ends.op, e.ends.reply) ∷ []) own.number
 
   new_entries : entries_of shared.history.items ≡ entries_of s.shared.history.items ++ Did i (e.ends.op, e.ends.reply) ∷ []
-  new_entries = ap entries_of new_items ∙ entries_of-append s.shared.history.items (trace.Op i (e.ends.op, e.ends.reply) ∷ [])
+  new_entries = ap entries_of new_items ∙ entries_of-append s.shared.history.items (TraceItem.Op i (e.ends.op, e.ends.reply) ∷ [])
 
   same_undo : is_undoing after.at ≡ is_undoing before.at
   same_undo = ap is_undoing e.idle ∙ sym (ap is_undoing e.pending)
@@ -187,9 +152,9 @@ module _ (s : State) (i : ℕ) (o : OperationFields) (before after : Transaction
           opened = opened_after s i before after was sound.opened;
           fits = fits_after s (with_end s i after shared goes.0) i after refl own_fits other_fits;
           held = held_now;
-          begun = subst AreBegunInOrder (sym new_items) (subst (CountsFrom 1) (sym (no_begin s.shared.history.items (trace.Op i (e.ends.op, e.ends.reply)) refl)) sound.begun);
-          count = sound.count ∙ sym (ap begin_count new_items ∙ ap length (no_begin s.shared.history.items (trace.Op i (e.ends.op, e.ends.reply)) refl));
-          commits = subst AreCounted (sym new_items) (subst (CountsFrom 1) (sym (no_commit s.shared.history.items (trace.Op i (e.ends.op, e.ends.reply)) refl)) sound.commits);
+          begun = subst AreBegunInOrder (sym new_items) (subst (CountsFrom 1) (sym (no_begin s.shared.history.items (TraceItem.Op i (e.ends.op, e.ends.reply)) refl)) sound.begun);
+          count = sound.count ∙ sym (ap begin_count new_items ∙ ap length (no_begin s.shared.history.items (TraceItem.Op i (e.ends.op, e.ends.reply)) refl));
+          commits = subst AreCounted (sym new_items) (subst (CountsFrom 1) (sym (no_commit s.shared.history.items (TraceItem.Op i (e.ends.op, e.ends.reply)) refl)) sound.commits);
           room = omega (arith, e.ends.tells.1.room, sound.room, rooms, longer, two, zero_now);
         },
       )

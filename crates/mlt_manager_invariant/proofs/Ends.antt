@@ -1,39 +1,15 @@
 -- A transaction that commits, or is closed with nothing left that it did
-use Rattle.std.proofs.Common.{◌≡◌, ◌≢◌, ℕ, ◌+◌, List, [], ◌∷◌, ◌++◌, length, None, Some, is_some, refl, sym, ap, subst, ◌∙◌, inl, inr, arith}
+use Rattle.std.proofs.Common.{◌≡◌, ◌≢◌, ℕ, ◌+◌, List, [], ◌∷◌, ◌++◌, length, None, Some, is_some, refl, sym, ap, subst, ◌∙◌, inl, inr, arith, filter}
 use Rattle.std.specs.FinMap as map
 use Rattle.std.specs.FinSet as set
-use Rattle.std.specs.List.{filter}
-use Rattle.std.proofs.lemmas.Bool.{cases_eq}
-use Rattle.mlt_object_kinds.specs.declared.operation.ObjOp.{ObjOp}
-use Rattle.mlt_object_kinds.specs.declared.operation.ObjReply.{ObjReply}
-use Rattle.mlt_order.specs.Histories.{Entry, Lists, after_entry, lists_of, no_lists}
-use Rattle.mlt_order.specs.Interleavings.{items_of}
-use Rattle.mlt_order.specs.Tables.{SameElsewhere, table_with}
-use Rattle.mlt_order.proofs.Growing.{after_entries-push}
-use Rattle.mlt_order.proofs.Tables.{changed}
-use Rattle.mlt_trace.specs.declared.item.TraceItem.{TraceItem}
-use Rattle.mlt_trace.specs.declared.item.TraceItem.TheVariants as trace
-use Rattle.mlt_object_locks.specs.Locks.{is_of_other}
-use Rattle.mlt_trace.specs.Entries.{entries_of, entry_of}
-use Rattle.mlt_trace.specs.Numbers.{AreCounted, CountsFrom, begun_txs, commit_count}
-use Rattle.mlt_trace.proofs.ItemLaws.{commit_keeps_counted, entries_of-append, no_begin, no_commit}
-use Rattle.mlt_trace.proofs.RoomLaws.{total_room-remove}
-use Rattle.mlt_hash_access.specs.declared.locked_store.LockedStore.{LockedStore}
-use Rattle.mlt_hash_subtx_laws.specs.CleanPages.{clean_pages}
-use Rattle.mlt_hash_access.specs.Views.{view_of}
-use Rattle.mlt_hash_subtx_laws.specs.Running.{AllRunning, HoldsNothing, KeepsRunning, after_close, clean_of, local_of}
-use Rattle.mlt_hash_subtx_laws.proofs.AllEvents.{close_clean, close_keeps}
+use Rattle.mlt_manager_invariant.proofs.Names.{cases_eq, ObjOp, ObjReply, Entry, Lists, after_entry, lists_of, no_lists, items_of, SameElsewhere, after_entries-push, changed, TraceItem, is_of_other, entries_of, AreCounted, CountsFrom, begun_txs, entries_of-append, no_begin, no_commit, total_room-remove, LockedStore, clean_pages, view_of, AllRunning, HoldsNothing, KeepsRunning, after_close, clean_of, local_of, close_clean, close_keeps, PagesMeanHistory, AbstractState, lists_in, same_pages_match, no_more_by_end, SharedState, At, Transaction, Fits, FitsAt, IsSound, State, all_of, images_kept, is_undoing_at, room_of, undoing_of, abstract_state_of}
+use Rattle.mlt_order.specs.Tables.{table_with}
+use Rattle.mlt_trace.specs.Entries.{entry_of}
+use Rattle.mlt_trace.specs.Numbers.{commit_count}
+use Rattle.mlt_trace.proofs.ItemLaws.{commit_keeps_counted}
 use Rattle.mlt_tx_meaning.specs.Events.{IsOpenAt}
-use Rattle.mlt_tx_meaning.specs.AbstractStates.{PagesMeanHistory, AbstractState, lists_in}
 use Rattle.mlt_tx_meaning.proofs.OpenNumbers as numbers
 use Rattle.mlt_tx_meaning.proofs.Transactions as meeting
-use Rattle.mlt_tx_meaning.proofs.Matches.{same_pages_match}
-use Rattle.mlt_tx_meaning.proofs.Walks.{no_more_by_end}
-use Rattle.mlt_tx.specs.declared.shared.SharedState.{SharedState}
-use Rattle.mlt_tx.specs.declared.transaction.At.{At}
-use Rattle.mlt_tx.specs.declared.transaction.Transaction.{Transaction}
-use Rattle.mlt_manager_invariant.specs.Sound.{Fits, FitsAt, IsSound}
-use Rattle.mlt_manager_invariant.specs.States.{State, all_of, images_kept, is_undoing_at, room_of, undoing_of, abstract_state_of}
 use Rattle.mlt_manager_invariant.specs.Transactions.{Ends, without_transaction}
 use Rattle.mlt_manager_invariant.proofs.Closing.{all_of_others, nothing_of}
 use Rattle.mlt_manager_invariant.proofs.Openness.{agrees_in, keeps_fewer, active_fits}
@@ -166,10 +142,10 @@ module _ (s : State) (i : ℕ) (before : Transaction) (shared : SharedState) (so
   same_undoing j ne = ap is_undoing_at (removed_elsewhere s.txs i j ne)
 
   -- **A commit keeps all that is always true,**
-  pub commit_sound : Ends s i before shared (trace.Commit i (commit_count s.shared.history.items + 1)) → IsSound (without_transaction s i shared)
+  pub commit_sound : Ends s i before shared (TraceItem.Commit i (commit_count s.shared.history.items + 1)) → IsSound (without_transaction s i shared)
   commit_sound k =
       let items = s.shared.history.items in
-      end_sound s i before shared (trace.Commit i (commit_count items + 1)) sound was k (record {
+      end_sound s i before shared (TraceItem.Commit i (commit_count items + 1)) sound was k (record {
         match = meeting.commit_keeps (abstract_state_of s) i (undoing_of (map.remove s.txs i)) sound.match is_open same_undoing;
         transcripts = refl;
         held = refl;
@@ -178,13 +154,13 @@ module _ (s : State) (i : ℕ) (before : Transaction) (shared : SharedState) (so
       })
 
   -- **and so does a close where nothing is left.**
-  pub close_sound : before.undo.entries ≡ [] → Ends s i before shared (trace.Abort i) → IsSound (without_transaction s i shared)
+  pub close_sound : before.undo.entries ≡ [] → Ends s i before shared (TraceItem.Abort i) → IsSound (without_transaction s i shared)
   close_sound none k =
       let items = s.shared.history.items in
-      end_sound s i before shared (trace.Abort i) sound was k (record {
+      end_sound s i before shared (TraceItem.Abort i) sound was k (record {
         match = meeting.close_keeps (abstract_state_of s) i (undoing_of (map.remove s.txs i)) sound.match is_open same_undoing (sym (sound.fits i before was).stands ∙ none);
         transcripts = refl;
         held = refl;
         begins = refl;
-        commits = subst (CountsFrom 1) (sym (no_commit items (trace.Abort i) refl)) sound.commits;
+        commits = subst (CountsFrom 1) (sym (no_commit items (TraceItem.Abort i) refl)) sound.commits;
       })

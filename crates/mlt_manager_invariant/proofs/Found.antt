@@ -1,42 +1,15 @@
 -- What an operation that is told its reply has found, and leaves of the clean pages
-use Rattle.std.proofs.Common.{◌≡◌, ℕ, None, Option, Some, refl, sym, ap, subst, ◌∙◌}
+use Rattle.std.proofs.Common.{◌≡◌, ℕ, None, Option, Some, refl, sym, ap, subst, ◌∙◌, nat_cmp}
 use Rattle.std.specs.FinMap as map
-use Rattle.std.specs.Ordering.{nat_cmp}
-use Rattle.std.proofs.lemmas.Option.{none-some}
-use Rattle.mlt_types.specs.Cells.{IsInRange}
-use Rattle.mlt_types.specs.declared.mode.Mode.{Mode}
-use Rattle.mlt_page.specs.declared.page.Page.{Page}
-use Rattle.mlt_object_kinds.specs.declared.operation.ObjOp.{ObjOp}
-use Rattle.mlt_object_kinds.specs.declared.operation.ObjReply.{ObjReply}
-use Rattle.mlt_object_kinds.specs.Operations.{cell_of}
-use Rattle.mlt_object_base.specs.declared.record.RecChange.{RecChange}
-use Rattle.mlt_object_base.specs.declared.request.Request.{Request}
-use Rattle.mlt_object_base.specs.declared.request.Request.TheVariants.{Do}
-use Rattle.mlt_object_base.specs.Effects.{changes_on, own_change_on, reply_of}
+use Rattle.mlt_manager_invariant.proofs.Names.{none-some, IsInRange, Mode, Page, ObjOp, ObjReply, cell_of, RecChange, Request, Do, changes_on, own_change_on, decision, size_key_of, target_of, Agrees, View, HasRead, Stands, WalkFields, Phase, leaves_as_told, IsTold, LeavesAsTold, Performs, TwoRecordWalk, AccessPath, One, Two, IsOperating, OperatesBy, OperationFields, StandsOrTold, FitsPhase, IsWalking, walking, ChangesPages, EndsWith, PagesMeanHistory, AbstractState, context_of, walk_leaves_change, found_is_record}
+use Rattle.mlt_object_base.specs.Effects.{reply_of}
 use Rattle.mlt_object_base.specs.Meaning.{changes_of, size_record_in, told_by}
-use Rattle.mlt_object_base.specs.Requests.{decision, size_key_of, target_of}
-use Rattle.mlt_hash_form.specs.Held.{Agrees, own_or_clean}
+use Rattle.mlt_hash_form.specs.Held.{own_or_clean}
 use Rattle.mlt_hash_form.specs.Records.{live_records}
-use Rattle.mlt_hash_access.specs.Views.{View}
-use Rattle.mlt_hash.specs.Walks.{HasRead, Stands, WalkFields}
-use Rattle.mlt_hash.specs.declared.pass.Phase.{Phase}
-use Rattle.mlt_hash.specs.declared.pass.Phase.TheVariants as at
 use Rattle.mlt_hash.proofs.Passed.{read_at_bucket}
-use Rattle.mlt_tx_two_records.proofs.LeftRecords.{leaves_as_told}
-use Rattle.mlt_tx_two_records.specs.TwoRecordWalks.{IsTold}
-use Rattle.mlt_tx_two_records.specs.Leaving.{LeavesAsTold}
-use Rattle.mlt_tx_two_records.specs.Performing.{Performs}
-use Rattle.mlt_tx_two_records.specs.declared.two_records.TwoRecordWalk.{TwoRecordWalk}
-use Rattle.mlt_tx_operation.specs.declared.access_path.AccessPath.{AccessPath}
-use Rattle.mlt_tx_operation.specs.declared.access_path.AccessPath.TheVariants.{One, Two}
-use Rattle.mlt_tx_operation.specs.Operating.{IsOperating, OperatesBy, OperationFields, StandsOrTold}
-use Rattle.mlt_tx_operation.specs.Walking.{FitsPhase, IsWalking, walking}
-use Rattle.mlt_tx_meaning.specs.Ends.{ChangesPages, EndsWith}
 use Rattle.mlt_tx_meaning.specs.Presences.{op_key}
-use Rattle.mlt_tx_meaning.specs.AbstractStates.{PagesMeanHistory, AbstractState, context_of, record_of}
+use Rattle.mlt_tx_meaning.specs.AbstractStates.{record_of}
 use Rattle.mlt_tx_meaning.proofs.TwoEnds.{done_leaves}
-use Rattle.mlt_tx_meaning.proofs.WalkEnds.{walk_leaves_change}
-use Rattle.mlt_tx_meaning.proofs.Walks.{found_is_record}
 use Rattle.mlt_manager_invariant.proofs.OneChange.{no_size_change, own_alone}
 
 -- the operation is told what the records ask for, and makes the changes that go with it
@@ -80,17 +53,17 @@ module _ (state : AbstractState) (i : ℕ) (o : OperationFields) (view : View) (
         ap (λ f. reply_of op f) (sym (found_here found read)) ∙ ap (λ (q : Request). decision q found) (sym asked) ∙ decided ∙ ap (λ x. (x, change)) one
 
     by_phase : (p : Phase) → walk.phase ≡ p → FitsPhase p (context_of state i) (walking o.request o.reply walk) view → Stands p (context_of state i) walk view → IsAnswered state i op reply pages
-    by_phase at.Start is fits stands = absurd (none-some reply (sym fits ∙ told))
-    by_phase (at.Headed dir row depth) is fits stands = absurd (none-some reply (sym fits ∙ told))
-    by_phase (at.Placed bucket depth) is fits stands = absurd (none-some reply (sym fits ∙ told))
-    by_phase (at.AtBucket bucket depth found) is fits stands =
+    by_phase Phase.Start is fits stands = absurd (none-some reply (sym fits ∙ told))
+    by_phase (Phase.Headed dir row depth) is fits stands = absurd (none-some reply (sym fits ∙ told))
+    by_phase (Phase.Placed bucket depth) is fits stands = absurd (none-some reply (sym fits ∙ told))
+    by_phase (Phase.AtBucket bucket depth found) is fits stands =
         let read = read_at_bucket (context_of state i) walk view bucket depth found stands in
         answered_by state i op reply pages None alone (decided_here found fits.0 None read fits.1 fits.2)
         (λ q. ends.ends q ∙ ap (λ own. own_or_clean own (map.get state.pages q)) (stands.unwritten.own q))
-    by_phase (at.Full next) is fits stands = absurd fits
-    by_phase (at.Adding value bucket room_depth unsplit) is fits stands = absurd (none-some reply (sym fits.0 ∙ told))
-    by_phase (at.Splitting value room_depth) is fits stands = absurd (none-some reply (sym fits.0 ∙ told))
-    by_phase (at.Changed bucket done) is fits stands =
+    by_phase (Phase.Full next) is fits stands = absurd fits
+    by_phase (Phase.Adding value bucket room_depth unsplit) is fits stands = absurd (none-some reply (sym fits.0 ∙ told))
+    by_phase (Phase.Splitting value room_depth) is fits stands = absurd (none-some reply (sym fits.0 ∙ told))
+    by_phase (Phase.Changed bucket done) is fits stands =
         answered_by state i op reply pages (Some fits.decided) alone (decided_here fits.found fits.reply (Some fits.decided) fits.read fits.told fits.asked)
         (walk_leaves_change state i pages walk view bucket done stands agree ends.ends match.file.form (cell_of op) fits.decided key_is
         (subst (λ (f : Option ℕ). Performs fits.decided f done) (found_here fits.found fits.read) fits.performs))

@@ -1,16 +1,10 @@
 -- Held operations, by their transactions
-use Rattle.std.proofs.Common.{◌≡◌, ◌≢◌, ℕ, Bool, true, false, List, [], ◌∷◌, ◌++◌, refl, sym, ap, subst, ◌∙◌, inl, inr, arith}
-use Rattle.std.specs.List.{Contains}
-use Rattle.std.proofs.lemmas.Bool.{cases_eq}
-use Rattle.std.proofs.lemmas.List.Elements.{Contains-append_cases, Contains-append_right}
+use Rattle.std.proofs.Common.{◌≡◌, ◌≢◌, ℕ, Bool, true, false, List, [], ◌∷◌, ◌++◌, refl, sym, ap, subst, ◌∙◌, inl, inr, arith, Contains}
+use Rattle.mlt_manager_invariant.proofs.Names.{cases_eq, Contains-append_right, ObjOp, ObjReply, items_of, clashes, Held, HoldsClash}
+use Rattle.std.proofs.lemmas.List.Elements.{Contains-append_cases}
 use Rattle.mlt_order.proofs.RunLemmas.{contains-nothing}
-use Rattle.mlt_object_kinds.specs.declared.operation.ObjOp.{ObjOp}
-use Rattle.mlt_object_kinds.specs.declared.operation.ObjReply.{ObjReply}
-use Rattle.mlt_order.specs.Interleavings.{items_of}
 use Rattle.mlt_order.proofs.Parts.{items_of-append, items_of-other, items_of-same}
 use Rattle.mlt_order.proofs.Stages.{contains-one}
-use Rattle.mlt_object_conflicts.specs.Clashes.{clashes}
-use Rattle.mlt_object_locks.specs.Locks.{Held, HoldsClash}
 
 first_item : {A : Type 0} (e x : A) (es : List A) → e ≡ x → Contains (e ∷ es) x
 first_item e x es is = (0, omega arith, is)

@@ -1,52 +1,14 @@
 -- What the end of an inverse makes of the clean pages
-use Rattle.std.proofs.Common.{◌≡◌, ℕ, [], Option, None, Some, IsSome, is_some, true, refl, sym, ap, subst, ◌∙◌, inl, inr}
-use Rattle.std.proofs.lemmas.Bool.{cases_eq, false≢true}
+use Rattle.std.proofs.Common.{◌≡◌, ℕ, [], Option, None, Some, IsSome, is_some, true, refl, sym, ap, subst, ◌∙◌, inl, inr, nat_cmp}
+use Rattle.mlt_manager_invariant.proofs.Names.{cases_eq, false≢true, IsInRange, Mode, Page, ObjOp, ObjReply, cell_of, RecChange, Request, TakeBack, inverse_of, changes_on, decision, size_key_of, target_of, same_entries, released, Running, Agrees, View, view_of, WalkContext, HasRead, Stands, WalkFields, Phase, leaves_as_told, IsTold, LeavesAsTold, Performs, TwoRecordWalk, AccessPath, One, Two, OperatesBy, OperationFields, StandsOrTold, FitsPhase, IsWalking, walking, clean_pages, AllRunning, HoldsNothing, KeepsRunning, after_end, clean_of, is_open, local_of, end_clean, end_keeps, nothing_at_end, agrees_with_each, ChangesPages, EndsWith, context_of, sees_held_alone, walk_leaves_change, found_is_record, SharedState, Transaction, HasInverse, IsSound, State, all_of, images_kept, abstract_state_of}
 use Rattle.std.specs.FinMap as map
-use Rattle.std.specs.Ordering.{nat_cmp}
-use Rattle.mlt_types.specs.Cells.{IsInRange}
-use Rattle.mlt_types.specs.declared.mode.Mode.{Mode}
-use Rattle.mlt_page.specs.declared.page.Page.{Page}
-use Rattle.mlt_object_kinds.specs.declared.operation.ObjOp.{ObjOp}
-use Rattle.mlt_object_kinds.specs.declared.operation.ObjReply.{ObjReply}
-use Rattle.mlt_object_kinds.specs.Operations.{cell_of}
-use Rattle.mlt_object_base.specs.declared.record.RecChange.{RecChange}
-use Rattle.mlt_object_base.specs.declared.request.Request.{Request}
-use Rattle.mlt_object_base.specs.declared.request.Request.TheVariants.{TakeBack}
-use Rattle.mlt_object_base.specs.Effects.{inverse_of, changes_on}
 use Rattle.mlt_object_base.specs.Meaning.{changes_back}
-use Rattle.mlt_object_base.specs.Requests.{decision, size_key_of, target_of}
-use Rattle.mlt_page_locks.proofs.Maps.{same_entries}
-use Rattle.mlt_page_locks.specs.Requests.{released}
-use Rattle.mlt_page_subtx.specs.Images.{Running}
-use Rattle.mlt_hash_form.specs.Held.{Agrees}
-use Rattle.mlt_hash_access.specs.Views.{View, view_of}
-use Rattle.mlt_hash.specs.Walks.{WalkContext, HasRead, IsChanged, Stands, WalkFields}
+use Rattle.mlt_hash.specs.Walks.{IsChanged}
 use Rattle.mlt_hash.specs.declared.pass.Change.{Change}
-use Rattle.mlt_hash.specs.declared.pass.Phase.{Phase}
-use Rattle.mlt_hash.specs.declared.pass.Phase.TheVariants as phase
-use Rattle.mlt_tx_two_records.proofs.LeftRecords.{leaves_as_told}
-use Rattle.mlt_tx_two_records.specs.TwoRecordWalks.{IsTold}
-use Rattle.mlt_tx_two_records.specs.Leaving.{LeavesAsTold}
-use Rattle.mlt_tx_two_records.specs.Performing.{Performs}
-use Rattle.mlt_tx_two_records.specs.declared.two_records.TwoRecordWalk.{TwoRecordWalk}
-use Rattle.mlt_tx_operation.specs.declared.access_path.AccessPath.{AccessPath}
-use Rattle.mlt_tx_operation.specs.declared.access_path.AccessPath.TheVariants.{One, Two}
-use Rattle.mlt_tx_operation.specs.Operating.{OperatesBy, OperationFields, StandsOrTold}
-use Rattle.mlt_tx_operation.specs.Walking.{FitsPhase, IsWalking, WalkingFields, walking}
-use Rattle.mlt_hash_subtx_laws.specs.CleanPages.{clean_pages}
-use Rattle.mlt_hash_subtx_laws.specs.Running.{AllRunning, HoldsNothing, KeepsRunning, after_end, clean_of, is_open, local_of}
-use Rattle.mlt_hash_subtx_laws.proofs.AllEvents.{end_clean, end_keeps, nothing_at_end}
-use Rattle.mlt_hash_subtx_laws.proofs.AllRunning.{agrees_with_each}
-use Rattle.mlt_tx_meaning.specs.Ends.{ChangesPages, EndsWith, LeavesChange}
-use Rattle.mlt_tx_meaning.specs.AbstractStates.{context_of}
-use Rattle.mlt_tx_meaning.proofs.TwoEnds.{sees_held_alone, undone_leaves}
-use Rattle.mlt_tx_meaning.proofs.WalkEnds.{walk_leaves_change}
-use Rattle.mlt_tx_meaning.proofs.Walks.{found_is_record}
-use Rattle.mlt_tx.specs.declared.shared.SharedState.{SharedState}
-use Rattle.mlt_tx.specs.declared.transaction.Transaction.{Transaction}
+use Rattle.mlt_tx_operation.specs.Walking.{WalkingFields}
+use Rattle.mlt_tx_meaning.specs.Ends.{LeavesChange}
+use Rattle.mlt_tx_meaning.proofs.TwoEnds.{undone_leaves}
 use Rattle.mlt_tx.specs.Endings.{EndsSubtx}
-use Rattle.mlt_manager_invariant.specs.Sound.{HasInverse, IsSound}
-use Rattle.mlt_manager_invariant.specs.States.{State, all_of, images_kept, abstract_state_of}
 use Rattle.mlt_manager_invariant.proofs.OneChange.{no_inverse_no_size, no_size_inverse, own_alone}
 use Rattle.mlt_manager_invariant.proofs.Tables.{inserted_elsewhere, inserted_here}
 
@@ -66,16 +28,16 @@ no_reply o some none = false≢true (sym (ap is_some none) ∙ some)
 
 has_changed : (p : Phase) (context : WalkContext) (o : WalkingFields) (view : View) (item : ObjOp × ObjReply) → IsSome o.reply → IsSome (inverse_of item) → o.request ≡ TakeBack item
     → Stands p context o.walk view → FitsPhase p context o view → HasChanged context o view item
-has_changed phase.Start context o view item some has asked stands fits = absurd (no_reply o some fits)
-has_changed (phase.Headed dir row depth) context o view item some has asked stands fits = absurd (no_reply o some fits)
-has_changed (phase.Placed bucket depth) context o view item some has asked stands fits = absurd (no_reply o some fits)
-has_changed (phase.AtBucket bucket depth found) context o view item some has asked stands fits =
+has_changed Phase.Start context o view item some has asked stands fits = absurd (no_reply o some fits)
+has_changed (Phase.Headed dir row depth) context o view item some has asked stands fits = absurd (no_reply o some fits)
+has_changed (Phase.Placed bucket depth) context o view item some has asked stands fits = absurd (no_reply o some fits)
+has_changed (Phase.AtBucket bucket depth found) context o view item some has asked stands fits =
     let none : inverse_of item ≡ None = ap (λ (d : ObjReply × Option RecChange). d.1) (ap (λ (r : Request). decision r found) (sym asked) ∙ fits.2) in
     absurd (false≢true (sym (ap is_some none) ∙ has))
-has_changed (phase.Full next) context o view item some has asked stands fits = absurd fits
-has_changed (phase.Adding value bucket depth unsplit) context o view item some has asked stands fits = absurd (no_reply o some fits.0)
-has_changed (phase.Splitting value depth) context o view item some has asked stands fits = absurd (no_reply o some fits.0)
-has_changed (phase.Changed bucket done) context o view item some has asked stands fits = record {
+has_changed (Phase.Full next) context o view item some has asked stands fits = absurd fits
+has_changed (Phase.Adding value bucket depth unsplit) context o view item some has asked stands fits = absurd (no_reply o some fits.0)
+has_changed (Phase.Splitting value depth) context o view item some has asked stands fits = absurd (no_reply o some fits.0)
+has_changed (Phase.Changed bucket done) context o view item some has asked stands fits = record {
   bucket = bucket;
   done = done;
   change = fits.decided;

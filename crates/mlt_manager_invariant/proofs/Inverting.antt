@@ -1,44 +1,24 @@
 -- Steps of an inverse before its end
 use Rattle.std.proofs.Common.{◌≡◌, ℕ, ◌+◌, List, [], ◌∷◌, ◌++◌, length, None, Option, Some, IsSome, refl, sym, ap, subst, ◌∙◌, arith}
 use Rattle.std.specs.FinMap as map
-use Rattle.mlt_object_kinds.specs.declared.operation.ObjOp.{ObjOp}
-use Rattle.mlt_object_kinds.specs.declared.operation.ObjReply.{ObjReply}
-use Rattle.mlt_object_base.specs.Effects.{inverse_of}
+use Rattle.mlt_manager_invariant.proofs.Names.{ObjOp, ObjReply, inverse_of, ItemsWithRoom, Undo, LocalState, local, view_of, AllRunning, local_of, context_of, TakeBack, starts, IsOperating, OperationFields, Answer, SharedState, At, Transaction, KeepsCleanPages, with_transaction, FitsAt, HasInverse, IsSound, State, all_of, is_undoing, pending_room, room_of, abstract_state_of}
 use Rattle.mlt_order.proofs.Growing.{one_last}
-use Rattle.mlt_trace.specs.HistoryItems.{ItemsWithRoom}
-use Rattle.mlt_object_undo.specs.Undo.{Undo}
-use Rattle.mlt_hash_access.specs.LocalStates.{LocalState, local}
-use Rattle.mlt_hash_access.specs.Views.{view_of}
-use Rattle.mlt_hash_subtx_laws.specs.Running.{AllRunning, local_of}
-use Rattle.mlt_tx_meaning.specs.AbstractStates.{context_of}
-use Rattle.mlt_object_base.specs.declared.request.Request.TheVariants.{TakeBack}
-use Rattle.mlt_tx_operation.proofs.Operations.{starts}
 use Rattle.mlt_tx_operation.specs.Answers.{StepsOn, Waits}
-use Rattle.mlt_tx_operation.specs.Operating.{IsOperating, OperationFields}
-use Rattle.mlt_event.specs.declared.answer.Answer.{Answer}
-use Rattle.mlt_event.specs.declared.answer.Answer.TheVariants as answer
-use Rattle.mlt_tx.specs.declared.shared.SharedState.{SharedState}
-use Rattle.mlt_tx.specs.declared.transaction.At.{At}
-use Rattle.mlt_tx.specs.declared.transaction.At.TheVariants as at
-use Rattle.mlt_tx.specs.declared.transaction.Transaction.{Transaction}
 use Rattle.mlt_tx.specs.Steps.{InverseSteps, inverse_from}
 use Rattle.mlt_tx.specs.Transactions.{StepsBack}
-use Rattle.mlt_manager_invariant.specs.Events.{KeepsCleanPages, with_transaction}
-use Rattle.mlt_manager_invariant.specs.Sound.{FitsAt, HasInverse, IsSound}
-use Rattle.mlt_manager_invariant.specs.States.{State, all_of, is_undoing, pending_room, room_of, abstract_state_of}
 use Rattle.mlt_manager_invariant.proofs.MaySteps.{last_in_range, same_local, unheld}
 use Rattle.mlt_manager_invariant.proofs.Turning.{local_now, sound_after, stays_all, turns_all}
 
 module _ (s : State) (i : ℕ) (inverting next : Option OperationFields) (before after : Transaction) (shared : SharedState)
-    (sound : IsSound s) (was : map.get s.txs i ≡ Some before) (back_at : before.at ≡ at.Undoing inverting) (now_at : after.at ≡ at.Undoing next) where
-  here : FitsAt (at.Undoing inverting) s i before
+    (sound : IsSound s) (was : map.get s.txs i ≡ Some before) (back_at : before.at ≡ At.Undoing inverting) (now_at : after.at ≡ At.Undoing next) where
+  here : FitsAt (At.Undoing inverting) s i before
   here = subst (λ (a : At). FitsAt a s i before) back_at (sound.fits i before was).where_at
 
   -- the inverse that runs, or is to begin, has something to take back
   has_inverse : (front : List (ObjOp × ObjReply)) (last : ObjOp × ObjReply) → before.undo.entries ≡ front ++ last ∷ [] → (inverting ≡ None → IsSome (inverse_of last)) → IsSome (inverse_of last)
   has_inverse front last entries begins = by inverting refl here
     where
-      by : (o : Option OperationFields) → inverting ≡ o → FitsAt (at.Undoing o) s i before → IsSome (inverse_of last)
+      by : (o : Option OperationFields) → inverting ≡ o → FitsAt (At.Undoing o) s i before → IsSome (inverse_of last)
       by None is fits = begins is
       by (Some o) is fits = subst (λ (x : ObjOp × ObjReply). IsSome (inverse_of x)) (one_last fits.front front fits.last last (sym fits.entries ∙ entries)) fits.has
 
@@ -46,7 +26,7 @@ module _ (s : State) (i : ℕ) (inverting next : Option OperationFields) (before
   now_operates : (front : List (ObjOp × ObjReply)) (last : ObjOp × ObjReply) → before.undo.entries ≡ front ++ last ∷ [] → IsOperating (context_of (abstract_state_of s) i) (inverse_from inverting last) (view_of (local before.subtx s.shared.pages))
   now_operates front last entries = subst (λ (m : LocalState). IsOperating (context_of (abstract_state_of s) i) (inverse_from inverting last) (view_of m)) (same_local s i before sound was) (by inverting here)
     where
-      by : (o : Option OperationFields) → FitsAt (at.Undoing o) s i before → IsOperating (context_of (abstract_state_of s) i) (inverse_from o last) (view_of (local_of (all_of s) i))
+      by : (o : Option OperationFields) → FitsAt (At.Undoing o) s i before → IsOperating (context_of (abstract_state_of s) i) (inverse_from o last) (view_of (local_of (all_of s) i))
       by None fits = starts (context_of (abstract_state_of s) i) (TakeBack last) (local_of (all_of s) i) (last_in_range s i before sound was front last entries) (unheld (all_of s) i fits.0)
       by (Some o) fits = fits.operates
 
@@ -63,7 +43,7 @@ module _ (s : State) (i : ℕ) (inverting next : Option OperationFields) (before
         has = has_inverse step.front step.last step.entries step.begins;
         operates = subst (λ (m : LocalState). IsOperating (context_of (abstract_state_of s) i) step.after (view_of m)) (sym (local_now s i after shared all.images own tx)) operates;
       } in
-      subst (λ (a : At). FitsAt a (with_transaction s i after shared all.images) i after) (sym now_at) (subst (λ (o : Option OperationFields). FitsAt (at.Undoing o) (with_transaction s i after shared all.images) i after) (sym step.is) stands)
+      subst (λ (a : At). FitsAt a (with_transaction s i after shared all.images) i after) (sym now_at) (subst (λ (o : Option OperationFields). FitsAt (At.Undoing o) (with_transaction s i after shared all.images) i after) (sym step.is) stands)
 
   rooms : (Is : OperationFields → OperationFields → Type 0) → InverseSteps inverting next before.undo after.undo s.shared shared Is → shared.history.room + room_of before ≡ s.shared.history.room + room_of after
   rooms Is step =
@@ -94,11 +74,11 @@ module _ (s : State) (i : ℕ) (inverting next : Option OperationFields) (before
       (goes _ step (all_of s) t.own t.number operates)
 
 -- **A step of an inverse before its end keeps all that is always true.**
-pub inverse_sound : (s : State) (i : ℕ) (inverting : Option OperationFields) (before after : Transaction) (shared : SharedState) (told : Answer) → IsSound s → map.get s.txs i ≡ Some before → before.at ≡ at.Undoing inverting
-    → StepsBack (context_of (abstract_state_of s) i) inverting before after s.shared shared told → ((told ≡ answer.Undone) → ⊥) → ((told ≡ answer.Aborted) → ⊥)
+pub inverse_sound : (s : State) (i : ℕ) (inverting : Option OperationFields) (before after : Transaction) (shared : SharedState) (told : Answer) → IsSound s → map.get s.txs i ≡ Some before → before.at ≡ At.Undoing inverting
+    → StepsBack (context_of (abstract_state_of s) i) inverting before after s.shared shared told → ((told ≡ Answer.Undone) → ⊥) → ((told ≡ Answer.Aborted) → ⊥)
     → KeepsCleanPages s i before after shared
-inverse_sound s i inverting before after shared answer.Going sound was back_at steps undone aborted = steps_on s i inverting steps.next before after shared sound was back_at steps.now_at steps.tells
-inverse_sound s i inverting before after shared (answer.Waiting page by) sound was back_at steps undone aborted = waits s i inverting steps.next before after shared sound was back_at steps.now_at page by steps.tells
-inverse_sound s i inverting before after shared answer.Undone sound was back_at steps undone aborted = absurd (undone refl)
-inverse_sound s i inverting before after shared answer.Aborted sound was back_at steps undone aborted = absurd (aborted refl)
+inverse_sound s i inverting before after shared Answer.Going sound was back_at steps undone aborted = steps_on s i inverting steps.next before after shared sound was back_at steps.now_at steps.tells
+inverse_sound s i inverting before after shared (Answer.Waiting page by) sound was back_at steps undone aborted = waits s i inverting steps.next before after shared sound was back_at steps.now_at page by steps.tells
+inverse_sound s i inverting before after shared Answer.Undone sound was back_at steps undone aborted = absurd (undone refl)
+inverse_sound s i inverting before after shared Answer.Aborted sound was back_at steps undone aborted = absurd (aborted refl)
 inverse_sound s i inverting before after shared other sound was back_at steps undone aborted = absurd steps.tells

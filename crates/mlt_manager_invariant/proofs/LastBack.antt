@@ -1,31 +1,12 @@
 -- What the clean pages and the base are once the last operation is taken back
-use Rattle.std.proofs.Common.{◌≡◌, ℕ, ◌+◌, ◌∷◌, [], Option, None, Some, length, is_some, refl, sym, ap, subst, ◌∙◌, arith}
-use Rattle.std.proofs.lemmas.List.{length-append}
+use Rattle.std.proofs.Common.{◌≡◌, ℕ, ◌+◌, ◌∷◌, [], Option, None, Some, length, is_some, refl, sym, ap, subst, ◌∙◌, arith, length-append, nat_cmp}
 use Rattle.std.specs.FinMap as map
-use Rattle.std.specs.Ordering.{nat_cmp}
-use Rattle.mlt_types.specs.Cells.{IsInRange}
-use Rattle.mlt_page.specs.declared.page.Page.{Page}
-use Rattle.mlt_object_kinds.specs.Bases.{Base, Step}
-use Rattle.mlt_object_kinds.specs.declared.operation.ObjOp.{ObjOp}
-use Rattle.mlt_object_kinds.specs.declared.operation.ObjReply.{ObjReply}
-use Rattle.mlt_object_kinds.specs.Operations.{cell_of}
-use Rattle.mlt_page_subtx.specs.Images.{Running}
-use Rattle.mlt_hash_subtx_laws.specs.CleanPages.{clean_pages}
-use Rattle.mlt_tx_meaning.specs.Events.{MayUndo, with_undone}
-use Rattle.mlt_tx_meaning.specs.AbstractStates.{PagesMeanHistory}
+use Rattle.mlt_manager_invariant.proofs.Names.{IsInRange, Page, Base, Step, ObjOp, ObjReply, cell_of, Running, clean_pages, MayUndo, PagesMeanHistory, OperationFields, Answer, SharedState, At, Transaction, FitsAt, IsSound, State, images_kept, is_undoing, is_undoing_at, pending_room, room_of, abstract_state_of, TakesLastBack}
+use Rattle.mlt_tx_meaning.specs.Events.{with_undone}
 use Rattle.mlt_tx_meaning.proofs.Undoing.{undoing_keeps, undone_in_range}
-use Rattle.mlt_tx_operation.specs.Operating.{OperationFields}
-use Rattle.mlt_event.specs.declared.answer.Answer.{Answer}
 use Rattle.mlt_hash_access.proofs.Rebased.{same_some}
-use Rattle.mlt_tx.specs.declared.shared.SharedState.{SharedState}
-use Rattle.mlt_tx.specs.declared.transaction.At.{At}
-use Rattle.mlt_tx.specs.declared.transaction.At.TheVariants as at
-use Rattle.mlt_tx.specs.declared.transaction.Transaction.{Transaction}
 use Rattle.mlt_tx.specs.Steps.{TakesOff}
 use Rattle.mlt_tx.proofs.Backing.{one_last}
-use Rattle.mlt_manager_invariant.specs.Sound.{FitsAt, IsSound}
-use Rattle.mlt_manager_invariant.specs.States.{State, images_kept, is_undoing, is_undoing_at, pending_room, room_of, abstract_state_of}
-use Rattle.mlt_manager_invariant.specs.Undoing.{TakesLastBack}
 use Rattle.mlt_manager_invariant.proofs.InverseEnds.{IsCleared, cleared_by_inverse, cleared_without}
 
 -- the transaction holds nothing, and nothing but the pages has changed
@@ -50,7 +31,7 @@ module _ (s : State) (i : ℕ) (before after : Transaction) (shared : SharedStat
     }
 
   left_by : (inverting : Option OperationFields) (takes : TakesLastBack s inverting before after shared told) (off : TakesOff before.subtx.tx before.undo after.undo takes.ends.between shared)
-      → FitsAt (at.Undoing inverting) s i before → IsLeft s i after takes.ends.between shared off.last
+      → FitsAt (At.Undoing inverting) s i before → IsLeft s i after takes.ends.between shared off.last
   left_by None takes off fits =
       let same = takes.ends.fast refl in
       record {

@@ -1,16 +1,10 @@
 -- Tables with the same numbers have as many entries
 use Prim.Native.Nat.{zero}
-use Rattle.std.proofs.Common.{◌≡◌, ℕ, suc, List, [], ◌∷◌, length, Option, None, Some, is_some, true, refl, sym, ap, ◌∙◌, arith}
+use Rattle.std.proofs.Common.{◌≡◌, ℕ, suc, List, [], ◌∷◌, length, Option, None, Some, is_some, true, refl, sym, ap, ◌∙◌, arith, nat_cmp}
 use Rattle.std.specs.FinMap as map
 use Rattle.std.specs.FinMap.Entries.{find}
-use Rattle.std.specs.Ordering.{nat_cmp}
 use Rattle.std.specs.Cmp.{nat_cmp_total, unsigned_tied}
-use Rattle.std.proofs.lemmas.Bool.{false≢true}
-use Rattle.std.proofs.lemmas.Bool.Decides.{nat_tests}
-use Rattle.mlt_page_locks.proofs.Maps.{get_removed}
-use Rattle.mlt_tx.specs.declared.transaction.Transaction.{Transaction}
-use Rattle.mlt_manager_invariant.specs.Sound.{IsSound}
-use Rattle.mlt_manager_invariant.specs.States.{State, images_kept}
+use Rattle.mlt_manager_invariant.proofs.Names.{false≢true, nat_tests, get_removed, Transaction, IsSound, State, images_kept}
 
 abbrev HasNumber : {X : Type 0} → map.FinMap nat_cmp X → ℕ → Type 0
 HasNumber m q = is_some (map.get m q) ≡ true

@@ -1,3 +1,4 @@
+mod Names
 pub mod Aborting
 pub mod Aborts
 pub mod Begins

@@ -1,40 +1,17 @@
 -- Each open transaction that is not idle may take a step
-use Rattle.std.proofs.Common.{◌≡◌, ◌≢◌, ℕ, ◌+◌, ◌≤◌, true, false, List, [], ◌∷◌, ◌++◌, length, Option, None, Some, is_some, unwrap_or, refl, sym, ap, subst, ◌∙◌, arith}
+use Rattle.std.proofs.Common.{◌≡◌, ◌≢◌, ℕ, ◌+◌, ◌≤◌, true, false, List, [], ◌∷◌, ◌++◌, length, Option, None, Some, is_some, unwrap_or, refl, sym, ap, subst, ◌∙◌, arith, length-append, Contains}
 use Rattle.std.specs.FinMap as map
-use Rattle.std.proofs.lemmas.Bool.{false≢true}
-use Rattle.std.proofs.lemmas.List.{length-append}
-use Rattle.std.proofs.lemmas.List.Elements.{Contains-append_right}
-use Rattle.std.specs.List.{Contains}
-use Rattle.std.proofs.lemmas.Option.{none-some}
-use Rattle.mlt_object_kinds.specs.declared.operation.ObjOp.{ObjOp}
-use Rattle.mlt_object_kinds.specs.declared.operation.ObjReply.{ObjReply}
-use Rattle.mlt_object_kinds.specs.Operations.{cell_of}
-use Rattle.mlt_types.specs.Cells.{IsInRange}
+use Rattle.mlt_manager_invariant.proofs.Names.{false≢true, Contains-append_right, none-some, ObjOp, ObjReply, cell_of, IsInRange, reservation_of, Images, LocalState, local, view_of, AllRunning, HoldsNothing, clean_of, is_open, local_of, Stands, Do, TakeBack, size_key_of, starts, IsOperating, OperationFields, started_for, MayUndo, context_of, At, Transaction, Fits, FitsAt, HasPending, IsSound, State, all_of, images_kept, is_undoing, is_undoing_at, pending_room, room_of, abstract_state_of}
 use Rattle.mlt_trace.proofs.RoomLaws.{room_within_total}
-use Rattle.mlt_object_locks.specs.Locks.{reservation_of}
 use Rattle.mlt_page_locks.specs.LockTables.{Modes, pages_of}
-use Rattle.mlt_page_subtx.specs.Images.{AreThere, Images}
-use Rattle.mlt_hash_access.specs.LocalStates.{LocalState, local}
-use Rattle.mlt_hash_access.specs.Views.{view_of}
-use Rattle.mlt_hash_subtx_laws.specs.Running.{AllRunning, HoldsNothing, clean_of, is_open, local_of}
+use Rattle.mlt_page_subtx.specs.Images.{AreThere}
 use Rattle.mlt_hash_subtx_laws.proofs.AllRunning.{clean_for_each, each_may_step}
-use Rattle.mlt_hash.specs.Walks.{Stands}
-use Rattle.mlt_object_base.specs.declared.request.Request.TheVariants.{Do, TakeBack}
-use Rattle.mlt_object_base.specs.Requests.{size_key_of}
-use Rattle.mlt_tx_operation.proofs.Operations.{starts}
-use Rattle.mlt_tx_operation.specs.Operating.{CanDo, CanDoBy, IsOperating, MayOperate, OperationFields, started_for}
-use Rattle.mlt_tx_meaning.specs.Events.{MayUndo}
-use Rattle.mlt_tx_meaning.specs.AbstractStates.{context_of}
+use Rattle.mlt_tx_operation.specs.Operating.{CanDo, CanDoBy, MayOperate}
 use Rattle.mlt_tx_meaning.proofs.Matches.{in_range_there}
 use Rattle.mlt_tx_meaning.proofs.TwoEnds.{can_do_both, can_take_back_both}
 use Rattle.mlt_tx_meaning.proofs.Walks.{undone_is_there}
-use Rattle.mlt_tx.specs.declared.transaction.At.{At}
-use Rattle.mlt_tx.specs.declared.transaction.At.TheVariants as at
-use Rattle.mlt_tx.specs.declared.transaction.Transaction.{Transaction}
 use Rattle.mlt_tx.specs.Steps.{IsInverting, MayStepBack, MayStepOn}
 use Rattle.mlt_tx.specs.Transactions.{MayStepAt, MayStepIn}
-use Rattle.mlt_manager_invariant.specs.Sound.{Fits, FitsAt, HasPending, IsSound}
-use Rattle.mlt_manager_invariant.specs.States.{State, all_of, images_kept, is_undoing, is_undoing_at, pending_room, room_of, abstract_state_of}
 
 -- a list that is not empty has a last item
 pub last_of_some : {A : Type 0} (xs : List A) → (xs ≡ [] → ⊥) → (front : List A) × (last : A) × (xs ≡ front ++ last ∷ [])
@@ -94,7 +71,7 @@ module _ (s : State) (i : ℕ) (t : Transaction) (sound : IsSound s) (is : map.g
       by None = tt
       by (Some size) = can_do_both (abstract_state_of s) i sound.match op range
 
-  may_step_on : (o : OperationFields) → t.at ≡ at.Pending o → MayStepOn (context_of (abstract_state_of s) i) o t.subtx t.undo s.shared × (2 ≤ s.shared.history.room)
+  may_step_on : (o : OperationFields) → t.at ≡ At.Pending o → MayStepOn (context_of (abstract_state_of s) i) o t.subtx t.undo s.shared × (2 ≤ s.shared.history.room)
   may_step_on o pending_at =
       let pending : HasPending s i t o = subst (λ (a : At). FitsAt a s i t) pending_at own.where_at in
       let two : pending_room t.at ≡ 2 = ap pending_room pending_at in
@@ -141,7 +118,7 @@ module _ (s : State) (i : ℕ) (t : Transaction) (sound : IsSound s) (is : map.g
   starts_inverse front last undoing entries none =
       may_operate (started_for (TakeBack last)) (starts (context_of (abstract_state_of s) i) (TakeBack last) (local_of (all_of s) i) (last_in_range front last entries) (unheld (all_of s) i none)) (can_take_back front last undoing entries)
 
-  may_step_back : (inverting : Option OperationFields) → t.at ≡ at.Undoing inverting → FitsAt (at.Undoing inverting) s i t → MayStepBack (context_of (abstract_state_of s) i) inverting t.subtx t.undo s.shared
+  may_step_back : (inverting : Option OperationFields) → t.at ≡ At.Undoing inverting → FitsAt (At.Undoing inverting) s i t → MayStepBack (context_of (abstract_state_of s) i) inverting t.subtx t.undo s.shared
   may_step_back None back_at fits =
       let last = last_of_some t.undo.entries fits.1 in
       let undoing : is_undoing t.at ≡ true = ap is_undoing back_at in
@@ -170,11 +147,11 @@ module _ (s : State) (i : ℕ) (t : Transaction) (sound : IsSound s) (is : map.g
         goes = λ p some none. subst (MayOperate (context_of (abstract_state_of s) i) (local t.subtx s.shared.pages)) (let same : o ≡ p = cc in same) may;
       }
 
-  by_at : (a : At) → t.at ≡ a → FitsAt a s i t → (a ≡ at.Idle → ⊥) → MayStepAt a (context_of (abstract_state_of s) i) t s.shared
-  by_at at.Idle at_is fits busy = absurd (busy refl)
-  by_at (at.Pending o) at_is fits busy = may_step_on o at_is
-  by_at (at.Undoing inverting) at_is fits busy = may_step_back inverting at_is fits
+  by_at : (a : At) → t.at ≡ a → FitsAt a s i t → (a ≡ At.Idle → ⊥) → MayStepAt a (context_of (abstract_state_of s) i) t s.shared
+  by_at At.Idle at_is fits busy = absurd (busy refl)
+  by_at (At.Pending o) at_is fits busy = may_step_on o at_is
+  by_at (At.Undoing inverting) at_is fits busy = may_step_back inverting at_is fits
 
   -- **It may take a step.**
-  pub may_step : t.at ≢ at.Idle → MayStepIn (context_of (abstract_state_of s) i) t s.shared
+  pub may_step : t.at ≢ At.Idle → MayStepIn (context_of (abstract_state_of s) i) t s.shared
   may_step busy = by_at t.at refl own.where_at busy

@@ -1,15 +1,9 @@
 -- An operation on one record changes no size
-use Rattle.std.proofs.Common.{◌≡◌, ℕ, [], ◌++◌, Option, None, refl, ap, ◌∙◌}
-use Rattle.std.proofs.lemmas.List.{append-nil}
-use Rattle.mlt_object_kinds.specs.declared.element.ElementOp.TheVariants as element
-use Rattle.mlt_object_kinds.specs.declared.operation.ObjOp.{ObjOp}
+use Rattle.std.proofs.Common.{◌≡◌, ℕ, [], ◌++◌, Option, None, refl, ap, ◌∙◌, append-nil}
+use Rattle.mlt_object_kinds.specs.declared.element.ElementOp.{ElementOp}
+use Rattle.mlt_manager_invariant.proofs.Names.{ObjOp, ObjReply, RecChange, Do, TakeBack, changes_on, inverse_of, own_change_on, size_key_of}
 use Rattle.mlt_object_kinds.specs.declared.operation.ObjOp.TheVariants.{Account, Element, Counter, Size}
-use Rattle.mlt_object_kinds.specs.declared.operation.ObjReply.{ObjReply}
-use Rattle.mlt_object_kinds.specs.declared.operation.ObjReply.TheVariants as told
-use Rattle.mlt_object_base.specs.declared.record.RecChange.{RecChange}
-use Rattle.mlt_object_base.specs.declared.request.Request.TheVariants.{Do, TakeBack}
-use Rattle.mlt_object_base.specs.Effects.{changes_on, inverse_of, own_change_on, size_change_of, size_change_on, size_inverse_of}
-use Rattle.mlt_object_base.specs.Requests.{size_key_of}
+use Rattle.mlt_object_base.specs.Effects.{size_change_of, size_change_on, size_inverse_of}
 
 none_of_size : (op : ObjOp) → size_change_on op None ≡ []
 none_of_size (Account a op) = refl
@@ -23,19 +17,19 @@ own_alone op change = ap (λ l. own_change_on op change ++ l) (none_of_size op) 
 
 pub no_size_change : (op : ObjOp) (reply : ObjReply) (found : Option ℕ) → size_key_of (Do op) ≡ None → size_change_of (op, reply) found ≡ None
 no_size_change (Account a op) reply found alone = refl
-no_size_change (Element s e element.Add) reply found alone = absurd cc
-no_size_change (Element s e element.Remove) reply found alone = absurd cc
-no_size_change (Element s e element.Has) reply found alone = refl
+no_size_change (Element s e ElementOp.Add) reply found alone = absurd cc
+no_size_change (Element s e ElementOp.Remove) reply found alone = absurd cc
+no_size_change (Element s e ElementOp.Has) reply found alone = refl
 no_size_change (Counter c op) reply found alone = refl
 no_size_change (Size s) reply found alone = refl
 
 pub no_size_inverse : (item : ObjOp × ObjReply) → size_key_of (TakeBack item) ≡ None → size_inverse_of item ≡ None
-no_size_inverse (Element s e element.Add, told.Added) alone = absurd cc
-no_size_inverse (Element s e element.Remove, told.Removed) alone = absurd cc
+no_size_inverse (Element s e ElementOp.Add, ObjReply.Added) alone = absurd cc
+no_size_inverse (Element s e ElementOp.Remove, ObjReply.Removed) alone = absurd cc
 no_size_inverse _ alone = refl
 
 -- what has no inverse has changed no size
 pub no_inverse_no_size : (item : ObjOp × ObjReply) → inverse_of item ≡ None → size_inverse_of item ≡ None
-no_inverse_no_size (Element s e element.Add, told.Added) none = absurd cc
-no_inverse_no_size (Element s e element.Remove, told.Removed) none = absurd cc
+no_inverse_no_size (Element s e ElementOp.Add, ObjReply.Added) none = absurd cc
+no_inverse_no_size (Element s e ElementOp.Remove, ObjReply.Removed) none = absurd cc
 no_inverse_no_size _ none = refl

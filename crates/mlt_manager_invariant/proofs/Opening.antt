@@ -1,35 +1,18 @@
 -- The state in which a manager begins
-use Rattle.std.proofs.Common.{◌≡◌, ℕ, ◌≤◌, false, List, [], None, Option, is_some, sym, ap, subst, ◌∙◌}
+use Rattle.std.proofs.Common.{◌≡◌, ℕ, ◌≤◌, false, List, [], None, Option, is_some, sym, ap, subst, ◌∙◌, nat_cmp}
 use Rattle.std.specs.FinMap as map
 use Rattle.std.specs.FinSet as set
-use Rattle.std.specs.Ordering.{nat_cmp}
-use Rattle.std.proofs.lemmas.Option.{none-some}
-use Rattle.mlt_object_kinds.specs.declared.operation.ObjOp.{ObjOp}
-use Rattle.mlt_object_kinds.specs.declared.operation.ObjReply.{ObjReply}
-use Rattle.mlt_page.specs.declared.page.Page.{Page}
+use Rattle.mlt_manager_invariant.proofs.Names.{none-some, ObjOp, ObjReply, Page, Entry, lists_of, items_of, Locks, TraceItem, entries_of, AreBegunInOrder, AreCounted, begin_count, clean_pages, same_pages_match, AllMayStep, clean_of, PagesMeanHistory, lists_in, SharedState, Transaction, IsSound, all_of, images_kept, room_of, undoing_of, abstract_state_of}
 use Rattle.mlt_page_locks.specs.LockTables.{no_locks}
-use Rattle.mlt_order.specs.Histories.{Entry, lists_of}
-use Rattle.mlt_order.specs.Interleavings.{items_of}
-use Rattle.mlt_object_locks.specs.Locks.{Locks}
 use Rattle.mlt_object_locks.specs.Locks as objects
-use Rattle.mlt_trace.specs.declared.item.TraceItem.{TraceItem}
-use Rattle.mlt_trace.specs.Entries.{entries_of}
-use Rattle.mlt_trace.specs.Numbers.{AreBegunInOrder, AreCounted, begin_count}
 use Rattle.mlt_trace.proofs.RoomLaws.{total_room-empty}
 use Rattle.mlt_hash_form.specs.Changes.{IsOpening}
 use Rattle.mlt_hash_form.specs.File.{GivesPseudokeys}
-use Rattle.mlt_hash_subtx_laws.specs.CleanPages.{clean_pages}
-use Rattle.mlt_tx_meaning.proofs.Matches.{same_pages_match}
-use Rattle.mlt_hash_subtx_laws.specs.Running.{AllMayStep, clean_of, nobody_running}
+use Rattle.mlt_hash_subtx_laws.specs.Running.{nobody_running}
 use Rattle.mlt_hash_subtx_laws.proofs.AllRunning.{first_clean, first_may_step}
 use Rattle.mlt_tx_meaning.specs.Events.{new_state}
-use Rattle.mlt_tx_meaning.specs.AbstractStates.{PagesMeanHistory, lists_in}
 use Rattle.mlt_tx_meaning.proofs.Opening.{opening_matches}
-use Rattle.mlt_tx.specs.declared.shared.SharedState.{SharedState}
-use Rattle.mlt_tx.specs.declared.transaction.Transaction.{Transaction}
 use Rattle.mlt_manager_invariant.specs.Opening.{opening_state}
-use Rattle.mlt_manager_invariant.specs.Sound.{IsSound}
-use Rattle.mlt_manager_invariant.specs.States.{all_of, images_kept, room_of, undoing_of, abstract_state_of}
 
 nothing_open : (j : ℕ) → set.contains (set.empty {R = nat_cmp}) j ≡ false
 nothing_open j = set.contains-empty nat_cmp j

@@ -1,22 +1,10 @@
 -- What is left of another transaction by an event that changes who is open
-use Rattle.std.proofs.Common.{◌≡◌, ◌≢◌, ℕ, Some, is_some, sym, ap, subst, ◌∙◌}
-use Rattle.std.specs.Ordering.{nat_cmp}
+use Rattle.std.proofs.Common.{◌≡◌, ◌≢◌, ℕ, Some, is_some, sym, ap, subst, ◌∙◌, nat_cmp}
 use Rattle.std.specs.FinMap as map
 use Rattle.std.specs.FinSet as set
-use Rattle.mlt_hash.specs.Walks.{WalkContext}
-use Rattle.mlt_hash_form.specs.Held.{Agrees}
-use Rattle.mlt_hash_access.specs.Views.{View, view_of}
-use Rattle.mlt_object_locks.specs.Locks.{SameReservations}
+use Rattle.mlt_manager_invariant.proofs.Names.{WalkContext, Agrees, View, view_of, SameReservations, KeepsRunning, clean_of, local_of, agrees_with_each, IsOperating, OperationFields, context_of, At, Transaction, FitsAt, IsSound, State, all_of, abstract_state_of}
 use Rattle.mlt_hash_split.specs.Rests.{KeepsNoMore}
-use Rattle.mlt_hash_subtx_laws.specs.Running.{KeepsRunning, clean_of, local_of}
-use Rattle.mlt_hash_subtx_laws.proofs.AllRunning.{agrees_with_each}
 use Rattle.mlt_tx_operation.proofs.Operations.{KeepsFewer, stands_with}
-use Rattle.mlt_tx_operation.specs.Operating.{IsOperating, OperationFields}
-use Rattle.mlt_tx_meaning.specs.AbstractStates.{context_of}
-use Rattle.mlt_tx.specs.declared.transaction.At.{At}
-use Rattle.mlt_tx.specs.declared.transaction.Transaction.{Transaction}
-use Rattle.mlt_manager_invariant.specs.Sound.{FitsAt, IsSound}
-use Rattle.mlt_manager_invariant.specs.States.{State, all_of, abstract_state_of}
 use Rattle.mlt_manager_invariant.proofs.InverseEnds.{open_there}
 use Rattle.mlt_manager_invariant.proofs.Others.{fits_with}
 

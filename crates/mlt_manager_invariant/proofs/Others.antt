@@ -1,16 +1,6 @@
 -- What an event of one transaction leaves of another
 use Rattle.std.proofs.Common.{◌≡◌, ◌≢◌, ℕ, ◌<◌, length, None, Some, sym, subst, ◌∙◌}
-use Rattle.mlt_hash_access.specs.Views.{View, view_of}
-use Rattle.mlt_object_locks.specs.Locks.{SameReservations}
-use Rattle.mlt_hash_subtx_laws.specs.Running.{AllRunning, HoldsNothing, KeepsRunning, local_of}
-use Rattle.mlt_tx_operation.specs.Operating.{IsOperating, OperationFields}
-use Rattle.mlt_tx_meaning.specs.AbstractStates.{context_of}
-use Rattle.mlt_tx.specs.declared.transaction.At.{At}
-use Rattle.mlt_tx.specs.declared.transaction.At.TheVariants as at
-use Rattle.mlt_tx.specs.declared.transaction.Transaction.{Transaction}
-use Rattle.mlt_hash.specs.Walks.{WalkContext}
-use Rattle.mlt_manager_invariant.specs.Sound.{FitsAt}
-use Rattle.mlt_manager_invariant.specs.States.{State, all_of, abstract_state_of}
+use Rattle.mlt_manager_invariant.proofs.Names.{View, view_of, SameReservations, AllRunning, HoldsNothing, KeepsRunning, local_of, IsOperating, OperationFields, context_of, At, Transaction, WalkContext, FitsAt, State, all_of, abstract_state_of}
 
 -- another transaction that holds nothing still holds nothing
 pub still_nothing : (i j : ℕ) (old new : AllRunning) → KeepsRunning i old new → j ≢ i → HoldsNothing old j → HoldsNothing new j
@@ -37,8 +27,8 @@ pub fits_with : (a : At) (i j : ℕ) (s s' : State) (t : Transaction) → j ≢ 
     → SameReservations s.shared.objects.reserved s'.shared.objects.reserved i → s'.max_ops ≡ s.max_ops
     → ((o : OperationFields) → IsOperating (context_of (abstract_state_of s) j) o (view_of (local_of (all_of s) j)) → IsOperating (context_of (abstract_state_of s') j) o (view_of (local_of (all_of s') j)))
     → FitsAt a s j t → FitsAt a s' j t
-fits_with at.Idle i j s s' t other runs reserved max_ops still fits = still_nothing i j (all_of s) (all_of s') runs other fits
-fits_with (at.Pending o) i j s s' t other runs reserved max_ops still fits = record {
+fits_with At.Idle i j s s' t other runs reserved max_ops still fits = still_nothing i j (all_of s) (all_of s') runs other fits
+fits_with (At.Pending o) i j s s' t other runs reserved max_ops still fits = record {
   op = fits.op;
   asked = fits.asked;
   in_range = fits.in_range;
@@ -47,8 +37,8 @@ fits_with (at.Pending o) i j s s' t other runs reserved max_ops still fits = rec
   spare = fits.spare;
   fewer = subst (λ (n : ℕ). length t.undo.entries < n) (sym max_ops) fits.fewer;
 }
-fits_with (at.Undoing None) i j s s' t other runs reserved max_ops still fits = (still_nothing i j (all_of s) (all_of s') runs other fits.0, fits.1)
-fits_with (at.Undoing (Some o)) i j s s' t other runs reserved max_ops still fits = record {
+fits_with (At.Undoing None) i j s s' t other runs reserved max_ops still fits = (still_nothing i j (all_of s) (all_of s') runs other fits.0, fits.1)
+fits_with (At.Undoing (Some o)) i j s s' t other runs reserved max_ops still fits = record {
   front = fits.front;
   last = fits.last;
   entries = fits.entries;

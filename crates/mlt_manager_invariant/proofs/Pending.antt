@@ -1,45 +1,19 @@
 -- Steps of a pending operation that is not done
 use Rattle.std.proofs.Common.{◌≡◌, ℕ, ◌+◌, ◌≤◌, false, ◌<◌, length, Some, refl, sym, ap, subst, ◌∙◌, inl, inr, arith}
 use Rattle.std.specs.FinMap as map
-use Rattle.mlt_object_kinds.specs.declared.operation.ObjOp.{ObjOp}
-use Rattle.mlt_object_kinds.specs.declared.operation.ObjReply.{ObjReply}
-use Rattle.mlt_types.specs.Cells.{IsInRange}
-use Rattle.mlt_object_base.specs.declared.request.Request.{Request}
-use Rattle.mlt_page_locks.specs.Requests.{released}
-use Rattle.mlt_object_locks.specs.Locks.{Locks, reservation_of}
-use Rattle.mlt_trace.specs.HistoryItems.{ItemsWithRoom}
-use Rattle.mlt_page_subtx.specs.Images.{Running, put_back, started}
-use Rattle.mlt_object_undo.specs.Undo.{Undo}
-use Rattle.mlt_hash_access.specs.declared.locked_store.LockedStore.{LockedStore}
-use Rattle.mlt_hash_access.specs.LocalStates.{LocalState, local}
-use Rattle.mlt_hash_access.specs.Views.{view_of}
-use Rattle.mlt_hash_subtx_laws.specs.CleanPages.{RunningImages}
-use Rattle.mlt_hash_subtx_laws.specs.Running.{AllRunning, HoldsNothing, after_roll_back, after_step, images_by, local_of}
-use Rattle.mlt_hash_subtx_laws.proofs.AllEvents.{nothing_after_roll_back}
-use Rattle.mlt_tx_meaning.specs.AbstractStates.{context_of}
-use Rattle.mlt_tx_operation.specs.declared.answer.StepAnswer.TheVariants as step
-use Rattle.mlt_tx_operation.specs.Operating.{IsOperating, OperationFields, started_for}
-use Rattle.mlt_hash_access.specs.PageTurns.{TakesTurn, TurnsBack}
-use Rattle.mlt_event.specs.declared.answer.Answer.{Answer}
-use Rattle.mlt_event.specs.declared.answer.Answer.TheVariants as answer
-use Rattle.mlt_tx_operation.proofs.Operations.{cell_asked, starts}
-use Rattle.mlt_tx.specs.declared.shared.SharedState.{SharedState}
-use Rattle.mlt_tx.specs.declared.transaction.At.{At}
-use Rattle.mlt_tx.specs.declared.transaction.At.TheVariants as at
-use Rattle.mlt_tx.specs.declared.transaction.Transaction.{Transaction}
+use Rattle.mlt_manager_invariant.proofs.Names.{ObjOp, ObjReply, IsInRange, Request, released, Locks, reservation_of, ItemsWithRoom, Running, put_back, started, Undo, LockedStore, LocalState, local, view_of, RunningImages, AllRunning, HoldsNothing, after_roll_back, after_step, images_by, local_of, nothing_after_roll_back, context_of, IsOperating, OperationFields, started_for, TakesTurn, TurnsBack, Answer, starts, SharedState, At, Transaction, KeepsCleanPages, with_transaction, FitsAt, HasPending, IsSound, State, all_of, is_undoing, pending_room, room_of, abstract_state_of}
+use Rattle.mlt_tx_operation.specs.declared.answer.StepAnswer.{StepAnswer}
+use Rattle.mlt_tx_operation.proofs.Operations.{cell_asked}
 use Rattle.mlt_tx.specs.Steps.{KeepsRest, TellsOfPending, Walks}
 use Rattle.mlt_tx.specs.Endings.{IsBlocked}
 use Rattle.mlt_tx.specs.Transactions.{GivesUpRoom, LeavesRoom, StepsPending, pending_after, tx_state_of}
-use Rattle.mlt_manager_invariant.specs.Events.{KeepsCleanPages, with_transaction}
-use Rattle.mlt_manager_invariant.specs.Sound.{FitsAt, HasPending, IsSound}
-use Rattle.mlt_manager_invariant.specs.States.{State, all_of, is_undoing, pending_room, room_of, abstract_state_of}
 use Rattle.mlt_manager_invariant.proofs.MaySteps.{is_open_now, same_local, unheld}
 use Rattle.mlt_manager_invariant.proofs.Turning.{local_now, sound_after, stays_all, turns_all}
 use Rattle.mlt_manager_invariant.proofs.Tables.{inserted_here}
 use Rattle.mlt_manager_invariant.proofs.Turned.{LeavesAll, rolled_back, stepped, turn_back_leaves, turn_leaves}
 
 module _ (s : State) (i : ℕ) (o : OperationFields) (before after : Transaction) (shared : SharedState)
-    (sound : IsSound s) (was : map.get s.txs i ≡ Some before) (pending_at : before.at ≡ at.Pending o) where
+    (sound : IsSound s) (was : map.get s.txs i ≡ Some before) (pending_at : before.at ≡ At.Pending o) where
   abbrev now : RunningImages → State
   now images = with_transaction s i after shared images
 
@@ -60,7 +34,7 @@ module _ (s : State) (i : ℕ) (o : OperationFields) (before after : Transaction
     fewer = subst (λ (u : Undo). length u.entries < s.max_ops) (sym undo) pending.fewer;
   }
 
-  same_room : (next : OperationFields) → after.at ≡ at.Pending next → after.undo ≡ before.undo → shared.history ≡ s.shared.history
+  same_room : (next : OperationFields) → after.at ≡ At.Pending next → after.undo ≡ before.undo → shared.history ≡ s.shared.history
       → shared.history.room + room_of before ≡ s.shared.history.room + room_of after
   same_room next is undo history =
       let two : pending_room before.at ≡ 2 = ap pending_room pending_at in
@@ -73,13 +47,13 @@ module _ (s : State) (i : ℕ) (o : OperationFields) (before after : Transaction
   still_forward a is forward = ap is_undoing is ∙ forward ∙ sym (ap is_undoing pending_at)
 
   -- it takes a turn
-  turned : (next : OperationFields) → after.at ≡ at.Pending next → KeepsRest before.undo after.undo s.shared shared
+  turned : (next : OperationFields) → after.at ≡ At.Pending next → KeepsRest before.undo after.undo s.shared shared
       → TakesTurn (local before.subtx s.shared.pages) (local after.subtx shared.pages)
       → next.request ≡ o.request → IsOperating (context_of (abstract_state_of s) i) next (view_of (local after.subtx shared.pages))
       → KeepsCleanPages s i before after shared
   turned next is rest turn request operates =
       let t = turns_all s i before after shared sound was turn in
-      sound_after s i before after shared sound was t.0 t.1.leaves t.1.same t.1.own t.1.number rest.undo_kept rest.objects (ap (λ (h : ItemsWithRoom). h.items) rest.history) (same_room next is rest.undo_kept rest.history) (still_forward (at.Pending next) is refl)
+      sound_after s i before after shared sound was t.0 t.1.leaves t.1.same t.1.own t.1.number rest.undo_kept rest.objects (ap (λ (h : ItemsWithRoom). h.items) rest.history) (same_room next is rest.undo_kept rest.history) (still_forward (At.Pending next) is refl)
       (subst (λ (a : At). FitsAt a (with_transaction s i after shared t.0.images) i after) (sym is) (still t.0.images next t.1.own t.1.number request operates rest.undo_kept rest.objects))
 
   -- it is rolled back from here, and holds nothing
@@ -113,23 +87,23 @@ module _ (s : State) (i : ℕ) (o : OperationFields) (before after : Transaction
   back_here back = subst (λ (n : LocalState). TurnsBack n (local after.subtx shared.pages)) (sym (same_local s i before sound was)) back
 
   -- it begins another pass
-  restarted : (next : OperationFields) → after.at ≡ at.Pending next → KeepsRest before.undo after.undo s.shared shared
+  restarted : (next : OperationFields) → after.at ≡ At.Pending next → KeepsRest before.undo after.undo s.shared shared
       → TurnsBack (local before.subtx s.shared.pages) (local after.subtx shared.pages)
       → next.request ≡ o.request → IsOperating (context_of (abstract_state_of s) i) next (view_of (local after.subtx shared.pages))
       → KeepsCleanPages s i before after shared
   restarted next is rest back request operates =
       let r = rolled (back_here back) in
       let tx : after.subtx.tx ≡ i = ap (λ (t : Running). t.tx) r.2 in
-      sound_after s i before after shared sound was (after_roll_back r.0 i) r.1 r.3 r.4 tx rest.undo_kept rest.objects (ap (λ (h : ItemsWithRoom). h.items) rest.history) (same_room next is rest.undo_kept rest.history) (still_forward (at.Pending next) is refl)
+      sound_after s i before after shared sound was (after_roll_back r.0 i) r.1 r.3 r.4 tx rest.undo_kept rest.objects (ap (λ (h : ItemsWithRoom). h.items) rest.history) (same_room next is rest.undo_kept rest.history) (still_forward (At.Pending next) is refl)
       (subst (λ (a : At). FitsAt a (with_transaction s i after shared (after_roll_back r.0 i).images) i after) (sym is) (still (after_roll_back r.0 i).images next r.4 tx request operates rest.undo_kept rest.objects))
 
   -- it is idle, and holds nothing
-  idle_now : (all : AllRunning) → all_of (with_transaction s i after shared (after_roll_back all i).images) ≡ after_roll_back all i → after.at ≡ at.Idle → FitsAt after.at (with_transaction s i after shared (after_roll_back all i).images) i after
+  idle_now : (all : AllRunning) → all_of (with_transaction s i after shared (after_roll_back all i).images) ≡ after_roll_back all i → after.at ≡ At.Idle → FitsAt after.at (with_transaction s i after shared (after_roll_back all i).images) i after
   idle_now all same is = subst (λ (a : At). FitsAt a (with_transaction s i after shared (after_roll_back all i).images) i after) (sym is) (subst (λ (a : AllRunning). HoldsNothing a i) (sym same) (nothing_after_roll_back all i))
 
   -- it is refused, and idle
   refused : (between : SharedState) → TurnsBack (local before.subtx s.shared.pages) (local after.subtx between.pages) → KeepsRest before.undo after.undo s.shared between
-      → GivesUpRoom 2 between shared → after.at ≡ at.Idle → KeepsCleanPages s i before after shared
+      → GivesUpRoom 2 between shared → after.at ≡ At.Idle → KeepsCleanPages s i before after shared
   refused between back rest gives is =
       let back_now : TurnsBack (local before.subtx s.shared.pages) (local after.subtx shared.pages) = subst (λ (l : LockedStore). TurnsBack (local before.subtx s.shared.pages) (local after.subtx l)) (sym gives.pages) back in
       let r = rolled (back_here back_now) in
@@ -139,20 +113,20 @@ module _ (s : State) (i : ℕ) (o : OperationFields) (before after : Transaction
       let rooms : between.history.room ≡ s.shared.history.room = ap (λ (h : ItemsWithRoom). h.room) rest.history in
       let lengths : length after.undo.entries ≡ length before.undo.entries = ap (λ (u : Undo). length u.entries) rest.undo_kept in
       sound_after s i before after shared sound was (after_roll_back r.0 i) r.1 r.3 r.4 tx rest.undo_kept (gives.objects ∙ rest.objects) (gives.items ∙ ap (λ (h : ItemsWithRoom). h.items) rest.history)
-      (omega (arith, gives.room, two, none, rooms, lengths)) (still_forward at.Idle is refl) (idle_now r.0 r.3 is)
+      (omega (arith, gives.room, two, none, rooms, lengths)) (still_forward At.Idle is refl) (idle_now r.0 r.3 is)
 
   -- it waits, and nothing has changed
-  waited : (next : OperationFields) → after.at ≡ at.Pending next → KeepsRest before.undo after.undo s.shared shared
+  waited : (next : OperationFields) → after.at ≡ At.Pending next → KeepsRest before.undo after.undo s.shared shared
       → local after.subtx shared.pages ≡ local before.subtx s.shared.pages → next ≡ o → KeepsCleanPages s i before after shared
   waited next is rest same stays =
       let t = stays_all s i before after shared sound was same in
       let operates : IsOperating (context_of (abstract_state_of s) i) next (view_of (local after.subtx shared.pages)) =
       subst (λ (m : LocalState). IsOperating (context_of (abstract_state_of s) i) next (view_of m)) (same_local s i before sound was ∙ sym same) (subst (λ (p : OperationFields). IsOperating (context_of (abstract_state_of s) i) p (view_of (local_of (all_of s) i))) (sym stays) pending.operates) in
-      sound_after s i before after shared sound was (all_of s) t.leaves t.same t.own t.number rest.undo_kept rest.objects (ap (λ (h : ItemsWithRoom). h.items) rest.history) (same_room next is rest.undo_kept rest.history) (still_forward (at.Pending next) is refl)
+      sound_after s i before after shared sound was (all_of s) t.leaves t.same t.own t.number rest.undo_kept rest.objects (ap (λ (h : ItemsWithRoom). h.items) rest.history) (same_room next is rest.undo_kept rest.history) (still_forward (At.Pending next) is refl)
       (subst (λ (a : At). FitsAt a (with_transaction s i after shared s.images) i after) (sym is) (still s.images next t.own t.number (ap (λ (p : OperationFields). p.request) stays) operates rest.undo_kept rest.objects))
 
   -- it is blocked, and to be run anew
-  blocked : (next : OperationFields) (by : ℕ) → after.at ≡ at.Pending next → next ≡ started_for o.request
+  blocked : (next : OperationFields) (by : ℕ) → after.at ≡ At.Pending next → next ≡ started_for o.request
       → (item : ObjOp × ObjReply) → IsBlocked item (tx_state_of before s.shared) (tx_state_of after shared) by
       → KeepsCleanPages s i before after shared
   blocked next by is anew item b =
@@ -173,32 +147,32 @@ module _ (s : State) (i : ℕ) (o : OperationFields) (before after : Transaction
       (starts (context_of (abstract_state_of s) i) o.request (local_of (all_of (with_transaction s i after shared images)) i) range (unheld (all_of (with_transaction s i after shared images)) i nothing)) in
       let operates : IsOperating (context_of (abstract_state_of s) i) next (view_of (local after.subtx shared.pages)) =
       subst (λ (p : OperationFields). IsOperating (context_of (abstract_state_of s) i) p (view_of (local after.subtx shared.pages))) (sym anew) at_rest in
-      sound_after s i before after shared sound was (after_roll_back all i) leaves both.0 both.1 tx b.kept b.objects (ap (λ (h : ItemsWithRoom). h.items) b.history) (same_room next is b.kept b.history) (still_forward (at.Pending next) is refl)
+      sound_after s i before after shared sound was (after_roll_back all i) leaves both.0 both.1 tx b.kept b.objects (ap (λ (h : ItemsWithRoom). h.items) b.history) (same_room next is b.kept b.history) (still_forward (At.Pending next) is refl)
       (subst (λ (a : At). FitsAt a (with_transaction s i after shared images) i after) (sym is) (still images next both.1 tx (ap (λ (p : OperationFields). p.request) anew) operates b.kept b.objects))
 
   by_answer : (told : Answer) (next : OperationFields) (between : SharedState) → TellsOfPending (context_of (abstract_state_of s) i) o next (tx_state_of before s.shared) (tx_state_of after between) told
-      → after.at ≡ pending_after told next → LeavesRoom told between shared → ((reply : ObjReply) → told ≡ answer.Done reply → ⊥)
+      → after.at ≡ pending_after told next → LeavesRoom told between shared → ((reply : ObjReply) → told ≡ Answer.Done reply → ⊥)
       → KeepsCleanPages s i before after shared
-  by_answer answer.Going next between tells is same not =
-      let w = subst (λ (b : SharedState). Walks (context_of (abstract_state_of s) i) o next (tx_state_of before s.shared) (tx_state_of after b) step.Going) (sym same) tells in
+  by_answer Answer.Going next between tells is same not =
+      let w = subst (λ (b : SharedState). Walks (context_of (abstract_state_of s) i) o next (tx_state_of before s.shared) (tx_state_of after b) StepAnswer.Going) (sym same) tells in
       elim w.tells [
         | inl goes ↦ turned next is w.rest goes.turn goes.request goes.operates
         | inr (inl splits) ↦ turned next is w.rest splits.turn splits.request splits.operates
         | inr (inr again) ↦ restarted next is w.rest again.back again.request again.operates
       ]
-  by_answer (answer.Waiting page by) next between tells is same not =
-      let w = subst (λ (b : SharedState). Walks (context_of (abstract_state_of s) i) o next (tx_state_of before s.shared) (tx_state_of after b) (step.Waiting page by)) (sym same) tells in
+  by_answer (Answer.Waiting page by) next between tells is same not =
+      let w = subst (λ (b : SharedState). Walks (context_of (abstract_state_of s) i) o next (tx_state_of before s.shared) (tx_state_of after b) (StepAnswer.Waiting page by)) (sym same) tells in
       waited next is w.rest w.tells.pages w.tells.stays
-  by_answer (answer.Blocked by) next between (ends, anew) is same not =
+  by_answer (Answer.Blocked by) next between (ends, anew) is same not =
       blocked next by is anew (ends.op, ends.reply) (subst (λ (b : SharedState). IsBlocked (ends.op, ends.reply) (tx_state_of before s.shared) (tx_state_of after b) by) (sym same) ends.tells)
-  by_answer (answer.Done reply) next between tells is same not = absurd (not reply refl)
-  by_answer (answer.Refused reason) next between tells is gives not = refused between tells.tells.back tells.rest gives is
-  by_answer answer.Undone next between tells is same not = absurd tells
-  by_answer answer.Aborted next between tells is same not = absurd tells
+  by_answer (Answer.Done reply) next between tells is same not = absurd (not reply refl)
+  by_answer (Answer.Refused reason) next between tells is gives not = refused between tells.tells.back tells.rest gives is
+  by_answer Answer.Undone next between tells is same not = absurd tells
+  by_answer Answer.Aborted next between tells is same not = absurd tells
 
 -- **A step of a pending operation that is not done keeps all that is always true.**
-pub not_done_sound : (s : State) (i : ℕ) (o : OperationFields) (before after : Transaction) (shared : SharedState) (told : Answer) → IsSound s → map.get s.txs i ≡ Some before → before.at ≡ at.Pending o
-    → StepsPending (context_of (abstract_state_of s) i) o before after s.shared shared told → ((reply : ObjReply) → told ≡ answer.Done reply → ⊥)
+pub not_done_sound : (s : State) (i : ℕ) (o : OperationFields) (before after : Transaction) (shared : SharedState) (told : Answer) → IsSound s → map.get s.txs i ≡ Some before → before.at ≡ At.Pending o
+    → StepsPending (context_of (abstract_state_of s) i) o before after s.shared shared told → ((reply : ObjReply) → told ≡ Answer.Done reply → ⊥)
     → KeepsCleanPages s i before after shared
 not_done_sound s i o before after shared told sound was pending_at steps not =
     by_answer s i o before after shared sound was pending_at told steps.next steps.between steps.tells steps.now_at steps.leaves not

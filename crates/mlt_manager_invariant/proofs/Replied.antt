@@ -1,29 +1,12 @@
 -- The reply of a pending operation, before its end
 use Rattle.std.proofs.Common.{◌≡◌, ℕ, true, Option, Some, is_some, ap, subst, sym, ◌∙◌}
 use Rattle.std.specs.FinMap as map
-use Rattle.mlt_page.specs.declared.page.Page.{Page}
-use Rattle.mlt_object_kinds.specs.Bases.{Base, Step}
-use Rattle.mlt_object_kinds.specs.declared.operation.ObjOp.{ObjOp}
-use Rattle.mlt_object_kinds.specs.declared.operation.ObjReply.{ObjReply}
-use Rattle.mlt_hash_access.specs.Views.{view_of}
-use Rattle.mlt_hash_subtx_laws.specs.CleanPages.{clean_pages}
-use Rattle.mlt_hash_subtx_laws.specs.Running.{is_open, local_of}
-use Rattle.mlt_hash_subtx_laws.proofs.AllRunning.{agrees_with_each}
-use Rattle.mlt_hash_subtx_laws.proofs.AllEvents.{end_clean}
-use Rattle.mlt_object_base.specs.declared.request.Request.TheVariants.{Do}
-use Rattle.mlt_tx_operation.specs.Operating.{OperationFields}
+use Rattle.mlt_manager_invariant.proofs.Names.{Page, Base, Step, ObjOp, ObjReply, view_of, clean_pages, is_open, local_of, agrees_with_each, end_clean, Do, OperationFields, sees_held_alone, IsOpInRange, At, Transaction, FitsAt, HasPending, IsSound, State, all_of, images_kept, abstract_state_of}
 use Rattle.mlt_tx_meaning.proofs.Fixed.{step_there}
-use Rattle.mlt_tx_meaning.proofs.TwoEnds.{sees_held_alone}
-use Rattle.mlt_tx_meaning.specs.Presences.{IsOpInRange}
-use Rattle.mlt_tx.specs.declared.transaction.At.{At}
-use Rattle.mlt_tx.specs.declared.transaction.At.TheVariants as at
-use Rattle.mlt_tx.specs.declared.transaction.Transaction.{Transaction}
-use Rattle.mlt_manager_invariant.specs.Sound.{FitsAt, HasPending, IsSound}
-use Rattle.mlt_manager_invariant.specs.States.{State, all_of, images_kept, abstract_state_of}
 use Rattle.mlt_manager_invariant.proofs.Found.{IsAnswered, is_answered}
 
 module _ (s : State) (i : ℕ) (o : OperationFields) (before : Transaction) (op : ObjOp) (reply : ObjReply)
-    (sound : IsSound s) (was : map.get s.txs i ≡ Some before) (is_pending : before.at ≡ at.Pending o) (asked : o.request ≡ Do op) (told : o.reply ≡ Some reply) where
+    (sound : IsSound s) (was : map.get s.txs i ≡ Some before) (is_pending : before.at ≡ At.Pending o) (asked : o.request ≡ Do op) (told : o.reply ≡ Some reply) where
   pending : HasPending s i before o
   pending = subst (λ (a : At). FitsAt a s i before) is_pending (sound.fits i before was).where_at
 

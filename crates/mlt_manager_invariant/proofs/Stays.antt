@@ -2,24 +2,8 @@
 use Rattle.std.proofs.Common.{◌≡◌, ◌≢◌, ℕ, ◌≤◌, Bool, List, length, Some, is_some, refl, sym, ap, subst, ◌∙◌, inl, inr, arith}
 use Rattle.std.specs.FinMap as map
 use Rattle.std.specs.FinSet as set
-use Rattle.std.proofs.lemmas.Bool.{cases_eq}
-use Rattle.mlt_object_kinds.specs.declared.operation.ObjOp.{ObjOp}
-use Rattle.mlt_object_kinds.specs.declared.operation.ObjReply.{ObjReply}
-use Rattle.mlt_order.specs.Histories.{Entry, lists_of}
-use Rattle.mlt_order.specs.Interleavings.{items_of}
-use Rattle.mlt_object_locks.specs.Locks.{Held}
-use Rattle.mlt_trace.specs.declared.item.TraceItem.{TraceItem}
-use Rattle.mlt_trace.specs.Entries.{entries_of}
-use Rattle.mlt_trace.specs.Numbers.{AreBegunInOrder, AreCounted, begin_count}
-use Rattle.mlt_trace.proofs.RoomLaws.{total_room-insert}
-use Rattle.mlt_hash_subtx_laws.specs.CleanPages.{RunningImages, clean_pages}
-use Rattle.mlt_tx_meaning.specs.AbstractStates.{PagesMeanHistory, lists_in}
-use Rattle.mlt_tx_meaning.proofs.Matches.{same_pages_match}
-use Rattle.mlt_tx.specs.declared.shared.SharedState.{SharedState}
-use Rattle.mlt_tx.specs.declared.transaction.Transaction.{Transaction}
-use Rattle.mlt_manager_invariant.specs.Events.{KeepsClean, with_transaction}
-use Rattle.mlt_manager_invariant.specs.Sound.{Fits, IsSound}
-use Rattle.mlt_manager_invariant.specs.States.{State, images_kept, room_of, undoing_of, abstract_state_of}
+use Rattle.mlt_manager_invariant.proofs.Names.{cases_eq, ObjOp, ObjReply, Entry, lists_of, items_of, Held, TraceItem, entries_of, AreBegunInOrder, AreCounted, begin_count, total_room-insert, RunningImages, clean_pages, PagesMeanHistory, lists_in, same_pages_match, SharedState, Transaction, with_transaction, Fits, IsSound, State, images_kept, room_of, undoing_of, abstract_state_of}
+use Rattle.mlt_manager_invariant.specs.Events.{KeepsClean}
 use Rattle.mlt_manager_invariant.proofs.Others.{still_fits}
 use Rattle.mlt_manager_invariant.proofs.Tables.{inserted_elsewhere, inserted_here, same_undoing}
 

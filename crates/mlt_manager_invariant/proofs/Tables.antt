@@ -1,14 +1,9 @@
 -- The table of open transactions, with one of them changed or left out
-use Rattle.std.proofs.Common.{is_some, subst, ◌≡◌, ◌≢◌, ℕ, None, Some, sym, ap, ◌∙◌, inl, inr, arith}
+use Rattle.std.proofs.Common.{is_some, subst, ◌≡◌, ◌≢◌, ℕ, None, Some, sym, ap, ◌∙◌, inl, inr, arith, nat_cmp}
 use Rattle.std.specs.FinMap as map
 use Rattle.std.specs.FinSet as set
-use Rattle.std.specs.Ordering.{nat_cmp}
-use Rattle.std.proofs.lemmas.Bool.{cases_eq}
-use Rattle.std.proofs.lemmas.Bool.Decides.{nat_tests}
-use Rattle.mlt_page_locks.proofs.Maps.{get_inserted, get_removed, same_entries}
-use Rattle.mlt_tx.specs.declared.transaction.Transaction.{Transaction}
-use Rattle.mlt_manager_invariant.specs.Sound.{Fits}
-use Rattle.mlt_manager_invariant.specs.States.{State, images_kept, is_undoing, is_undoing_at, undoing_of}
+use Rattle.mlt_manager_invariant.proofs.Names.{cases_eq, nat_tests, get_removed, same_entries, Transaction, Fits, State, images_kept, is_undoing, is_undoing_at, undoing_of}
+use Rattle.mlt_page_locks.proofs.Maps.{get_inserted}
 
 module _ {X : Type 0} (m : map.FinMap nat_cmp X) (i : ℕ) (x : X) where
   pub inserted_here : map.get (map.insert m i x) i ≡ Some x

@@ -1,12 +1,9 @@
 -- What a turn of one transaction, and a roll back, leave of all running subtransactions
 use Rattle.std.proofs.Common.{◌≡◌, ℕ, Option, is_some, true, unwrap_or, sym, ap, ◌∙◌}
 use Rattle.std.specs.FinMap as map
-use Rattle.mlt_page_subtx.specs.Images.{Images}
-use Rattle.mlt_hash_access.specs.LocalStates.{LocalState}
+use Rattle.mlt_manager_invariant.proofs.Names.{Images, LocalState, AllMayStep, AllRunning, KeepsRunning, after_roll_back, after_step, clean_of, is_open, local_of, TakesTurn, TurnsBack}
 use Rattle.mlt_hash_access.proofs.OwnSteps.{step_keeps_tx}
-use Rattle.mlt_hash_subtx_laws.specs.Running.{AllMayStep, AllRunning, KeepsRunning, after_roll_back, after_step, clean_of, is_open, local_of}
 use Rattle.mlt_hash_subtx_laws.proofs.AllEvents.{roll_back_clean, roll_back_keeps, step_leaves_clean, step_leaves_views}
-use Rattle.mlt_hash_access.specs.PageTurns.{TakesTurn, TurnsBack}
 use Rattle.mlt_manager_invariant.proofs.Tables.{inserted_here}
 use Rattle.mlt_manager_invariant.proofs.Closing.{one_after_another}
 

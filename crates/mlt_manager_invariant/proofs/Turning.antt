@@ -1,18 +1,7 @@
 -- Events of one transaction that leave the clean pages, by what they leave of all running subtransactions
 use Rattle.std.proofs.Common.{◌≡◌, ℕ, ◌+◌, Option, Some, unwrap_or, refl, sym, ap, subst, ◌∙◌}
 use Rattle.std.specs.FinMap as map
-use Rattle.mlt_object_locks.specs.Locks.{Locks, reservation_of}
-use Rattle.mlt_page_subtx.specs.Images.{Images, Running}
-use Rattle.mlt_object_undo.specs.Undo.{Undo}
-use Rattle.mlt_hash_access.specs.LocalStates.{LocalState, local}
-use Rattle.mlt_hash_subtx_laws.specs.CleanPages.{RunningImages}
-use Rattle.mlt_hash_subtx_laws.specs.Running.{AllRunning, KeepsRunning, after_step, clean_of, local_of}
-use Rattle.mlt_hash_access.specs.PageTurns.{TakesTurn}
-use Rattle.mlt_tx.specs.declared.shared.SharedState.{SharedState}
-use Rattle.mlt_tx.specs.declared.transaction.Transaction.{Transaction}
-use Rattle.mlt_manager_invariant.specs.Events.{KeepsCleanPages, with_transaction}
-use Rattle.mlt_manager_invariant.specs.Sound.{FitsAt, IsSound}
-use Rattle.mlt_manager_invariant.specs.States.{State, all_of, images_kept, is_undoing, room_of}
+use Rattle.mlt_manager_invariant.proofs.Names.{Locks, reservation_of, Images, Running, Undo, LocalState, local, RunningImages, AllRunning, KeepsRunning, after_step, clean_of, local_of, TakesTurn, SharedState, Transaction, KeepsCleanPages, with_transaction, FitsAt, IsSound, State, all_of, images_kept, is_undoing, room_of}
 use Rattle.mlt_manager_invariant.proofs.MaySteps.{is_open_now, same_local}
 use Rattle.mlt_manager_invariant.proofs.Tables.{inserted_here}
 use Rattle.mlt_manager_invariant.proofs.Turned.{LeavesAll, turn_leaves}

@@ -2,66 +2,42 @@
 use Rattle.std.proofs.Common.{◌≡◌, ◌≢◌, ℕ, ◌++◌, ◌∷◌, [], Bool, List, Option, Some, length, is_some, refl, sym, ap, subst, ◌∙◌, inl, inr, arith}
 use Rattle.std.specs.FinMap as map
 use Rattle.std.specs.FinSet as set
-use Rattle.std.proofs.lemmas.Bool.{cases_eq}
-use Rattle.mlt_object_kinds.specs.Bases.{Base, Step}
-use Rattle.mlt_object_kinds.specs.declared.operation.ObjOp.{ObjOp}
-use Rattle.mlt_object_kinds.specs.declared.operation.ObjReply.{ObjReply}
-use Rattle.mlt_order.specs.Histories.{Entry, Lists, after_entry, but_last, lists_of, no_lists}
-use Rattle.mlt_order.specs.Histories.Entry.{TookBack}
-use Rattle.mlt_order.specs.Interleavings.{items_of}
-use Rattle.mlt_order.proofs.Growing.{after_entries-push, but_last-push}
-use Rattle.mlt_order.proofs.Tables.{changed}
-use Rattle.mlt_object_locks.specs.Locks.{Locks, SameReservations, reservation_of}
-use Rattle.mlt_trace.specs.declared.item.TraceItem.TheVariants as trace
-use Rattle.mlt_trace.specs.Entries.{entries_of}
-use Rattle.mlt_trace.specs.HistoryItems.{ItemsWithRoom}
-use Rattle.mlt_trace.specs.Numbers.{CountsFrom, begun_txs, commit_numbers}
-use Rattle.mlt_trace.specs.Rooms.{total_room}
-use Rattle.mlt_trace.proofs.ItemLaws.{entries_of-append, no_begin, no_commit}
-use Rattle.mlt_trace.proofs.RoomLaws.{total_room-insert}
+use Rattle.mlt_manager_invariant.proofs.Names.{cases_eq, Base, Step, ObjOp, ObjReply, Entry, Lists, after_entry, but_last, lists_of, no_lists, TookBack, items_of, after_entries-push, but_last-push, changed, Locks, SameReservations, reservation_of, TraceItem, entries_of, ItemsWithRoom, CountsFrom, begun_txs, commit_numbers, total_room, entries_of-append, no_begin, no_commit, total_room-insert, PagesMeanHistory, lists_in, OperationFields, Answer, SharedState, At, Transaction, Fits, FitsAt, IsSound, State, images_kept, is_undoing, room_of, undoing_of, abstract_state_of, LedBack, TakesLastBack}
 use Rattle.mlt_tx_meaning.specs.Events.{with_undone as state_undone}
-use Rattle.mlt_tx_meaning.specs.AbstractStates.{PagesMeanHistory, lists_in}
-use Rattle.mlt_tx_operation.specs.Operating.{OperationFields}
-use Rattle.mlt_event.specs.declared.answer.Answer.TheVariants as answer
-use Rattle.mlt_tx.specs.declared.shared.SharedState.{SharedState}
-use Rattle.mlt_tx.specs.declared.transaction.At.{At}
-use Rattle.mlt_tx.specs.declared.transaction.Transaction.{Transaction}
 use Rattle.mlt_tx.specs.Steps.{TakesOne}
-use Rattle.mlt_manager_invariant.specs.Sound.{Fits, FitsAt, IsSound}
-use Rattle.mlt_manager_invariant.specs.States.{State, images_kept, is_undoing, room_of, undoing_of, abstract_state_of}
-use Rattle.mlt_manager_invariant.specs.Undoing.{LedBack, TakesLastBack, with_undone}
+use Rattle.mlt_manager_invariant.specs.Undoing.{with_undone}
 use Rattle.mlt_manager_invariant.proofs.LastBack.{IsLeft, led_back, left, one_fewer, pages_now, room_after, room_before}
 use Rattle.mlt_manager_invariant.proofs.Others.{still_fits}
 use Rattle.mlt_manager_invariant.proofs.Tables.{inserted_elsewhere, inserted_here, same_undoing}
 
 module _ (s : State) (i : ℕ) (inverting : Option OperationFields) (before after : Transaction) (shared : SharedState)
-    (sound : IsSound s) (was : map.get s.txs i ≡ Some before) (takes : TakesLastBack s inverting before after shared answer.Undone) where
+    (sound : IsSound s) (was : map.get s.txs i ≡ Some before) (takes : TakesLastBack s inverting before after shared Answer.Undone) where
   abbrev one : TakesOne before.subtx.tx before.undo after.undo takes.ends.between shared
   one = takes.ends.takes
 
-  abbrev led : (base : Base) × Step base one.off.last s.base × PagesMeanHistory (state_undone (abstract_state_of s) i (pages_now s i before after shared answer.Undone sound was inverting takes one.off) base)
-  led = led_back s i before after shared answer.Undone sound was inverting takes one.off
+  abbrev led : (base : Base) × Step base one.off.last s.base × PagesMeanHistory (state_undone (abstract_state_of s) i (pages_now s i before after shared Answer.Undone sound was inverting takes one.off) base)
+  led = led_back s i before after shared Answer.Undone sound was inverting takes one.off
 
   abbrev rest : IsLeft s i after takes.ends.between shared one.off.last
-  rest = left s i before after shared answer.Undone sound was inverting takes one.off
+  rest = left s i before after shared Answer.Undone sound was inverting takes one.off
 
   abbrev now : State
   now = with_undone s i after shared led.0
 
-  items_now : shared.history.items ≡ s.shared.history.items ++ trace.Back i ∷ []
+  items_now : shared.history.items ≡ s.shared.history.items ++ TraceItem.Back i ∷ []
   items_now =
-      one.items ∙ ap (λ (h : ItemsWithRoom). h.items ++ trace.Back before.subtx.tx ∷ []) rest.history
-      ∙ ap (λ n. s.shared.history.items ++ trace.Back n ∷ []) (sound.fits i before was).number
+      one.items ∙ ap (λ (h : ItemsWithRoom). h.items ++ TraceItem.Back before.subtx.tx ∷ []) rest.history
+      ∙ ap (λ n. s.shared.history.items ++ TraceItem.Back n ∷ []) (sound.fits i before was).number
 
   history_now : entries_of shared.history.items ≡ entries_of s.shared.history.items ++ TookBack i ∷ []
-  history_now = ap entries_of items_now ∙ entries_of-append s.shared.history.items (trace.Back i ∷ [])
+  history_now = ap entries_of items_now ∙ entries_of-append s.shared.history.items (TraceItem.Back i ∷ [])
 
   lists_now : lists_in (abstract_state_of now) ≡ after_entry (lists_in (abstract_state_of s)) (TookBack i)
   lists_now = ap lists_of history_now ∙ after_entries-push (entries_of s.shared.history.items) no_lists (TookBack i)
 
   match : PagesMeanHistory (abstract_state_of now)
   match =
-      let pages = pages_now s i before after shared answer.Undone sound was inverting takes one.off in
+      let pages = pages_now s i before after shared Answer.Undone sound was inverting takes one.off in
       let undoing : undoing_of s.txs ≡ undoing_of (map.insert s.txs i after) =
       sym (λ p j. same_undoing s.txs i before after was (ap is_undoing takes.is_at ∙ sym (ap is_undoing takes.was_at)) j p) in
       subst (λ (h : List (Entry (ObjOp × ObjReply))). PagesMeanHistory (record (abstract_state_of s) { pages = pages; undoing = undoing_of (map.insert s.txs i after); history = h; base = led.0 })) (sym history_now)
@@ -91,7 +67,7 @@ module _ (s : State) (i : ℕ) (inverting : Option OperationFields) (before afte
       record {
         number = rest.number;
         stands = sym shorter ∙ ap (λ l. l.transcripts i) (sym lists_now);
-        few = let fewer = one_fewer s i before after shared answer.Undone sound was inverting takes one.off in let few = fits.few in omega (arith, fewer, few);
+        few = let fewer = one_fewer s i before after shared Answer.Undone sound was inverting takes one.off in let few = fits.few in omega (arith, fewer, few);
         where_at = subst (λ (a : At). FitsAt a now i after) (sym takes.is_at) (rest.cleared.nothing, one.left);
       }
 
@@ -124,8 +100,8 @@ module _ (s : State) (i : ℕ) (inverting : Option OperationFields) (before afte
       let was_room = sound.room in
       let less = one.room ∙ ap (λ (h : ItemsWithRoom). h.room) rest.history in
       let total = total_room-insert room_of s.txs i before after was in
-      let old = room_before s i before after shared answer.Undone sound was inverting takes one.off in
-      let new = room_after s i before after shared answer.Undone sound was inverting takes one.off in
+      let old = room_before s i before after shared Answer.Undone sound was inverting takes one.off in
+      let new = room_after s i before after shared Answer.Undone sound was inverting takes one.off in
       omega (arith, was_room, less, total, old, new)
 
   now_sound : IsSound now
@@ -136,9 +112,9 @@ module _ (s : State) (i : ℕ) (inverting : Option OperationFields) (before afte
     opened = opened;
     fits = fits_all;
     held = λ j. ap (λ (l : Locks). items_of j l.held) objects_kept ∙ sound.held j ∙ ap (λ l. l.held j) (sym lists_now);
-    begun = subst (CountsFrom 1) (sym (ap begun_txs items_now ∙ no_begin s.shared.history.items (trace.Back i) refl)) sound.begun;
-    count = sound.count ∙ sym (ap length (ap begun_txs items_now ∙ no_begin s.shared.history.items (trace.Back i) refl));
-    commits = subst (CountsFrom 1) (sym (ap commit_numbers items_now ∙ no_commit s.shared.history.items (trace.Back i) refl)) sound.commits;
+    begun = subst (CountsFrom 1) (sym (ap begun_txs items_now ∙ no_begin s.shared.history.items (TraceItem.Back i) refl)) sound.begun;
+    count = sound.count ∙ sym (ap length (ap begun_txs items_now ∙ no_begin s.shared.history.items (TraceItem.Back i) refl));
+    commits = subst (CountsFrom 1) (sym (ap commit_numbers items_now ∙ no_commit s.shared.history.items (TraceItem.Back i) refl)) sound.commits;
     room = room_now;
   }
 

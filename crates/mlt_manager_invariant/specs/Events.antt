@@ -11,9 +11,9 @@ use Rattle.mlt_object_kinds.specs.Bases.{Base}
 use Rattle.mlt_object_kinds.specs.declared.operation.ObjReply.{ObjReply}
 use Rattle.mlt_hash_subtx_laws.specs.Running.{KeepsRunning, clean_of}
 use Rattle.mlt_tx_operation.specs.Operating.{OperationFields, started_for}
-use Rattle.mlt_event.specs.declared.answer.Answer.TheVariants as answer
+use Rattle.mlt_event.specs.declared.answer.Answer.{Answer}
 use Rattle.mlt_tx.specs.Transactions.{tx_state_of}
-use Rattle.mlt_tx.specs.declared.transaction.At.TheVariants as at
+use Rattle.mlt_tx.specs.declared.transaction.At.{At}
 use Rattle.mlt_tx.specs.Steps.{Ends}
 use Rattle.mlt_tx.specs.declared.shared.SharedState.{SharedState}
 use Rattle.mlt_tx.specs.declared.transaction.Transaction.{Transaction}
@@ -58,19 +58,19 @@ with_end s i t shared base = record (with_transaction s i t shared (map.insert s
 -- what the pending operation of transaction i leaves that is done
 pub record EndsPending (s : State) (i : ℕ) (o : OperationFields) (before after : Transaction)
     (shared : SharedState) (told : ObjReply) : Type 0 where
-  pub pending : before.at ≡ at.Pending o
+  pub pending : before.at ≡ At.Pending o
   pub ends : Ends o (tx_state_of before s.shared) (tx_state_of after shared)
-      (answer.Done told)
-  pub idle : after.at ≡ at.Idle
+      (Answer.Done told)
+  pub idle : after.at ≡ At.Idle
 
 -- An idle transaction is called: its operation is pending, its cell is reserved, and there is room for its undo entry and
 -- for its items of the history.
 pub record Calls (s : State) (i : ℕ) (before after : Transaction) (shared : SharedState) : Type 0 where
   pub op : ObjOp
   pub in_range : IsOpInRange op
-  pub idle : before.at ≡ at.Idle
+  pub idle : before.at ≡ At.Idle
   pub fewer : length before.undo.entries < s.max_ops
-  pub pending : after.at ≡ at.Pending (started_for (Do op))
+  pub pending : after.at ≡ At.Pending (started_for (Do op))
   pub subtx_kept : after.subtx ≡ before.subtx
   pub entries : after.undo.entries ≡ before.undo.entries
   pub spare : 1 ≤ after.undo.spare

@@ -17,7 +17,6 @@ use Rattle.mlt_tx_operation.specs.Operating.{IsOperating, OperationFields}
 use Rattle.mlt_tx_meaning.specs.Presences.{IsOpInRange}
 use Rattle.mlt_tx_meaning.specs.AbstractStates.{PagesMeanHistory, context_of, lists_in}
 use Rattle.mlt_tx.specs.declared.transaction.At.{At}
-use Rattle.mlt_tx.specs.declared.transaction.At.TheVariants as at
 use Rattle.mlt_tx.specs.declared.transaction.Transaction.{Transaction}
 use Rattle.mlt_tx.specs.Steps.{IsInverting}
 use Rattle.mlt_manager_invariant.specs.States.{State, all_of, images_kept, room_of, abstract_state_of}
@@ -47,10 +46,10 @@ pub record HasInverse (s : State) (i : ℕ) (t : Transaction) (o : OperationFiel
 
 -- what is true of a transaction that is at this
 abbrev pub FitsAt : At → State → ℕ → Transaction → Type 0
-FitsAt at.Idle s i t = HoldsNothing (all_of s) i
-FitsAt (at.Pending o) s i t = HasPending s i t o
-FitsAt (at.Undoing None) s i t = HoldsNothing (all_of s) i × (t.undo.entries ≡ [] → ⊥)
-FitsAt (at.Undoing (Some o)) s i t = HasInverse s i t o
+FitsAt At.Idle s i t = HoldsNothing (all_of s) i
+FitsAt (At.Pending o) s i t = HasPending s i t o
+FitsAt (At.Undoing None) s i t = HoldsNothing (all_of s) i × (t.undo.entries ≡ [] → ⊥)
+FitsAt (At.Undoing (Some o)) s i t = HasInverse s i t o
 
 -- What is true of open transaction i: its undo list has what stands of it, no more than it may, and it is where it is.
 pub record Fits (s : State) (i : ℕ) (t : Transaction) : Type 0 where

@@ -11,7 +11,6 @@ use Rattle.mlt_hash_subtx_laws.specs.Running.{AllRunning}
 use Rattle.mlt_tx_meaning.specs.AbstractStates.{AbstractState}
 use Rattle.mlt_tx.specs.declared.shared.SharedState.{SharedState}
 use Rattle.mlt_tx.specs.declared.transaction.At.{At}
-use Rattle.mlt_tx.specs.declared.transaction.At.TheVariants as at
 use Rattle.mlt_tx.specs.declared.transaction.Transaction.{Transaction}
 
 -- what the laws see of a manager, with its first images and its base
@@ -43,7 +42,7 @@ all_of s = record {
 
 -- whether the abort of a transaction has begun that is at this
 abbrev pub is_undoing : At → Bool
-is_undoing (at.Undoing inverting) = true
+is_undoing (At.Undoing inverting) = true
 is_undoing other = false
 
 abbrev pub is_undoing_at : Option Transaction → Bool
@@ -76,7 +75,7 @@ images_kept (Some t) = Some t.subtx.images
 -- for how many items of the history a transaction has room: one that closes it, one for each operation that may be taken
 -- back, and two for a pending one, which may be done and taken back
 abbrev pub pending_room : At → ℕ
-pending_room (at.Pending o) = 2
+pending_room (At.Pending o) = 2
 pending_room other = 0
 
 abbrev pub room_of : Transaction → ℕ

@@ -1,14 +1,12 @@
 -- Events that begin and end a transaction, or its abort
-use Rattle.std.specs.Prelude.{ℕ, ◌≡◌, ◌+◌, [], ◌∷◌, ◌++◌, None}
+use Rattle.std.specs.Prelude.{ℕ, ◌≡◌, ◌+◌, [], ◌∷◌, ◌++◌, None, filter}
 use Rattle.std.specs.FinMap as map
 use Rattle.std.specs.FinSet as set
-use Rattle.std.specs.List.{filter}
 use Rattle.mlt_object_locks.specs.Locks.{SameReservations, is_of_other}
 use Rattle.mlt_page_subtx.specs.Images.{started}
 use Rattle.mlt_trace.specs.declared.item.TraceItem.{TraceItem}
-use Rattle.mlt_trace.specs.declared.item.TraceItem.TheVariants as trace
 use Rattle.mlt_tx.specs.declared.shared.SharedState.{SharedState}
-use Rattle.mlt_tx.specs.declared.transaction.At.TheVariants as at
+use Rattle.mlt_tx.specs.declared.transaction.At.{At}
 use Rattle.mlt_tx.specs.declared.transaction.Transaction.{Transaction}
 use Rattle.mlt_manager_invariant.specs.States.{State, room_of}
 
@@ -27,10 +25,10 @@ with_next s t shared = record s {
 pub record Begins (s : State) (t : Transaction) (shared : SharedState) : Type 0 where
   pub subtx : t.subtx ≡ started (s.begun + 1)
   pub entries : t.undo.entries ≡ []
-  pub idle : t.at ≡ at.Idle
+  pub idle : t.at ≡ At.Idle
   pub pages : shared.pages ≡ s.shared.pages
   pub objects : shared.objects ≡ s.shared.objects
-  pub items : shared.history.items ≡ s.shared.history.items ++ trace.Begin (s.begun + 1) ∷ []
+  pub items : shared.history.items ≡ s.shared.history.items ++ TraceItem.Begin (s.begun + 1) ∷ []
   pub room : shared.history.room ≡ s.shared.history.room + 1
 
 -- transaction i is open no more
@@ -46,7 +44,7 @@ without_transaction s i shared = record s {
 -- item of it.
 pub record Ends (s : State) (i : ℕ) (t : Transaction) (shared : SharedState) (item : TraceItem)
     : Type 0 where
-  pub idle : t.at ≡ at.Idle
+  pub idle : t.at ≡ At.Idle
   pub pages : shared.pages ≡ s.shared.pages
   pub held : shared.objects.held ≡ filter (is_of_other i) s.shared.objects.held
   pub reserved : SameReservations s.shared.objects.reserved shared.objects.reserved i
@@ -55,8 +53,8 @@ pub record Ends (s : State) (i : ℕ) (t : Transaction) (shared : SharedState) (
 
 -- an abort begins: what was at nothing is to take back what it did
 pub record BeginsAbort (before after : Transaction) : Type 0 where
-  pub idle : before.at ≡ at.Idle
+  pub idle : before.at ≡ At.Idle
   pub some : before.undo.entries ≡ [] → ⊥
   pub subtx : after.subtx ≡ before.subtx
   pub undo : after.undo ≡ before.undo
-  pub undoing : after.at ≡ at.Undoing None
+  pub undoing : after.at ≡ At.Undoing None

@@ -8,7 +8,7 @@ use Rattle.mlt_tx_operation.specs.Operating.{OperationFields}
 use Rattle.mlt_event.specs.declared.answer.Answer.{Answer}
 use Rattle.mlt_tx.specs.Transactions.{tx_state_of}
 use Rattle.mlt_tx.specs.declared.shared.SharedState.{SharedState}
-use Rattle.mlt_tx.specs.declared.transaction.At.TheVariants as at
+use Rattle.mlt_tx.specs.declared.transaction.At.{At}
 use Rattle.mlt_tx.specs.declared.transaction.Transaction.{Transaction}
 use Rattle.mlt_tx.specs.Steps.{EndsBack}
 use Rattle.mlt_manager_invariant.specs.Events.{with_transaction}
@@ -29,8 +29,8 @@ with_aborted s i shared base = record (without_transaction s i shared) { base = 
 -- the abort of a transaction takes its last operation back, with this inverse or none, and is told this
 pub record TakesLastBack (s : State) (inverting : Option OperationFields) (before after : Transaction)
     (shared : SharedState) (told : Answer) : Type 0 where
-  pub was_at : before.at ≡ at.Undoing inverting
-  pub is_at : after.at ≡ at.Undoing None
+  pub was_at : before.at ≡ At.Undoing inverting
+  pub is_at : after.at ≡ At.Undoing None
   pub ends : EndsBack inverting None (tx_state_of before s.shared) (tx_state_of after shared)
       told
 

@@ -2,27 +2,15 @@
 use Rattle.std.proofs.Common.{◌≡◌, ◌≢◌, ℕ, ◌+◌, List, [], ◌∷◌, Bool, true, false, Some, is_some, Result, Ok, Err, ap, ◌∙◌, arith}
 use Rattle.std.specs.FinMap as map
 use Rattle.mlt_types.specs.declared.refusal.Refusal.{Refusal}
-use Rattle.mlt_types.specs.declared.refusal.Refusal.TheVariants as refusal
-use Rattle.mlt_object_kinds.specs.declared.operation.ObjOp.{ObjOp}
-use Rattle.mlt_event.specs.declared.answer.Answer.{Answer}
-use Rattle.mlt_event.specs.declared.answer.Answer.TheVariants as answer
-use Rattle.mlt_event.specs.declared.event.Event.TheVariants as event
-use Rattle.mlt_event.specs.declared.told.Told.{Told}
-use Rattle.mlt_event.specs.declared.told.Told.TheVariants as told
-use Rattle.mlt_tx.specs.declared.transaction.At.TheVariants as at
-use Rattle.mlt_tx.specs.declared.transaction.Transaction.{Transaction}
+use Rattle.mlt_manager_laws.proofs.Names.{ObjOp, Answer, Event, Told, At, Transaction, Table, inserted_elsewhere, removed_elsewhere, view_in, Meets, IsManager, ManagerFields, state_of, one_there}
 use Rattle.mlt_tx.specs.Transactions.{IsPending}
-use Rattle.mlt_tx_open.specs.Tables.{CancelsOne, Table}
+use Rattle.mlt_tx_open.specs.Tables.{CancelsOne}
 use Rattle.mlt_manager_invariant.proofs.Calls.{cancelled_sound}
-use Rattle.mlt_manager_invariant.proofs.Tables.{inserted_elsewhere, removed_elsewhere}
-use Rattle.mlt_tx_step_counts.specs.OwnSteps.{view_in}
 use Rattle.mlt_manager.specs.Answers.{AnswersAbort, AnswersCall, AnswersStep, ChangesOpen, HasCalled, IsOpenAt}
 use Rattle.mlt_manager.specs.Chains.{StepsBy, StepsUpTo}
-use Rattle.mlt_manager.specs.Events.{Meets}
-use Rattle.mlt_manager.specs.Managers.{IsManager, ManagerFields, state_of}
 use Rattle.mlt_manager.specs.Undoings.{GoesOnBack, StopsBack}
 use Rattle.mlt_manager.specs.Wholes.{DropsIfItStands, LetsGoOn, Stops}
-use Rattle.mlt_manager.proofs.Called.{called_keeps, one_there, pending_of}
+use Rattle.mlt_manager.proofs.Called.{called_keeps, pending_of}
 use Rattle.mlt_manager.proofs.Chains.{steps_keep}
 use Rattle.mlt_manager.proofs.Stepped.{step_keeps}
 use Rattle.mlt_manager_laws.proofs.Seen.{StaysAs, changed_stays, clean_sees, same_sees, step_leaves}
@@ -51,7 +39,7 @@ module _ {P : Type 0} (bits_of : P → ℕ → ℕ) (i u : ℕ) (t : Transaction
     cancelled open_here c rest =
         let ch = c.changes in
         let o = pending_of open_here.one.at open_here.is_at in
-        let was_at : ch.before.at ≡ at.Pending o.0 = ap (λ (x : Transaction). x.at) (one_there m.txs i ch.before open_here.one ch.was open_here.there) ∙ o.1 in
+        let was_at : ch.before.at ≡ At.Pending o.0 = ap (λ (x : Transaction). x.at) (one_there m.txs i ch.before open_here.one ch.was open_here.there) ∙ o.1 in
         record {
           there = changed_stays bits_of m h i u t ne there m'.txs ch.after ch.is;
           sees = clean_sees bits_of m h i u t ne there ch.before ch.after m'.shared (cancelled_sound (state_of bits_of m h.images h.base) i o.0 ch.before ch.after m'.shared h.sound ch.was was_at c.tells);
@@ -59,8 +47,8 @@ module _ {P : Type 0} (bits_of : P → ℕ → ℕ) (i u : ℕ) (t : Transaction
         }
 
     dropped : (told : Answer) → DropsIfItStands told m m' i → StaysAs m m' u t
-    dropped (answer.Waiting page by) d = cancelled d.pending d.cancels d.rest
-    dropped (answer.Blocked by) d = cancelled d.pending d.cancels d.rest
+    dropped (Answer.Waiting page by) d = cancelled d.pending d.cancels d.rest
+    dropped (Answer.Blocked by) d = cancelled d.pending d.cancels d.rest
     dropped other same = same_stays m m' u t same there
 
     ended : (txs : Table) → m'.txs ≡ map.remove m.txs i → m'.shared.pages ≡ m.shared.pages → m'.root ≡ m.root → StaysAs m m' u t
@@ -86,7 +74,7 @@ module _ {P : Type 0} (bits_of : P → ℕ → ℕ) (i u : ℕ) (t : Transaction
   module _ (m m' : ManagerFields P) (h : IsManager bits_of m) (there : map.get m.txs u ≡ Some t) where
     call_leaves : (op : ObjOp) (r : Result (Unit {0}) Refusal) → AnswersCall m m' i op r → StaysAs m m' u t
     call_leaves op (Ok done) a = called m m' h there op a
-    call_leaves op (Err refusal.OutOfMemory) a = record {
+    call_leaves op (Err Refusal.OutOfMemory) a = record {
       there = changed_stays bits_of m h i u t ne there m'.txs a.1.changes.after a.1.changes.is;
       sees = same_sees bits_of m h i u t ne there m'.shared a.1.tells.makes.pages;
       root = ap (λ (n : ManagerFields P). n.root) a.2;
@@ -97,24 +85,24 @@ module _ {P : Type 0} (bits_of : P → ℕ → ℕ) (i u : ℕ) (t : Transaction
     by_meeting_step (Ok told) a = step_leaves bits_of m h i u t ne there m' told a
     by_meeting_step (Err reason) a = same_stays m m' u t a.1 there
 
-    pub of_call : (op : ObjOp) (told : Told) → Meets bits_of (event.Call i op) told m m' → StaysAs m m' u t
-    of_call op told.Called a = call_leaves op (Ok tt) a
-    of_call op (told.Refused reason) a = call_leaves op (Err reason) a
+    pub of_call : (op : ObjOp) (told : Told) → Meets bits_of (Event.Call i op) told m m' → StaysAs m m' u t
+    of_call op Told.Called a = call_leaves op (Ok tt) a
+    of_call op (Told.Refused reason) a = call_leaves op (Err reason) a
     of_call op other none = absurd none
 
-    pub of_step : (told : Told) → Meets bits_of (event.Step i) told m m' → StaysAs m m' u t
-    of_step (told.Answered answer) a = by_meeting_step (Ok answer) a.0
-    of_step (told.Refused reason) a = by_meeting_step (Err reason) a
+    pub of_step : (told : Told) → Meets bits_of (Event.Step i) told m m' → StaysAs m m' u t
+    of_step (Told.Answered answer) a = by_meeting_step (Ok answer) a.0
+    of_step (Told.Refused reason) a = by_meeting_step (Err reason) a
     of_step other none = absurd none
 
-    pub of_cancel : (told : Told) → Meets bits_of (event.Cancel i) told m m' → StaysAs m m' u t
-    of_cancel told.Cancelled a = cancelled m m' h there a.0.0 a.0.1 a.0.2
-    of_cancel (told.Refused reason) a = same_stays m m' u t a.1 there
+    pub of_cancel : (told : Told) → Meets bits_of (Event.Cancel i) told m m' → StaysAs m m' u t
+    of_cancel Told.Cancelled a = cancelled m m' h there a.0.0 a.0.1 a.0.2
+    of_cancel (Told.Refused reason) a = same_stays m m' u t a.1 there
     of_cancel other none = absurd none
 
-    pub of_commit : (told : Told) → Meets bits_of (event.Commit i) told m m' → StaysAs m m' u t
-    of_commit (told.Committed number) a = ended m m' h there m'.txs a.ends.txs a.ends.pages (ap (λ (n : ManagerFields P). n.root) a.rest)
-    of_commit (told.Refused reason) a = same_stays m m' u t a.1 there
+    pub of_commit : (told : Told) → Meets bits_of (Event.Commit i) told m m' → StaysAs m m' u t
+    of_commit (Told.Committed number) a = ended m m' h there m'.txs a.ends.txs a.ends.pages (ap (λ (n : ManagerFields P). n.root) a.rest)
+    of_commit (Told.Refused reason) a = same_stays m m' u t a.1 there
     of_commit other none = absurd none
 
     abort_leaves : (closed : Bool) → AnswersAbort m m' i (Ok closed) → StaysAs m m' u t
@@ -125,24 +113,24 @@ module _ {P : Type 0} (bits_of : P → ℕ → ℕ) (i u : ℕ) (t : Transaction
       root = ap (λ (n : ManagerFields P). n.root) a.rest;
     }
 
-    pub of_abort : (told : Told) → Meets bits_of (event.Abort i) told m m' → StaysAs m m' u t
-    of_abort (told.Aborting closed) a = abort_leaves closed a
-    of_abort (told.Refused reason) a = same_stays m m' u t a.1 there
+    pub of_abort : (told : Told) → Meets bits_of (Event.Abort i) told m m' → StaysAs m m' u t
+    of_abort (Told.Aborting closed) a = abort_leaves closed a
+    of_abort (Told.Refused reason) a = same_stays m m' u t a.1 there
     of_abort other none = absurd none
 
-    pub of_whole : (op : ObjOp) (told : Told) → Meets bits_of (event.Whole i op) told m m' → StaysAs m m' u t
-    of_whole op (told.Answered answer) (a, base, named) =
+    pub of_whole : (op : ObjOp) (told : Told) → Meets bits_of (Event.Whole i op) told m m' → StaysAs m m' u t
+    of_whole op (Told.Answered answer) (a, base, named) =
         let first = called m a.called h there op a.calls in
         let h' = called_keeps bits_of m h i a.called a.calls.rest op a.calls in
         let second = up_to LetsGoOn Stops a.called a.runs.stopped answer h' first.there a.runs.steps in
         let h'' = (step_keeps bits_of a.runs.steps.before (steps_keep bits_of LetsGoOn i a.called a.runs.steps.before a.runs.steps.steps h' a.runs.steps.goes) i a.runs.stopped answer a.runs.steps.ends).0 in
         both_stay m a.called m' u t first (both_stay a.called a.runs.stopped m' u t second (dropped a.runs.stopped m' h'' second.there answer a.runs.drops))
-    of_whole op (told.Refused reason) a = call_leaves op (Err reason) a
+    of_whole op (Told.Refused reason) a = call_leaves op (Err reason) a
     of_whole op other none = absurd none
 
-    pub of_whole_undo : (told : Told) → Meets bits_of (event.WholeUndo i) told m m' → StaysAs m m' u t
-    of_whole_undo (told.Answered answer) (a, base, named) = up_to GoesOnBack StopsBack m m' answer h there a.1
-    of_whole_undo (told.Refused reason) a = same_stays m m' u t a.1 there
+    pub of_whole_undo : (told : Told) → Meets bits_of (Event.WholeUndo i) told m m' → StaysAs m m' u t
+    of_whole_undo (Told.Answered answer) (a, base, named) = up_to GoesOnBack StopsBack m m' answer h there a.1
+    of_whole_undo (Told.Refused reason) a = same_stays m m' u t a.1 there
     of_whole_undo other none = absurd none
 
 -- a new number is not that of an open transaction
@@ -151,13 +139,13 @@ is_older bits_of m h u t there same =
     let low = h.sound.match.file.ghosts.opened u (h.sound.opened u ∙ ap is_some there) in
     absurd (omega (arith, low, same))
 
-pub of_begin : {P : Type 0} (bits_of : P → ℕ → ℕ) (u : ℕ) (t : Transaction) (m m' : ManagerFields P) (h : IsManager bits_of m) (there : map.get m.txs u ≡ Some t) (told : Told) → Meets bits_of event.Begin told m m' → StaysAs m m' u t
-of_begin bits_of u t m m' h there (told.Begun tx) a =
+pub of_begin : {P : Type 0} (bits_of : P → ℕ → ℕ) (u : ℕ) (t : Transaction) (m m' : ManagerFields P) (h : IsManager bits_of m) (there : map.get m.txs u ≡ Some t) (told : Told) → Meets bits_of Event.Begin told m m' → StaysAs m m' u t
+of_begin bits_of u t m m' h there (Told.Begun tx) a =
     let ne : u ≢ tx = λ same. is_older bits_of m h u t there (same ∙ a.number) in
     record {
       there = ap (λ (n : ManagerFields _). map.get n.txs u) a.rest ∙ inserted_elsewhere m.txs tx a.one u ne ∙ there;
       sees = same_sees bits_of m h tx u t ne there m'.shared a.pages;
       root = ap (λ (n : ManagerFields _). n.root) a.rest;
     }
-of_begin bits_of u t m m' h there (told.Refused reason) a = same_stays m m' u t a.1 there
+of_begin bits_of u t m m' h there (Told.Refused reason) a = same_stays m m' u t a.1 there
 of_begin bits_of u t m m' h there other none = absurd none

@@ -1,3 +1,4 @@
+mod Names
 pub mod Seen
 pub mod Events
 pub mod Runs

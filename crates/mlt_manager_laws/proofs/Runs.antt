@@ -1,11 +1,10 @@
 -- The steps of a transaction in a run are steps of its own
-use Rattle.std.proofs.Common.{◌≡◌, ◌≢◌, ◌⊎◌, ℕ, List, [], ◌∷◌, ◌++◌, nat_eq, Some, Ok, Err, refl, sym, ap, subst, ◌∙◌, inl, inr}
-use Rattle.std.proofs.lemmas.Bool.{cases_eq, cond-false, cond-true, eq-eqb, ne_eqb}
+use Rattle.std.proofs.Common.{◌≡◌, ◌≢◌, ◌⊎◌, ℕ, List, [], ◌∷◌, ◌++◌, nat_eq, Some, Ok, Err, refl, sym, ap, subst, ◌∙◌, inl, inr, eq-eqb, ne_eqb, nat_cmp}
+use Rattle.std.proofs.lemmas.Bool.{cases_eq, cond-false, cond-true}
 use Rattle.std.specs.FinMap as map
 use Rattle.std.specs.FinSet as set
-use Rattle.std.specs.Ordering.{nat_cmp}
 use Rattle.mlt_types.specs.declared.limits.Limits.{Limits}
-use Rattle.mlt_object_kinds.specs.declared.operation.ObjOp.{ObjOp}
+use Rattle.mlt_manager_laws.proofs.Names.{ObjOp, context_by, Answer, Event, Told, Transaction, Table, view_in, HasStepped, txs_after, Meets, IsManager, ManagerFields, one_there, promises_kept}
 use Rattle.mlt_object_kinds.specs.declared.operation.ObjReply.{ObjReply}
 use Rattle.mlt_page.specs.declared.page.Page.{Page}
 use Rattle.mlt_hash_access.specs.Views.{View}
@@ -13,51 +12,39 @@ use Rattle.mlt_hash_form.specs.File.{FilePages, GivesPseudokeys, HasForm}
 use Rattle.mlt_hash_form.specs.Prefixes.{IsExtendibleHashFile}
 use Rattle.mlt_hash_form.specs.Records.{IsRecordMap, live_records}
 use Rattle.mlt_hash_form.specs.declared.root.Root.{Root}
-use Rattle.mlt_hash.specs.Walks.{context_by}
-use Rattle.mlt_event.specs.declared.answer.Answer.{Answer}
-use Rattle.mlt_event.specs.declared.answer.Answer.TheVariants as answer
-use Rattle.mlt_event.specs.declared.event.Event.{Event}
-use Rattle.mlt_event.specs.declared.event.Event.TheVariants as event
-use Rattle.mlt_event.specs.declared.told.Told.{Told}
-use Rattle.mlt_event.specs.declared.told.Told.TheVariants as told
-use Rattle.mlt_tx.specs.declared.transaction.Transaction.{Transaction}
 use Rattle.mlt_tx.specs.Transactions.{TellsOfTransaction}
-use Rattle.mlt_tx_open.specs.Tables.{Table}
 use Rattle.mlt_manager_invariant.proofs.Tables.{inserted_here}
 use Rattle.mlt_tx_step_counts.specs.Counts.{IsToTakeBack}
 use Rattle.mlt_tx_step_counts.specs.CountsOfTwo.{TakesBackOf}
-use Rattle.mlt_tx_step_counts.specs.OwnSteps.{AreOwnSteps, view_in, with_answer}
+use Rattle.mlt_tx_step_counts.specs.OwnSteps.{AreOwnSteps, with_answer}
 use Rattle.mlt_tx_step_counts.proofs.PassesOfTwo.{inverse_of_any, pass_of}
-use Rattle.mlt_manager.specs.Answers.{HasStepped, counted, txs_after}
-use Rattle.mlt_manager.specs.Events.{IsRun, Meets}
-use Rattle.mlt_manager.specs.Managers.{IsManager, ManagerFields}
+use Rattle.mlt_manager.specs.Answers.{counted}
+use Rattle.mlt_manager.specs.Events.{IsRun}
 use Rattle.mlt_manager.specs.Openings.{IsNew}
-use Rattle.mlt_manager.proofs.Called.{one_there}
 use Rattle.mlt_manager.proofs.Keeping.{counted_keeps}
 use Rattle.mlt_manager.proofs.Kept.{abort_kept, begin_kept, call_kept, cancel_kept, commit_kept, new_kept, step_kept, whole_kept, whole_undo_kept}
-use Rattle.mlt_manager.proofs.Promises.{promises_kept}
 use Rattle.mlt_manager_laws.specs.Runs.{HasOwnSteps, IsCutBehind, IsReached, IsStepOrAnothers, OnlySteps, TakesOwnSteps, TakesPassInRun, answers_to, up_to_end, with_told}
 use Rattle.mlt_manager_laws.proofs.Events.{of_abort, of_begin, of_call, of_cancel, of_commit, of_step, of_whole, of_whole_undo}
 use Rattle.mlt_manager_laws.proofs.Seen.{StaysAs}
 
 -- **An event that meets its contract keeps what is always true.**
 pub meets_keeps : {P : Type 0} (bits_of : P → ℕ → ℕ) (m m' : ManagerFields P) (h : IsManager bits_of m) (e : Event) (t : Told) → Meets bits_of e t m m' → IsManager bits_of m'
-meets_keeps bits_of m m' h event.Begin (told.Begun tx) a = begin_kept bits_of m m' h (Ok tx) a
-meets_keeps bits_of m m' h event.Begin (told.Refused reason) a = begin_kept bits_of m m' h (Err reason) a
-meets_keeps bits_of m m' h (event.Call tx op) told.Called a = call_kept bits_of m m' h tx op (Ok tt) a
-meets_keeps bits_of m m' h (event.Call tx op) (told.Refused reason) a = call_kept bits_of m m' h tx op (Err reason) a
-meets_keeps bits_of m m' h (event.Step tx) (told.Answered answer) a = step_kept bits_of m m' h tx (Ok answer) a.0
-meets_keeps bits_of m m' h (event.Step tx) (told.Refused reason) a = step_kept bits_of m m' h tx (Err reason) a
-meets_keeps bits_of m m' h (event.Cancel tx) told.Cancelled a = cancel_kept bits_of m m' h tx (Ok tt) a.0
-meets_keeps bits_of m m' h (event.Cancel tx) (told.Refused reason) a = cancel_kept bits_of m m' h tx (Err reason) a
-meets_keeps bits_of m m' h (event.Commit tx) (told.Committed number) a = commit_kept bits_of m m' h tx (Ok number) a
-meets_keeps bits_of m m' h (event.Commit tx) (told.Refused reason) a = commit_kept bits_of m m' h tx (Err reason) a
-meets_keeps bits_of m m' h (event.Abort tx) (told.Aborting closed) a = abort_kept bits_of m m' h tx (Ok closed) a
-meets_keeps bits_of m m' h (event.Abort tx) (told.Refused reason) a = abort_kept bits_of m m' h tx (Err reason) a
-meets_keeps bits_of m m' h (event.Whole tx op) (told.Answered answer) a = whole_kept bits_of m m' h tx op (Ok answer) a.0
-meets_keeps bits_of m m' h (event.Whole tx op) (told.Refused reason) a = whole_kept bits_of m m' h tx op (Err reason) a
-meets_keeps bits_of m m' h (event.WholeUndo tx) (told.Answered answer) a = whole_undo_kept bits_of m m' h tx (Ok answer) a.0
-meets_keeps bits_of m m' h (event.WholeUndo tx) (told.Refused reason) a = whole_undo_kept bits_of m m' h tx (Err reason) a
+meets_keeps bits_of m m' h Event.Begin (Told.Begun tx) a = begin_kept bits_of m m' h (Ok tx) a
+meets_keeps bits_of m m' h Event.Begin (Told.Refused reason) a = begin_kept bits_of m m' h (Err reason) a
+meets_keeps bits_of m m' h (Event.Call tx op) Told.Called a = call_kept bits_of m m' h tx op (Ok tt) a
+meets_keeps bits_of m m' h (Event.Call tx op) (Told.Refused reason) a = call_kept bits_of m m' h tx op (Err reason) a
+meets_keeps bits_of m m' h (Event.Step tx) (Told.Answered answer) a = step_kept bits_of m m' h tx (Ok answer) a.0
+meets_keeps bits_of m m' h (Event.Step tx) (Told.Refused reason) a = step_kept bits_of m m' h tx (Err reason) a
+meets_keeps bits_of m m' h (Event.Cancel tx) Told.Cancelled a = cancel_kept bits_of m m' h tx (Ok tt) a.0
+meets_keeps bits_of m m' h (Event.Cancel tx) (Told.Refused reason) a = cancel_kept bits_of m m' h tx (Err reason) a
+meets_keeps bits_of m m' h (Event.Commit tx) (Told.Committed number) a = commit_kept bits_of m m' h tx (Ok number) a
+meets_keeps bits_of m m' h (Event.Commit tx) (Told.Refused reason) a = commit_kept bits_of m m' h tx (Err reason) a
+meets_keeps bits_of m m' h (Event.Abort tx) (Told.Aborting closed) a = abort_kept bits_of m m' h tx (Ok closed) a
+meets_keeps bits_of m m' h (Event.Abort tx) (Told.Refused reason) a = abort_kept bits_of m m' h tx (Err reason) a
+meets_keeps bits_of m m' h (Event.Whole tx op) (Told.Answered answer) a = whole_kept bits_of m m' h tx op (Ok answer) a.0
+meets_keeps bits_of m m' h (Event.Whole tx op) (Told.Refused reason) a = whole_kept bits_of m m' h tx op (Err reason) a
+meets_keeps bits_of m m' h (Event.WholeUndo tx) (Told.Answered answer) a = whole_undo_kept bits_of m m' h tx (Ok answer) a.0
+meets_keeps bits_of m m' h (Event.WholeUndo tx) (Told.Refused reason) a = whole_undo_kept bits_of m m' h tx (Err reason) a
 meets_keeps bits_of m m' h e t none = absurd none
 
 run_keeps : {P : Type 0} (bits_of : P → ℕ → ℕ) (events : List Event) (tolds : List Told) (m m' : ManagerFields P) → IsManager bits_of m → IsRun bits_of m events tolds m' → IsManager bits_of m'
@@ -93,14 +80,14 @@ module _ {P : Type 0} (bits_of : P → ℕ → ℕ) (has_file : (bits : ℕ → 
   cut_run keys opening new limits pseudo before later tolds is_new run = cut before later tolds opening new (new_kept bits_of opening limits pseudo (keys opening.root.pseudo) is_new) run
 
 -- an answer is the last of an abort, or is told before what is told later
-is_last : (a : Answer) → (a ≡ answer.Aborted) ⊎ (((txs : Table) (tx : ℕ) → txs_after a tx txs ≡ txs) × ((more : List Answer) → up_to_end a more ≡ with_answer a more))
-is_last answer.Aborted = inl refl
-is_last answer.Going = inr (λ txs tx. refl, λ more. refl)
-is_last answer.Undone = inr (λ txs tx. refl, λ more. refl)
-is_last (answer.Waiting page by) = inr (λ txs tx. refl, λ more. refl)
-is_last (answer.Blocked by) = inr (λ txs tx. refl, λ more. refl)
-is_last (answer.Done reply) = inr (λ txs tx. refl, λ more. refl)
-is_last (answer.Refused reason) = inr (λ txs tx. refl, λ more. refl)
+is_last : (a : Answer) → (a ≡ Answer.Aborted) ⊎ (((txs : Table) (tx : ℕ) → txs_after a tx txs ≡ txs) × ((more : List Answer) → up_to_end a more ≡ with_answer a more))
+is_last Answer.Aborted = inl refl
+is_last Answer.Going = inr (λ txs tx. refl, λ more. refl)
+is_last Answer.Undone = inr (λ txs tx. refl, λ more. refl)
+is_last (Answer.Waiting page by) = inr (λ txs tx. refl, λ more. refl)
+is_last (Answer.Blocked by) = inr (λ txs tx. refl, λ more. refl)
+is_last (Answer.Done reply) = inr (λ txs tx. refl, λ more. refl)
+is_last (Answer.Refused reason) = inr (λ txs tx. refl, λ more. refl)
 
 module _ {P : Type 0} (bits_of : P → ℕ → ℕ) (root : Root P) (active : set.FinSet nat_cmp) (tx : ℕ) (m next : ManagerFields P) (h : IsManager bits_of m) (t : Transaction) (there : map.get m.txs tx ≡ Some t) (same_root : m.root ≡ root) (es : List Event) (tolds : List Told) where
   -- what is so of the events behind this one
@@ -133,7 +120,7 @@ module _ {P : Type 0} (bits_of : P → ℕ → ℕ) (root : Root P) (active : se
     root_still : next.root ≡ root
     root_still = ap (λ (n : ManagerFields P). n.root) d.rest ∙ same_root
 
-    own_step : HasOwnSteps (context_by bits_of root active tx) t (view_in t m.shared) tx (event.Step tx ∷ es) (told.Answered answer ∷ tolds)
+    own_step : HasOwnSteps (context_by bits_of root active tx) t (view_in t m.shared) tx (Event.Step tx ∷ es) (Told.Answered answer ∷ tolds)
     own_step =
         let here = cond-true (nat_eq tx tx) (up_to_end answer (answers_to tx es tolds)) (answers_to tx es tolds) (eq-eqb tx tx refl) in
         elim (is_last answer) [
@@ -154,17 +141,17 @@ module _ {P : Type 0} (bits_of : P → ℕ → ℕ) (root : Root P) (active : se
         ]
 
 module _ {P : Type 0} (bits_of : P → ℕ → ℕ) (root : Root P) (active : set.FinSet nat_cmp) (tx : ℕ) where
-  not_told : (t0 : Told) (more : List Answer) (i : ℕ) → tx ≢ i → with_told tx (event.Step i) t0 more ≡ more
-  not_told (told.Answered answer) more i differ = cond-false (nat_eq tx i) (up_to_end answer more) more (ne_eqb tx i differ)
+  not_told : (t0 : Told) (more : List Answer) (i : ℕ) → tx ≢ i → with_told tx (Event.Step i) t0 more ≡ more
+  not_told (Told.Answered answer) more i differ = cond-false (nat_eq tx i) (up_to_end answer more) more (ne_eqb tx i differ)
   not_told other more i differ = refl
 
   by_told : (m next : ManagerFields P) (h : IsManager bits_of m) (t : Transaction) (there : map.get m.txs tx ≡ Some t) → m.root ≡ root → (es : List Event) (tolds : List Told)
       → ((t' : Transaction) → map.get next.txs tx ≡ Some t' → next.root ≡ root → HasOwnSteps (context_by bits_of root active tx) t' (view_in t' next.shared) tx es tolds)
-      → (t0 : Told) → Meets bits_of (event.Step tx) t0 (counted m) next
-      → HasOwnSteps (context_by bits_of root active tx) t (view_in t m.shared) tx (event.Step tx ∷ es) (t0 ∷ tolds)
-  by_told m next h t there same es tolds again (told.Answered answer) a = own_step bits_of root active tx m next h t there same es tolds again answer a.0
-  by_told m next h t there same es tolds again (told.Refused reason) a =
-      left_aside bits_of root active tx m next h t there same es tolds again (event.Step tx) (told.Refused reason)
+      → (t0 : Told) → Meets bits_of (Event.Step tx) t0 (counted m) next
+      → HasOwnSteps (context_by bits_of root active tx) t (view_in t m.shared) tx (Event.Step tx ∷ es) (t0 ∷ tolds)
+  by_told m next h t there same es tolds again (Told.Answered answer) a = own_step bits_of root active tx m next h t there same es tolds again answer a.0
+  by_told m next h t there same es tolds again (Told.Refused reason) a =
+      left_aside bits_of root active tx m next h t there same es tolds again (Event.Step tx) (Told.Refused reason)
       (record {
         there = ap (λ (n : ManagerFields P). map.get n.txs tx) a.1 ∙ there;
         sees = ap (λ (n : ManagerFields P). view_in t n.shared) a.1;
@@ -177,26 +164,26 @@ module _ {P : Type 0} (bits_of : P → ℕ → ℕ) (root : Root P) (active : se
       → ((t' : Transaction) → map.get next.txs tx ≡ Some t' → next.root ≡ root → HasOwnSteps (context_by bits_of root active tx) t' (view_in t' next.shared) tx es tolds)
       → (e : Event) (t0 : Told) → IsStepOrAnothers tx e → Meets bits_of e t0 (counted m) next
       → HasOwnSteps (context_by bits_of root active tx) t (view_in t m.shared) tx (e ∷ es) (t0 ∷ tolds)
-  one_event m next h t there same es tolds again event.Begin t0 ne a =
-      left_aside bits_of root active tx m next h t there same es tolds again event.Begin t0 (of_begin bits_of tx t (counted m) next (counted_keeps bits_of m h) there t0 a) refl
-  one_event m next h t there same es tolds again (event.Call i op) t0 ne a =
-      left_aside bits_of root active tx m next h t there same es tolds again (event.Call i op) t0 (of_call bits_of i tx t ne (counted m) next (counted_keeps bits_of m h) there op t0 a) refl
-  one_event m next h t there same es tolds again (event.Cancel i) t0 ne a =
-      left_aside bits_of root active tx m next h t there same es tolds again (event.Cancel i) t0 (of_cancel bits_of i tx t ne (counted m) next (counted_keeps bits_of m h) there t0 a) refl
-  one_event m next h t there same es tolds again (event.Commit i) t0 ne a =
-      left_aside bits_of root active tx m next h t there same es tolds again (event.Commit i) t0 (of_commit bits_of i tx t ne (counted m) next (counted_keeps bits_of m h) there t0 a) refl
-  one_event m next h t there same es tolds again (event.Abort i) t0 ne a =
-      left_aside bits_of root active tx m next h t there same es tolds again (event.Abort i) t0 (of_abort bits_of i tx t ne (counted m) next (counted_keeps bits_of m h) there t0 a) refl
-  one_event m next h t there same es tolds again (event.Whole i op) t0 ne a =
-      left_aside bits_of root active tx m next h t there same es tolds again (event.Whole i op) t0 (of_whole bits_of i tx t ne (counted m) next (counted_keeps bits_of m h) there op t0 a) refl
-  one_event m next h t there same es tolds again (event.WholeUndo i) t0 ne a =
-      left_aside bits_of root active tx m next h t there same es tolds again (event.WholeUndo i) t0 (of_whole_undo bits_of i tx t ne (counted m) next (counted_keeps bits_of m h) there t0 a) refl
-  one_event m next h t there same es tolds again (event.Step i) t0 ne a = elim (cases_eq tx i) [
+  one_event m next h t there same es tolds again Event.Begin t0 ne a =
+      left_aside bits_of root active tx m next h t there same es tolds again Event.Begin t0 (of_begin bits_of tx t (counted m) next (counted_keeps bits_of m h) there t0 a) refl
+  one_event m next h t there same es tolds again (Event.Call i op) t0 ne a =
+      left_aside bits_of root active tx m next h t there same es tolds again (Event.Call i op) t0 (of_call bits_of i tx t ne (counted m) next (counted_keeps bits_of m h) there op t0 a) refl
+  one_event m next h t there same es tolds again (Event.Cancel i) t0 ne a =
+      left_aside bits_of root active tx m next h t there same es tolds again (Event.Cancel i) t0 (of_cancel bits_of i tx t ne (counted m) next (counted_keeps bits_of m h) there t0 a) refl
+  one_event m next h t there same es tolds again (Event.Commit i) t0 ne a =
+      left_aside bits_of root active tx m next h t there same es tolds again (Event.Commit i) t0 (of_commit bits_of i tx t ne (counted m) next (counted_keeps bits_of m h) there t0 a) refl
+  one_event m next h t there same es tolds again (Event.Abort i) t0 ne a =
+      left_aside bits_of root active tx m next h t there same es tolds again (Event.Abort i) t0 (of_abort bits_of i tx t ne (counted m) next (counted_keeps bits_of m h) there t0 a) refl
+  one_event m next h t there same es tolds again (Event.Whole i op) t0 ne a =
+      left_aside bits_of root active tx m next h t there same es tolds again (Event.Whole i op) t0 (of_whole bits_of i tx t ne (counted m) next (counted_keeps bits_of m h) there op t0 a) refl
+  one_event m next h t there same es tolds again (Event.WholeUndo i) t0 ne a =
+      left_aside bits_of root active tx m next h t there same es tolds again (Event.WholeUndo i) t0 (of_whole_undo bits_of i tx t ne (counted m) next (counted_keeps bits_of m h) there t0 a) refl
+  one_event m next h t there same es tolds again (Event.Step i) t0 ne a = elim (cases_eq tx i) [
     | inr differ ↦
-        left_aside bits_of root active tx m next h t there same es tolds again (event.Step i) t0 (of_step bits_of i tx t differ (counted m) next (counted_keeps bits_of m h) there t0 a) (not_told t0 (answers_to tx es tolds) i differ)
+        left_aside bits_of root active tx m next h t there same es tolds again (Event.Step i) t0 (of_step bits_of i tx t differ (counted m) next (counted_keeps bits_of m h) there t0 a) (not_told t0 (answers_to tx es tolds) i differ)
     | inl own ↦
-        subst (λ (k : ℕ). HasOwnSteps (context_by bits_of root active tx) t (view_in t m.shared) tx (event.Step k ∷ es) (t0 ∷ tolds)) own
-        (by_told m next h t there same es tolds again t0 (subst (λ (k : ℕ). Meets bits_of (event.Step k) t0 (counted m) next) (sym own) a))
+        subst (λ (k : ℕ). HasOwnSteps (context_by bits_of root active tx) t (view_in t m.shared) tx (Event.Step k ∷ es) (t0 ∷ tolds)) own
+        (by_told m next h t there same es tolds again t0 (subst (λ (k : ℕ). Meets bits_of (Event.Step k) t0 (counted m) next) (sym own) a))
   ]
 
   -- **The steps of a transaction in a run are steps of its own.**
@@ -212,11 +199,11 @@ module _ {P : Type 0} (bits_of : P → ℕ → ℕ) (root : Root P) (active : se
 
 -- **From a call on.**
 pub from_call : {P : Type 0} (bits_of : P → ℕ → ℕ) (tx : ℕ) (op : ObjOp) (events : List Event) (tolds : List Told) (m called new : ManagerFields P) → IsManager bits_of m
-    → Meets bits_of (event.Call tx op) told.Called (counted m) called → OnlySteps tx events → IsRun bits_of called events tolds new → TakesPassInRun bits_of called tx op events tolds
+    → Meets bits_of (Event.Call tx op) Told.Called (counted m) called → OnlySteps tx events → IsRun bits_of called events tolds new → TakesPassInRun bits_of called tx op events tolds
 from_call bits_of tx op events tolds m called new h call only run =
     let t = call.calls.changes.after in
     let there : map.get called.txs tx ≡ Some t = ap (λ (x : Table). map.get x tx) call.calls.changes.is ∙ inserted_here m.txs tx t in
-    let h' = meets_keeps bits_of (counted m) called (counted_keeps bits_of m h) (event.Call tx op) told.Called call in
+    let h' = meets_keeps bits_of (counted m) called (counted_keeps bits_of m h) (Event.Call tx op) Told.Called call in
     let has = run_steps bits_of called.root called.active tx events tolds called new t h' there refl only run in
     record {
       t = t;

@@ -8,28 +8,18 @@ use Rattle.mlt_hash_access.specs.LocalStates.{local}
 use Rattle.mlt_hash_access.specs.Views.{view_of}
 use Rattle.mlt_hash_subtx_laws.specs.Running.{AllRunning, KeepsRunning, after_end, local_of}
 use Rattle.mlt_hash_subtx_laws.proofs.AllEvents.{end_keeps}
-use Rattle.mlt_hash.specs.Walks.{context_by}
+use Rattle.mlt_manager_laws.proofs.Names.{context_by, Answer, At, Transaction, Table, inserted_elsewhere, removed_elsewhere, view_in, HasStepped, txs_after, IsManager, ManagerFields, state_of}
 use Rattle.mlt_tx_operation.specs.Operating.{OperationFields}
 use Rattle.mlt_tx_meaning.specs.AbstractStates.{context_of}
-use Rattle.mlt_event.specs.declared.answer.Answer.{Answer}
-use Rattle.mlt_event.specs.declared.answer.Answer.TheVariants as answer
 use Rattle.mlt_tx.specs.declared.shared.SharedState.{SharedState}
-use Rattle.mlt_tx.specs.declared.transaction.At.{At}
-use Rattle.mlt_tx.specs.declared.transaction.At.TheVariants as at
-use Rattle.mlt_tx.specs.declared.transaction.Transaction.{Transaction}
 use Rattle.mlt_tx.specs.Endings.{EndsSubtx}
 use Rattle.mlt_tx.specs.Steps.{EndsBack}
 use Rattle.mlt_tx.specs.Transactions.{StepsBack, StepsPending, TellsAt, tx_state_of}
-use Rattle.mlt_tx_open.specs.Tables.{Table}
 use Rattle.mlt_manager_invariant.specs.Events.{KeepsCleanPages, with_transaction}
 use Rattle.mlt_manager_invariant.specs.States.{State, all_of, images_kept, abstract_state_of}
 use Rattle.mlt_manager_invariant.proofs.Inverting.{inverse_sound}
 use Rattle.mlt_manager_invariant.proofs.MaySteps.{is_open_now, same_local}
 use Rattle.mlt_manager_invariant.proofs.Pending.{not_done_sound}
-use Rattle.mlt_manager_invariant.proofs.Tables.{inserted_elsewhere, removed_elsewhere}
-use Rattle.mlt_tx_step_counts.specs.OwnSteps.{view_in}
-use Rattle.mlt_manager.specs.Answers.{HasStepped, txs_after}
-use Rattle.mlt_manager.specs.Managers.{IsManager, ManagerFields, state_of}
 
 -- a transaction is still what it was, and sees what it saw
 pub record StaysAs {P : Type 0} (m m' : ManagerFields P) (u : ℕ) (t : Transaction) : Type 0 where
@@ -65,38 +55,38 @@ module _ {P : Type 0} (bits_of : P → ℕ → ℕ) (m : ManagerFields P) (h : I
         sees (after_end all i) (end_keeps all i h.sound.running (is_open_now (state_of bits_of m h.images h.base) i before h.sound was)) shared
         (ap (released m.shared.pages.locks) (sym (h.sound.fits i before was).number) ∙ sym ends.locks) (sym ends.store)
 
-    by_pending : (o : OperationFields) (after : Transaction) (shared : SharedState) (told : Answer) → before.at ≡ at.Pending o
+    by_pending : (o : OperationFields) (after : Transaction) (shared : SharedState) (told : Answer) → before.at ≡ At.Pending o
         → StepsPending (context_of (abstract_state_of (state_of bits_of m h.images h.base)) i) o before after m.shared shared told → view_in t shared ≡ view_in t m.shared
-    by_pending o after shared answer.Going is s = clean_sees before after shared (not_done_sound (state_of bits_of m h.images h.base) i o before after shared answer.Going h.sound was is s (λ reply e. cc))
-    by_pending o after shared (answer.Waiting page by) is s = clean_sees before after shared (not_done_sound (state_of bits_of m h.images h.base) i o before after shared (answer.Waiting page by) h.sound was is s (λ reply e. cc))
-    by_pending o after shared (answer.Refused reason) is s = clean_sees before after shared (not_done_sound (state_of bits_of m h.images h.base) i o before after shared (answer.Refused reason) h.sound was is s (λ reply e. cc))
-    by_pending o after shared (answer.Blocked by) is s = clean_sees before after shared (not_done_sound (state_of bits_of m h.images h.base) i o before after shared (answer.Blocked by) h.sound was is s (λ reply e. cc))
-    by_pending o after shared (answer.Done reply) is s = ap (λ (c : SharedState). view_in t c) s.leaves ∙ end_sees after.subtx s.between s.tells.tells.1.ends
-    by_pending o after shared answer.Undone is s = absurd s.tells
-    by_pending o after shared answer.Aborted is s = absurd s.tells
+    by_pending o after shared Answer.Going is s = clean_sees before after shared (not_done_sound (state_of bits_of m h.images h.base) i o before after shared Answer.Going h.sound was is s (λ reply e. cc))
+    by_pending o after shared (Answer.Waiting page by) is s = clean_sees before after shared (not_done_sound (state_of bits_of m h.images h.base) i o before after shared (Answer.Waiting page by) h.sound was is s (λ reply e. cc))
+    by_pending o after shared (Answer.Refused reason) is s = clean_sees before after shared (not_done_sound (state_of bits_of m h.images h.base) i o before after shared (Answer.Refused reason) h.sound was is s (λ reply e. cc))
+    by_pending o after shared (Answer.Blocked by) is s = clean_sees before after shared (not_done_sound (state_of bits_of m h.images h.base) i o before after shared (Answer.Blocked by) h.sound was is s (λ reply e. cc))
+    by_pending o after shared (Answer.Done reply) is s = ap (λ (c : SharedState). view_in t c) s.leaves ∙ end_sees after.subtx s.between s.tells.tells.1.ends
+    by_pending o after shared Answer.Undone is s = absurd s.tells
+    by_pending o after shared Answer.Aborted is s = absurd s.tells
 
     between_sees : (inverting next : Option OperationFields) (after : Transaction) (shared : SharedState) (told : Answer) (e : EndsBack inverting next (tx_state_of before m.shared) (tx_state_of after shared) told)
         → view_in t e.between ≡ view_in t m.shared
     between_sees None next after shared told e = ap (λ (c : SharedState). view_in t c) (e.fast refl).0
     between_sees (Some o) next after shared told e = end_sees after.subtx e.between (e.at_end o refl).1
 
-    by_undoing : (inverting : Option OperationFields) (after : Transaction) (shared : SharedState) (told : Answer) → before.at ≡ at.Undoing inverting
+    by_undoing : (inverting : Option OperationFields) (after : Transaction) (shared : SharedState) (told : Answer) → before.at ≡ At.Undoing inverting
         → StepsBack (context_of (abstract_state_of (state_of bits_of m h.images h.base)) i) inverting before after m.shared shared told → view_in t shared ≡ view_in t m.shared
-    by_undoing inverting after shared answer.Going is s = clean_sees before after shared (inverse_sound (state_of bits_of m h.images h.base) i inverting before after shared answer.Going h.sound was is s (λ e. cc) (λ e. cc))
-    by_undoing inverting after shared (answer.Waiting page by) is s = clean_sees before after shared (inverse_sound (state_of bits_of m h.images h.base) i inverting before after shared (answer.Waiting page by) h.sound was is s (λ e. cc) (λ e. cc))
-    by_undoing inverting after shared answer.Undone is s =
-        ap (λ (p : LockedStore). view_of (local t.subtx p)) s.tells.takes.off.pages ∙ between_sees inverting s.next after shared answer.Undone s.tells
-    by_undoing inverting after shared answer.Aborted is s =
-        ap (λ (p : LockedStore). view_of (local t.subtx p)) s.tells.takes.off.pages ∙ between_sees inverting s.next after shared answer.Aborted s.tells
-    by_undoing inverting after shared (answer.Blocked by) is s = absurd s.tells
-    by_undoing inverting after shared (answer.Done reply) is s = absurd s.tells
-    by_undoing inverting after shared (answer.Refused reason) is s = absurd s.tells
+    by_undoing inverting after shared Answer.Going is s = clean_sees before after shared (inverse_sound (state_of bits_of m h.images h.base) i inverting before after shared Answer.Going h.sound was is s (λ e. cc) (λ e. cc))
+    by_undoing inverting after shared (Answer.Waiting page by) is s = clean_sees before after shared (inverse_sound (state_of bits_of m h.images h.base) i inverting before after shared (Answer.Waiting page by) h.sound was is s (λ e. cc) (λ e. cc))
+    by_undoing inverting after shared Answer.Undone is s =
+        ap (λ (p : LockedStore). view_of (local t.subtx p)) s.tells.takes.off.pages ∙ between_sees inverting s.next after shared Answer.Undone s.tells
+    by_undoing inverting after shared Answer.Aborted is s =
+        ap (λ (p : LockedStore). view_of (local t.subtx p)) s.tells.takes.off.pages ∙ between_sees inverting s.next after shared Answer.Aborted s.tells
+    by_undoing inverting after shared (Answer.Blocked by) is s = absurd s.tells
+    by_undoing inverting after shared (Answer.Done reply) is s = absurd s.tells
+    by_undoing inverting after shared (Answer.Refused reason) is s = absurd s.tells
 
     by_at : (a : At) (after : Transaction) (shared : SharedState) (told : Answer) → before.at ≡ a
         → TellsAt a (context_of (abstract_state_of (state_of bits_of m h.images h.base)) i) before after m.shared shared told → view_in t shared ≡ view_in t m.shared
-    by_at at.Idle after shared told is none = absurd none
-    by_at (at.Pending o) after shared told is s = by_pending o after shared told is s
-    by_at (at.Undoing inverting) after shared told is s = by_undoing inverting after shared told is s
+    by_at At.Idle after shared told is none = absurd none
+    by_at (At.Pending o) after shared told is s = by_pending o after shared told is s
+    by_at (At.Undoing inverting) after shared told is s = by_undoing inverting after shared told is s
 
   changed_there : (txs : Table) (after : Transaction) → txs ≡ map.insert m.txs i after → map.get txs u ≡ Some t
   changed_there txs after is = ap (λ (x : Table). map.get x u) is ∙ inserted_elsewhere m.txs i after u ne ∙ there
@@ -105,7 +95,7 @@ module _ {P : Type 0} (bits_of : P → ℕ → ℕ) (m : ManagerFields P) (h : I
   changed_stays txs after is = changed_there txs after is
 
   table_after : (told : Answer) (txs : Table) (after : Transaction) → txs ≡ map.insert m.txs i after → map.get (txs_after told i txs) u ≡ Some t
-  table_after answer.Aborted txs after is = removed_elsewhere txs i u ne ∙ changed_there txs after is
+  table_after Answer.Aborted txs after is = removed_elsewhere txs i u ne ∙ changed_there txs after is
   table_after other txs after is = changed_there txs after is
 
   -- **A step of another.**

@@ -6,11 +6,8 @@ use Rattle.mlt_object_kinds.specs.declared.operation.ObjOp.{ObjOp}
 use Rattle.mlt_hash_access.specs.Views.{View}
 use Rattle.mlt_hash.specs.Walks.{WalkContext, context_by}
 use Rattle.mlt_event.specs.declared.answer.Answer.{Answer}
-use Rattle.mlt_event.specs.declared.answer.Answer.TheVariants as answer
 use Rattle.mlt_event.specs.declared.event.Event.{Event}
-use Rattle.mlt_event.specs.declared.event.Event.TheVariants as event
 use Rattle.mlt_event.specs.declared.told.Told.{Told}
-use Rattle.mlt_event.specs.declared.told.Told.TheVariants as told
 use Rattle.mlt_tx.specs.declared.transaction.Transaction.{Transaction}
 use Rattle.mlt_tx_step_counts.specs.CountsOfTwo.{TakesPassOf}
 use Rattle.mlt_tx_step_counts.specs.OwnSteps.{AreOwnSteps, OwnStep, answers_of, view_in, with_answer}
@@ -21,14 +18,14 @@ use Rattle.mlt_manager.specs.Promises.{KeepsPromises}
 
 -- The event is a step of this transaction, or one of another, or one begins.
 abbrev pub IsStepOrAnothers : ℕ → Event → Type 0
-IsStepOrAnothers tx event.Begin = Unit {0}
-IsStepOrAnothers tx (event.Step other) = Unit {0}
-IsStepOrAnothers tx (event.Call other op) = tx ≢ other
-IsStepOrAnothers tx (event.Cancel other) = tx ≢ other
-IsStepOrAnothers tx (event.Commit other) = tx ≢ other
-IsStepOrAnothers tx (event.Abort other) = tx ≢ other
-IsStepOrAnothers tx (event.Whole other op) = tx ≢ other
-IsStepOrAnothers tx (event.WholeUndo other) = tx ≢ other
+IsStepOrAnothers tx Event.Begin = Unit {0}
+IsStepOrAnothers tx (Event.Step other) = Unit {0}
+IsStepOrAnothers tx (Event.Call other op) = tx ≢ other
+IsStepOrAnothers tx (Event.Cancel other) = tx ≢ other
+IsStepOrAnothers tx (Event.Commit other) = tx ≢ other
+IsStepOrAnothers tx (Event.Abort other) = tx ≢ other
+IsStepOrAnothers tx (Event.Whole other op) = tx ≢ other
+IsStepOrAnothers tx (Event.WholeUndo other) = tx ≢ other
 
 -- this transaction takes steps, and nothing else is asked of it
 abbrev pub OnlySteps : ℕ → List Event → Type 0
@@ -37,12 +34,12 @@ OnlySteps tx (event ∷ events) = IsStepOrAnothers tx event × OnlySteps tx even
 
 -- an answer before these, unless it says to wait, and none behind the last of an abort
 abbrev pub up_to_end : Answer → List Answer → List Answer
-up_to_end answer.Aborted more = answer.Aborted ∷ []
+up_to_end Answer.Aborted more = Answer.Aborted ∷ []
 up_to_end told more = with_answer told more
 
 -- what an event tells a step of this transaction, before what is told later
 abbrev pub with_told : ℕ → Event → Told → List Answer → List Answer
-with_told tx (event.Step other) (told.Answered answer) more =
+with_told tx (Event.Step other) (Told.Answered answer) more =
     if nat_eq tx other then up_to_end answer more else more
 with_told tx event told more = more
 

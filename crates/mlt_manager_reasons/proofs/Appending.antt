@@ -1,9 +1,7 @@
 -- Texts that are appended piece by piece.
-use Rattle.std.proofs.Common.{◌≡◌, ◌-◌, ◌≤◌, ◌++◌, ◌∷◌, [], ℕ, List, Option, Some, None, IsSome, length, get_or, take, drop, codes, refl, sym, subst, ap, ◌∙◌, arith, append_assoc}
-use Rattle.std.specs.List.{flat_map}
-use Rattle.mlt_object_kinds.specs.declared.operation.ObjOp.{ObjOp}
-use Rattle.mlt_object_kinds.specs.declared.operation.ObjReply.{ObjReply}
-use Rattle.mlt_manager_reasons.specs.Reasons.{AreClashLines, cycle_line, first_clash, link_text, next_link}
+use Rattle.std.proofs.Common.{◌≡◌, ◌-◌, ◌≤◌, ◌++◌, ◌∷◌, [], ℕ, List, Option, Some, None, IsSome, length, get_or, take, drop, codes, refl, sym, subst, ap, ◌∙◌, arith, append_assoc, flat_map}
+use Rattle.mlt_manager_reasons.proofs.Names.{ObjOp, ObjReply, cycle_line, first_clash, next_link}
+use Rattle.mlt_manager_reasons.specs.Reasons.{AreClashLines, link_text}
 
 take_all : {X : Type 0} (xs : List X) → take (length xs) xs ≡ xs
 take_all [] = refl

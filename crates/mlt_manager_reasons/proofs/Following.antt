@@ -1,18 +1,14 @@
 -- One more item of a history, and the base to which it leads.
 use Rattle.std.proofs.Common.{◌≡◌, ◌≢◌, ℕ, List, [], ◌∷◌, ◌++◌, refl, sym, ap, subst, ◌∙◌}
-use Rattle.mlt_object_kinds.specs.declared.operation.ObjOp.{ObjOp}
-use Rattle.mlt_object_kinds.specs.declared.operation.ObjReply.{ObjReply}
-use Rattle.mlt_object_kinds.specs.Bases.{Base, Step, empty_base}
-use Rattle.mlt_object_kinds.proofs.BaseLaws.{base_one_answer, base_one_start}
-use Rattle.mlt_order.specs.Histories.{Entry, Lists, MayCome, MayFollow, after_entry, after_entries, but_last, lists_of, no_lists}
+use Rattle.mlt_manager_reasons.proofs.Names.{ObjOp, ObjReply, Base, Step, base_one_answer, but_last, TraceItem, Begin, Op, Back, Commit, Abort, LeadsTo, held_by, standing_of}
+use Rattle.mlt_object_kinds.specs.Bases.{empty_base}
+use Rattle.mlt_object_kinds.proofs.BaseLaws.{base_one_start}
+use Rattle.mlt_order.specs.Histories.{Entry, Lists, MayCome, MayFollow, after_entry, after_entries, lists_of, no_lists}
 use Rattle.mlt_order.specs.Runs.{IsFunctional, IsInjective}
 use Rattle.mlt_order.proofs.Growing.{after_entries-push, follow_front, follow_push, follow_to_one}
 use Rattle.mlt_order.proofs.Tables.{changed}
 use Rattle.mlt_trace.specs.Entries.{entries_of, entry_of}
-use Rattle.mlt_trace.specs.declared.item.TraceItem.{TraceItem}
-use Rattle.mlt_trace.specs.declared.item.TraceItem.TheVariants.{Begin, Op, Back, Commit, Abort}
 use Rattle.mlt_trace.proofs.ItemLaws.{entries_of-append}
-use Rattle.mlt_manager_reasons.specs.Histories.{LeadsTo, held_by, standing_of}
 
 -- the lists that a history tells of
 abbrev pub lists_in : List TraceItem → Lists (ObjOp × ObjReply)

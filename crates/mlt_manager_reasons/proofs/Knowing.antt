@@ -1,20 +1,12 @@
 -- What a ledger knows, item by item.
-use Rattle.std.proofs.Common.{◌≡◌, ◌≢◌, ◌<◌, ℕ, suc, zero, List, [], ◌∷◌, ◌++◌, length, take, drop, get_or, Option, Some, None, MatchOption, refl, sym, ap, subst, ◌∙◌, arith}
+use Rattle.std.proofs.Common.{◌≡◌, ◌≢◌, ◌<◌, ℕ, suc, zero, List, [], ◌∷◌, ◌++◌, length, take, drop, get_or, Option, Some, None, MatchOption, refl, sym, ap, subst, ◌∙◌, arith, nat_cmp}
 use Rattle.std.specs.BTreeMap as tree
-use Rattle.std.specs.Ordering.{nat_cmp}
-use Rattle.mlt_object_kinds.specs.declared.operation.ObjOp.{ObjOp}
-use Rattle.mlt_object_kinds.specs.declared.operation.ObjReply.{ObjReply}
-use Rattle.mlt_object_kinds.specs.Bases.{Base, Step}
-use Rattle.mlt_object_kinds.proofs.BaseLaws.{base_one_answer}
-use Rattle.mlt_order.specs.Histories.{but_last}
+use Rattle.mlt_manager_reasons.proofs.Names.{ObjOp, ObjReply, Base, Step, base_one_answer, but_last, TraceItem, Begin, Op, Back, Commit, Abort, LeadsTo, held_by, standing_of, Knows}
 use Rattle.mlt_order.proofs.Growing.{but_last-push, one_last}
 use Rattle.mlt_order.proofs.Tables.{at_each}
-use Rattle.mlt_trace.specs.declared.item.TraceItem.{TraceItem}
-use Rattle.mlt_trace.specs.declared.item.TraceItem.TheVariants.{Begin, Op, Back, Commit, Abort}
 use Rattle.mlt_manager_reasons.specs.declared.tx_ops.TxOps.{TxOps}
 use Rattle.mlt_manager_reasons.specs.declared.ledger.Ledger.{Ledger}
-use Rattle.mlt_manager_reasons.specs.Histories.{LeadsTo, held_by, standing_of}
-use Rattle.mlt_manager_reasons.specs.Tables.{AreOpsOf, Knows}
+use Rattle.mlt_manager_reasons.specs.Tables.{AreOpsOf}
 use Rattle.mlt_manager_reasons.proofs.Following.{comes_last, did_more, has_aborted, has_begun, has_committed, leads_before, others_keep, took_back, tx_of}
 
 abbrev pub tx_ops_at : Ledger → ℕ → Option TxOps

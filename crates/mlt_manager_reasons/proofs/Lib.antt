@@ -1,3 +1,4 @@
+mod Names
 pub mod Appending
 pub mod Following
 pub mod Knowing

@@ -1,8 +1,7 @@
 -- Cycles of waits, link by link.
-use Rattle.std.proofs.Common.{◌≡◌, ◌+◌, ◌-◌, ◌<◌, ◌≤◌, ℕ, suc, List, [], ◌∷◌, ◌++◌, Option, Some, None, refl, sym, ap, ◌∙◌, arith, append_assoc, eq-eqb}
-use Rattle.std.proofs.lemmas.Bool.{ne_eqb}
-use Rattle.std.specs.Option.{option_map}
-use Rattle.mlt_manager_reasons.specs.Cycles.{blocker_of, cycle_of, links_by, links_to}
+use Rattle.std.proofs.Common.{◌≡◌, ◌+◌, ◌-◌, ◌<◌, ◌≤◌, ℕ, suc, List, [], ◌∷◌, ◌++◌, Option, Some, None, refl, sym, ap, ◌∙◌, arith, append_assoc, eq-eqb, ne_eqb, option_map}
+use Rattle.mlt_manager_reasons.proofs.Names.{cycle_of}
+use Rattle.mlt_manager_reasons.specs.Cycles.{blocker_of, links_by, links_to}
 use Rattle.mlt_manager_reasons.specs.Pendings.{Pendings}
 
 -- so many links were found, and so the cycle is these and what follows

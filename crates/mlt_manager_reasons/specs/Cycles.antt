@@ -1,6 +1,5 @@
 -- Cycles of operations that are blocked.
-use Rattle.std.specs.Prelude.{ℕ, zero, suc, ◌==◌, if◌then◌else◌, List, [], ◌∷◌, Option, None, Some}
-use Rattle.std.specs.Option.{option_map}
+use Rattle.std.specs.Prelude.{ℕ, zero, suc, ◌==◌, if◌then◌else◌, List, [], ◌∷◌, Option, None, Some, option_map}
 use Rattle.mlt_manager_reasons.specs.declared.pending.Pending.{Pending}
 use Rattle.mlt_manager_reasons.specs.Pendings.{Pendings}
 

@@ -1,13 +1,10 @@
 -- Operations that are pending, by the events and what they were told.
-use Rattle.std.specs.Prelude.{ℕ, Option, None, Some}
-use Rattle.std.specs.Option.{option_map}
+use Rattle.std.specs.Prelude.{ℕ, Option, None, Some, option_map}
 use Rattle.mlt_order.specs.Tables.{table_with}
 use Rattle.mlt_object_kinds.specs.declared.operation.ObjOp.{ObjOp}
-use Rattle.mlt_event.specs.declared.answer.Answer.TheVariants as answer
+use Rattle.mlt_event.specs.declared.answer.Answer.{Answer}
 use Rattle.mlt_event.specs.declared.event.Event.{Event}
-use Rattle.mlt_event.specs.declared.event.Event.TheVariants as event
 use Rattle.mlt_event.specs.declared.told.Told.{Told}
-use Rattle.mlt_event.specs.declared.told.Told.TheVariants as told
 use Rattle.mlt_manager_reasons.specs.declared.pending.Pending.{Pending}
 
 -- of each number the operation that is pending, and whom it is blocked by, where its last step was told so
@@ -29,14 +26,14 @@ put_behind pendings tx by = table_with pendings tx (option_map (behind by) (pend
 -- The same after an event that was told this: a call makes an operation pending; it ends where it is done, refused or
 -- dropped; and it is blocked where its last step was told so. A whole operation is never left pending.
 abbrev pub pending_after : Event → Told → Pendings → Pendings
-pending_after (event.Call tx op) told.Called pendings =
+pending_after (Event.Call tx op) Told.Called pendings =
     table_with pendings tx (Some (record { op = op; blocked_by = None }))
-pending_after (event.Step tx) (told.Answered (answer.Blocked by)) pendings = put_behind pendings tx (Some by)
-pending_after (event.Step tx) (told.Answered answer.Going) pendings = put_behind pendings tx None
-pending_after (event.Step tx) (told.Answered (answer.Waiting page by)) pendings = put_behind pendings tx None
-pending_after (event.Step tx) (told.Answered (answer.Done reply)) pendings = table_with pendings tx None
-pending_after (event.Step tx) (told.Answered (answer.Refused reason)) pendings = table_with pendings tx None
-pending_after (event.Cancel tx) told.Cancelled pendings = table_with pendings tx None
+pending_after (Event.Step tx) (Told.Answered (Answer.Blocked by)) pendings = put_behind pendings tx (Some by)
+pending_after (Event.Step tx) (Told.Answered Answer.Going) pendings = put_behind pendings tx None
+pending_after (Event.Step tx) (Told.Answered (Answer.Waiting page by)) pendings = put_behind pendings tx None
+pending_after (Event.Step tx) (Told.Answered (Answer.Done reply)) pendings = table_with pendings tx None
+pending_after (Event.Step tx) (Told.Answered (Answer.Refused reason)) pendings = table_with pendings tx None
+pending_after (Event.Cancel tx) Told.Cancelled pendings = table_with pendings tx None
 pending_after event told pendings = pendings
 
 -- the operation of a pending one

@@ -1,16 +1,12 @@
 -- The lines of the reasons of what an event was told.
-use Rattle.std.specs.Prelude.{◌≡◌, ◌-◌, ℕ, List, [], ◌∷◌, ◌++◌, length, Option, None, Some, IsSome, codes, slice_get}
-use Rattle.std.specs.List.{find, flat_map}
-use Rattle.std.specs.Fmt.{decimal}
+use Rattle.std.specs.Prelude.{◌≡◌, ◌-◌, ℕ, List, [], ◌∷◌, ◌++◌, length, Option, None, Some, IsSome, codes, slice_get, find, flat_map, decimal}
 use Rattle.mlt_object_kinds.specs.declared.operation.ObjOp.{ObjOp}
 use Rattle.mlt_object_kinds.specs.declared.operation.ObjReply.{ObjReply}
 use Rattle.mlt_object_kinds.specs.Texts.{done_text, op_text, reply_text, with_number}
 use Rattle.mlt_object_conflicts.specs.Clashes.{clashes}
-use Rattle.mlt_event.specs.declared.answer.Answer.TheVariants as answer
+use Rattle.mlt_event.specs.declared.answer.Answer.{Answer}
 use Rattle.mlt_event.specs.declared.event.Event.{Event}
-use Rattle.mlt_event.specs.declared.event.Event.TheVariants as event
 use Rattle.mlt_event.specs.declared.told.Told.{Told}
-use Rattle.mlt_event.specs.declared.told.Told.TheVariants as told
 use Rattle.mlt_trace.specs.declared.item.TraceItem.{TraceItem}
 use Rattle.mlt_manager_reasons.specs.declared.pending.Pending.{Pending}
 use Rattle.mlt_manager_reasons.specs.Cycles.{cycle_of}
@@ -95,29 +91,29 @@ wait_line page by pending last =
 -- The lines behind an event that is blocked. A step: what is in the way, and the cycle that has come about. A whole
 -- operation is dropped then, and is in no cycle.
 abbrev pub AreBlockReasons : Event → ℕ → List TraceItem → Pendings → List ℕ → Type 0
-AreBlockReasons (event.Step tx) by items pendings text =
+AreBlockReasons (Event.Step tx) by items pendings text =
     (block : List ℕ) × AreBlockLines items by (op_of (pendings tx)) block
     × (text ≡ block ++ cycle_line (cycle_of pendings tx))
-AreBlockReasons (event.Whole tx op) by items pendings text = AreBlockLines items by (Some op) text
+AreBlockReasons (Event.Whole tx op) by items pendings text = AreBlockLines items by (Some op) text
 AreBlockReasons event by items pendings text = text ≡ []
 
 -- a block has its reason
 abbrev pub HasBlockReason : Event → ℕ → List TraceItem → Pendings → Type 0
-HasBlockReason (event.Step tx) by items pendings = IsInTheWay items by (op_of (pendings tx))
-HasBlockReason (event.Whole tx op) by items pendings = IsInTheWay items by (Some op)
+HasBlockReason (Event.Step tx) by items pendings = IsInTheWay items by (op_of (pendings tx))
+HasBlockReason (Event.Whole tx op) by items pendings = IsInTheWay items by (Some op)
 HasBlockReason event by items pendings = Unit {0}
 
 -- The lines of the reasons of what an event was told, behind this history and with these operations pending: those of a
 -- block; of a wait the page, and who has it. Any other has none.
 abbrev pub AreReasons : Event → Told → List TraceItem → Pendings → List ℕ → Type 0
-AreReasons event (told.Answered (answer.Blocked by)) items pendings text =
+AreReasons event (Told.Answered (Answer.Blocked by)) items pendings text =
     AreBlockReasons event by items pendings text
-AreReasons event (told.Answered (answer.Waiting page by)) items pendings text =
+AreReasons event (Told.Answered (Answer.Waiting page by)) items pendings text =
     text ≡ wait_line page by (pendings by) (last_of (standing_of items by))
 AreReasons event other items pendings text = text ≡ []
 
 -- whatever an event was told, where it is blocked there is a reason
 abbrev pub HasReason : Event → Told → List TraceItem → Pendings → Type 0
-HasReason event (told.Answered (answer.Blocked by)) items pendings =
+HasReason event (Told.Answered (Answer.Blocked by)) items pendings =
     HasBlockReason event by items pendings
 HasReason event other items pendings = Unit {0}

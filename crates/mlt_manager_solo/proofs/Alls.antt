@@ -1,29 +1,15 @@
 -- All scripts, one after another
-use Rattle.std.proofs.Common.{◌≡◌, ◌≤◌, ◌+◌, ◌==◌, ℕ, List, [], ◌∷◌, ◌++◌, count_by, refl, sym, ap, subst, ◌∙◌}
+use Rattle.std.proofs.Common.{◌≡◌, ◌≤◌, ◌+◌, ◌==◌, ℕ, List, [], ◌∷◌, ◌++◌, count_by, refl, sym, ap, subst, ◌∙◌, flat_map, nat_cmp}
 use Rattle.std.proofs.Common.{map as map_list}
-use Rattle.std.specs.List.{flat_map}
-use Rattle.std.specs.Ordering.{nat_cmp}
 use Rattle.std.specs.FinMap as map
 use Rattle.mlt_types.specs.declared.limits.Limits.{Limits}
-use Rattle.mlt_object_kinds.specs.Bases.{Step, empty_base}
-use Rattle.mlt_order.specs.Histories.{IsHistory}
+use Rattle.mlt_manager_solo.proofs.Names.{Step, empty_base, IsHistory, ScriptForm, TraceItem, entries_of, Outcome, mark_of, outcome_text, Transaction, Table, HasBase, ManagerFields, IsAtRest, HasRunAll, HasRunScript}
 use Rattle.mlt_script.specs.Grammar.{Spells}
-use Rattle.mlt_script_tree.specs.Scripts.{ScriptForm}
-use Rattle.mlt_trace.specs.declared.item.TraceItem.{TraceItem}
-use Rattle.mlt_trace.specs.Entries.{entries_of}
 use Rattle.mlt_hash_form.specs.File.{GivesPseudokeys}
-use Rattle.mlt_script_serial.specs.declared.outcome.Outcome.{Outcome}
-use Rattle.mlt_script_serial.specs.Serial.{AreRuns, mark_of}
-use Rattle.mlt_script_serial.specs.Texts.{outcome_text}
+use Rattle.mlt_script_serial.specs.Serial.{AreRuns}
 use Rattle.mlt_script_serial.proofs.Appends.{numbered_push, runs_push}
-use Rattle.mlt_tx.specs.declared.transaction.Transaction.{Transaction}
-use Rattle.mlt_tx_open.specs.Tables.{Table}
-use Rattle.mlt_manager.specs.Bases.{HasBase}
-use Rattle.mlt_manager.specs.Managers.{ManagerFields}
 use Rattle.mlt_manager.specs.Openings.{IsNew}
 use Rattle.mlt_manager.proofs.Kept.{new_kept}
-use Rattle.mlt_manager_solo.specs.Alone.{IsAtRest}
-use Rattle.mlt_manager_solo.specs.Asking.{HasRunAll, HasRunScript}
 use Rattle.mlt_manager_solo.specs.Solo.{IsSoloText}
 use Rattle.mlt_manager_solo.proofs.Runs.{events_push, outcome_marks_push, run_on}
 

@@ -1,103 +1,84 @@
 -- Scripts at a desk over a manager of which nobody else is open
 use Rattle.std.proofs.Common.{◌≡◌, ℕ, [], ◌∷◌, Bool, true, false, Result, Ok, Err, inl, inr, refl, sym, subst, ◌∙◌}
-use Rattle.mlt_types.specs.declared.refusal.Refusal.{Refusal}
-use Rattle.mlt_types.specs.declared.refusal.Refusal.TheVariants as refusal
-use Rattle.mlt_object_kinds.specs.Bases.{Transcript}
-use Rattle.mlt_object_kinds.specs.declared.operation.ObjOp.{ObjOp}
-use Rattle.mlt_object_kinds.specs.declared.operation.ObjReply.{ObjReply}
-use Rattle.mlt_script_tree.specs.declared.statement.Ending.{Ending}
+use Rattle.mlt_manager_solo.proofs.Names.{Refusal, Transcript, ObjOp, ObjReply, Ending, ScriptForm, End, Committed, Aborted, Refused, Answer, Event, Told, counted, Meets, ManagerFields, HasOneIdle, HasOneUndoing, IsAtRest, CanMark, HasAsked, HasDone, HasEndedScript, HasRunScript, IsRefused, IsTakenBack, IsUndone, done_by}
 use Rattle.mlt_script_tree.specs.declared.statement.Ending.TheVariants.{Commit, Abort}
-use Rattle.mlt_script_tree.specs.Scripts.{ScriptForm}
-use Rattle.mlt_script_cursor.specs.declared.call.DeskAnswer.TheVariants as desk
+use Rattle.mlt_script_cursor.specs.declared.call.DeskAnswer.{DeskAnswer}
 use Rattle.mlt_script_cursor.specs.Calls.{Moves, answer_by}
 use Rattle.mlt_script_cursor.specs.Plays.{Gives, PlaysAt}
-use Rattle.mlt_script_serial.specs.declared.outcome.End.{End}
-use Rattle.mlt_script_serial.specs.declared.outcome.End.TheVariants.{Committed, Aborted, Refused}
 use Rattle.mlt_script_desk.specs.Runs.{ClosesAs, IsRunAt, refusal_of_script}
-use Rattle.mlt_event.specs.declared.answer.Answer.{Answer}
-use Rattle.mlt_event.specs.declared.answer.Answer.TheVariants as answer
-use Rattle.mlt_event.specs.declared.event.Event.TheVariants as event
-use Rattle.mlt_event.specs.declared.told.Told.{Told}
-use Rattle.mlt_event.specs.declared.told.Told.TheVariants as told
-use Rattle.mlt_manager.specs.Answers.{counted}
-use Rattle.mlt_manager.specs.Events.{Meets}
-use Rattle.mlt_manager.specs.Managers.{ManagerFields}
-use Rattle.mlt_manager_solo.specs.Alone.{HasOneIdle, HasOneUndoing, IsAtRest}
-use Rattle.mlt_manager_solo.specs.Asking.{CanMark, HasAsked, HasDone, HasEndedScript, HasRunScript, IsRefused, IsTakenBack, IsUndone}
 use Rattle.mlt_manager_solo.specs.Desks.{MeetsAbort, MeetsCall, MeetsOperation, MeetsUndoing, abort_told, reply_told}
-use Rattle.mlt_manager_solo.specs.Events.{done_by}
 use Rattle.mlt_manager_solo.proofs.Ends.{abort_is_told, begins_abort, closes_it, commit_is_told, keeps_it, takes_it_back, undo_is_told, undoes_it}
 use Rattle.mlt_manager_solo.proofs.Scripts.{asked_alone, asked_done, asked_first, asked_in_vain, asked_nothing, asked_refused, begun_alone, ended_aborted, ended_committed, ended_refused, not_begun_rests, refused_after, run_begun, run_not_begun}
 
 -- what a script may be marked with is what it is refused with
 marks_itself : (reason : Refusal) → CanMark reason → refusal_of_script reason ≡ reason
-marks_itself refusal.OutOfMemory can = refl
-marks_itself refusal.NoRoom can = refl
-marks_itself refusal.LogFull can = refl
-marks_itself refusal.IdsSpent can = refl
+marks_itself Refusal.OutOfMemory can = refl
+marks_itself Refusal.NoRoom can = refl
+marks_itself Refusal.LogFull can = refl
+marks_itself Refusal.IdsSpent can = refl
 marks_itself other can = absurd can
 
 -- an operation that answers a reply was told it
-told_reply : (said : Told) (reply : ObjReply) → desk.Replied reply ≡ answer_by desk.Replied (reply_told said) → said ≡ told.Answered (answer.Done reply)
-told_reply (told.Answered (answer.Done r)) reply h = cc h
-told_reply (told.Answered (answer.Refused r)) reply h = absurd (cc h)
-told_reply (told.Answered answer.Going) reply h = absurd (cc h)
-told_reply (told.Answered (answer.Waiting page by)) reply h = absurd (cc h)
-told_reply (told.Answered (answer.Blocked by)) reply h = absurd (cc h)
-told_reply (told.Answered answer.Undone) reply h = absurd (cc h)
-told_reply (told.Answered answer.Aborted) reply h = absurd (cc h)
-told_reply (told.Refused r) reply h = absurd (cc h)
-told_reply (told.Begun tx) reply h = absurd (cc h)
-told_reply told.Called reply h = absurd (cc h)
-told_reply told.Cancelled reply h = absurd (cc h)
-told_reply (told.Committed number) reply h = absurd (cc h)
-told_reply (told.Aborting closed) reply h = absurd (cc h)
+told_reply : (said : Told) (reply : ObjReply) → DeskAnswer.Replied reply ≡ answer_by DeskAnswer.Replied (reply_told said) → said ≡ Told.Answered (Answer.Done reply)
+told_reply (Told.Answered (Answer.Done r)) reply h = cc h
+told_reply (Told.Answered (Answer.Refused r)) reply h = absurd (cc h)
+told_reply (Told.Answered Answer.Going) reply h = absurd (cc h)
+told_reply (Told.Answered (Answer.Waiting page by)) reply h = absurd (cc h)
+told_reply (Told.Answered (Answer.Blocked by)) reply h = absurd (cc h)
+told_reply (Told.Answered Answer.Undone) reply h = absurd (cc h)
+told_reply (Told.Answered Answer.Aborted) reply h = absurd (cc h)
+told_reply (Told.Refused r) reply h = absurd (cc h)
+told_reply (Told.Begun tx) reply h = absurd (cc h)
+told_reply Told.Called reply h = absurd (cc h)
+told_reply Told.Cancelled reply h = absurd (cc h)
+told_reply (Told.Committed number) reply h = absurd (cc h)
+told_reply (Told.Aborting closed) reply h = absurd (cc h)
 
 module _ {P : Type 0} (bits_of : P → ℕ → ℕ) where
   module _ (old new : ManagerFields P) (tx : ℕ) (op : ObjOp) (one : HasOneIdle bits_of old tx) where
     -- **An operation that answers a reply is done.**
-    done_alone : (reply : ObjReply) → MeetsOperation bits_of old tx op (desk.Replied reply) new → HasOneIdle bits_of new tx × HasDone bits_of old new tx (op, reply)
+    done_alone : (reply : ObjReply) → MeetsOperation bits_of old tx op (DeskAnswer.Replied reply) new → HasOneIdle bits_of new tx × HasDone bits_of old new tx (op, reply)
     done_alone reply m =
-        asked_done bits_of old new tx op one reply (subst (λ (said : Told). Meets bits_of (event.Whole tx op) said (counted old) new) (told_reply m.said reply m.answers) m.meets)
+        asked_done bits_of old new tx op one reply (subst (λ (said : Told). Meets bits_of (Event.Whole tx op) said (counted old) new) (told_reply m.said reply m.answers) m.meets)
 
     -- what it is told but a reply or a refusal would be of another transaction
-    told_alone : (a : Answer) → ((reply : ObjReply) → a ≡ answer.Done reply → ⊥) → ((reason : Refusal) → a ≡ answer.Refused reason → ⊥) → Meets bits_of (event.Whole tx op) (told.Answered a) (counted old) new → ⊥
+    told_alone : (a : Answer) → ((reply : ObjReply) → a ≡ Answer.Done reply → ⊥) → ((reason : Refusal) → a ≡ Answer.Refused reason → ⊥) → Meets bits_of (Event.Whole tx op) (Told.Answered a) (counted old) new → ⊥
     told_alone a not_done not_refused meets = asked_alone bits_of old new tx op one a meets.0 meets.2 not_done not_refused
 
-    refused_by : (said : Told) (reason : Refusal) → desk.Refused reason ≡ answer_by desk.Replied (reply_told said) → Meets bits_of (event.Whole tx op) said (counted old) new → HasOneIdle bits_of new tx × IsRefused bits_of old new tx op reason
-    refused_by (told.Refused r) reason h meets =
+    refused_by : (said : Told) (reason : Refusal) → DeskAnswer.Refused reason ≡ answer_by DeskAnswer.Replied (reply_told said) → Meets bits_of (Event.Whole tx op) said (counted old) new → HasOneIdle bits_of new tx × IsRefused bits_of old new tx op reason
+    refused_by (Told.Refused r) reason h meets =
         let same : r ≡ reason = cc h in
         subst (λ (x : Refusal). HasOneIdle bits_of new tx × IsRefused bits_of old new tx op x) same (asked_in_vain bits_of old new tx op one r meets)
-    refused_by (told.Answered (answer.Refused r)) reason h meets =
+    refused_by (Told.Answered (Answer.Refused r)) reason h meets =
         let same : r ≡ reason = cc h in
         subst (λ (x : Refusal). HasOneIdle bits_of new tx × IsRefused bits_of old new tx op x) same (asked_refused bits_of old new tx op one r meets)
-    refused_by (told.Answered (answer.Done r)) reason h meets = absurd (cc h)
-    refused_by (told.Answered answer.Going) reason h meets = absurd (told_alone answer.Going (λ r e. cc e) (λ r e. cc e) meets)
-    refused_by (told.Answered (answer.Waiting page by)) reason h meets = absurd (told_alone (answer.Waiting page by) (λ r e. cc e) (λ r e. cc e) meets)
-    refused_by (told.Answered (answer.Blocked by)) reason h meets = absurd (told_alone (answer.Blocked by) (λ r e. cc e) (λ r e. cc e) meets)
-    refused_by (told.Answered answer.Undone) reason h meets = absurd (told_alone answer.Undone (λ r e. cc e) (λ r e. cc e) meets)
-    refused_by (told.Answered answer.Aborted) reason h meets = absurd (told_alone answer.Aborted (λ r e. cc e) (λ r e. cc e) meets)
-    refused_by (told.Begun n) reason h meets = absurd meets
-    refused_by told.Called reason h meets = absurd meets
-    refused_by told.Cancelled reason h meets = absurd meets
-    refused_by (told.Committed number) reason h meets = absurd meets
-    refused_by (told.Aborting closed) reason h meets = absurd meets
+    refused_by (Told.Answered (Answer.Done r)) reason h meets = absurd (cc h)
+    refused_by (Told.Answered Answer.Going) reason h meets = absurd (told_alone Answer.Going (λ r e. cc e) (λ r e. cc e) meets)
+    refused_by (Told.Answered (Answer.Waiting page by)) reason h meets = absurd (told_alone (Answer.Waiting page by) (λ r e. cc e) (λ r e. cc e) meets)
+    refused_by (Told.Answered (Answer.Blocked by)) reason h meets = absurd (told_alone (Answer.Blocked by) (λ r e. cc e) (λ r e. cc e) meets)
+    refused_by (Told.Answered Answer.Undone) reason h meets = absurd (told_alone Answer.Undone (λ r e. cc e) (λ r e. cc e) meets)
+    refused_by (Told.Answered Answer.Aborted) reason h meets = absurd (told_alone Answer.Aborted (λ r e. cc e) (λ r e. cc e) meets)
+    refused_by (Told.Begun n) reason h meets = absurd meets
+    refused_by Told.Called reason h meets = absurd meets
+    refused_by Told.Cancelled reason h meets = absurd meets
+    refused_by (Told.Committed number) reason h meets = absurd meets
+    refused_by (Told.Aborting closed) reason h meets = absurd meets
 
     -- **One that answers a refusal was told it,** and waits for nobody.
-    refused_alone : (reason : Refusal) → MeetsOperation bits_of old tx op (desk.Refused reason) new → HasOneIdle bits_of new tx × IsRefused bits_of old new tx op reason
+    refused_alone : (reason : Refusal) → MeetsOperation bits_of old tx op (DeskAnswer.Refused reason) new → HasOneIdle bits_of new tx × IsRefused bits_of old new tx op reason
     refused_alone reason m = refused_by m.said reason m.answers m.meets
 
-  undone_alone : (middle new : ManagerFields P) (tx : ℕ) → HasOneUndoing bits_of middle tx → (said : Told) → Meets bits_of (event.WholeUndo tx) said (counted middle) new → IsAtRest bits_of new × IsUndone bits_of middle new tx
-  undone_alone middle new tx undoing (told.Answered a) meets = undoes_it bits_of middle new tx undoing a meets.0 meets.1 meets.2
-  undone_alone middle new tx undoing (told.Refused reason) meets = absurd (undo_is_told bits_of middle new tx undoing reason meets)
-  undone_alone middle new tx undoing (told.Begun n) meets = absurd meets
-  undone_alone middle new tx undoing told.Called meets = absurd meets
-  undone_alone middle new tx undoing told.Cancelled meets = absurd meets
-  undone_alone middle new tx undoing (told.Committed number) meets = absurd meets
-  undone_alone middle new tx undoing (told.Aborting closed) meets = absurd meets
+  undone_alone : (middle new : ManagerFields P) (tx : ℕ) → HasOneUndoing bits_of middle tx → (said : Told) → Meets bits_of (Event.WholeUndo tx) said (counted middle) new → IsAtRest bits_of new × IsUndone bits_of middle new tx
+  undone_alone middle new tx undoing (Told.Answered a) meets = undoes_it bits_of middle new tx undoing a meets.0 meets.1 meets.2
+  undone_alone middle new tx undoing (Told.Refused reason) meets = absurd (undo_is_told bits_of middle new tx undoing reason meets)
+  undone_alone middle new tx undoing (Told.Begun n) meets = absurd meets
+  undone_alone middle new tx undoing Told.Called meets = absurd meets
+  undone_alone middle new tx undoing Told.Cancelled meets = absurd meets
+  undone_alone middle new tx undoing (Told.Committed number) meets = absurd meets
+  undone_alone middle new tx undoing (Told.Aborting closed) meets = absurd meets
 
   -- **An abort takes the transaction back.**
-  back_by : (old middle new : ManagerFields P) (tx : ℕ) → HasOneIdle bits_of old tx → (a : Result Bool Refusal) → Meets bits_of (event.Abort tx) (abort_told a) (counted old) middle → MeetsUndoing bits_of a middle tx new
+  back_by : (old middle new : ManagerFields P) (tx : ℕ) → HasOneIdle bits_of old tx → (a : Result Bool Refusal) → Meets bits_of (Event.Abort tx) (abort_told a) (counted old) middle → MeetsUndoing bits_of a middle tx new
       → IsAtRest bits_of new × IsTakenBack bits_of old new tx
   back_by old middle new tx one (Ok true) meets same =
       subst (λ (m : ManagerFields P). IsAtRest bits_of m × IsTakenBack bits_of old m tx) (sym same) (closes_it bits_of old middle tx one meets)

@@ -2,24 +2,11 @@
 use Rattle.std.proofs.Common.{◌≡◌, ◌≢◌, ◌≤◌, ℕ, None, Some, Ok, length, inl, inr, refl, sym, ap, subst, ◌∙◌}
 use Rattle.std.proofs.lemmas.Bool.{cases_eq}
 use Rattle.std.specs.FinMap as map
-use Rattle.mlt_types.specs.declared.refusal.Refusal.{Refusal}
-use Rattle.mlt_types.specs.declared.refusal.Refusal.TheVariants as refusal
-use Rattle.mlt_object_kinds.specs.Bases.{Base}
-use Rattle.mlt_event.specs.declared.answer.Answer.{Answer}
-use Rattle.mlt_event.specs.declared.answer.Answer.TheVariants as answer
-use Rattle.mlt_tx.specs.declared.transaction.At.{At}
-use Rattle.mlt_tx.specs.declared.transaction.At.TheVariants as at
-use Rattle.mlt_tx.specs.declared.transaction.Transaction.{Transaction}
-use Rattle.mlt_tx_open.specs.Tables.{Table}
-use Rattle.mlt_manager_invariant.proofs.Tables.{inserted_elsewhere, removed_elsewhere, removed_here}
-use Rattle.mlt_manager.specs.Answers.{HasBegunAbort, HasClosed, HasCommitted, IsByAnother, IsOpenAt, IsUndoing}
-use Rattle.mlt_manager.specs.Bases.{HasBase, UndoingLeavesBase}
-use Rattle.mlt_manager.specs.Managers.{IsManager, ManagerFields}
+use Rattle.mlt_manager_solo.proofs.Names.{Refusal, Base, Answer, At, Transaction, Table, inserted_elsewhere, removed_elsewhere, HasBegunAbort, HasClosed, HasCommitted, IsByAnother, IsOpenAt, IsUndoing, HasBase, UndoingLeavesBase, IsManager, ManagerFields, one_there, HasOneIdle, HasOneUndoing, IsAtRest, KeepsCommitted}
+use Rattle.mlt_manager_invariant.proofs.Tables.{removed_here}
 use Rattle.mlt_manager.specs.Undoings.{GoesOnBack, IsCauseAtUndo, IsNotUndoing, StepsBackUpTo}
-use Rattle.mlt_manager.proofs.Called.{one_there}
 use Rattle.mlt_manager.proofs.Ended.{abort_begun_keeps, closed_keeps, committed_keeps}
 use Rattle.mlt_manager.proofs.Kept.{whole_undo_kept}
-use Rattle.mlt_manager_solo.specs.Alone.{HasOneIdle, HasOneUndoing, IsAtRest, KeepsCommitted}
 use Rattle.mlt_manager_solo.proofs.Items.{abort_commits_none, backs_commit_none, commit_keeps_base, committed_by}
 use Rattle.mlt_manager_solo.proofs.Steps.{StaysBeside, beside_both, changed_here, step_beside, steps_beside}
 
@@ -71,39 +58,39 @@ module _ {P : Type 0} (bits_of : P → ℕ → ℕ) (old new : ManagerFields P) 
   pub back_beside : (told : Answer) → StepsBackUpTo bits_of old new tx told → StaysBeside old new tx
   back_beside told s = beside_both old s.before new tx (steps_beside bits_of GoesOnBack old s.before tx s.steps s.goes) (step_beside bits_of s.before new tx told s.ends)
 
-  pub back_commits_nothing : StepsBackUpTo bits_of old new tx answer.Aborted → UndoingLeavesBase answer.Aborted old new tx → KeepsCommitted old new
+  pub back_commits_nothing : StepsBackUpTo bits_of old new tx Answer.Aborted → UndoingLeavesBase Answer.Aborted old new tx → KeepsCommitted old new
   back_commits_nothing s base = record {
     committed = ap committed_by base.items ∙ backs_commit_none (length base.taken) old.shared.history.items tx;
-    commits = (back_beside answer.Aborted s).commits;
+    commits = (back_beside Answer.Aborted s).commits;
   }
 
   -- **At its end nobody is open.**
-  pub aborted_rests : StepsBackUpTo bits_of old new tx answer.Aborted → IsAtRest bits_of new
+  pub aborted_rests : StepsBackUpTo bits_of old new tx Answer.Aborted → IsAtRest bits_of new
   aborted_rests s = record {
-    manager = whole_undo_kept bits_of old new one.manager tx (Ok answer.Aborted) (one.undoing, s);
+    manager = whole_undo_kept bits_of old new one.manager tx (Ok Answer.Aborted) (one.undoing, s);
     nobody = λ i. elim (cases_eq i tx) [
       | inl here ↦ ap (λ (n : ManagerFields P). map.get n.txs i) s.ends.rest ∙ ap (λ (n : ℕ). map.get (map.remove s.ends.txs tx) n) here ∙ removed_here s.ends.txs tx
-      | inr differ ↦ (back_beside answer.Aborted s).others i differ ∙ one.alone i differ
+      | inr differ ↦ (back_beside Answer.Aborted s).others i differ ∙ one.alone i differ
     ];
-    limit = subst (λ (n : ℕ). 1 ≤ n) (sym (back_beside answer.Aborted s).limit) one.limit;
+    limit = subst (λ (n : ℕ). 1 ≤ n) (sym (back_beside Answer.Aborted s).limit) one.limit;
   }
 
   -- **And it waits for nobody.**
-  pub waits_for_nobody : (told : Answer) → StepsBackUpTo bits_of old new tx told → IsByAnother told new.txs tx → told ≡ answer.Aborted
-  waits_for_nobody (answer.Waiting page by) s another =
-      let none : map.get new.txs by ≡ None = (back_beside (answer.Waiting page by) s).others by another.0 ∙ one.alone by another.0 in
+  pub waits_for_nobody : (told : Answer) → StepsBackUpTo bits_of old new tx told → IsByAnother told new.txs tx → told ≡ Answer.Aborted
+  waits_for_nobody (Answer.Waiting page by) s another =
+      let none : map.get new.txs by ≡ None = (back_beside (Answer.Waiting page by) s).others by another.0 ∙ one.alone by another.0 in
       let both : Some another.1.one ≡ None = sym another.1.there ∙ none in absurd cc
-  waits_for_nobody answer.Aborted s another = refl
+  waits_for_nobody Answer.Aborted s another = refl
   waits_for_nobody other s another = absurd s.stops
 
 -- what is undoing is to be undone
 undoing_or_not : (a : At) → IsUndoing a → IsNotUndoing a → ⊥
-undoing_or_not at.Idle none also = none
-undoing_or_not (at.Pending o) none also = none
-undoing_or_not (at.Undoing inverting) is none = none
+undoing_or_not At.Idle none also = none
+undoing_or_not (At.Pending o) none also = none
+undoing_or_not (At.Undoing inverting) is none = none
 
 pub undoing_is_undoing : (reason : Refusal) (txs : Table) (tx : ℕ) → IsOpenAt txs tx IsUndoing → IsCauseAtUndo reason txs tx → ⊥
-undoing_is_undoing refusal.NoSuchTx txs tx undoing none = let both : Some undoing.one ≡ None = sym undoing.there ∙ none in cc
-undoing_is_undoing refusal.NotRunning txs tx undoing other =
+undoing_is_undoing Refusal.NoSuchTx txs tx undoing none = let both : Some undoing.one ≡ None = sym undoing.there ∙ none in cc
+undoing_is_undoing Refusal.NotRunning txs tx undoing other =
     undoing_or_not undoing.one.at undoing.is_at (subst (λ (t : Transaction). IsNotUndoing t.at) (one_there txs tx other.one undoing.one other.there undoing.there) other.is_at)
 undoing_is_undoing other txs tx undoing none = none

@@ -1,17 +1,8 @@
 -- How the transaction that alone is open ends
 use Rattle.std.proofs.Common.{◌≡◌, true, false, Ok, Err, ℕ, refl, ap, subst}
-use Rattle.mlt_types.specs.declared.refusal.Refusal.{Refusal}
-use Rattle.mlt_event.specs.declared.answer.Answer.{Answer}
-use Rattle.mlt_event.specs.declared.answer.Answer.TheVariants as answer
-use Rattle.mlt_event.specs.declared.event.Event.TheVariants as event
-use Rattle.mlt_event.specs.declared.told.Told.TheVariants as told
-use Rattle.mlt_manager.specs.Answers.{AnswersAbort, AnswersCommit, HasBegunAbort, HasClosed, HasCommitted, IsByAnother, counted}
-use Rattle.mlt_manager.specs.Bases.{UndoingLeavesBase}
-use Rattle.mlt_manager.specs.Managers.{ManagerFields}
+use Rattle.mlt_manager_solo.proofs.Names.{Refusal, Answer, Event, Told, AnswersAbort, HasBegunAbort, HasClosed, HasCommitted, IsByAnother, counted, UndoingLeavesBase, ManagerFields, counted_keeps, HasOneIdle, HasOneUndoing, IsAtRest, IsKept, IsTakenBack, IsUndone}
+use Rattle.mlt_manager.specs.Answers.{AnswersCommit}
 use Rattle.mlt_manager.specs.Undoings.{AnswersWholeUndo}
-use Rattle.mlt_manager.proofs.Keeping.{counted_keeps}
-use Rattle.mlt_manager_solo.specs.Alone.{HasOneIdle, HasOneUndoing, IsAtRest}
-use Rattle.mlt_manager_solo.specs.Asking.{IsKept, IsTakenBack, IsUndone}
 use Rattle.mlt_manager_solo.proofs.Backs.{abort_begins, aborted_rests, back_commits_nothing, closed_commits_none, closed_rests, committed_base, committed_rests, undoing_is_undoing, waits_for_nobody}
 use Rattle.mlt_manager_solo.proofs.Runs.{run_one}
 use Rattle.mlt_manager_solo.proofs.Scripts.{counted_one, none_committed}
@@ -41,7 +32,7 @@ module _ {P : Type 0} (bits_of : P → ℕ → ℕ) (old new : ManagerFields P) 
   closes_it c =
       let k = closed_commits_none bits_of (counted old) new tx (counted_one bits_of old tx one) c in (
         closed_rests bits_of (counted old) new tx (counted_one bits_of old tx one) c,
-        record { closed = true; run = run_one bits_of old new (event.Abort tx) (told.Aborting true) c; keeps = record { committed = k.committed; commits = k.commits } },
+        record { closed = true; run = run_one bits_of old new (Event.Abort tx) (Told.Aborting true) c; keeps = record { committed = k.committed; commits = k.commits } },
       )
 
 -- **Its abort begins.**
@@ -55,9 +46,9 @@ module _ {P : Type 0} (bits_of : P → ℕ → ℕ) (old new : ManagerFields P) 
   -- **It comes to its end.**
   pub undoes_it : (told : Answer) → AnswersWholeUndo bits_of (counted old) new tx (Ok told) → UndoingLeavesBase told (counted old) new tx → IsByAnother told new.txs tx → IsAtRest bits_of new × IsUndone bits_of old new tx
   undoes_it told a base another =
-      let is : told ≡ answer.Aborted = waits_for_nobody bits_of (counted old) new tx undoing_counted told a.1 another in
-      let ended : AnswersWholeUndo bits_of (counted old) new tx (Ok answer.Aborted) = subst (λ (t : Answer). AnswersWholeUndo bits_of (counted old) new tx (Ok t)) is a in
-      let based : UndoingLeavesBase answer.Aborted (counted old) new tx = subst (λ (t : Answer). UndoingLeavesBase t (counted old) new tx) is base in
+      let is : told ≡ Answer.Aborted = waits_for_nobody bits_of (counted old) new tx undoing_counted told a.1 another in
+      let ended : AnswersWholeUndo bits_of (counted old) new tx (Ok Answer.Aborted) = subst (λ (t : Answer). AnswersWholeUndo bits_of (counted old) new tx (Ok t)) is a in
+      let based : UndoingLeavesBase Answer.Aborted (counted old) new tx = subst (λ (t : Answer). UndoingLeavesBase t (counted old) new tx) is base in
       let k = back_commits_nothing bits_of (counted old) new tx undoing_counted ended.1 based in
       (aborted_rests bits_of (counted old) new tx undoing_counted ended.1, record { meets = (ended, based, tt); keeps = record { committed = k.committed; commits = k.commits } })
 

@@ -2,27 +2,16 @@
 use Rattle.std.proofs.Common.{◌≡◌, ◌≢◌, ℕ, zero, suc, replicate, List, [], ◌∷◌, ◌++◌, true, false, is_some, Some, refl, sym, ap, subst, ◌∙◌, append_assoc}
 use Rattle.std.specs.FinMap as map
 use Rattle.std.specs.FinSet as set
-use Rattle.mlt_object_kinds.specs.Bases.{Base, Step, empty_base}
-use Rattle.mlt_object_kinds.specs.declared.operation.ObjOp.{ObjOp}
-use Rattle.mlt_object_kinds.specs.declared.operation.ObjReply.{ObjReply}
-use Rattle.mlt_order.specs.Histories.{Entry, IsHistory, Lists, after_entry, lists_of, no_lists}
+use Rattle.mlt_manager_solo.proofs.Names.{Base, Step, empty_base, ObjOp, ObjReply, Entry, IsHistory, no_lists, IsSerialBase, follow_push, TraceItem, entries_of, entries_of-append, Transaction, HasBase, IsManager, ManagerFields, lists_by, IsAtRest}
+use Rattle.mlt_order.specs.Histories.{Lists, after_entry, lists_of}
 use Rattle.mlt_order.specs.Histories.Entry.{Committed}
 use Rattle.mlt_order.specs.Histories.Stage.{Running}
-use Rattle.mlt_order.specs.Runs.{IsSerialBase}
-use Rattle.mlt_order.proofs.Growing.{after_entries-push, follow_push}
+use Rattle.mlt_order.proofs.Growing.{after_entries-push}
 use Rattle.mlt_order.proofs.RunLemmas.{serial_to_one}
-use Rattle.mlt_trace.specs.declared.item.TraceItem.{TraceItem}
-use Rattle.mlt_trace.specs.declared.item.TraceItem.TheVariants as trace
-use Rattle.mlt_trace.specs.Entries.{entries_of, entry_of}
-use Rattle.mlt_trace.proofs.ItemLaws.{entries_of-append}
+use Rattle.mlt_trace.specs.Entries.{entry_of}
 use Rattle.mlt_trace_laws.proofs.Histories.{nothing_of_others, serializable}
 use Rattle.mlt_object_conflicts.proofs.BaseOrder.{base_functional}
-use Rattle.mlt_tx.specs.declared.transaction.Transaction.{Transaction}
-use Rattle.mlt_manager.specs.Bases.{HasBase}
-use Rattle.mlt_manager.specs.Managers.{IsManager, ManagerFields}
-use Rattle.mlt_manager.specs.Promises.{lists_by}
 use Rattle.mlt_manager.proofs.Stepped.{same_base}
-use Rattle.mlt_manager_solo.specs.Alone.{IsAtRest}
 
 -- the transcripts that the items say were committed
 abbrev pub committed_by : List TraceItem → List (List (ObjOp × ObjReply))
@@ -32,23 +21,23 @@ lists_push : (items : List TraceItem) (item : TraceItem) → lists_of (entries_o
 lists_push items item = ap lists_of (entries_of-append items (item ∷ [])) ∙ after_entries-push (entries_of items) no_lists (entry_of item)
 
 -- no item but a commit changes what is committed
-pub begin_commits_none : (items : List TraceItem) (tx : ℕ) → committed_by (items ++ trace.Begin tx ∷ []) ≡ committed_by items
-begin_commits_none items tx = ap (λ (l : Lists (ObjOp × ObjReply)). l.committed) (lists_push items (trace.Begin tx))
+pub begin_commits_none : (items : List TraceItem) (tx : ℕ) → committed_by (items ++ TraceItem.Begin tx ∷ []) ≡ committed_by items
+begin_commits_none items tx = ap (λ (l : Lists (ObjOp × ObjReply)). l.committed) (lists_push items (TraceItem.Begin tx))
 
-pub op_commits_none : (items : List TraceItem) (tx : ℕ) (x : ObjOp × ObjReply) → committed_by (items ++ trace.Op tx x ∷ []) ≡ committed_by items
-op_commits_none items tx x = ap (λ (l : Lists (ObjOp × ObjReply)). l.committed) (lists_push items (trace.Op tx x))
+pub op_commits_none : (items : List TraceItem) (tx : ℕ) (x : ObjOp × ObjReply) → committed_by (items ++ TraceItem.Op tx x ∷ []) ≡ committed_by items
+op_commits_none items tx x = ap (λ (l : Lists (ObjOp × ObjReply)). l.committed) (lists_push items (TraceItem.Op tx x))
 
-back_commits_none : (items : List TraceItem) (tx : ℕ) → committed_by (items ++ trace.Back tx ∷ []) ≡ committed_by items
-back_commits_none items tx = ap (λ (l : Lists (ObjOp × ObjReply)). l.committed) (lists_push items (trace.Back tx))
+back_commits_none : (items : List TraceItem) (tx : ℕ) → committed_by (items ++ TraceItem.Back tx ∷ []) ≡ committed_by items
+back_commits_none items tx = ap (λ (l : Lists (ObjOp × ObjReply)). l.committed) (lists_push items (TraceItem.Back tx))
 
-pub abort_commits_none : (items : List TraceItem) (tx : ℕ) → committed_by (items ++ trace.Abort tx ∷ []) ≡ committed_by items
-abort_commits_none items tx = ap (λ (l : Lists (ObjOp × ObjReply)). l.committed) (lists_push items (trace.Abort tx))
+pub abort_commits_none : (items : List TraceItem) (tx : ℕ) → committed_by (items ++ TraceItem.Abort tx ∷ []) ≡ committed_by items
+abort_commits_none items tx = ap (λ (l : Lists (ObjOp × ObjReply)). l.committed) (lists_push items (TraceItem.Abort tx))
 
 -- nor do operations that are taken back, up to the abort
-pub backs_commit_none : (count : ℕ) (items : List TraceItem) (tx : ℕ) → committed_by (items ++ (replicate count (trace.Back tx) ++ trace.Abort tx ∷ [])) ≡ committed_by items
+pub backs_commit_none : (count : ℕ) (items : List TraceItem) (tx : ℕ) → committed_by (items ++ (replicate count (TraceItem.Back tx) ++ TraceItem.Abort tx ∷ [])) ≡ committed_by items
 backs_commit_none zero items tx = abort_commits_none items tx
 backs_commit_none (suc count) items tx =
-    ap committed_by (sym (append_assoc items (trace.Back tx ∷ []) (replicate count (trace.Back tx) ++ trace.Abort tx ∷ []))) ∙ backs_commit_none count (items ++ trace.Back tx ∷ []) tx
+    ap committed_by (sym (append_assoc items (TraceItem.Back tx ∷ []) (replicate count (TraceItem.Back tx) ++ TraceItem.Abort tx ∷ []))) ∙ backs_commit_none count (items ++ TraceItem.Back tx ∷ []) tx
     ∙ back_commits_none items tx
 
 module _ {P : Type 0} (bits_of : P → ℕ → ℕ) (m : ManagerFields P) (rest : IsAtRest bits_of m) where
@@ -79,10 +68,10 @@ module _ {P : Type 0} (bits_of : P → ℕ → ℕ) (m : ManagerFields P) (rest 
 
 -- a commit of an open transaction leaves the base
 pub commit_keeps_base : {P : Type 0} (bits_of : P → ℕ → ℕ) (m : ManagerFields P) (h : IsManager bits_of m) (tx number : ℕ) (one : Transaction) → map.get m.txs tx ≡ Some one
-    → (base : Base) → HasBase m base → (m' : ManagerFields P) → m'.shared.history.items ≡ m.shared.history.items ++ trace.Commit tx number ∷ [] → HasBase m' base
+    → (base : Base) → HasBase m base → (m' : ManagerFields P) → m'.shared.history.items ≡ m.shared.history.items ++ TraceItem.Commit tx number ∷ [] → HasBase m' base
 commit_keeps_base bits_of m h tx number one there base leads m' items =
     let inside : set.contains m.active tx ≡ true = h.sound.opened tx ∙ ap is_some there in
     let running : (lists_by m).stage tx ≡ Running = (h.sound.match.records.running tx).0 inside in
     let grown = follow_push Step (entries_of m.shared.history.items) no_lists empty_base base base (Committed tx) leads (running, refl) in
-    let same : entries_of m'.shared.history.items ≡ entries_of m.shared.history.items ++ Committed tx ∷ [] = ap entries_of items ∙ entries_of-append m.shared.history.items (trace.Commit tx number ∷ []) in
+    let same : entries_of m'.shared.history.items ≡ entries_of m.shared.history.items ++ Committed tx ∷ [] = ap entries_of items ∙ entries_of-append m.shared.history.items (TraceItem.Commit tx number ∷ []) in
     subst (λ (es : List (Entry (ObjOp × ObjReply))). IsHistory Step empty_base es base) (sym same) grown

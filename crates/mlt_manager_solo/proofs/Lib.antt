@@ -1,3 +1,4 @@
+mod Names
 mod Items
 mod Steps
 mod Wholes

@@ -1,18 +1,8 @@
 -- Runs of a manager, one after another, and the events of scripts as they grow
-use Rattle.std.proofs.Common.{◌≡◌, ℕ, List, [], ◌∷◌, ◌++◌, Option, None, Some, map, refl, sym, ap, subst, ◌∙◌, append_assoc}
-use Rattle.std.proofs.lemmas.List.{append-nil, map-append}
-use Rattle.mlt_types.specs.declared.refusal.Refusal.{Refusal}
-use Rattle.mlt_object_kinds.specs.Bases.{Transcript}
-use Rattle.mlt_script_tree.specs.Scripts.{ScriptForm}
-use Rattle.mlt_script_serial.specs.declared.outcome.End.{End}
-use Rattle.mlt_script_serial.specs.declared.outcome.End.TheVariants.{Committed, Aborted, Refused}
-use Rattle.mlt_script_serial.specs.declared.outcome.Outcome.{Outcome}
-use Rattle.mlt_script_serial.specs.Serial.{mark_of, mark_of_end}
-use Rattle.mlt_event.specs.declared.event.Event.{Event}
-use Rattle.mlt_event.specs.declared.told.Told.{Told}
-use Rattle.mlt_manager.specs.Answers.{counted}
-use Rattle.mlt_manager.specs.Events.{Meets}
-use Rattle.mlt_manager.specs.Managers.{ManagerFields}
+use Rattle.std.proofs.Common.{◌≡◌, ℕ, List, [], ◌∷◌, ◌++◌, Option, None, Some, map, refl, sym, ap, subst, ◌∙◌, append_assoc, append-nil}
+use Rattle.std.proofs.lemmas.List.{map-append}
+use Rattle.mlt_manager_solo.proofs.Names.{Refusal, Transcript, ScriptForm, End, Committed, Aborted, Refused, Outcome, mark_of, Event, Told, counted, Meets, ManagerFields}
+use Rattle.mlt_script_serial.specs.Serial.{mark_of_end}
 use Rattle.mlt_manager_solo.specs.Asking.{CanBeMarks, CanEnd}
 use Rattle.mlt_manager_solo.specs.Events.{AreEventsOf, AreEventsOfAll, Exchange, IsRunOf}
 

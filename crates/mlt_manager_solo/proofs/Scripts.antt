@@ -1,49 +1,21 @@
 -- What one script asks of a manager, and what it leaves
-use Rattle.std.proofs.Common.{◌≡◌, ◌≤◌, ◌+◌, ℕ, List, [], ◌∷◌, ◌++◌, Ok, Err, inl, inr, refl, sym, ap, subst, ◌∙◌, arith}
-use Rattle.std.proofs.lemmas.List.{append_assoc}
+use Rattle.std.proofs.Common.{◌≡◌, ◌≤◌, ◌+◌, ℕ, List, [], ◌∷◌, ◌++◌, Ok, Err, inl, inr, refl, sym, ap, subst, ◌∙◌, arith, append_assoc, nat_cmp}
 use Rattle.std.specs.Cmp.{nat_cmp_total}
-use Rattle.std.specs.Ordering.{nat_cmp}
 use Rattle.std.specs.FinMap as map
-use Rattle.mlt_types.specs.declared.refusal.Refusal.{Refusal}
-use Rattle.mlt_types.specs.declared.refusal.Refusal.TheVariants as refusal
-use Rattle.mlt_object_kinds.specs.Bases.{Base, TranscriptLeads, Step, Transcript, empty_base}
-use Rattle.mlt_object_kinds.specs.declared.operation.ObjOp.{ObjOp}
-use Rattle.mlt_object_kinds.specs.declared.operation.ObjReply.{ObjReply}
-use Rattle.mlt_order.specs.Histories.{Entry, IsHistory, no_lists}
+use Rattle.mlt_manager_solo.proofs.Names.{Refusal, Base, Step, Transcript, empty_base, ObjOp, ObjReply, Entry, IsHistory, no_lists, IsSerialBase, follow_push, Ending, ScriptForm, End, Committed, Aborted, Refused, TraceItem, entries_of, entries_of-append, Answer, Event, Told, Transaction, inserted_elsewhere, inserted_here, AnswersCall, IsByAnother, IsIdle, counted, HasBase, Meets, IsManager, ManagerFields, lists_by, HasRun, counted_keeps, HasOneIdle, IsAtRest, KeepsCommitted, CanMark, HasAsked, HasDone, HasEndedScript, HasRunScript, IsKept, IsRefused, IsTakenBack, done_by}
+use Rattle.mlt_object_kinds.specs.Bases.{TranscriptLeads}
 use Rattle.mlt_order.specs.Histories.Entry.{Begun}
 use Rattle.mlt_order.specs.Histories.Stage.{Fresh}
-use Rattle.mlt_order.specs.Runs.{IsSerialBase}
-use Rattle.mlt_order.proofs.Growing.{follow_push}
-use Rattle.mlt_script_tree.specs.declared.statement.Ending.TheVariants as ending
-use Rattle.mlt_script_tree.specs.Scripts.{ScriptForm}
-use Rattle.mlt_script_cursor.specs.declared.cursor.Next.TheVariants as next
+use Rattle.mlt_script_cursor.specs.declared.cursor.Next.{Next}
 use Rattle.mlt_script_cursor.specs.Follows.{Follows, IsNext, IsPartial, Questions, Reaches, questions_of_script}
 use Rattle.mlt_script_cursor.specs.Follows.Questions.{Asks, Ends}
-use Rattle.mlt_script_serial.specs.declared.outcome.End.{End}
-use Rattle.mlt_script_serial.specs.declared.outcome.End.TheVariants.{Committed, Aborted, Refused}
 use Rattle.mlt_script_serial.specs.Serial.{IsScriptRun}
 use Rattle.mlt_script_cursor.proofs.Transcripts.{is_partial}
-use Rattle.mlt_trace.specs.declared.item.TraceItem.TheVariants as trace
-use Rattle.mlt_trace.specs.Entries.{entries_of}
-use Rattle.mlt_trace.proofs.ItemLaws.{entries_of-append}
-use Rattle.mlt_event.specs.declared.answer.Answer.{Answer}
-use Rattle.mlt_event.specs.declared.answer.Answer.TheVariants as answer
-use Rattle.mlt_event.specs.declared.event.Event.TheVariants as event
-use Rattle.mlt_event.specs.declared.told.Told.TheVariants as told
-use Rattle.mlt_tx.specs.declared.transaction.Transaction.{Transaction}
-use Rattle.mlt_manager_invariant.proofs.Tables.{inserted_elsewhere, inserted_here}
-use Rattle.mlt_manager.specs.Answers.{AnswersCall, HasBegun, IsByAnother, IsCauseAtBegin, IsIdle, counted}
-use Rattle.mlt_manager.specs.Bases.{HasBase}
-use Rattle.mlt_manager.specs.Events.{Meets}
-use Rattle.mlt_manager.specs.Managers.{IsManager, ManagerFields}
-use Rattle.mlt_manager.specs.Promises.{lists_by}
-use Rattle.mlt_manager.specs.Wholes.{HasRun}
+use Rattle.mlt_manager.specs.Answers.{HasBegun, IsCauseAtBegin}
 use Rattle.mlt_manager.proofs.Ended.{begun_keeps}
-use Rattle.mlt_manager.proofs.Keeping.{counted_keeps}
 use Rattle.mlt_manager.proofs.Kept.{whole_kept}
-use Rattle.mlt_manager_solo.specs.Alone.{HasOneIdle, IsAtRest, KeepsCommitted}
-use Rattle.mlt_manager_solo.specs.Asking.{CanMark, HasAsked, HasDone, HasEndedScript, HasRunScript, IsKept, IsRefused, IsRefusedAfter, IsTakenBack}
-use Rattle.mlt_manager_solo.specs.Events.{done_by, taken_back}
+use Rattle.mlt_manager_solo.specs.Asking.{IsRefusedAfter}
+use Rattle.mlt_manager_solo.specs.Events.{taken_back}
 use Rattle.mlt_manager_solo.proofs.Items.{base_at_rest, begin_commits_none, committed_by, op_commits_none, serial_at_rest}
 use Rattle.mlt_manager_solo.proofs.Runs.{run_on, run_one, same_events}
 use Rattle.mlt_manager_solo.proofs.Wholes.{call_refused, run_beside, run_done_idle, run_refused_idle, same_items_base, stands_behind_nobody, still_one}
@@ -64,10 +36,10 @@ module _ {P : Type 0} (bits_of : P → ℕ → ℕ) where
     abbrev manager_now : IsManager bits_of (counted old)
     manager_now = (counted_one old tx one).manager
 
-    pub asked_done : (reply : ObjReply) → Meets bits_of (event.Whole tx op) (told.Answered (answer.Done reply)) (counted old) new → HasOneIdle bits_of new tx × HasDone bits_of old new tx (op, reply)
+    pub asked_done : (reply : ObjReply) → Meets bits_of (Event.Whole tx op) (Told.Answered (Answer.Done reply)) (counted old) new → HasOneIdle bits_of new tx × HasDone bits_of old new tx (op, reply)
     asked_done reply r =
-        let beside = run_beside bits_of (counted old) new tx op (answer.Done reply) r.0 in (
-          still_one bits_of (counted old) new tx (counted_one old tx one) (whole_kept bits_of (counted old) new manager_now tx op (Ok (answer.Done reply)) r.0)
+        let beside = run_beside bits_of (counted old) new tx op (Answer.Done reply) r.0 in (
+          still_one bits_of (counted old) new tx (counted_one old tx one) (whole_kept bits_of (counted old) new manager_now tx op (Ok (Answer.Done reply)) r.0)
               (run_done_idle bits_of (counted old) new tx op reply r.0) beside,
           record {
             meets = r;
@@ -76,13 +48,13 @@ module _ {P : Type 0} (bits_of : P → ℕ → ℕ) where
           },
         )
 
-    pub asked_refused : (reason : Refusal) → Meets bits_of (event.Whole tx op) (told.Answered (answer.Refused reason)) (counted old) new → HasOneIdle bits_of new tx × IsRefused bits_of old new tx op reason
+    pub asked_refused : (reason : Refusal) → Meets bits_of (Event.Whole tx op) (Told.Answered (Answer.Refused reason)) (counted old) new → HasOneIdle bits_of new tx × IsRefused bits_of old new tx op reason
     asked_refused reason r =
         let idle = run_refused_idle bits_of (counted old) new tx op reason r.0 in
-        let beside = run_beside bits_of (counted old) new tx op (answer.Refused reason) r.0 in (
-          still_one bits_of (counted old) new tx (counted_one old tx one) (whole_kept bits_of (counted old) new manager_now tx op (Ok (answer.Refused reason)) r.0) idle.0 beside,
+        let beside = run_beside bits_of (counted old) new tx op (Answer.Refused reason) r.0 in (
+          still_one bits_of (counted old) new tx (counted_one old tx one) (whole_kept bits_of (counted old) new manager_now tx op (Ok (Answer.Refused reason)) r.0) idle.0 beside,
           record {
-            said = told.Answered (answer.Refused reason);
+            said = Told.Answered (Answer.Refused reason);
             refused = inr refl;
             meets = r;
             stays = λ base leads. same_items_base old new base r.1.items leads;
@@ -96,7 +68,7 @@ module _ {P : Type 0} (bits_of : P → ℕ → ℕ) where
         let r = call_refused bits_of (counted old) new tx op reason one.idle a in (
           still_one bits_of (counted old) new tx (counted_one old tx one) (whole_kept bits_of (counted old) new manager_now tx op (Err reason) a) r.0 r.2,
           record {
-            said = told.Refused reason;
+            said = Told.Refused reason;
             refused = inl refl;
             meets = a;
             stays = λ base leads. same_items_base old new base r.1 leads;
@@ -106,8 +78,8 @@ module _ {P : Type 0} (bits_of : P → ℕ → ℕ) where
         )
 
     -- **It waits for nobody, and nobody blocks it.**
-    pub asked_alone : (told : Answer) → HasRun bits_of (counted old) new tx op told → IsByAnother told new.txs tx → ((reply : ObjReply) → told ≡ answer.Done reply → ⊥)
-        → ((reason : Refusal) → told ≡ answer.Refused reason → ⊥) → ⊥
+    pub asked_alone : (told : Answer) → HasRun bits_of (counted old) new tx op told → IsByAnother told new.txs tx → ((reply : ObjReply) → told ≡ Answer.Done reply → ⊥)
+        → ((reason : Refusal) → told ≡ Answer.Refused reason → ⊥) → ⊥
     asked_alone told r another not_done not_refused =
         stands_behind_nobody bits_of (counted old) new tx told (counted_one old tx one) (run_beside bits_of (counted old) new tx op told r) another not_done not_refused r.runs.steps.stops
 
@@ -126,19 +98,19 @@ module _ {P : Type 0} (bits_of : P → ℕ → ℕ) where
     keeps = none_committed old m new done.keeps asked.keeps;
   }
 
-  asked_at : (p q : Questions) (t : Transcript) (op : ObjOp) → Reaches p t q → IsNext (next.Op op) q → (after : ObjReply → Questions) × Reaches p t (Asks op after)
+  asked_at : (p q : Questions) (t : Transcript) (op : ObjOp) → Reaches p t q → IsNext (Next.Op op) q → (after : ObjReply → Questions) × Reaches p t (Asks op after)
   asked_at p (Ends e) t op reaches none = absurd none
   asked_at p (Asks o after) t op reaches is = (after, subst (λ (x : ObjOp). Reaches p t (Asks x after)) (sym is) reaches)
 
   -- **The next one is refused.**
-  pub refused_after : (s : ScriptForm) (q : Questions) (old m m' : ManagerFields P) (tx : ℕ) (t : Transcript) (op : ObjOp) (reason : Refusal) → Reaches (questions_of_script s) t q → IsNext (next.Op op) q
+  pub refused_after : (s : ScriptForm) (q : Questions) (old m m' : ManagerFields P) (tx : ℕ) (t : Transcript) (op : ObjOp) (reason : Refusal) → Reaches (questions_of_script s) t q → IsNext (Next.Op op) q
       → HasAsked bits_of old m t (done_by tx t) → IsRefused bits_of m m' tx op reason → IsRefusedAfter bits_of s old m' tx t reason
   refused_after s q old m m' tx t op reason reaches is asked refused = record {
     partial = is_partial s t q reaches;
-    last = (event.Whole tx op, refused.said) ∷ [];
+    last = (Event.Whole tx op, refused.said) ∷ [];
     why = record { op = op; asked = asked_at (questions_of_script s) q t op reaches is; said = refused.said; refused = refused.refused; events = refl };
     asked = record {
-      run = run_on bits_of old m m' (done_by tx t) _ asked.run (run_one bits_of m m' (event.Whole tx op) refused.said refused.meets);
+      run = run_on bits_of old m m' (done_by tx t) _ asked.run (run_one bits_of m m' (Event.Whole tx op) refused.said refused.meets);
       leads = λ base leads. let before = asked.leads base leads in (before.0, before.1, refused.stays before.0 before.2);
       keeps = none_committed old m m' asked.keeps refused.keeps;
     };
@@ -147,16 +119,16 @@ module _ {P : Type 0} (bits_of : P → ℕ → ℕ) where
 
   -- ends of a script
 
-  pub ended_committed : (s : ScriptForm) (old m new : ManagerFields P) (tx number : ℕ) (t : Transcript) → Follows s t ending.Commit → HasAsked bits_of old m t (done_by tx t) → IsKept bits_of m new tx number
+  pub ended_committed : (s : ScriptForm) (old m new : ManagerFields P) (tx number : ℕ) (t : Transcript) → Follows s t Ending.Commit → HasAsked bits_of old m t (done_by tx t) → IsKept bits_of m new tx number
       → HasEndedScript bits_of s old new tx t (Committed number)
   ended_committed s old m new tx number t follows asked kept = record {
     leads = λ base leads serial.
         let done = asked.leads base leads in
         let count : new.commits ≡ old.commits + 1 = kept.commits ∙ kept.next ∙ ap (λ (n : ℕ). n + 1) asked.keeps.commits in
         (done.0, kept.leads done.0 done.2, (follows, done.1, count, sym kept.commits));
-    exchanges = done_by tx t ++ (event.Commit tx, told.Committed number) ∷ [];
+    exchanges = done_by tx t ++ (Event.Commit tx, Told.Committed number) ∷ [];
     told = refl;
-    run = run_on bits_of old m new (done_by tx t) _ asked.run (run_one bits_of m new (event.Commit tx) (told.Committed number) kept.meets);
+    run = run_on bits_of old m new (done_by tx t) _ asked.run (run_one bits_of m new (Event.Commit tx) (Told.Committed number) kept.meets);
     can = tt;
   }
 
@@ -165,7 +137,7 @@ module _ {P : Type 0} (bits_of : P → ℕ → ℕ) where
   back_to_base old m new base rest one two serial =
       base_at_rest bits_of new rest base (subst (λ (ts : List (List (ObjOp × ObjReply))). IsSerialBase Step empty_base ts base) (sym (two.committed ∙ one.committed)) serial)
 
-  pub ended_aborted : (s : ScriptForm) (old m new : ManagerFields P) (tx : ℕ) (t : Transcript) → Follows s t ending.Abort → HasAsked bits_of old m t (done_by tx t) → IsTakenBack bits_of m new tx → IsAtRest bits_of new
+  pub ended_aborted : (s : ScriptForm) (old m new : ManagerFields P) (tx : ℕ) (t : Transcript) → Follows s t Ending.Abort → HasAsked bits_of old m t (done_by tx t) → IsTakenBack bits_of m new tx → IsAtRest bits_of new
       → HasEndedScript bits_of s old new tx t Aborted
   ended_aborted s old m new tx t follows asked back rest = record {
     leads = λ base leads serial.
@@ -206,7 +178,7 @@ module _ {P : Type 0} (bits_of : P → ℕ → ℕ) where
     begun_base base leads =
         let fresh : (lists_by old).stage tx ≡ Fresh = rest.manager.sound.match.records.fresh tx (omega (arith, begun.number)) in
         let grown = follow_push Step (entries_of old.shared.history.items) no_lists empty_base base base (Begun tx) leads (fresh, refl) in
-        let same : entries_of m.shared.history.items ≡ entries_of old.shared.history.items ++ Begun tx ∷ [] = ap entries_of begun.items ∙ entries_of-append old.shared.history.items (trace.Begin tx ∷ []) in
+        let same : entries_of m.shared.history.items ≡ entries_of old.shared.history.items ++ Begun tx ∷ [] = ap entries_of begun.items ∙ entries_of-append old.shared.history.items (TraceItem.Begin tx ∷ []) in
         subst (λ (es : List (Entry (ObjOp × ObjReply))). IsHistory Step empty_base es base) (sym same) grown
 
     pub run_begun : (s : ScriptForm) (new : ManagerFields P) (t : Transcript) (end : End) → HasEndedScript bits_of s m new tx t end → HasRunScript bits_of s old new tx t end
@@ -215,7 +187,7 @@ module _ {P : Type 0} (bits_of : P → ℕ → ℕ) where
           let serial = subst (λ (ts : List (List (ObjOp × ObjReply))). IsSerialBase Step empty_base ts base) (sym begun_committed.committed) (serial_at_rest bits_of old rest base leads) in
           let run = ended.leads base (begun_base base leads) serial in
           (run.0, run.1, subst (λ (n : ℕ). IsScriptRun s base n t end run.0 new.commits) begun_committed.commits run.2);
-      exchanges = (event.Begin, told.Begun tx) ∷ ended.exchanges;
+      exchanges = (Event.Begin, Told.Begun tx) ∷ ended.exchanges;
       told = ended.told;
       run = (m, begun, ended.run);
       can = ended.can;
@@ -223,12 +195,12 @@ module _ {P : Type 0} (bits_of : P → ℕ → ℕ) where
 
   -- why no transaction begins where none is open
   begin_can_mark : (m : ManagerFields P) (reason : Refusal) → IsAtRest bits_of m → IsCauseAtBegin reason m → CanMark reason
-  begin_can_mark m refusal.TooManyOpen rest full =
+  begin_can_mark m Refusal.TooManyOpen rest full =
       let empty : m.txs ≡ map.empty = map.same_map nat_cmp_total map.nat_cmp-IsAntisymmetric m.txs map.empty (λ i. rest.nobody i ∙ sym (map.get-empty {X = Transaction} nat_cmp i)) in
       let none : map.len m.txs ≡ 0 = ap map.len empty ∙ map.len-empty nat_cmp Transaction in
       absurd (omega (arith, none, full, rest.limit))
-  begin_can_mark m refusal.IdsSpent rest cause = tt
-  begin_can_mark m refusal.OutOfMemory rest cause = tt
+  begin_can_mark m Refusal.IdsSpent rest cause = tt
+  begin_can_mark m Refusal.OutOfMemory rest cause = tt
   begin_can_mark m other rest none = absurd none
 
   -- **No transaction begins.**
@@ -243,8 +215,8 @@ module _ {P : Type 0} (bits_of : P → ℕ → ℕ) where
         let partial : IsPartial s t = subst (IsPartial s) (sym nothing) (is_partial s [] (questions_of_script s) refl) in
         let runs : TranscriptLeads base t base = subst (λ (u : Transcript). TranscriptLeads base u base) (sym nothing) refl in
         (base, here, (partial, (base, runs), refl, ap (λ (n : ManagerFields P). n.commits) a.1));
-    exchanges = (event.Begin, told.Refused reason) ∷ [];
+    exchanges = (Event.Begin, Told.Refused reason) ∷ [];
     told = inl (record { nobody = refl; nothing = nothing; events = refl });
-    run = run_one bits_of old new event.Begin (told.Refused reason) a;
+    run = run_one bits_of old new Event.Begin (Told.Refused reason) a;
     can = begin_can_mark (counted old) reason (counted_rest old rest) a.0;
   }

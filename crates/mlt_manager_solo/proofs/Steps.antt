@@ -1,31 +1,21 @@
 -- What steps of a transaction do to it, and beside it
 use Rattle.std.proofs.Common.{◌≡◌, ◌≢◌, ℕ, List, [], ◌∷◌, Some, refl, sym, ap, subst, ◌∙◌}
 use Rattle.std.specs.FinMap as map
-use Rattle.mlt_types.specs.declared.refusal.Refusal.{Refusal}
-use Rattle.mlt_types.specs.declared.refusal.Refusal.TheVariants as refusal
-use Rattle.mlt_object_kinds.specs.declared.operation.ObjReply.{ObjReply}
+use Rattle.mlt_manager_solo.proofs.Names.{Refusal, ObjReply, Answer, At, Transaction, Table, inserted_elsewhere, inserted_here, removed_elsewhere, IsIdle, IsOpenAt, ManagerFields, CanMark}
 use Rattle.mlt_hash_access.specs.LocalStates.{LocalState}
 use Rattle.mlt_hash.specs.Walks.{WalkContext, context_by}
 use Rattle.mlt_object_base.specs.declared.request.Request.{Request}
 use Rattle.mlt_tx_two_records.specs.declared.two_records.TwoRecordWalk.TheVariants.{First, Owing, Wide}
-use Rattle.mlt_tx_two_records.specs.declared.two_records.WideStage.TheVariants as wide_stage
+use Rattle.mlt_tx_two_records.specs.declared.two_records.WideStage.{WideStage}
 use Rattle.mlt_tx_operation.specs.declared.access_path.AccessPath.{AccessPath}
 use Rattle.mlt_tx_operation.specs.declared.access_path.AccessPath.TheVariants.{One, Two}
 use Rattle.mlt_tx_operation.specs.Answers.{CauseBy, IsCauseOf}
 use Rattle.mlt_tx_operation.specs.Operating.{OperationFields}
-use Rattle.mlt_event.specs.declared.answer.Answer.{Answer}
-use Rattle.mlt_event.specs.declared.answer.Answer.TheVariants as answer
 use Rattle.mlt_tx.specs.declared.shared.SharedState.{SharedState}
-use Rattle.mlt_tx.specs.declared.transaction.At.{At}
-use Rattle.mlt_tx.specs.declared.transaction.At.TheVariants as at
-use Rattle.mlt_tx.specs.declared.transaction.Transaction.{Transaction}
 use Rattle.mlt_tx.specs.Transactions.{TellsAt}
-use Rattle.mlt_tx_open.specs.Tables.{ChangesOne, Table}
-use Rattle.mlt_manager_invariant.proofs.Tables.{inserted_elsewhere, inserted_here, removed_elsewhere}
-use Rattle.mlt_manager.specs.Answers.{ChangesOpen, HasStepped, IsIdle, IsOpenAt, txs_after}
+use Rattle.mlt_tx_open.specs.Tables.{ChangesOne}
+use Rattle.mlt_manager.specs.Answers.{ChangesOpen, HasStepped, txs_after}
 use Rattle.mlt_manager.specs.Chains.{StepsBy}
-use Rattle.mlt_manager.specs.Managers.{ManagerFields}
-use Rattle.mlt_manager_solo.specs.Asking.{CanMark}
 
 -- no transaction but this one has changed, and neither has how many may be open, or how many have committed
 pub record StaysBeside {P : Type 0} (old new : ManagerFields P) (tx : ℕ) : Type 0 where
@@ -56,32 +46,32 @@ changed_here tx old new changes = ap (λ (t : Table). map.get t tx) changes.is �
 
 -- who is beside a transaction that takes a step, or is open no more
 after_others : (told : Answer) (txs : Table) (tx i : ℕ) → i ≢ tx → map.get (txs_after told tx txs) i ≡ map.get txs i
-after_others answer.Aborted txs tx i ne = removed_elsewhere txs tx i ne
+after_others Answer.Aborted txs tx i ne = removed_elsewhere txs tx i ne
 after_others other txs tx i ne = refl
 
 -- why a step may be refused
 can_mark_by : (reason : Refusal) (access_path : AccessPath) (context : WalkContext) (old mid : LocalState) (request : Request) → CauseBy access_path reason context old mid request → CanMark reason
-can_mark_by refusal.NoRoom access_path context old mid request cause = tt
-can_mark_by refusal.OutOfMemory access_path context old mid request cause = tt
+can_mark_by Refusal.NoRoom access_path context old mid request cause = tt
+can_mark_by Refusal.OutOfMemory access_path context old mid request cause = tt
 can_mark_by other (One walk) context old mid request none = absurd none
 can_mark_by other (Two (First pair)) context old mid request none = absurd none
 can_mark_by other (Two (Owing pair reply)) context old mid request none = absurd none
-can_mark_by other (Two (Wide wide_stage.Own walk)) context old mid request none = absurd none
-can_mark_by other (Two (Wide wide_stage.Size walk)) context old mid request (since, put, none) = absurd none
+can_mark_by other (Two (Wide WideStage.Own walk)) context old mid request none = absurd none
+can_mark_by other (Two (Wide WideStage.Size walk)) context old mid request (since, put, none) = absurd none
 
 step_can_mark : (reason : Refusal) (context : WalkContext) (old mid : LocalState) (before : OperationFields) → IsCauseOf reason context old mid before → CanMark reason
 step_can_mark reason context old mid before cause = can_mark_by reason before.access_path context old mid before.request cause
 
 -- an operation that is done or refused leaves its transaction at nothing
-done_at : (a : At) (context : WalkContext) (before after : Transaction) (old new : SharedState) (reply : ObjReply) → TellsAt a context before after old new (answer.Done reply) → IsIdle after.at
-done_at at.Idle context before after old new reply none = absurd none
-done_at (at.Pending o) context before after old new reply s = subst IsIdle (sym s.now_at) tt
-done_at (at.Undoing inverting) context before after old new reply s = absurd s.tells
+done_at : (a : At) (context : WalkContext) (before after : Transaction) (old new : SharedState) (reply : ObjReply) → TellsAt a context before after old new (Answer.Done reply) → IsIdle after.at
+done_at At.Idle context before after old new reply none = absurd none
+done_at (At.Pending o) context before after old new reply s = subst IsIdle (sym s.now_at) tt
+done_at (At.Undoing inverting) context before after old new reply s = absurd s.tells
 
-refused_at : (a : At) (context : WalkContext) (before after : Transaction) (old new : SharedState) (reason : Refusal) → TellsAt a context before after old new (answer.Refused reason) → IsIdle after.at × CanMark reason
-refused_at at.Idle context before after old new reason none = absurd none
-refused_at (at.Pending o) context before after old new reason s = (subst IsIdle (sym s.now_at) tt, step_can_mark reason _ _ _ o s.tells.tells.cause)
-refused_at (at.Undoing inverting) context before after old new reason s = absurd s.tells
+refused_at : (a : At) (context : WalkContext) (before after : Transaction) (old new : SharedState) (reason : Refusal) → TellsAt a context before after old new (Answer.Refused reason) → IsIdle after.at × CanMark reason
+refused_at At.Idle context before after old new reason none = absurd none
+refused_at (At.Pending o) context before after old new reason s = (subst IsIdle (sym s.now_at) tt, step_can_mark reason _ _ _ o s.tells.tells.cause)
+refused_at (At.Undoing inverting) context before after old new reason s = absurd s.tells
 
 -- one step
 module _ {P : Type 0} (bits_of : P → ℕ → ℕ) (m m' : ManagerFields P) (tx : ℕ) where
@@ -98,17 +88,17 @@ module _ {P : Type 0} (bits_of : P → ℕ → ℕ) (m m' : ManagerFields P) (tx
       ap (λ (n : ManagerFields P). map.get n.txs tx) d.rest ∙ ap (λ (t : Table). map.get t tx) (on ∙ d.steps.changes.is) ∙ inserted_here m.txs tx d.steps.changes.after
 
   -- **One that is done leaves the transaction at nothing,** and so does one that is refused.
-  pub done_idles : (reply : ObjReply) → HasStepped bits_of m m' tx (answer.Done reply) → IsOpenAt m'.txs tx IsIdle
+  pub done_idles : (reply : ObjReply) → HasStepped bits_of m m' tx (Answer.Done reply) → IsOpenAt m'.txs tx IsIdle
   done_idles reply d = record {
     one = d.steps.changes.after;
-    there = there_still (answer.Done reply) d refl;
+    there = there_still (Answer.Done reply) d refl;
     is_at = done_at d.steps.changes.before.at (context_by bits_of m.root m.active d.steps.changes.before.subtx.tx) d.steps.changes.before d.steps.changes.after m.shared m'.shared reply d.steps.tells;
   }
 
-  pub refused_idles : (reason : Refusal) → HasStepped bits_of m m' tx (answer.Refused reason) → IsOpenAt m'.txs tx IsIdle × CanMark reason
+  pub refused_idles : (reason : Refusal) → HasStepped bits_of m m' tx (Answer.Refused reason) → IsOpenAt m'.txs tx IsIdle × CanMark reason
   refused_idles reason d =
       let r = refused_at d.steps.changes.before.at (context_by bits_of m.root m.active d.steps.changes.before.subtx.tx) d.steps.changes.before d.steps.changes.after m.shared m'.shared reason d.steps.tells in
-      (record { one = d.steps.changes.after; there = there_still (answer.Refused reason) d refl; is_at = r.0 }, r.1)
+      (record { one = d.steps.changes.after; there = there_still (Answer.Refused reason) d refl; is_at = r.0 }, r.1)
 
 -- **Steps change no other transaction.**
 pub steps_beside : {P : Type 0} (bits_of : P → ℕ → ℕ) (GoesOn : Answer → Type 0) (old last : ManagerFields P) (tx : ℕ) (steps : List (ManagerFields P × Answer)) → StepsBy bits_of GoesOn old steps last tx

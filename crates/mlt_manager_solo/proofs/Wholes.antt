@@ -1,28 +1,10 @@
 -- A whole operation of the transaction that alone is open
 use Rattle.std.proofs.Common.{◌≡◌, ◌≤◌, ℕ, List, Option, None, Some, IsSome, Err, refl, sym, ap, subst, ◌∙◌}
 use Rattle.std.specs.FinMap as map
-use Rattle.mlt_types.specs.declared.refusal.Refusal.{Refusal}
-use Rattle.mlt_types.specs.declared.refusal.Refusal.TheVariants as refusal
-use Rattle.mlt_object_kinds.specs.Bases.{Base, Step, empty_base}
-use Rattle.mlt_object_kinds.specs.declared.operation.ObjOp.{ObjOp}
-use Rattle.mlt_object_kinds.specs.declared.operation.ObjReply.{ObjReply}
-use Rattle.mlt_order.specs.Histories.{IsHistory}
-use Rattle.mlt_trace.specs.declared.item.TraceItem.{TraceItem}
-use Rattle.mlt_trace.specs.Entries.{entries_of}
-use Rattle.mlt_event.specs.declared.answer.Answer.{Answer}
-use Rattle.mlt_event.specs.declared.answer.Answer.TheVariants as answer
-use Rattle.mlt_tx.specs.declared.transaction.At.{At}
-use Rattle.mlt_tx.specs.declared.transaction.At.TheVariants as at
+use Rattle.mlt_manager_solo.proofs.Names.{Refusal, Base, Step, empty_base, ObjOp, ObjReply, IsHistory, TraceItem, entries_of, Answer, At, Transaction, Table, AnswersCall, IsByAnother, IsIdle, IsOpenAt, IsUndoing, HasBase, IsManager, ManagerFields, HasRun, one_there, HasOneIdle, CanMark}
 use Rattle.mlt_tx.specs.Transactions.{IsPending}
-use Rattle.mlt_tx.specs.declared.transaction.Transaction.{Transaction}
-use Rattle.mlt_tx_open.specs.Tables.{Table}
-use Rattle.mlt_manager.specs.Answers.{AnswersCall, IsByAnother, IsIdle, IsNotIdle, IsOpenAt, IsUndoing}
-use Rattle.mlt_manager.specs.Bases.{HasBase}
-use Rattle.mlt_manager.specs.Managers.{IsManager, ManagerFields}
-use Rattle.mlt_manager.specs.Wholes.{DropsIfItStands, HasRun, LetsGoOn, Stops}
-use Rattle.mlt_manager.proofs.Called.{one_there}
-use Rattle.mlt_manager_solo.specs.Alone.{HasOneIdle}
-use Rattle.mlt_manager_solo.specs.Asking.{CanMark}
+use Rattle.mlt_manager.specs.Answers.{IsNotIdle}
+use Rattle.mlt_manager.specs.Wholes.{DropsIfItStands, LetsGoOn, Stops}
 use Rattle.mlt_manager_solo.proofs.Steps.{StaysBeside, beside_both, beside_same, changed_beside, changed_here, done_idles, refused_idles, step_beside, steps_beside}
 
 -- the same items lead to the same base
@@ -40,21 +22,21 @@ still_one bits_of old new tx one manager idle beside = record {
 }
 
 idle_or_undoing : (a : At) → IsIdle a → IsUndoing a → ⊥
-idle_or_undoing at.Idle is none = none
-idle_or_undoing (at.Pending o) none also = none
-idle_or_undoing (at.Undoing inverting) none also = none
+idle_or_undoing At.Idle is none = none
+idle_or_undoing (At.Pending o) none also = none
+idle_or_undoing (At.Undoing inverting) none also = none
 
 idle_or_pending : (a : At) → IsIdle a → IsPending a → ⊥
-idle_or_pending at.Idle is none = none
-idle_or_pending (at.Pending o) none also = none
-idle_or_pending (at.Undoing inverting) none also = none
+idle_or_pending At.Idle is none = none
+idle_or_pending (At.Pending o) none also = none
+idle_or_pending (At.Undoing inverting) none also = none
 
 -- what an idle transaction is not
 pub idle_is_idle : (reason : Refusal) (txs : Table) (tx : ℕ) → IsOpenAt txs tx IsIdle → IsNotIdle reason txs tx → ⊥
-idle_is_idle refusal.NoSuchTx txs tx idle none = let both : Some idle.one ≡ None = sym idle.there ∙ none in cc
-idle_is_idle refusal.Undoing txs tx idle undoing =
+idle_is_idle Refusal.NoSuchTx txs tx idle none = let both : Some idle.one ≡ None = sym idle.there ∙ none in cc
+idle_is_idle Refusal.Undoing txs tx idle undoing =
     idle_or_undoing idle.one.at idle.is_at (subst (λ (t : Transaction). IsUndoing t.at) (one_there txs tx undoing.one idle.one undoing.there idle.there) undoing.is_at)
-idle_is_idle refusal.Running txs tx idle pending =
+idle_is_idle Refusal.Running txs tx idle pending =
     idle_or_pending idle.one.at idle.is_at (subst (λ (t : Transaction). IsPending t.at) (one_there txs tx pending.one idle.one pending.there idle.there) pending.is_at)
 idle_is_idle other txs tx idle none = none
 
@@ -66,8 +48,8 @@ module _ {P : Type 0} (bits_of : P → ℕ → ℕ) (old new : ManagerFields P) 
       (beside_both r.called r.runs.steps.before r.runs.stopped tx (steps_beside bits_of LetsGoOn r.called s.before tx s.steps s.goes) (step_beside bits_of s.before r.runs.stopped tx told s.ends))
 
   dropped_beside : (t : Answer) → DropsIfItStands t r.runs.stopped new tx → StaysBeside r.runs.stopped new tx
-  dropped_beside (answer.Waiting page by) d = changed_beside r.runs.stopped new tx d.cancels.changes d.rest
-  dropped_beside (answer.Blocked by) d = changed_beside r.runs.stopped new tx d.cancels.changes d.rest
+  dropped_beside (Answer.Waiting page by) d = changed_beside r.runs.stopped new tx d.cancels.changes d.rest
+  dropped_beside (Answer.Blocked by) d = changed_beside r.runs.stopped new tx d.cancels.changes d.rest
   dropped_beside other same = beside_same r.runs.stopped new tx same
 
   -- **Whatever it is told, nobody else has changed.**
@@ -75,11 +57,11 @@ module _ {P : Type 0} (bits_of : P → ℕ → ℕ) (old new : ManagerFields P) 
   run_beside = beside_both old r.runs.stopped new tx stopped_beside (dropped_beside told r.runs.drops)
 
 -- **An operation that is done or refused leaves its transaction at nothing.**
-pub run_done_idle : {P : Type 0} (bits_of : P → ℕ → ℕ) (old new : ManagerFields P) (tx : ℕ) (op : ObjOp) (reply : ObjReply) → HasRun bits_of old new tx op (answer.Done reply) → IsOpenAt new.txs tx IsIdle
+pub run_done_idle : {P : Type 0} (bits_of : P → ℕ → ℕ) (old new : ManagerFields P) (tx : ℕ) (op : ObjOp) (reply : ObjReply) → HasRun bits_of old new tx op (Answer.Done reply) → IsOpenAt new.txs tx IsIdle
 run_done_idle bits_of old new tx op reply r =
     subst (λ (n : ManagerFields _). IsOpenAt n.txs tx IsIdle) (sym r.runs.drops) (done_idles bits_of r.runs.steps.before r.runs.stopped tx reply r.runs.steps.ends)
 
-pub run_refused_idle : {P : Type 0} (bits_of : P → ℕ → ℕ) (old new : ManagerFields P) (tx : ℕ) (op : ObjOp) (reason : Refusal) → HasRun bits_of old new tx op (answer.Refused reason)
+pub run_refused_idle : {P : Type 0} (bits_of : P → ℕ → ℕ) (old new : ManagerFields P) (tx : ℕ) (op : ObjOp) (reason : Refusal) → HasRun bits_of old new tx op (Answer.Refused reason)
     → IsOpenAt new.txs tx IsIdle × CanMark reason
 run_refused_idle bits_of old new tx op reason r =
     let idle = refused_idles bits_of r.runs.steps.before r.runs.stopped tx reason r.runs.steps.ends in
@@ -91,21 +73,21 @@ there_or_not (Some t) is there = cc
 
 -- **It stands behind nobody.**
 pub stands_behind_nobody : {P : Type 0} (bits_of : P → ℕ → ℕ) (old new : ManagerFields P) (tx : ℕ) (told : Answer) → HasOneIdle bits_of old tx → StaysBeside old new tx → IsByAnother told new.txs tx
-    → ((reply : ObjReply) → told ≡ answer.Done reply → ⊥) → ((reason : Refusal) → told ≡ answer.Refused reason → ⊥) → Stops told → ⊥
-stands_behind_nobody bits_of old new tx (answer.Waiting page by) one beside another not_done not_refused stops =
+    → ((reply : ObjReply) → told ≡ Answer.Done reply → ⊥) → ((reason : Refusal) → told ≡ Answer.Refused reason → ⊥) → Stops told → ⊥
+stands_behind_nobody bits_of old new tx (Answer.Waiting page by) one beside another not_done not_refused stops =
     let none : map.get new.txs by ≡ None = beside.others by another.0 ∙ one.alone by another.0 in
     let both : Some another.1.one ≡ None = sym another.1.there ∙ none in cc
-stands_behind_nobody bits_of old new tx (answer.Blocked by) one beside another not_done not_refused stops =
+stands_behind_nobody bits_of old new tx (Answer.Blocked by) one beside another not_done not_refused stops =
     let none : map.get new.txs by ≡ None = beside.others by another.0 ∙ one.alone by another.0 in
     there_or_not (map.get new.txs by) none another.1
-stands_behind_nobody bits_of old new tx (answer.Done reply) one beside another not_done not_refused stops = not_done reply refl
-stands_behind_nobody bits_of old new tx (answer.Refused reason) one beside another not_done not_refused stops = not_refused reason refl
+stands_behind_nobody bits_of old new tx (Answer.Done reply) one beside another not_done not_refused stops = not_done reply refl
+stands_behind_nobody bits_of old new tx (Answer.Refused reason) one beside another not_done not_refused stops = not_refused reason refl
 stands_behind_nobody bits_of old new tx other one beside another not_done not_refused stops = stops
 
 -- an operation that is refused at its call
 pub call_refused : {P : Type 0} (bits_of : P → ℕ → ℕ) (old new : ManagerFields P) (tx : ℕ) (op : ObjOp) (reason : Refusal) → IsOpenAt old.txs tx IsIdle → AnswersCall old new tx op (Err reason)
     → IsOpenAt new.txs tx IsIdle × (new.shared.history.items ≡ old.shared.history.items) × StaysBeside old new tx × CanMark reason
-call_refused bits_of old new tx op refusal.OutOfMemory idle a =
+call_refused bits_of old new tx op Refusal.OutOfMemory idle a =
     let none = a.1 in
     let ch = none.changes in
     let same : ch.before ≡ idle.one = one_there old.txs tx ch.before idle.one ch.was idle.there in
@@ -115,7 +97,7 @@ call_refused bits_of old new tx op refusal.OutOfMemory idle a =
       changed_beside old new tx ch a.2,
       tt,
     )
-call_refused bits_of old new tx op refusal.LogFull idle a = (
+call_refused bits_of old new tx op Refusal.LogFull idle a = (
   subst (λ (n : ManagerFields _). IsOpenAt n.txs tx IsIdle) (sym a.1) idle,
   ap (λ (n : ManagerFields _). n.shared.history.items) a.1,
   beside_same old new tx a.1,

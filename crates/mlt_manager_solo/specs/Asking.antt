@@ -1,7 +1,6 @@
 -- What the operations of a script, and its end, do to a manager
 use Rattle.std.specs.Prelude.{ℕ, ◌≡◌, ◌⊎◌, ◌+◌, Bool, List, [], ◌∷◌, ◌++◌, Option, None, Some, map}
 use Rattle.mlt_types.specs.declared.refusal.Refusal.{Refusal}
-use Rattle.mlt_types.specs.declared.refusal.Refusal.TheVariants as refusal
 use Rattle.mlt_object_kinds.specs.Bases.{Base, TranscriptLeads, Step, Transcript, empty_base}
 use Rattle.mlt_object_kinds.specs.declared.operation.ObjOp.{ObjOp}
 use Rattle.mlt_object_kinds.specs.declared.operation.ObjReply.{ObjReply}
@@ -12,10 +11,9 @@ use Rattle.mlt_script_serial.specs.declared.outcome.End.{End}
 use Rattle.mlt_script_serial.specs.declared.outcome.End.TheVariants.{Refused}
 use Rattle.mlt_script_serial.specs.declared.outcome.Outcome.{Outcome}
 use Rattle.mlt_script_serial.specs.Serial.{AreNumbered, AreRuns, IsScriptRun, mark_of}
-use Rattle.mlt_event.specs.declared.answer.Answer.TheVariants as answer
-use Rattle.mlt_event.specs.declared.event.Event.TheVariants as event
+use Rattle.mlt_event.specs.declared.answer.Answer.{Answer}
+use Rattle.mlt_event.specs.declared.event.Event.{Event}
 use Rattle.mlt_event.specs.declared.told.Told.{Told}
-use Rattle.mlt_event.specs.declared.told.Told.TheVariants as told
 use Rattle.mlt_manager.specs.Answers.{counted}
 use Rattle.mlt_manager.specs.Bases.{HasBase}
 use Rattle.mlt_manager.specs.Events.{Meets}
@@ -27,16 +25,16 @@ use Rattle.mlt_manager_solo.specs.Events.{AreEventsOf, AreEventsOfAll, Exchange,
 -- what a script may be refused with: there is no memory or no room, or it has too many operations, or all numbers of
 -- transactions were given out
 abbrev pub CanMark : Refusal → Type 0
-CanMark refusal.OutOfMemory = Unit {0}
-CanMark refusal.NoRoom = Unit {0}
-CanMark refusal.LogFull = Unit {0}
-CanMark refusal.IdsSpent = Unit {0}
+CanMark Refusal.OutOfMemory = Unit {0}
+CanMark Refusal.NoRoom = Unit {0}
+CanMark Refusal.LogFull = Unit {0}
+CanMark Refusal.IdsSpent = Unit {0}
 CanMark other = ⊥
 
 -- the operation is done, and the base has made its step
 pub record HasDone {P : Type 0} (bits_of : P → ℕ → ℕ) (old new : ManagerFields P) (tx : ℕ)
     (item : ObjOp × ObjReply) : Type 0 where
-  pub meets : Meets bits_of (event.Whole tx item.0) (told.Answered (answer.Done item.1))
+  pub meets : Meets bits_of (Event.Whole tx item.0) (Told.Answered (Answer.Done item.1))
       (counted old) new
   pub leads : (base : Base) → HasBase old base
       → (next : Base) × Step base item next × HasBase new next
@@ -46,8 +44,8 @@ pub record HasDone {P : Type 0} (bits_of : P → ℕ → ℕ) (old new : Manager
 pub record IsRefused {P : Type 0} (bits_of : P → ℕ → ℕ) (old new : ManagerFields P) (tx : ℕ)
     (op : ObjOp) (reason : Refusal) : Type 0 where
   pub said : Told
-  pub refused : (said ≡ told.Refused reason) ⊎ (said ≡ told.Answered (answer.Refused reason))
-  pub meets : Meets bits_of (event.Whole tx op) said (counted old) new
+  pub refused : (said ≡ Told.Refused reason) ⊎ (said ≡ Told.Answered (Answer.Refused reason))
+  pub meets : Meets bits_of (Event.Whole tx op) said (counted old) new
   pub stays : (base : Base) → HasBase old base → HasBase new base
   pub keeps : KeepsCommitted old new
   pub can : CanMark reason
@@ -71,7 +69,7 @@ pub record IsRefusedAfter {P : Type 0} (bits_of : P → ℕ → ℕ) (s : Script
 -- its abort, which has begun, is at its end
 pub record IsUndone {P : Type 0} (bits_of : P → ℕ → ℕ) (old new : ManagerFields P) (tx : ℕ)
     : Type 0 where
-  pub meets : Meets bits_of (event.WholeUndo tx) (told.Answered answer.Aborted) (counted old) new
+  pub meets : Meets bits_of (Event.WholeUndo tx) (Told.Answered Answer.Aborted) (counted old) new
   pub keeps : KeepsCommitted old new
 
 -- the transaction is taken back
@@ -84,7 +82,7 @@ pub record IsTakenBack {P : Type 0} (bits_of : P → ℕ → ℕ) (old new : Man
 -- the transaction commits under the next number, and its changes stay
 pub record IsKept {P : Type 0} (bits_of : P → ℕ → ℕ) (old new : ManagerFields P) (tx number : ℕ)
     : Type 0 where
-  pub meets : Meets bits_of (event.Commit tx) (told.Committed number) (counted old) new
+  pub meets : Meets bits_of (Event.Commit tx) (Told.Committed number) (counted old) new
   pub next : number ≡ old.commits + 1
   pub commits : new.commits ≡ number
   pub leads : (base : Base) → HasBase old base → HasBase new base
@@ -112,7 +110,7 @@ pub record HasEndedScript {P : Type 0} (bits_of : P → ℕ → ℕ) (s : Script
       → IsSerialBase Step empty_base (lists_by old).committed base
       → (next : Base) × HasBase new next × IsScriptRun s base old.commits t end next new.commits
   pub exchanges : List Exchange
-  pub told : AreEventsOf s tx t end ((event.Begin, told.Begun tx) ∷ exchanges)
+  pub told : AreEventsOf s tx t end ((Event.Begin, Told.Begun tx) ∷ exchanges)
   pub run : IsRunOf bits_of old exchanges new
   pub can : CanEnd end
 

@@ -10,11 +10,9 @@ use Rattle.mlt_script_cursor.specs.Follows.Questions.{Asks}
 use Rattle.mlt_script_serial.specs.declared.outcome.End.{End}
 use Rattle.mlt_script_serial.specs.declared.outcome.End.TheVariants.{Committed, Aborted, Refused}
 use Rattle.mlt_script_serial.specs.declared.outcome.Outcome.{Outcome}
-use Rattle.mlt_event.specs.declared.answer.Answer.TheVariants as answer
+use Rattle.mlt_event.specs.declared.answer.Answer.{Answer}
 use Rattle.mlt_event.specs.declared.event.Event.{Event}
-use Rattle.mlt_event.specs.declared.event.Event.TheVariants as event
 use Rattle.mlt_event.specs.declared.told.Told.{Told}
-use Rattle.mlt_event.specs.declared.told.Told.TheVariants as told
 use Rattle.mlt_manager.specs.Events.{IsRun}
 use Rattle.mlt_manager.specs.Managers.{ManagerFields}
 
@@ -36,17 +34,17 @@ IsRunOf bits_of old exchanges new = IsRun bits_of old (events_of exchanges) (tol
 -- each operation of the transcript is one event, and is told its reply
 abbrev pub done_by : ℕ → Transcript → List Exchange
 done_by tx t =
-    map (λ (x : ObjOp × ObjReply). (event.Whole tx x.0, told.Answered (answer.Done x.1))) t
+    map (λ (x : ObjOp × ObjReply). (Event.Whole tx x.0, Told.Answered (Answer.Done x.1))) t
 
 -- the transaction begins, and does what its transcript says
 abbrev pub begun_by : ℕ → Transcript → List Exchange
-begun_by tx t = (event.Begin, told.Begun tx) ∷ done_by tx t
+begun_by tx t = (Event.Begin, Told.Begun tx) ∷ done_by tx t
 
 -- it is aborted: it is closed at once, or its operations are taken back
 abbrev pub taken_back : ℕ → Bool → List Exchange
-taken_back tx true = (event.Abort tx, told.Aborting true) ∷ []
+taken_back tx true = (Event.Abort tx, Told.Aborting true) ∷ []
 taken_back tx false =
-    (event.Abort tx, told.Aborting false) ∷ (event.WholeUndo tx, told.Answered answer.Aborted) ∷ []
+    (Event.Abort tx, Told.Aborting false) ∷ (Event.WholeUndo tx, Told.Answered Answer.Aborted) ∷ []
 
 -- told the replies of the transcript, the script asks this operation next
 abbrev pub IsAskedAfter : ScriptForm → Transcript → ObjOp → Type 0
@@ -58,15 +56,15 @@ pub record IsToldRefusal (s : ScriptForm) (tx : ℕ) (t : Transcript) (reason : 
   pub op : ObjOp
   pub asked : IsAskedAfter s t op
   pub said : Told
-  pub refused : (said ≡ told.Refused reason) ⊎ (said ≡ told.Answered (answer.Refused reason))
-  pub events : last ≡ (event.Whole tx op, said) ∷ []
+  pub refused : (said ≡ Told.Refused reason) ⊎ (said ≡ Told.Answered (Answer.Refused reason))
+  pub events : last ≡ (Event.Whole tx op, said) ∷ []
 
 -- no transaction begins
 pub record IsNotBegun (tx : ℕ) (t : Transcript) (reason : Refusal) (exchanges : List Exchange)
     : Type 0 where
   pub nobody : tx ≡ 0
   pub nothing : t ≡ []
-  pub events : exchanges ≡ (event.Begin, told.Refused reason) ∷ []
+  pub events : exchanges ≡ (Event.Begin, Told.Refused reason) ∷ []
 
 -- it began, was refused, and is aborted
 pub record IsCutShort (s : ScriptForm) (tx : ℕ) (t : Transcript) (reason : Refusal)
@@ -80,7 +78,7 @@ pub record IsCutShort (s : ScriptForm) (tx : ℕ) (t : Transcript) (reason : Ref
 -- number, 0 where none began.
 abbrev pub AreEventsOf : ScriptForm → ℕ → Transcript → End → List Exchange → Type 0
 AreEventsOf s tx t (Committed number) exchanges =
-    exchanges ≡ begun_by tx t ++ (event.Commit tx, told.Committed number) ∷ []
+    exchanges ≡ begun_by tx t ++ (Event.Commit tx, Told.Committed number) ∷ []
 AreEventsOf s tx t Aborted exchanges =
     (closed : Bool) × (exchanges ≡ begun_by tx t ++ taken_back tx closed)
 AreEventsOf s tx t (Refused reason) exchanges =

@@ -1,11 +1,8 @@
 -- Each event of a run is explained.
-use Rattle.std.proofs.Common.{◌≡◌, ◌⊎◌, ◌<◌, ◌≤◌, ◌+◌, cond, ℕ, suc, zero, Bool, true, false, List, [], ◌∷◌, ◌++◌, length, take, get_or, Contains, Option, None, Some, IsSome, inl, inr, refl, sym, ap, subst, ◌∙◌, arith, append_assoc}
+use Rattle.std.proofs.Common.{◌≡◌, ◌⊎◌, ◌<◌, ◌≤◌, ◌+◌, cond, ℕ, suc, zero, Bool, true, false, List, [], ◌∷◌, ◌++◌, length, take, get_or, Contains, Option, None, Some, IsSome, inl, inr, refl, sym, ap, subst, ◌∙◌, arith, append_assoc, append-nil, find, nat_cmp}
 use Rattle.std.proofs.lemmas.Bool.{cases_eq}
-use Rattle.std.proofs.lemmas.List.{append-nil}
 use Rattle.std.proofs.lemmas.List.Elements.{Contains-append_cases}
 use Rattle.std.specs.FinMap as map
-use Rattle.std.specs.List.{find}
-use Rattle.std.specs.Ordering.{nat_cmp}
 use Rattle.mlt_types.specs.declared.limits.Limits.{Limits}
 use Rattle.mlt_object_kinds.specs.declared.operation.ObjOp.{ObjOp}
 use Rattle.mlt_object_kinds.specs.declared.operation.ObjReply.{ObjReply}
@@ -18,11 +15,9 @@ use Rattle.mlt_order.proofs.Parts.{items_of-other, items_of-same}
 use Rattle.mlt_order.proofs.RunLemmas.{contains-first, contains-later, contains-nothing}
 use Rattle.mlt_order.proofs.Stages.{contains-one}
 use Rattle.mlt_trace.specs.declared.item.TraceItem.{TraceItem}
-use Rattle.mlt_event.specs.declared.answer.Answer.TheVariants as answer
+use Rattle.mlt_event.specs.declared.answer.Answer.{Answer}
 use Rattle.mlt_event.specs.declared.event.Event.{Event}
-use Rattle.mlt_event.specs.declared.event.Event.TheVariants as event
 use Rattle.mlt_event.specs.declared.told.Told.{Told}
-use Rattle.mlt_event.specs.declared.told.Told.TheVariants as told
 use Rattle.mlt_event_text.specs.TellTexts.{told_line}
 use Rattle.mlt_tx.specs.declared.transaction.Transaction.{Transaction}
 use Rattle.mlt_tx_open.specs.Tables.{Table}
@@ -94,18 +89,18 @@ in_the_way m m' as_told same tx by item blocked = λ reply would.
     (one_is_found (λ one. clashes one item) (held_by m'.shared.history.items by) clash.0 held clash.2)
 
 has_block_reason : {P : Type 0} (bits_of : P → ℕ → ℕ) (e : Event) (by : ℕ) (pendings : Pendings) (m m' : ManagerFields P) → IsHeldAsTold m → Agree (ops_of pendings) m
-    → Meets bits_of e (told.Answered (answer.Blocked by)) m m' → HasBlockReason e by m'.shared.history.items (pending_after e (told.Answered (answer.Blocked by)) pendings)
-has_block_reason bits_of (event.Step tx) by pendings m m' as_told agree (d, (keeps, (item, blocks)), named) =
+    → Meets bits_of e (Told.Answered (Answer.Blocked by)) m m' → HasBlockReason e by m'.shared.history.items (pending_after e (Told.Answered (Answer.Blocked by)) pendings)
+has_block_reason bits_of (Event.Step tx) by pendings m m' as_told agree (d, (keeps, (item, blocks)), named) =
     let called : op_of (pendings tx) ≡ Some item.0 = agree tx blocks.pending.one blocks.pending.there item.0 blocks.pending.is_at in
     subst (IsInTheWay m'.shared.history.items by) (sym (behind_keeps pendings tx (Some by) tx ∙ called)) (in_the_way m m' as_told keeps.items tx by item blocks.blocked)
-has_block_reason bits_of (event.Whole tx op) by pendings m m' as_told agree (runs, (keeps, (reply, blocked)), named) =
+has_block_reason bits_of (Event.Whole tx op) by pendings m m' as_told agree (runs, (keeps, (reply, blocked)), named) =
     in_the_way m m' as_told keeps.items tx by (op, reply) blocked
 has_block_reason bits_of e by pendings m m' as_told agree meets = tt
 
 -- **Whatever an event was told, where it is blocked there is a reason.**
 has_reason : {P : Type 0} (bits_of : P → ℕ → ℕ) (e : Event) (t : Told) (pendings : Pendings) (m m' : ManagerFields P) → IsHeldAsTold m → Agree (ops_of pendings) m
     → Meets bits_of e t m m' → HasReason e t m'.shared.history.items (pending_after e t pendings)
-has_reason bits_of e (told.Answered (answer.Blocked by)) pendings m m' as_told agree meets = has_block_reason bits_of e by pendings m m' as_told agree meets
+has_reason bits_of e (Told.Answered (Answer.Blocked by)) pendings m m' as_told agree meets = has_block_reason bits_of e by pendings m m' as_told agree meets
 has_reason bits_of e t pendings m m' as_told agree meets = tt
 
 -- ---- a run, event by event

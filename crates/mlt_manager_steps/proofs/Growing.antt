@@ -1,15 +1,12 @@
 -- From event to event the history grows at its end, and what is pending is what was called.
-use Rattle.std.proofs.Common.{◌≡◌, ◌==◌, if◌then◌else◌, ℕ, Bool, List, ◌++◌, true, false, Option, None, Some, refl, sym, ap, subst, ◌∙◌}
-use Rattle.std.specs.Option.{option_map}
+use Rattle.std.proofs.Common.{◌≡◌, ◌==◌, if◌then◌else◌, ℕ, Bool, List, ◌++◌, true, false, Option, None, Some, refl, sym, ap, subst, ◌∙◌, option_map}
 use Rattle.mlt_object_kinds.specs.declared.operation.ObjOp.{ObjOp}
 use Rattle.mlt_order.specs.Tables.{table_with}
 use Rattle.mlt_order.proofs.Tables.{at_each, with_entry-other, with_entry-same}
 use Rattle.mlt_trace.specs.declared.item.TraceItem.{TraceItem}
-use Rattle.mlt_event.specs.declared.answer.Answer.TheVariants as answer
+use Rattle.mlt_event.specs.declared.answer.Answer.{Answer}
 use Rattle.mlt_event.specs.declared.event.Event.{Event}
-use Rattle.mlt_event.specs.declared.event.Event.TheVariants as event
 use Rattle.mlt_event.specs.declared.told.Told.{Told}
-use Rattle.mlt_event.specs.declared.told.Told.TheVariants as told
 use Rattle.mlt_manager.specs.Events.{Meets}
 use Rattle.mlt_manager.specs.Managers.{ManagerFields}
 use Rattle.mlt_manager.specs.Tolds.{CalledOps, called_after}
@@ -47,13 +44,13 @@ behind_keeps pendings tx by =
 
 -- what is pending behind an event was called, and not done, refused or dropped since
 ops_follow : (e : Event) (t : Told) (pendings : Pendings) → ops_of (pending_after e t pendings) ≡ called_after e t (ops_of pendings)
-ops_follow (event.Call tx op) told.Called pendings = λ i u. op_of_table pendings tx u (Some (record { op = op; blocked_by = None })) i
-ops_follow (event.Step tx) (told.Answered (answer.Blocked by)) pendings = λ i u. behind_keeps pendings tx (Some by) u i
-ops_follow (event.Step tx) (told.Answered answer.Going) pendings = λ i u. behind_keeps pendings tx None u i
-ops_follow (event.Step tx) (told.Answered (answer.Waiting page by)) pendings = λ i u. behind_keeps pendings tx None u i
-ops_follow (event.Step tx) (told.Answered (answer.Done reply)) pendings = λ i u. op_of_table pendings tx u None i
-ops_follow (event.Step tx) (told.Answered (answer.Refused reason)) pendings = λ i u. op_of_table pendings tx u None i
-ops_follow (event.Cancel tx) told.Cancelled pendings = λ i u. op_of_table pendings tx u None i
+ops_follow (Event.Call tx op) Told.Called pendings = λ i u. op_of_table pendings tx u (Some (record { op = op; blocked_by = None })) i
+ops_follow (Event.Step tx) (Told.Answered (Answer.Blocked by)) pendings = λ i u. behind_keeps pendings tx (Some by) u i
+ops_follow (Event.Step tx) (Told.Answered Answer.Going) pendings = λ i u. behind_keeps pendings tx None u i
+ops_follow (Event.Step tx) (Told.Answered (Answer.Waiting page by)) pendings = λ i u. behind_keeps pendings tx None u i
+ops_follow (Event.Step tx) (Told.Answered (Answer.Done reply)) pendings = λ i u. op_of_table pendings tx u None i
+ops_follow (Event.Step tx) (Told.Answered (Answer.Refused reason)) pendings = λ i u. op_of_table pendings tx u None i
+ops_follow (Event.Cancel tx) Told.Cancelled pendings = λ i u. op_of_table pendings tx u None i
 ops_follow e t pendings = refl
 
 -- **Behind an event the history has grown, and what is pending is known.**

@@ -1,8 +1,6 @@
 -- The base of the committed transcripts of a manager
-use Rattle.mlt_object_kinds.specs.Bases.{Base}
+use Rattle.mlt_manager_trace.proofs.Names.{Base, IsSound, State}
 use Rattle.mlt_trace_laws.proofs.Histories.{serializable}
-use Rattle.mlt_manager_invariant.specs.Sound.{IsSound}
-use Rattle.mlt_manager_invariant.specs.States.{State}
 use Rattle.mlt_manager_trace.specs.Traced.{IsCommittedBase}
 
 abbrev pub HasCommittedBase : State → Type 0

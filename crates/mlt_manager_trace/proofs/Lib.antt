@@ -1,3 +1,4 @@
+mod Names
 pub mod CommittedBases
 pub mod Places
 pub mod Wholes

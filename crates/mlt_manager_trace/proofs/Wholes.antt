@@ -1,16 +1,9 @@
 -- Of whom nothing was taken back, where one open transaction changes, comes or goes
-use Rattle.std.proofs.Common.{◌≡◌, ◌≢◌, ℕ, List, [], ◌∷◌, ◌++◌, false, Some, sym, ap, subst, ◌∙◌, inl, inr}
+use Rattle.std.proofs.Common.{◌≡◌, ◌≢◌, ℕ, List, [], ◌∷◌, ◌++◌, false, Some, sym, ap, subst, ◌∙◌, inl, inr, nat_cmp}
 use Rattle.std.specs.FinMap as map
-use Rattle.std.specs.Ordering.{nat_cmp}
 use Rattle.std.proofs.lemmas.Bool.{cases_eq}
-use Rattle.mlt_trace.specs.declared.item.TraceItem.{TraceItem}
-use Rattle.mlt_trace.specs.declared.item.TraceItem.TheVariants as trace
-use Rattle.mlt_trace_check.specs.Traces.{IsWhole}
-use Rattle.mlt_trace_laws.proofs.Places.{whole_more}
-use Rattle.mlt_tx.specs.declared.transaction.Transaction.{Transaction}
-use Rattle.mlt_manager_invariant.specs.States.{State, is_undoing}
+use Rattle.mlt_manager_trace.proofs.Names.{TraceItem, IsWhole, whole_more, Transaction, State, is_undoing, IsTraced}
 use Rattle.mlt_manager_invariant.proofs.Tables.{inserted_elsewhere, inserted_here, removed_elsewhere, removed_here}
-use Rattle.mlt_manager_trace.specs.Traced.{IsTraced}
 
 abbrev pub AllWhole : map.FinMap nat_cmp Transaction → List TraceItem → Type 0
 AllWhole txs items = (j : ℕ) (t : Transaction) → map.get txs j ≡ Some t → is_undoing t.at ≡ false → IsWhole items j
@@ -35,7 +28,7 @@ whole_without txs i items others j t found forward = elim (cases_eq j i) [
 ]
 
 -- others stay so, where one more item takes nothing of them back
-pub others_more : (txs : map.FinMap nat_cmp Transaction) (i : ℕ) (items new : List TraceItem) (item : TraceItem) → new ≡ items ++ item ∷ [] → ((j : ℕ) → j ≢ i → item ≢ trace.Back j)
+pub others_more : (txs : map.FinMap nat_cmp Transaction) (i : ℕ) (items new : List TraceItem) (item : TraceItem) → new ≡ items ++ item ∷ [] → ((j : ℕ) → j ≢ i → item ≢ TraceItem.Back j)
     → OthersWhole txs i items → OthersWhole txs i new
 others_more txs i items new item is apart others j t differ found forward =
     subst (λ (l : List TraceItem). IsWhole l j) (sym is) (whole_more items item j (apart j differ) (others j t differ found forward))

@@ -1,13 +1,9 @@
 -- The sizes that are kept beside the elements of a base are those of their sets.
-use Rattle.std.proofs.Common.{◌≡◌, ◌≢◌, ℕ, ◌+◌, ◌^◌, ◌<◌, ◌≤◌, Bool, true, false, cond, List, [], is_some, refl, sym, ap, subst, ◌∙◌, inl, inr, arith}
-use Rattle.std.proofs.lemmas.Bool.{cases_eq}
+use Rattle.std.proofs.Common.{◌≡◌, ◌≢◌, ℕ, ◌+◌, ◌^◌, ◌<◌, ◌≤◌, Bool, true, false, cond, List, [], is_some, refl, sym, ap, subst, ◌∙◌, inl, inr, arith, nat_cmp}
+use Rattle.mlt_object_base.proofs.Names.{cases_eq, with_entry, Base, element_cmp, element_entry, size_at, element_cmp_tells_apart, element_cmp_total, entry_beside, size_below, AreCounted, base_of, kept_size, with_nothing}
 use Rattle.std.specs.FinMap as finmap
-use Rattle.std.specs.Ordering.{nat_cmp}
-use Rattle.mlt_types.specs.Maps.{with_entry}
-use Rattle.mlt_object_kinds.specs.Bases.{Base, element_cmp, element_entry, size_at}
-use Rattle.mlt_object_kinds.proofs.BaseLaws.{element_cmp_tells_apart, element_cmp_total, entry_beside}
-use Rattle.mlt_object_kinds.proofs.Sizes.{same_size, size_beside_element, size_below, size_of_empty, size_with_element}
-use Rattle.mlt_object_base.specs.Kept.{AreCounted, base_of, kept_size, size_in, with_nothing}
+use Rattle.mlt_object_kinds.proofs.Sizes.{same_size, size_beside_element, size_of_empty, size_with_element}
+use Rattle.mlt_object_base.specs.Kept.{size_in}
 
 -- the elements of sets
 abbrev pub Elements : Type 0

@@ -1,3 +1,4 @@
+mod Names
 pub mod Counting
 pub mod Maps
 pub mod Meanings

@@ -1,20 +1,14 @@
 -- What the finite map that a list of entries makes has at a key, and how it changes with the list.
-use Rattle.std.proofs.Common.{◌≡◌, ℕ, ◌-◌, Bool, true, false, List, [], ◌∷◌, ◌||◌, Option, None, Some, is_some, cond, length, zero, suc, refl, arith, sym, ◌∙◌, ap}
-use Rattle.std.specs.Ordering.{nat_cmp}
+use Rattle.std.proofs.Common.{◌≡◌, ℕ, ◌-◌, Bool, true, false, List, [], ◌∷◌, ◌||◌, Option, None, Some, is_some, cond, length, zero, suc, refl, arith, sym, ◌∙◌, ap, nat_cmp}
 use Rattle.std.specs.declared.cmp.Ordering.{Ordering}
-use Rattle.std.specs.Cmp.{IsTotalOrder, nat_cmp_total}
+use Rattle.mlt_object_base.proofs.Names.{nat_cmp_total, lookup, keys_of, is_at, eq_by_cmp_equiv, with_entry, element_cmp_tells_apart, element_cmp_total, counter_entry, counter_value, element_cmp, element_entry, AreNotZero, IsNotZero, less_one, with_nothing}
+use Rattle.std.specs.Cmp.{IsTotalOrder}
 use Rattle.std.specs.FinMap as finmap
 use Rattle.std.specs.FinMap.{get-from_entries, get-insert, get-remove}
 use Rattle.std.specs.FinMap.Entries.{find, put, by_order}
 use Rattle.std.specs.List.{list_any}
 use Rattle.std.specs.List.Sorted.{IsStrictlySortedBy}
-use Rattle.std.specs.Map.{lookup, keys_of}
-use Rattle.std.specs.BTreeMap.{is_at}
-use Rattle.std.proofs.lemmas.Cmp.{eq_by_cmp_equiv}
-use Rattle.mlt_types.specs.Maps.{with_entry}
-use Rattle.mlt_object_kinds.proofs.BaseLaws.{element_cmp_tells_apart, element_cmp_total, same_element}
-use Rattle.mlt_object_kinds.specs.Bases.{counter_entry, counter_value, element_cmp, element_entry}
-use Rattle.mlt_object_base.specs.Kept.{AreNotZero, IsNotZero, less_one, with_nothing}
+use Rattle.mlt_object_kinds.proofs.BaseLaws.{same_element}
 
 -- ---- any keys
 

@@ -1,17 +1,8 @@
 -- The records of cells mean one base at most, and a change of one record is a change of one cell of it.
-use Rattle.std.proofs.Common.{◌≡◌, ◌≢◌, ◌⊎◌, inl, inr, ℕ, ◌^◌, ◌<◌, true, false, true≢false, ltb, Option, None, refl, sym, ap, subst, ◌∙◌, arith}
-use Rattle.std.proofs.lemmas.Bool.{lt-ltb, ltb-true}
-use Rattle.std.specs.Cmp.{nat_cmp_total}
+use Rattle.std.proofs.Common.{◌≡◌, ◌≢◌, ◌⊎◌, inl, inr, ℕ, ◌^◌, ◌<◌, true, false, true≢false, ltb, Option, None, refl, sym, ap, subst, ◌∙◌, arith, lt-ltb, ltb-true, nat_cmp}
+use Rattle.mlt_object_base.proofs.Names.{nat_cmp_total, Cell, Account, Element, Counter, Size, IsInRange, key_number, with_entry, entry_beside, entry_here, state_beside, state_here, Base, state_at, with_state, Means, IsRecord, state_of_record}
 use Rattle.std.specs.FinMap as map
-use Rattle.std.specs.Ordering.{nat_cmp}
-use Rattle.mlt_types.specs.declared.cell.Cell.{Cell}
-use Rattle.mlt_types.specs.declared.cell.Cell.TheVariants.{Account, Element, Counter, Size}
-use Rattle.mlt_types.specs.Cells.{IsInRange, key_number}
-use Rattle.mlt_types.specs.Maps.{with_entry}
-use Rattle.mlt_object_kinds.proofs.BaseLaws.{IsStateOf, entry_beside, entry_here, one_cell_or_two, same_base, state_beside, state_here}
-use Rattle.mlt_object_kinds.specs.Bases.{Base, state_at, with_state}
-use Rattle.mlt_object_base.specs.Meaning.{Means}
-use Rattle.mlt_object_base.specs.Records.{IsRecord, state_of_record}
+use Rattle.mlt_object_kinds.proofs.BaseLaws.{IsStateOf, one_cell_or_two, same_base}
 
 -- different cells have different keys
 pub same_cell : (c d : Cell) → IsInRange c → IsInRange d → key_number c ≡ key_number d → c ≡ d

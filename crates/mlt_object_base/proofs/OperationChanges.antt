@@ -1,31 +1,10 @@
 -- What an operation, or the undoing of one, changes of the records is its step of the base that they mean.
-use Rattle.std.proofs.Common.{◌≡◌, ◌≢◌, inl, inr, ℕ, ◌+◌, ◌^◌, ◌<◌, ◌≤◌, true, false, List, [], ◌∷◌, ◌++◌, Option, None, Some, refl, sym, ap, subst, ◌∙◌, arith}
-use Rattle.std.proofs.lemmas.Bool.{cases_eq, eq-eqb}
-use Rattle.std.specs.Cmp.{nat_cmp_total}
+use Rattle.std.proofs.Common.{◌≡◌, ◌≢◌, inl, inr, ℕ, ◌+◌, ◌^◌, ◌<◌, ◌≤◌, true, false, List, [], ◌∷◌, ◌++◌, Option, None, Some, refl, sym, ap, subst, ◌∙◌, arith, eq-eqb, nat_cmp}
+use Rattle.mlt_object_base.proofs.Names.{cases_eq, nat_cmp_total, Cell, Account, Element, Counter, Size, IsInRange, key_number, with_entry, ElementOp, ObjOp, ObjReply, entry_beside, entry_here, state_beside, state_here, step_to, size_after_step, size_below, Base, Step, TellsSize, size_at, state_at, with_state, CellStep, ElementState, cell_of, put_into, taken_from, RecordChanges, RecChange, changes_on, inverse_of, own_change_on, size_change_of, size_inverse_of, Means, changes_back, changes_of, record_in, records_after, size_record_in, told_by, HasSizeToUndo, IsRecord, counter_of_record, record_after, state_of_record}
 use Rattle.std.specs.FinMap as map
-use Rattle.std.specs.Ordering.{nat_cmp}
-use Rattle.mlt_types.specs.declared.cell.Cell.{Cell}
-use Rattle.mlt_types.specs.declared.cell.Cell.TheVariants.{Account, Element, Counter, Size}
-use Rattle.mlt_types.specs.Cells.{IsInRange, key_number}
-use Rattle.mlt_types.specs.Maps.{with_entry}
-use Rattle.mlt_object_kinds.specs.declared.element.ElementOp.{ElementOp}
-use Rattle.mlt_object_kinds.specs.declared.element.ElementOp.TheVariants as element
-use Rattle.mlt_object_kinds.specs.declared.operation.ObjOp.{ObjOp}
-use Rattle.mlt_object_kinds.specs.declared.operation.ObjOp.TheVariants as op
-use Rattle.mlt_object_kinds.specs.declared.operation.ObjReply.{ObjReply}
-use Rattle.mlt_object_kinds.specs.declared.operation.ObjReply.TheVariants as told
-use Rattle.mlt_object_kinds.proofs.BaseLaws.{entry_beside, entry_here, state_beside, state_here, step_to}
-use Rattle.mlt_object_kinds.proofs.Sizes.{other_set_untouched, size_after_step, size_below}
-use Rattle.mlt_object_kinds.specs.Bases.{Base, Step, TellsSize, element_at, size_at, state_at, with_state}
-use Rattle.mlt_object_kinds.specs.Cells.{CellStep}
-use Rattle.mlt_object_kinds.specs.Cells.CellState.{ElementState}
-use Rattle.mlt_object_kinds.specs.Operations.{cell_of}
-use Rattle.mlt_object_kinds.specs.Sizes.{put_into, taken_from}
-use Rattle.mlt_object_base.specs.declared.record.RecordChanges.{RecordChanges}
-use Rattle.mlt_object_base.specs.declared.record.RecChange.{RecChange}
-use Rattle.mlt_object_base.specs.Effects.{changes_on, inverse_of, own_change_on, size_change_of, size_change_on, size_inverse_of, size_reply_of}
-use Rattle.mlt_object_base.specs.Meaning.{Means, changes_back, changes_of, record_in, records_after, size_record_in, told_by}
-use Rattle.mlt_object_base.specs.Records.{HasSizeToUndo, IsRecord, counter_of_record, record_after, state_of_record}
+use Rattle.mlt_object_kinds.proofs.Sizes.{other_set_untouched}
+use Rattle.mlt_object_kinds.specs.Bases.{element_at}
+use Rattle.mlt_object_base.specs.Effects.{size_change_on, size_reply_of}
 use Rattle.mlt_object_base.proofs.Meanings.{MeansCells, a_state, below_or_not, cells_changed, cells_meant, changed, record_beside, record_here}
 
 -- ---- the records after changes
@@ -51,7 +30,7 @@ after_own records o (Some change) = refl
 
 -- and what the change of the size record leaves
 pub after_size : (records : map.FinMap nat_cmp ℕ) (s e : ℕ) (o : ElementOp) (size : Option RecChange)
-    → records_after records (size_change_on (op.Element s e o) size) ≡ changed records (Size s) (record_after size (record_in records (Size s)))
+    → records_after records (size_change_on (ObjOp.Element s e o) size) ≡ changed records (Size s) (record_after size (record_in records (Size s)))
 after_size records s e o None = same_entry records (key_number (Size s))
 after_size records s e o (Some change) = refl
 
@@ -70,32 +49,32 @@ bounded records b s h = size_below (2 ^ 32) b s (λ e. there_in_range records b 
 
 -- what an operation makes of its set's size is what its step makes of it
 size_changes : (s e : ℕ) (o : ElementOp) (reply : ObjReply) (found : Option ℕ) (now : ℕ) → now ≤ 2 ^ 32
-    → now + taken_from s (op.Element s e o, reply) ≡ counter_of_record found + put_into s (op.Element s e o, reply)
-    → counter_of_record (record_after (size_change_of (op.Element s e o, reply) found) found) ≡ now
-size_changes s e element.Add told.Added None now small is =
+    → now + taken_from s (ObjOp.Element s e o, reply) ≡ counter_of_record found + put_into s (ObjOp.Element s e o, reply)
+    → counter_of_record (record_after (size_change_of (ObjOp.Element s e o, reply) found) found) ≡ now
+size_changes s e ElementOp.Add ObjReply.Added None now small is =
     let first : now + 0 ≡ 0 + 1 = rw (eq-eqb s s refl) at is in
     omega arith
-size_changes s e element.Add told.Added (Some v) now small is =
+size_changes s e ElementOp.Add ObjReply.Added (Some v) now small is =
     let more : now + 0 ≡ v + 1 = rw (eq-eqb s s refl) at is in
     omega arith
-size_changes s e element.Remove told.Removed None now small is =
+size_changes s e ElementOp.Remove ObjReply.Removed None now small is =
     let less : now + 1 ≡ 0 + 0 = rw (eq-eqb s s refl) at is in
     absurd (omega arith)
-size_changes s e element.Remove told.Removed (Some v) now small is =
+size_changes s e ElementOp.Remove ObjReply.Removed (Some v) now small is =
     let less : now + 1 ≡ v + 0 = rw (eq-eqb s s refl) at is in
     omega arith
 size_changes s e o reply found now small is = omega arith
 
 -- and what undoes the operation takes it back
-size_goes_back : (s e : ℕ) (o : ElementOp) (reply : ObjReply) (found : Option ℕ) (before : ℕ) → before ≤ 2 ^ 32 → HasSizeToUndo (op.Element s e o, reply) found
-    → counter_of_record found + taken_from s (op.Element s e o, reply) ≡ before + put_into s (op.Element s e o, reply)
-    → counter_of_record (record_after (size_inverse_of (op.Element s e o, reply)) found) ≡ before
-size_goes_back s e element.Add told.Added None before small has is = absurd (cc has)
-size_goes_back s e element.Add told.Added (Some v) before small has is =
+size_goes_back : (s e : ℕ) (o : ElementOp) (reply : ObjReply) (found : Option ℕ) (before : ℕ) → before ≤ 2 ^ 32 → HasSizeToUndo (ObjOp.Element s e o, reply) found
+    → counter_of_record found + taken_from s (ObjOp.Element s e o, reply) ≡ before + put_into s (ObjOp.Element s e o, reply)
+    → counter_of_record (record_after (size_inverse_of (ObjOp.Element s e o, reply)) found) ≡ before
+size_goes_back s e ElementOp.Add ObjReply.Added None before small has is = absurd (cc has)
+size_goes_back s e ElementOp.Add ObjReply.Added (Some v) before small has is =
     let less : v + 0 ≡ before + 1 = rw (eq-eqb s s refl) at is in
     omega arith
-size_goes_back s e element.Remove told.Removed None before small has is = absurd (cc has)
-size_goes_back s e element.Remove told.Removed (Some v) before small has is =
+size_goes_back s e ElementOp.Remove ObjReply.Removed None before small has is = absurd (cc has)
+size_goes_back s e ElementOp.Remove ObjReply.Removed (Some v) before small has is =
     let more : v + 1 ≡ before + 0 = rw (eq-eqb s s refl) at is in
     omega arith
 size_goes_back s e o reply found before small has is = omega arith
@@ -142,10 +121,10 @@ module _ (records : map.FinMap nat_cmp ℕ) (b : Base) (h : Means records b) whe
 
 -- all that an operation on an element changes
 pub element_changes : (records : map.FinMap nat_cmp ℕ) (s e : ℕ) (o : ElementOp) (changes : RecordChanges) → IsInRange (Element s e)
-    → records_after records (changes_on (op.Element s e o) changes)
+    → records_after records (changes_on (ObjOp.Element s e o) changes)
     ≡ changed (changed records (Element s e) (record_after changes.own (record_in records (Element s e)))) (Size s) (record_after changes.size (record_in records (Size s)))
 element_changes records s e o changes range =
-    let x = op.Element s e o in
+    let x = ObjOp.Element s e o in
     let now = record_after changes.own (record_in records (Element s e)) in
     let between = changed records (Element s e) now in
     let found : record_in between (Size s) ≡ record_in records (Size s) = record_beside records (Element s e) (Size s) now range range.0 (λ (same : Size s ≡ Element s e). cc) in
@@ -159,18 +138,18 @@ pub size_stays : (live : Option ℕ) → record_after (size_reply_of live).1 liv
 size_stays None = refl
 size_stays (Some v) = refl
 
-size_told : (live : Option ℕ) (size : ℕ) → counter_of_record live ≡ size → (size_reply_of live).0 ≡ told.Is size
-size_told None size is = ap told.Is is
-size_told (Some v) size is = ap told.Is is
+size_told : (live : Option ℕ) (size : ℕ) → counter_of_record live ≡ size → (size_reply_of live).0 ≡ ObjReply.Is size
+size_told None size is = ap ObjReply.Is is
+size_told (Some v) size is = ap ObjReply.Is is
 
 -- ---- steps
 
 -- what an operation is told of a size by the records is the size
 pub tells_size : (records : map.FinMap nat_cmp ℕ) (b : Base) (o : ObjOp) → Means records b → IsInRange (cell_of o) → TellsSize b (o, told_by records o)
-tells_size records b (op.Account a o) h range = tt
-tells_size records b (op.Element s e o) h range = tt
-tells_size records b (op.Counter c o) h range = tt
-tells_size records b (op.Size s) h range = size_told (record_in records (Size s)) (size_at b s) (h.sized s range)
+tells_size records b (ObjOp.Account a o) h range = tt
+tells_size records b (ObjOp.Element s e o) h range = tt
+tells_size records b (ObjOp.Counter c o) h range = tt
+tells_size records b (ObjOp.Size s) h range = size_told (record_in records (Size s)) (size_at b s) (h.sized s range)
 
 -- the record of the operation's cell after it, and the base
 abbrev pub now_of : map.FinMap nat_cmp ℕ → ObjOp → Option ℕ
@@ -183,18 +162,18 @@ base_after records b o = with_state b (cell_of o) (state_of_record (cell_of o) (
 means_after : (records : map.FinMap nat_cmp ℕ) (b : Base) (o : ObjOp) → Means records b → IsInRange (cell_of o) → IsRecord (cell_of o) (now_of records o)
     → Step b (o, told_by records o) (base_after records b o)
     → Means (records_after records (changes_on o (changes_of records o))) (base_after records b o)
-means_after records b (op.Account a o) h range can step =
-    let x = op.Account a o in
+means_after records b (ObjOp.Account a o) h range can step =
+    let x = ObjOp.Account a o in
     subst (λ (r : map.FinMap nat_cmp ℕ). Means r (base_after records b x)) (sym (after_both records (own_change_on x (changes_of records x).own) [] ∙ after_own records x (changes_of records x).own))
     (plain_means records b h (Account a) (now_of records x) (λ s (e : Size s ≡ Account a). cc) range can
     (λ s. let is = size_after_step b (base_after records b x) (x, told_by records x) s step in omega (arith, is)))
-means_after records b (op.Counter c o) h range can step =
-    let x = op.Counter c o in
+means_after records b (ObjOp.Counter c o) h range can step =
+    let x = ObjOp.Counter c o in
     subst (λ (r : map.FinMap nat_cmp ℕ). Means r (base_after records b x)) (sym (after_both records (own_change_on x (changes_of records x).own) [] ∙ after_own records x (changes_of records x).own))
     (plain_means records b h (Counter c) (now_of records x) (λ s (e : Size s ≡ Counter c). cc) range can
     (λ s. let is = size_after_step b (base_after records b x) (x, told_by records x) s step in omega (arith, is)))
-means_after records b (op.Element s e o) h range can step =
-    let x = op.Element s e o in
+means_after records b (ObjOp.Element s e o) h range can step =
+    let x = ObjOp.Element s e o in
     let c = Element s e in
     let done : ObjOp × ObjReply = (x, told_by records x) in
     let after = base_after records b x in
@@ -213,8 +192,8 @@ means_after records b (op.Element s e o) h range can step =
     in
     subst (λ (r : map.FinMap nat_cmp ℕ). Means r after) (sym (element_changes records s e o changes range))
     (both_mean records b h s e (now_of records x) (record_after changes.size (record_in records (Size s))) range can now beside)
-means_after records b (op.Size s) h range can step =
-    let x = op.Size s in
+means_after records b (ObjOp.Size s) h range can step =
+    let x = ObjOp.Size s in
     let live = record_in records (Size s) in
     let own = (changes_of records x).own in
     let same : records_after records (changes_on x (changes_of records x)) ≡ records =
@@ -245,27 +224,27 @@ base_before records b x = with_state b (cell_of x.0) (state_of_record (cell_of x
 
 -- a size is told as it is before the operation too
 told_before : (records : map.FinMap nat_cmp ℕ) (b : Base) (x : ObjOp × ObjReply) → TellsSize b x → TellsSize (base_before records b x) x
-told_before records b (op.Account a o, r) tells = tt
-told_before records b (op.Element s e o, r) tells = tt
-told_before records b (op.Counter c o, r) tells = tt
-told_before records b (op.Size s, r) tells = tells
+told_before records b (ObjOp.Account a o, r) tells = tt
+told_before records b (ObjOp.Element s e o, r) tells = tt
+told_before records b (ObjOp.Counter c o, r) tells = tt
+told_before records b (ObjOp.Size s, r) tells = tells
 
 -- what the records mean after all that the undoing of an operation changes
 means_before : (records : map.FinMap nat_cmp ℕ) (b : Base) (x : ObjOp × ObjReply) → Means records b → IsInRange (cell_of x.0) → IsRecord (cell_of x.0) (undone_of records x)
     → HasSizeToUndo x (size_record_in records x.0) → Step (base_before records b x) x b
     → Means (records_after records (changes_on x.0 (changes_back x))) (base_before records b x)
-means_before records b (op.Account a o, r) h range can has step =
-    let x : ObjOp × ObjReply = (op.Account a o, r) in
+means_before records b (ObjOp.Account a o, r) h range can has step =
+    let x : ObjOp × ObjReply = (ObjOp.Account a o, r) in
     subst (λ (m : map.FinMap nat_cmp ℕ). Means m (base_before records b x)) (sym (after_both records (own_change_on x.0 (inverse_of x)) [] ∙ after_own records x.0 (inverse_of x)))
     (plain_means records b h (Account a) (undone_of records x) (λ s (e : Size s ≡ Account a). cc) range can
     (λ s. let is = size_after_step (base_before records b x) b x s step in omega (arith, is)))
-means_before records b (op.Counter c o, r) h range can has step =
-    let x : ObjOp × ObjReply = (op.Counter c o, r) in
+means_before records b (ObjOp.Counter c o, r) h range can has step =
+    let x : ObjOp × ObjReply = (ObjOp.Counter c o, r) in
     subst (λ (m : map.FinMap nat_cmp ℕ). Means m (base_before records b x)) (sym (after_both records (own_change_on x.0 (inverse_of x)) [] ∙ after_own records x.0 (inverse_of x)))
     (plain_means records b h (Counter c) (undone_of records x) (λ s (e : Size s ≡ Counter c). cc) range can
     (λ s. let is = size_after_step (base_before records b x) b x s step in omega (arith, is)))
-means_before records b (op.Element s e o, r) h range can has step =
-    let x : ObjOp × ObjReply = (op.Element s e o, r) in
+means_before records b (ObjOp.Element s e o, r) h range can has step =
+    let x : ObjOp × ObjReply = (ObjOp.Element s e o, r) in
     let c = Element s e in
     let before = base_before records b x in
     let first = cells_changed records b c (undone_of records x) (cells_meant records b h) range can in
@@ -282,7 +261,7 @@ means_before records b (op.Element s e o, r) h range can has step =
     in
     subst (λ (m : map.FinMap nat_cmp ℕ). Means m before) (sym (element_changes records s e o (changes_back x) range))
     (both_mean records b h s e (undone_of records x) (record_after (size_inverse_of x) (record_in records (Size s))) range can now beside)
-means_before records b (op.Size s, r) h range can has step = h
+means_before records b (ObjOp.Size s, r) h range can has step = h
 
 -- Undoing an operation leads from the records to others, and the base that they mean goes back before its step.
 pub means_step_back : (records : map.FinMap nat_cmp ℕ) (b : Base) (x : ObjOp × ObjReply) → Means records b → IsInRange (cell_of x.0) → IsRecord (cell_of x.0) (undone_of records x)

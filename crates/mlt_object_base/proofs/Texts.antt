@@ -1,20 +1,13 @@
 -- The lines of what the maps and the set of a base are kept as are the lines of what they stand for.
-use Rattle.std.proofs.Common.{◌≡◌, ℕ, ◌+◌, ◌-◌, ◌≤◌, List, [], ◌∷◌, ◌++◌, Option, None, Some, IfSome, Result, Ok, Err, OnOk, refl, sym, ap, ◌∙◌, arith}
-use Rattle.std.proofs.lemmas.Cmp.{eq_by_cmp_equiv}
+use Rattle.std.proofs.Common.{◌≡◌, ℕ, ◌+◌, ◌-◌, ◌≤◌, List, [], ◌∷◌, ◌++◌, Option, None, Some, IfSome, Result, Ok, Err, OnOk, refl, sym, ap, ◌∙◌, arith, All, flat_map, nat_cmp}
+use Rattle.mlt_object_base.proofs.Names.{eq_by_cmp_equiv, is_at, nat_cmp_total, keys_of, lookup, element_cmp_total, element_cmp, account_line, key_line, value_line, AreNotZero, IsNotZero, less_one, with_nothing}
 use Rattle.std.proofs.lemmas.List.Elements.{All-head, All-tail}
 use Rattle.std.proofs.lemmas.Map.Keys.{IsDistinct-from_sorted}
 use Rattle.std.proofs.lemmas.Map.Views.{All-values_from_lookup}
-use Rattle.std.specs.BTreeMap.{is_at}
-use Rattle.std.specs.Cmp.{nat_cmp_total}
 use Rattle.std.specs.FinMap as map
-use Rattle.std.specs.List.{All, flat_map}
 use Rattle.std.specs.List.Sorted.{IsStrictlySortedBy}
-use Rattle.std.specs.Map.{keys_of, lookup, values_of}
-use Rattle.std.specs.Ordering.{nat_cmp}
-use Rattle.mlt_object_kinds.proofs.BaseLaws.{element_cmp_total}
-use Rattle.mlt_object_kinds.specs.Bases.{element_cmp}
-use Rattle.mlt_object_base.specs.BaseText.{account_line, account_lines, counter_line, counter_lines, element_line, element_lines, key_line, value_line}
-use Rattle.mlt_object_base.specs.Kept.{AreNotZero, IsNotZero, less_one, with_nothing}
+use Rattle.std.specs.Map.{values_of}
+use Rattle.mlt_object_base.specs.BaseText.{account_lines, counter_line, counter_lines, element_line, element_lines}
 use Rattle.mlt_object_base.proofs.Maps.{entries_that_rise}
 
 pub accounts_text : {A E : Type 0} (r : Result A E) (new old : List ℕ) (entries : List (ℕ × ℕ)) (m : map.FinMap nat_cmp ℕ) → map.from_entries entries ≡ m

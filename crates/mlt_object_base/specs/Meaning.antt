@@ -7,7 +7,6 @@ use Rattle.mlt_types.specs.declared.cell.Cell.TheVariants.{Size}
 use Rattle.mlt_types.specs.Cells.{IsInRange, key_number}
 use Rattle.mlt_types.specs.Maps.{with_entry}
 use Rattle.mlt_object_kinds.specs.declared.operation.ObjOp.{ObjOp}
-use Rattle.mlt_object_kinds.specs.declared.operation.ObjOp.TheVariants as op
 use Rattle.mlt_object_kinds.specs.declared.operation.ObjReply.{ObjReply}
 use Rattle.mlt_object_kinds.specs.Bases.{Base, size_at, state_at}
 use Rattle.mlt_object_kinds.specs.Cells.{CellStep}
@@ -40,7 +39,7 @@ record_in records cell = map.get records (key_number cell)
 
 -- the size record of the set that an operation on an element is on
 abbrev pub size_record_in : map.FinMap nat_cmp ℕ → ObjOp → Option ℕ
-size_record_in records (op.Element s e action) = record_in records (Size s)
+size_record_in records (ObjOp.Element s e action) = record_in records (Size s)
 size_record_in records _ = None
 
 -- what an operation is told by the records, and what it changes of them

@@ -2,13 +2,11 @@
 -- means; and changes of it.
 use Rattle.std.specs.Prelude.{◌≡◌, ℕ, ◌+◌, ◌-◌, ◌%◌, ◌^◌, ◌<◌, Option, None, Some, is_some, IsSome}
 use Rattle.mlt_types.specs.declared.cell.Cell.{Cell}
-use Rattle.mlt_types.specs.declared.cell.Cell.TheVariants as cell
 use Rattle.mlt_object_kinds.specs.declared.counter.CounterOp.TheVariants.{Up, Down}
-use Rattle.mlt_object_kinds.specs.declared.element.ElementOp.TheVariants as element
+use Rattle.mlt_object_kinds.specs.declared.element.ElementOp.{ElementOp}
 use Rattle.mlt_object_kinds.specs.declared.operation.ObjOp.{ObjOp}
 use Rattle.mlt_object_kinds.specs.declared.operation.ObjOp.TheVariants.{Counter, Element}
 use Rattle.mlt_object_kinds.specs.declared.operation.ObjReply.{ObjReply}
-use Rattle.mlt_object_kinds.specs.declared.operation.ObjReply.TheVariants as told
 use Rattle.mlt_object_kinds.specs.Accounts.{IsAccount}
 use Rattle.mlt_object_kinds.specs.Cells.{CellState}
 use Rattle.mlt_object_kinds.specs.Cells.CellState.{AccountState, ElementState, CounterState, NoState}
@@ -23,10 +21,10 @@ counter_of_record (Some v) = v
 -- what a cell with this record holds: an account its balance, an element whether it is there, a counter its value, which
 -- is 0 where there is no record; the size of a set nothing of its own
 abbrev pub state_of_record : Cell → Option ℕ → CellState
-state_of_record (cell.Account a) live = AccountState live
-state_of_record (cell.Element s e) live = ElementState (is_some live)
-state_of_record (cell.Counter c) live = CounterState (counter_of_record live)
-state_of_record (cell.Size s) live = NoState
+state_of_record (Cell.Account a) live = AccountState live
+state_of_record (Cell.Element s e) live = ElementState (is_some live)
+state_of_record (Cell.Counter c) live = CounterState (counter_of_record live)
+state_of_record (Cell.Size s) live = NoState
 
 -- what the record of an element can be
 abbrev pub IsElementRecord : Option ℕ → Type 0
@@ -36,10 +34,10 @@ IsElementRecord (Some v) = v ≡ 0
 -- the record of this cell can be this: a balance is in range, an element has the value 0, and a counter and a size have
 -- 64 bits
 abbrev pub IsRecord : Cell → Option ℕ → Type 0
-IsRecord (cell.Account a) live = IsAccount live
-IsRecord (cell.Element s e) live = IsElementRecord live
-IsRecord (cell.Counter c) live = counter_of_record live < 2 ^ 64
-IsRecord (cell.Size s) live = counter_of_record live < 2 ^ 64
+IsRecord (Cell.Account a) live = IsAccount live
+IsRecord (Cell.Element s e) live = IsElementRecord live
+IsRecord (Cell.Counter c) live = counter_of_record live < 2 ^ 64
+IsRecord (Cell.Size s) live = counter_of_record live < 2 ^ 64
 
 -- the record with the amount added, or taken away, modulo 2^64
 abbrev pub plus : ℕ → Option ℕ → Option ℕ
@@ -76,6 +74,6 @@ HasWhatIsUndone _ live = Unit {0}
 -- a set of which an element was added or removed has a size record, since none of these is ever
 -- removed
 abbrev pub HasSizeToUndo : ObjOp × ObjReply → Option ℕ → Type 0
-HasSizeToUndo (Element s e element.Add, told.Added) live = IsSome live
-HasSizeToUndo (Element s e element.Remove, told.Removed) live = IsSome live
+HasSizeToUndo (Element s e ElementOp.Add, ObjReply.Added) live = IsSome live
+HasSizeToUndo (Element s e ElementOp.Remove, ObjReply.Removed) live = IsSome live
 HasSizeToUndo _ live = Unit {0}

@@ -1,14 +1,13 @@
 -- What an operation is asked to do, and what it does with what it finds
 use Rattle.std.specs.Prelude.{ℕ, ◌+◌, ◌-◌, ◌^◌, ◌<◌, Option, None, Some, IsSome}
-use Rattle.mlt_types.specs.declared.cell.Cell.TheVariants as cell
+use Rattle.mlt_types.specs.declared.cell.Cell.{Cell}
 use Rattle.mlt_types.specs.declared.mode.Mode.{Mode}
 use Rattle.mlt_types.specs.declared.mode.Mode.TheVariants.{Exclusive}
 use Rattle.mlt_types.specs.Cells.{key_number}
-use Rattle.mlt_object_kinds.specs.declared.element.ElementOp.TheVariants as element
+use Rattle.mlt_object_kinds.specs.declared.element.ElementOp.{ElementOp}
 use Rattle.mlt_object_kinds.specs.declared.operation.ObjOp.{ObjOp}
 use Rattle.mlt_object_kinds.specs.declared.operation.ObjOp.TheVariants.{Element}
 use Rattle.mlt_object_kinds.specs.declared.operation.ObjReply.{ObjReply}
-use Rattle.mlt_object_kinds.specs.declared.operation.ObjReply.TheVariants as told
 use Rattle.mlt_object_kinds.specs.Operations.{cell_of}
 use Rattle.mlt_object_base.specs.declared.record.RecChange.{RecChange}
 use Rattle.mlt_object_base.specs.declared.request.Request.{Request}
@@ -24,10 +23,10 @@ target_of (TakeBack done) = (key_number (cell_of done.0), Exclusive)
 -- the key of the size record that a request may change: where an element may be added or removed,
 -- and where it was
 abbrev pub size_key_of : Request → Option ℕ
-size_key_of (Do (Element s e element.Add)) = Some (key_number (cell.Size s))
-size_key_of (Do (Element s e element.Remove)) = Some (key_number (cell.Size s))
-size_key_of (TakeBack (Element s e element.Add, told.Added)) = Some (key_number (cell.Size s))
-size_key_of (TakeBack (Element s e element.Remove, told.Removed)) = Some (key_number (cell.Size s))
+size_key_of (Do (Element s e ElementOp.Add)) = Some (key_number (Cell.Size s))
+size_key_of (Do (Element s e ElementOp.Remove)) = Some (key_number (Cell.Size s))
+size_key_of (TakeBack (Element s e ElementOp.Add, ObjReply.Added)) = Some (key_number (Cell.Size s))
+size_key_of (TakeBack (Element s e ElementOp.Remove, ObjReply.Removed)) = Some (key_number (Cell.Size s))
 size_key_of _ = None
 
 -- what a request is told and changes, where it finds a record with this value or none; what is
@@ -49,13 +48,13 @@ size_decision (TakeBack done) reply found = size_inverse_of done
 
 -- the size of its set after an operation that is told the reply, and before one that was, where it is this at the other end
 abbrev pub size_after : ObjOp × ObjReply → ℕ → ℕ
-size_after (Element s e element.Add, told.Added) size = size + 1
-size_after (Element s e element.Remove, told.Removed) size = size - 1
+size_after (Element s e ElementOp.Add, ObjReply.Added) size = size + 1
+size_after (Element s e ElementOp.Remove, ObjReply.Removed) size = size - 1
 size_after _ size = size
 
 abbrev pub size_before : ObjOp × ObjReply → ℕ → ℕ
-size_before (Element s e element.Add, told.Added) size = size - 1
-size_before (Element s e element.Remove, told.Removed) size = size + 1
+size_before (Element s e ElementOp.Add, ObjReply.Added) size = size - 1
+size_before (Element s e ElementOp.Remove, ObjReply.Removed) size = size + 1
 size_before _ size = size
 
 -- the size of the set once the request is carried out and told the reply: one more, one less, or
@@ -67,9 +66,9 @@ resized (TakeBack done) reply size = size_before done size
 -- The size that is found can be changed: one to be raised is not the greatest, and one to be lowered is not 0. Where a
 -- removal is taken back the record is there.
 abbrev pub CanResize : Request → ObjReply → Option ℕ → Type 0
-CanResize (Do (Element s e element.Add)) told.Added found = counter_of_record found + 1 < 2 ^ 64
-CanResize (Do (Element s e element.Remove)) told.Removed found = 0 < counter_of_record found
-CanResize (TakeBack (Element s e element.Add, told.Added)) reply found = 0 < counter_of_record found
-CanResize (TakeBack (Element s e element.Remove, told.Removed)) reply found =
+CanResize (Do (Element s e ElementOp.Add)) ObjReply.Added found = counter_of_record found + 1 < 2 ^ 64
+CanResize (Do (Element s e ElementOp.Remove)) ObjReply.Removed found = 0 < counter_of_record found
+CanResize (TakeBack (Element s e ElementOp.Add, ObjReply.Added)) reply found = 0 < counter_of_record found
+CanResize (TakeBack (Element s e ElementOp.Remove, ObjReply.Removed)) reply found =
     IsSome found × (counter_of_record found + 1 < 2 ^ 64)
 CanResize _ reply found = Unit {0}

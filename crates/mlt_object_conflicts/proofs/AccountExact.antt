@@ -1,13 +1,6 @@
 -- The table of accounts is exact.
-use Rattle.std.proofs.Common.{◌≡◌, ℕ, true, false, refl, sym, subst}
-use Rattle.std.specs.Bool.{MatchBool}
-use Rattle.mlt_object_kinds.specs.Accounts.{AccountStep, IsLegalOnAccount, account_after}
-use Rattle.mlt_object_kinds.specs.declared.account.AccountOp.{AccountOp}
-use Rattle.mlt_object_kinds.specs.declared.operation.ObjReply.{ObjReply}
-use Rattle.mlt_object_conflicts.specs.declared.accounts.AccountClass.{AccountClass}
-use Rattle.mlt_object_conflicts.specs.declared.accounts.AccountClass.TheVariants.{Opened}
-use Rattle.mlt_object_conflicts.specs.AccountTable.{account_class, account_marks, account_item, account_breach}
-use Rattle.mlt_object_conflicts.specs.Tables.{paired, IsOfClass, BreaksAt, ClassesConflict, ClassesCommute}
+use Rattle.std.proofs.Common.{◌≡◌, ℕ, true, false, refl, sym, subst, MatchBool}
+use Rattle.mlt_object_conflicts.proofs.Names.{AccountStep, IsLegalOnAccount, account_after, AccountOp, ObjReply, AccountClass, Opened, account_class, account_marks, account_item, account_breach, paired, IsOfClass, BreaksAt, ClassesConflict, ClassesCommute}
 use Rattle.mlt_object_conflicts.proofs.AccountPairs.{Legal, after, Fits, amount_in, account_rows_commute, account_rows_break, breach_fits}
 use Rattle.mlt_object_conflicts.proofs.AccountRows.{amount, account_has_rows}
 use Rattle.mlt_object_conflicts.proofs.Rows.{classes_commute, classes_break, RowsBreak}

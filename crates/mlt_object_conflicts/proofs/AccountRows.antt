@@ -1,11 +1,8 @@
 -- The rows of accounts are those of the table of operations and replies.
 use Rattle.std.proofs.Common.{◌≡◌, ℕ, Option, None, Some, refl, arith}
-use Rattle.mlt_object_kinds.specs.Accounts.{IsLegalOnAccount, account_after}
-use Rattle.mlt_object_kinds.specs.declared.account.AccountOp.{AccountOp}
-use Rattle.mlt_object_kinds.specs.declared.account.AccountOp.TheVariants.{Open, Deposit, Withdraw, Balance}
-use Rattle.mlt_object_kinds.specs.declared.operation.ObjReply.{ObjReply}
-use Rattle.mlt_object_kinds.specs.declared.operation.ObjReply.TheVariants.{Opened, Is}
-use Rattle.mlt_object_conflicts.specs.AccountTable.{account_class}
+use Rattle.mlt_object_conflicts.proofs.Names.{IsLegalOnAccount, account_after, AccountOp, Deposit, Withdraw, ObjReply, Is, account_class}
+use Rattle.mlt_object_kinds.specs.declared.account.AccountOp.TheVariants.{Open, Balance}
+use Rattle.mlt_object_kinds.specs.declared.operation.ObjReply.TheVariants.{Opened}
 use Rattle.mlt_object_conflicts.proofs.AccountPairs.{Legal, after, Fits}
 use Rattle.mlt_object_conflicts.proofs.Rows.{RowIsLegal, row_after, HasRows}
 

@@ -1,36 +1,14 @@
 -- What breaks on one cell breaks over whole bases.
-use Rattle.std.proofs.Common.{◌≡◌, ◌⊎◌, ℕ, Bool, true, false, ◌&&◌, Option, None, Some, nat_eq, refl, sym, ap, subst, ◌∙◌, inl, inr}
-use Rattle.std.proofs.lemmas.Bool.{cases_eq, ne_eqb}
-use Rattle.mlt_types.specs.declared.cell.Cell.{Cell}
-use Rattle.mlt_types.specs.declared.cell.Cell.TheVariants as cell
-use Rattle.mlt_object_kinds.specs.declared.operation.ObjOp.{ObjOp}
-use Rattle.mlt_object_kinds.specs.declared.operation.ObjOp.TheVariants.{Account, Element, Counter, Size}
-use Rattle.mlt_object_kinds.specs.declared.account.AccountOp.{AccountOp}
-use Rattle.mlt_object_kinds.specs.declared.element.ElementOp.{ElementOp}
-use Rattle.mlt_object_kinds.specs.declared.counter.CounterOp.{CounterOp}
-use Rattle.mlt_object_kinds.specs.declared.operation.ObjReply.{ObjReply}
-use Rattle.mlt_object_kinds.specs.declared.operation.ObjReply.TheVariants.{Is}
-use Rattle.mlt_object_kinds.specs.Accounts.{AccountStep}
-use Rattle.mlt_object_kinds.specs.Elements.{ElementStep}
-use Rattle.mlt_object_kinds.specs.Counters.{CounterStep}
-use Rattle.mlt_object_kinds.specs.Cells.{CellState, CellStep}
-use Rattle.mlt_object_kinds.specs.Cells.CellState.{AccountState, ElementState, CounterState, NoState}
-use Rattle.mlt_object_kinds.specs.Bases.{Base, Step, TellsSize, state_at, with_state, empty_base}
-use Rattle.mlt_object_kinds.proofs.BaseLaws.{step_to, state_here, cell_step_states}
+use Rattle.std.proofs.Common.{◌≡◌, ◌⊎◌, ℕ, Bool, true, false, ◌&&◌, Option, None, Some, nat_eq, refl, sym, ap, subst, ◌∙◌, inl, inr, ne_eqb, MatchBool}
+use Rattle.mlt_object_conflicts.proofs.Names.{cases_eq, Cell, ObjOp, Account, Element, Counter, Size, AccountOp, ElementOp, CounterOp, ObjReply, Is, AccountStep, ElementStep, CounterStep, CellStep, AccountState, ElementState, CounterState, NoState, Base, Step, state_at, with_state, empty_base, step_to, state_here, RightCommutesBackward, ElementClass, Added, Removed, account_class, account_marks, element_class, element_item, element_marks, counter_class, counter_marks, clashes, marked_classes, base_of_one, changes_told, on_element, told_size, paired, BreaksAt, ClassesConflict}
+use Rattle.mlt_object_kinds.specs.Cells.{CellState}
+use Rattle.mlt_object_kinds.specs.Bases.{TellsSize}
+use Rattle.mlt_object_kinds.proofs.BaseLaws.{cell_step_states}
 use Rattle.mlt_object_kinds.specs.Operations.{cell_of}
-use Rattle.std.specs.Bool.{MatchBool}
-use Rattle.mlt_order.specs.Runs.{RightCommutesBackward}
-use Rattle.mlt_object_conflicts.specs.declared.elements.ElementClass.{ElementClass}
-use Rattle.mlt_object_conflicts.specs.declared.elements.ElementClass.TheVariants.{Added, Removed}
 use Rattle.mlt_object_conflicts.proofs.BaseCommutes.{clash_free_commute}
 use Rattle.mlt_object_conflicts.proofs.SizeBreaks.{added_breaks, removed_breaks}
-use Rattle.mlt_object_conflicts.specs.AccountTable.{account_class, account_marks}
-use Rattle.mlt_object_conflicts.specs.ElementTable.{element_class, element_item, element_marks}
-use Rattle.mlt_object_conflicts.specs.CounterTable.{counter_class, counter_marks}
 use Rattle.mlt_object_conflicts.specs.BaseConflicts.{IsLike, SomeLikeThemBreak}
-use Rattle.mlt_object_conflicts.specs.Clashes.{clashes, marked_classes}
-use Rattle.mlt_object_conflicts.specs.Sizes.{base_of_one, changes_told, on_element, tells_size, told_size}
-use Rattle.mlt_object_conflicts.specs.Tables.{paired, BreaksAt, ClassesConflict}
+use Rattle.mlt_object_conflicts.specs.Sizes.{tells_size}
 use Rattle.mlt_object_conflicts.proofs.AccountExact.{account_exact}
 use Rattle.mlt_object_conflicts.proofs.ElementExact.{element_exact}
 use Rattle.mlt_object_conflicts.proofs.CounterExact.{counter_exact}
@@ -179,7 +157,7 @@ clashing_break (Account a op, reply) (Account b other, answer) clash =
     let t = like_items_break AccountStep account_class account_marks account_conflict (op, reply) (other, answer) test.1 in
     let first : ObjOp × ObjReply = (Account a t.1.0, t.1.1) in
     let second : ObjOp × ObjReply = (Account b t.2.0, t.2.1) in
-    let base = breaks_over_bases first second (AccountState t.0) tt tt (ap cell.Account (same_number a b test.0)) (account_breaks a b t.0 t.1 t.2 t.5) in
+    let base = breaks_over_bases first second (AccountState t.0) tt tt (ap Cell.Account (same_number a b test.0)) (account_breaks a b t.0 t.1 t.2 t.5) in
     (base.0, first, second, (refl, t.3), (refl, t.4), base.1)
 clashing_break (Element s e op, reply) (Element t f other, answer) clash =
     let marked = marked_classes element_marks (element_class op reply) (element_class other answer) in
@@ -190,14 +168,14 @@ clashing_break (Element s e op, reply) (Element t f other, answer) clash =
     let second : ObjOp × ObjReply = (Element t f u.2.0, u.2.1) in
     let sets = same_number s t same.0 in
     let elements = same_number e f same.1 in
-    let base = breaks_over_bases first second (ElementState u.0) tt tt (λ i. cell.Element (sets i) (elements i)) (element_breaks s e t f u.0 u.1 u.2 u.5) in
+    let base = breaks_over_bases first second (ElementState u.0) tt tt (λ i. Cell.Element (sets i) (elements i)) (element_breaks s e t f u.0 u.1 u.2 u.5) in
     (base.0, first, second, (refl, u.3), (refl, u.4), base.1)
 clashing_break (Counter c op, reply) (Counter d other, answer) clash =
     let test = held_test (nat_eq c d) (marked_classes counter_marks (counter_class op reply) (counter_class other answer)) clash in
     let t = like_items_break CounterStep counter_class counter_marks counter_conflict (op, reply) (other, answer) test.1 in
     let first : ObjOp × ObjReply = (Counter c t.1.0, t.1.1) in
     let second : ObjOp × ObjReply = (Counter d t.2.0, t.2.1) in
-    let base = breaks_over_bases first second (CounterState t.0) tt tt (ap cell.Counter (same_number c d test.0)) (counter_breaks c d t.0 t.1 t.2 t.5) in
+    let base = breaks_over_bases first second (CounterState t.0) tt tt (ap Cell.Counter (same_number c d test.0)) (counter_breaks c d t.0 t.1 t.2 t.5) in
     (base.0, first, second, (refl, t.3), (refl, t.4), base.1)
 clashing_break (Element s e op, reply) (Size t, answer) clash =
     let test = held_test (nat_eq s t) (changes_told (element_class op reply) answer) clash in

@@ -1,11 +1,8 @@
 -- The table of counters is exact.
-use Rattle.std.proofs.Common.{◌≡◌, false, refl, arith}
-use Rattle.std.specs.Bool.{MatchBool}
-use Rattle.mlt_object_kinds.specs.Counters.{CounterStep, IsLegalOnCounter, counter_after}
-use Rattle.mlt_object_conflicts.specs.declared.counters.CounterClass.{CounterClass}
+use Rattle.std.proofs.Common.{◌≡◌, false, refl, arith, MatchBool}
+use Rattle.mlt_object_conflicts.proofs.Names.{CounterStep, IsLegalOnCounter, counter_after, CounterClass, counter_class, counter_marks, paired, BreaksAt, ClassesConflict, ClassesCommute}
 use Rattle.mlt_object_conflicts.specs.declared.counters.CounterClass.TheVariants.{Counted, Read}
-use Rattle.mlt_object_conflicts.specs.CounterTable.{counter_class, counter_marks, counter_item}
-use Rattle.mlt_object_conflicts.specs.Tables.{paired, BreaksAt, ClassesConflict, ClassesCommute}
+use Rattle.mlt_object_conflicts.specs.CounterTable.{counter_item}
 use Rattle.mlt_object_conflicts.proofs.CounterPairs.{Legal, after, Fits, amount, counter_has_rows, counter_rows_commute}
 use Rattle.mlt_object_conflicts.proofs.Rows.{classes_commute}
 

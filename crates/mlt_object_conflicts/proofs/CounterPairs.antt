@@ -1,25 +1,20 @@
 -- The rows of counters, and which classes right commute backward.
 use Rattle.std.proofs.Common.{◌≡◌, ℕ, ◌+◌, ◌-◌, ◌<◌, ◌%◌, ◌^◌, false, refl, arith}
-use Rattle.mlt_object_kinds.specs.Counters.{IsLegalOnCounter, counter_after}
-use Rattle.mlt_object_kinds.specs.declared.counter.CounterOp.{CounterOp}
+use Rattle.mlt_object_conflicts.proofs.Names.{IsLegalOnCounter, counter_after, CounterOp, ObjReply, Is, CounterClass, counter_class, counter_marks}
 use Rattle.mlt_object_kinds.specs.declared.counter.CounterOp.TheVariants.{Up, Down, Read}
-use Rattle.mlt_object_kinds.specs.declared.operation.ObjReply.{ObjReply}
-use Rattle.mlt_object_kinds.specs.declared.operation.ObjReply.TheVariants.{Done, Is}
+use Rattle.mlt_object_kinds.specs.declared.operation.ObjReply.TheVariants.{Done}
 use Rattle.mlt_object_kinds.specs.CounterLaws.{below}
-use Rattle.mlt_object_conflicts.specs.declared.counters.CounterClass.{CounterClass}
-use Rattle.mlt_object_conflicts.specs.declared.counters.CounterClass.TheVariants as class
-use Rattle.mlt_object_conflicts.specs.CounterTable.{counter_class, counter_marks}
 use Rattle.mlt_object_conflicts.proofs.Rows.{RowIsLegal, row_after, HasRows}
 
 -- where a class is legal, with what is added modulo 2^64, or the value that is read
 abbrev pub Legal : CounterClass → ℕ → ℕ → Type 0
-Legal class.Counted n s = s < 2 ^ 64
-Legal class.Read v s = (s < 2 ^ 64) × (s ≡ v)
+Legal CounterClass.Counted n s = s < 2 ^ 64
+Legal CounterClass.Read v s = (s < 2 ^ 64) × (s ≡ v)
 
 -- what it leaves there
 abbrev pub after : CounterClass → ℕ → ℕ → ℕ
-after class.Counted n s = (s + n) % 2 ^ 64
-after class.Read v s = s
+after CounterClass.Counted n s = (s + n) % 2 ^ 64
+after CounterClass.Read v s = s
 
 -- the amount is one
 abbrev pub Fits : CounterOp → Type 0
@@ -60,7 +55,7 @@ either_order s n k = omega arith
 -- classes that are not marked right commute backward
 pub counter_rows_commute : (p q : CounterClass) → counter_marks p q ≡ false → (n k s : ℕ) → Legal p n s → Legal q k (after p n s) →
     Legal q k s × Legal p n (after q k s) × (after q k (after p n s) ≡ after p n (after q k s))
-counter_rows_commute class.Counted class.Counted free n k s h i = (h, below (s + k), either_order s n k)
-counter_rows_commute class.Counted class.Read free n k s h i = absurd (cc free)
-counter_rows_commute class.Read class.Counted free n k s h i = absurd (cc free)
-counter_rows_commute class.Read class.Read free n k s h i = (i, h, refl)
+counter_rows_commute CounterClass.Counted CounterClass.Counted free n k s h i = (h, below (s + k), either_order s n k)
+counter_rows_commute CounterClass.Counted CounterClass.Read free n k s h i = absurd (cc free)
+counter_rows_commute CounterClass.Read CounterClass.Counted free n k s h i = absurd (cc free)
+counter_rows_commute CounterClass.Read CounterClass.Read free n k s h i = (i, h, refl)

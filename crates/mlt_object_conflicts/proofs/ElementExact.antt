@@ -1,11 +1,6 @@
 -- The table of elements is exact.
-use Rattle.std.proofs.Common.{◌≡◌, true, false, refl}
-use Rattle.std.specs.Bool.{MatchBool}
-use Rattle.mlt_object_kinds.specs.Elements.{ElementStep, IsLegalOnElement, element_after}
-use Rattle.mlt_object_conflicts.specs.declared.elements.ElementClass.{ElementClass}
-use Rattle.mlt_object_conflicts.specs.declared.elements.ElementClass.TheVariants.{Added}
-use Rattle.mlt_object_conflicts.specs.ElementTable.{element_class, element_marks, element_item, element_before}
-use Rattle.mlt_object_conflicts.specs.Tables.{paired, IsOfClass, BreaksAt, ClassesConflict, ClassesCommute}
+use Rattle.std.proofs.Common.{◌≡◌, true, false, refl, MatchBool}
+use Rattle.mlt_object_conflicts.proofs.Names.{ElementStep, IsLegalOnElement, element_after, ElementClass, Added, element_class, element_marks, element_item, element_before, paired, IsOfClass, BreaksAt, ClassesConflict, ClassesCommute}
 use Rattle.mlt_object_conflicts.proofs.ElementPairs.{Legal, after, Fits, amount, element_has_rows, element_rows_commute, element_rows_break}
 use Rattle.mlt_object_conflicts.proofs.Rows.{classes_commute, classes_break}
 

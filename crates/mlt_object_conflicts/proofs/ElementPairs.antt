@@ -1,13 +1,6 @@
 -- The rows of elements, and which classes right commute backward: one tactic serves every pair.
 use Rattle.std.proofs.Common.{◌≡◌, ℕ, Bool, true, false, refl, arith}
-use Rattle.mlt_object_kinds.specs.Elements.{IsLegalOnElement, element_after}
-use Rattle.mlt_object_kinds.specs.declared.element.ElementOp.{ElementOp}
-use Rattle.mlt_object_kinds.specs.declared.element.ElementOp.TheVariants.{Add}
-use Rattle.mlt_object_kinds.specs.declared.operation.ObjReply.{ObjReply}
-use Rattle.mlt_object_kinds.specs.declared.operation.ObjReply.TheVariants as reply
-use Rattle.mlt_object_conflicts.specs.declared.elements.ElementClass.{ElementClass}
-use Rattle.mlt_object_conflicts.specs.declared.elements.ElementClass.TheVariants.{Added, Removed}
-use Rattle.mlt_object_conflicts.specs.ElementTable.{element_class, element_marks, element_before}
+use Rattle.mlt_object_conflicts.proofs.Names.{IsLegalOnElement, element_after, ElementOp, Add, ObjReply, ElementClass, Added, Removed, element_class, element_marks, element_before}
 use Rattle.mlt_object_conflicts.proofs.Rows.{RowIsLegal, row_after, HasRows}
 
 -- where a class is legal; it has no amount
@@ -41,11 +34,11 @@ fitting : (o : ElementOp) (r : ObjReply) (s : Bool) → Fitting o r s
 fitting o r s =
     elim o as (λ o. Fitting o r s) [
       | Add ↦ elim r as (λ r. Fitting Add r s) [
-        | reply.Added ↦ elim s as (λ s. Fitting Add reply.Added s) [ true ↦ (λ h. grind arith, λ h. grind arith, λ h. refl) | false ↦ (λ h. grind arith, λ h. grind arith, λ h. refl) ]
+        | ObjReply.Added ↦ elim s as (λ s. Fitting Add ObjReply.Added s) [ true ↦ (λ h. grind arith, λ h. grind arith, λ h. refl) | false ↦ (λ h. grind arith, λ h. grind arith, λ h. refl) ]
         | r ↦ elim s as (λ s. Fitting Add r s) [ true ↦ (λ h. grind arith, λ h. grind arith, λ h. refl) | false ↦ (λ h. grind arith, λ h. grind arith, λ h. refl) ]
       ]
       | o ↦ elim r as (λ r. Fitting o r s) [
-        | reply.Added ↦ elim s as (λ s. Fitting o reply.Added s) [ true ↦ (λ h. grind arith, λ h. grind arith, λ h. refl) | false ↦ (λ h. grind arith, λ h. grind arith, λ h. refl) ]
+        | ObjReply.Added ↦ elim s as (λ s. Fitting o ObjReply.Added s) [ true ↦ (λ h. grind arith, λ h. grind arith, λ h. refl) | false ↦ (λ h. grind arith, λ h. grind arith, λ h. refl) ]
         | r ↦ elim s as (λ s. Fitting o r s) [ true ↦ (λ h. grind arith, λ h. grind arith, λ h. refl) | false ↦ (λ h. grind arith, λ h. grind arith, λ h. refl) ]
       ]
     ]

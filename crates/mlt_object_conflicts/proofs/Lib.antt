@@ -1,3 +1,4 @@
+mod Names
 pub mod Rows
 pub mod AccountPairs
 pub mod AccountRows

@@ -1,9 +1,7 @@
 -- A kind whose table has rows: where a class with an amount is legal, and what it leads to. What is shown of classes and
 -- amounts holds of operations and replies.
 use Rattle.std.proofs.Common.{◌≡◌, ℕ, Bool, false, Option, None, Some, refl, sym, ap, subst, ◌∙◌}
-use Rattle.mlt_order.specs.Runs.{RightCommutesBackward}
-use Rattle.mlt_object_conflicts.specs.Clashes.{marked_classes}
-use Rattle.mlt_object_conflicts.specs.Tables.{paired, IsOfClass, BreaksAt, ClassesCommute}
+use Rattle.mlt_object_conflicts.proofs.Names.{RightCommutesBackward, marked_classes, paired, IsOfClass, BreaksAt, ClassesCommute}
 
 module _ {S O R C : Type 0}
     (class_of : O → R → Option C) (IsLegal : O → R → S → Type 0) (next_of : O → R → S → S)

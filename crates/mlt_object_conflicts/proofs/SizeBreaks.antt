@@ -1,23 +1,10 @@
 -- A step that changes the size of a set breaks with the sizes of the set.
-use Rattle.std.proofs.Common.{◌≡◌, ◌≢◌, ℕ, ◌+◌, Bool, true, false, cond, ◌&&◌, nat_eq, is_some, refl, sym, ap, subst, ◌∙◌, arith}
-use Rattle.std.specs.Bool.{MatchBool}
+use Rattle.std.proofs.Common.{◌≡◌, ◌≢◌, ℕ, ◌+◌, Bool, true, false, cond, ◌&&◌, nat_eq, is_some, refl, sym, ap, subst, ◌∙◌, arith, MatchBool}
 use Rattle.std.specs.FinMap as map
-use Rattle.mlt_types.specs.declared.cell.Cell.TheVariants as cell
-use Rattle.mlt_object_kinds.specs.declared.element.ElementOp.{ElementOp}
-use Rattle.mlt_object_kinds.specs.declared.operation.ObjOp.{ObjOp}
-use Rattle.mlt_object_kinds.specs.declared.operation.ObjReply.{ObjReply}
-use Rattle.mlt_object_kinds.specs.declared.operation.ObjReply.TheVariants.{Is}
-use Rattle.mlt_object_kinds.specs.Elements.{ElementStep}
-use Rattle.mlt_object_kinds.specs.Bases.{Base, Step, element_at, element_cmp, empty_base, size_at, state_at, with_state}
-use Rattle.mlt_object_kinds.specs.Cells.CellState.{ElementState, NoState}
-use Rattle.mlt_object_kinds.proofs.BaseLaws.{base_one_answer, state_here, step_to}
+use Rattle.mlt_object_conflicts.proofs.Names.{Cell, ElementOp, ObjOp, ObjReply, Is, ElementStep, Base, Step, empty_base, state_at, with_state, ElementState, NoState, base_one_answer, state_here, step_to, ElementClass, Added, Removed, element_class, element_item, clashes, base_of_one, changes_told, on_element, told_size, BreaksAt, IsOfClass}
+use Rattle.mlt_object_kinds.specs.Bases.{element_at, element_cmp, size_at}
 use Rattle.mlt_object_kinds.proofs.Sizes.{size_of_empty, size_with_element}
-use Rattle.mlt_object_conflicts.specs.declared.elements.ElementClass.{ElementClass}
-use Rattle.mlt_object_conflicts.specs.declared.elements.ElementClass.TheVariants.{Added, Removed}
-use Rattle.mlt_object_conflicts.specs.ElementTable.{element_class, element_item}
-use Rattle.mlt_object_conflicts.specs.Clashes.{clashes}
-use Rattle.mlt_object_conflicts.specs.Sizes.{BreaksSizes, ConflictsWithSizes, CommutesWithSizes, base_of_one, changes_told, counts, on_element, told_size}
-use Rattle.mlt_object_conflicts.specs.Tables.{BreaksAt, IsOfClass}
+use Rattle.mlt_object_conflicts.specs.Sizes.{BreaksSizes, ConflictsWithSizes, CommutesWithSizes, counts}
 use Rattle.mlt_object_conflicts.proofs.BaseCommutes.{clash_free_commute}
 
 -- each size may be asked for
@@ -53,14 +40,14 @@ size_of_one s e p =
     let empty = size_of_empty s in
     omega arith
 
-size_then : (s e : ℕ) (p q : Bool) → size_at (with_state (base_of_one s e p) (cell.Element s e) (ElementState q)) s ≡ cond q 1 0
+size_then : (s e : ℕ) (p q : Bool) → size_at (with_state (base_of_one s e p) (Cell.Element s e) (ElementState q)) s ≡ cond q 1 0
 size_then s e p q =
     let base = base_of_one s e p in
     let count = size_with_element base s e q in
-    let here : state_at base (cell.Element s e) ≡ ElementState p = state_here empty_base (cell.Element s e) (ElementState p) tt in
+    let here : state_at base (Cell.Element s e) ≡ ElementState p = state_here empty_base (Cell.Element s e) (ElementState p) tt in
     let is : element_at base s e ≡ p = cc in
-    let count' : size_at (with_state base (cell.Element s e) (ElementState q)) s + cond p 1 0 ≡ size_at base s + cond q 1 0 =
-    subst (λ b. size_at (with_state base (cell.Element s e) (ElementState q)) s + cond b 1 0 ≡ size_at base s + cond q 1 0) is count in
+    let count' : size_at (with_state base (Cell.Element s e) (ElementState q)) s + cond p 1 0 ≡ size_at base s + cond q 1 0 =
+    subst (λ b. size_at (with_state base (Cell.Element s e) (ElementState q)) s + cond b 1 0 ≡ size_at base s + cond q 1 0) is count in
     let one = size_of_one s e p in
     omega arith
 
@@ -70,8 +57,8 @@ one_breaks : (s e : ℕ) (item : ElementOp × ObjReply) (p q : Bool) → Element
 one_breaks s e item p q step differ =
     let base = base_of_one s e p in
     let x = on_element s e item in
-    let m = with_state base (cell.Element s e) (ElementState q) in
-    let here : state_at base (cell.Element s e) ≡ ElementState p = state_here empty_base (cell.Element s e) (ElementState p) tt in
+    let m = with_state base (Cell.Element s e) (ElementState q) in
+    let here : state_at base (Cell.Element s e) ≡ ElementState p = state_here empty_base (Cell.Element s e) (ElementState p) tt in
     let is : p ≡ element_at base s e = cc in
     let h : Step base x m = step_to base x (ElementState q) (subst (λ b. ElementStep b item.0 item.1 q) is step) tt in
     let first = size_of_one s e p in

@@ -1,6 +1,6 @@
 -- Each class of accounts has an operation that is told its reply in some state.
-use Rattle.std.specs.Prelude.{None, Some}
-use Rattle.std.proofs.Common.{refl, arith}
+use Rattle.std.specs.Prelude.{None, Some, refl}
+use Rattle.std.proofs.Common.{arith}
 use Rattle.mlt_object_kinds.specs.Accounts.{AccountStep, max_balance}
 use Rattle.mlt_object_conflicts.specs.declared.accounts.AccountClass.{AccountClass}
 use Rattle.mlt_object_conflicts.specs.declared.accounts.AccountClass.TheVariants.{Opened, Exists, Closed, NotEmpty, Deposited, Over, Withdrawn, Short, Balance, Missing}

@@ -1,6 +1,5 @@
 -- Each class of elements has an operation that is told its reply in some state.
-use Rattle.std.specs.Prelude.{true, false}
-use Rattle.std.proofs.Common.{refl}
+use Rattle.std.specs.Prelude.{true, false, refl}
 use Rattle.mlt_object_kinds.specs.Elements.{ElementStep}
 use Rattle.mlt_object_conflicts.specs.declared.elements.ElementClass.{ElementClass}
 use Rattle.mlt_object_conflicts.specs.declared.elements.ElementClass.TheVariants.{Added, Present, Removed, Absent, Yes, No}

@@ -1,7 +1,7 @@
 -- Which operations on elements change the size of their set, and what that means for those that ask for it.
 use Rattle.std.specs.Prelude.{ℕ, Bool, true, false, Option, Some}
 use Rattle.mlt_order.specs.Runs.{RightCommutesBackward}
-use Rattle.mlt_types.specs.declared.cell.Cell.TheVariants as cell
+use Rattle.mlt_types.specs.declared.cell.Cell.{Cell}
 use Rattle.mlt_object_kinds.specs.declared.element.ElementOp.{ElementOp}
 use Rattle.mlt_object_kinds.specs.declared.operation.ObjOp.{ObjOp}
 use Rattle.mlt_object_kinds.specs.declared.operation.ObjOp.TheVariants.{Element, Size}
@@ -62,7 +62,7 @@ ConflictsWithSizes class =
 -- the base that has this one element, or none
 abbrev pub base_of_one : ℕ → ℕ → Bool → Base
 base_of_one set element present =
-    with_state empty_base (cell.Element set element) (ElementState present)
+    with_state empty_base (Cell.Element set element) (ElementState present)
 
 -- the example's operation is of the class, and breaks with its sizes in each set that has no other element, at each element
 abbrev pub IsSizeExample : ElementClass → SizeExample → Type 0

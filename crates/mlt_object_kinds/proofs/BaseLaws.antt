@@ -1,17 +1,16 @@
 -- The laws of whole bases: what the cells hold is the base, and a step has one answer and one start.
-use Rattle.std.proofs.Common.{◌≡◌, ◌≢◌, ◌⊎◌, inl, inr, ℕ, zero, suc, Bool, true, false, cond, Option, None, Some, is_some, refl, sym, ap, subst, ◌∙◌, arith}
+use Rattle.std.proofs.Common.{◌≡◌, ◌≢◌, ◌⊎◌, inl, inr, ℕ, zero, suc, Bool, true, false, cond, Option, None, Some, is_some, refl, sym, ap, subst, ◌∙◌, arith, nat_cmp, is_eq}
 use Rattle.std.proofs.lemmas.Bool.{cases_eq}
 use Rattle.std.proofs.lemmas.Cmp.{on_total, then_total, tied_itself}
 use Rattle.std.specs.declared.cmp.Ordering.{Ordering}
 use Rattle.std.specs.declared.cmp.Ordering.TheVariants.{Less, Equal, Greater}
-use Rattle.std.specs.Ordering.{nat_cmp, ordering_then, eq_by_cmp, is_eq}
+use Rattle.std.specs.Ordering.{ordering_then, eq_by_cmp}
 use Rattle.std.specs.Cmp.{IsTotalOrder, nat_cmp_total}
 use Rattle.std.specs.FinMap as map
 use Rattle.mlt_types.specs.declared.cell.Cell.{Cell}
 use Rattle.mlt_types.specs.declared.cell.Cell.TheVariants.{Account, Element, Counter, Size}
 use Rattle.mlt_types.specs.Maps.{with_entry}
 use Rattle.mlt_object_kinds.specs.declared.operation.ObjOp.{ObjOp}
-use Rattle.mlt_object_kinds.specs.declared.operation.ObjOp.TheVariants as op
 use Rattle.mlt_object_kinds.specs.declared.operation.ObjReply.{ObjReply}
 use Rattle.mlt_object_kinds.specs.AccountLaws.{account_one_answer, account_one_start}
 use Rattle.mlt_object_kinds.specs.Bases.{Base, Step, TellsSize, counter_entry, counter_value, element_cmp, element_entry, state_at, with_state}
@@ -102,20 +101,20 @@ OneAnswer b o r q s t u =
     CellStep s (o, r) t → CellStep s (o, q) u → TellsSize b (o, r) → TellsSize b (o, q) → (r ≡ q) × (t ≡ u)
 
 cell_one_answer : (b : Base) (o : ObjOp) (r q : ObjReply) (s t u : CellState) → OneAnswer b o r q s t u
-cell_one_answer b (op.Account a o) r q (AccountState s) (AccountState t) (AccountState u) h k _ _ =
+cell_one_answer b (ObjOp.Account a o) r q (AccountState s) (AccountState t) (AccountState u) h k _ _ =
     let one = account_one_answer s o r q t u h k in (one.0, ap AccountState one.1)
-cell_one_answer b (op.Element set e o) r q (ElementState s) (ElementState t) (ElementState u) h k _ _ =
+cell_one_answer b (ObjOp.Element set e o) r q (ElementState s) (ElementState t) (ElementState u) h k _ _ =
     let one = element_one_answer s o r q t u h k in (one.0, ap ElementState one.1)
-cell_one_answer b (op.Counter d o) r q (CounterState s) (CounterState t) (CounterState u) h k _ _ =
+cell_one_answer b (ObjOp.Counter d o) r q (CounterState s) (CounterState t) (CounterState u) h k _ _ =
     let one = counter_one_answer s o r q t u h k in (one.0, ap CounterState one.1)
-cell_one_answer b (op.Size set) r q NoState NoState NoState h k told other = (told ∙ sym other, refl)
+cell_one_answer b (ObjOp.Size set) r q NoState NoState NoState h k told other = (told ∙ sym other, refl)
 cell_one_answer b _ r q _ _ _ h k _ _ = absurd (first_of (cc, grind arith))
 
 cell_one_start : (o : ObjOp) (s u t : CellState) (r : ObjReply) → CellStep s (o, r) t → CellStep u (o, r) t → s ≡ u
-cell_one_start (op.Account a o) (AccountState s) (AccountState u) (AccountState t) r h k = ap AccountState (account_one_start s u t o r h k)
-cell_one_start (op.Element set e o) (ElementState s) (ElementState u) (ElementState t) r h k = ap ElementState (element_one_start s u t o r h k)
-cell_one_start (op.Counter c o) (CounterState s) (CounterState u) (CounterState t) r h k = ap CounterState (counter_one_start s u t o r h k)
-cell_one_start (op.Size set) NoState NoState NoState r h k = refl
+cell_one_start (ObjOp.Account a o) (AccountState s) (AccountState u) (AccountState t) r h k = ap AccountState (account_one_start s u t o r h k)
+cell_one_start (ObjOp.Element set e o) (ElementState s) (ElementState u) (ElementState t) r h k = ap ElementState (element_one_start s u t o r h k)
+cell_one_start (ObjOp.Counter c o) (CounterState s) (CounterState u) (CounterState t) r h k = ap CounterState (counter_one_start s u t o r h k)
+cell_one_start (ObjOp.Size set) NoState NoState NoState r h k = refl
 cell_one_start _ _ _ _ r h k = absurd (first_of (cc, grind arith))
 
 -- an operation is told one reply, and leads to one base
@@ -170,10 +169,10 @@ IsStateOf (Size s) NoState = Unit {0}
 IsStateOf _ _ = ⊥
 
 pub cell_step_states : (x : ObjOp × ObjReply) (s t : CellState) → CellStep s x t → IsStateOf (cell_of x.0) s × IsStateOf (cell_of x.0) t
-cell_step_states (op.Account a o, r) (AccountState s) (AccountState t) h = (tt, tt)
-cell_step_states (op.Element set e o, r) (ElementState s) (ElementState t) h = (tt, tt)
-cell_step_states (op.Counter c o, r) (CounterState s) (CounterState t) h = (tt, tt)
-cell_step_states (op.Size set, r) NoState NoState h = (tt, tt)
+cell_step_states (ObjOp.Account a o, r) (AccountState s) (AccountState t) h = (tt, tt)
+cell_step_states (ObjOp.Element set e o, r) (ElementState s) (ElementState t) h = (tt, tt)
+cell_step_states (ObjOp.Counter c o, r) (CounterState s) (CounterState t) h = (tt, tt)
+cell_step_states (ObjOp.Size set, r) NoState NoState h = (tt, tt)
 cell_step_states _ _ _ h = absurd h
 
 pub state_here : (b : Base) (c : Cell) (s : CellState) → IsStateOf c s → state_at (with_state b c s) c ≡ s

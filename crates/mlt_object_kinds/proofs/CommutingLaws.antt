@@ -2,10 +2,8 @@
 -- that do so on their one cell.
 use Rattle.std.proofs.Common.{◌≡◌, ◌≢◌, inl, inr, ℕ, ◌≤◌, length, Contains, refl, sym, ap, subst, ◌∙◌, arith}
 use Rattle.mlt_types.specs.declared.cell.Cell.{Cell}
-use Rattle.mlt_types.specs.declared.cell.Cell.TheVariants as cell
 use Rattle.mlt_object_kinds.specs.declared.element.ElementOp.TheVariants.{Add, Remove}
 use Rattle.mlt_object_kinds.specs.declared.operation.ObjOp.{ObjOp}
-use Rattle.mlt_object_kinds.specs.declared.operation.ObjOp.TheVariants as op
 use Rattle.mlt_object_kinds.specs.declared.operation.ObjReply.{ObjReply}
 use Rattle.mlt_object_kinds.specs.declared.operation.ObjReply.TheVariants.{Is}
 use Rattle.mlt_object_kinds.specs.Bases.{Base, Step, TellsSize, size_at, state_at, with_state}
@@ -20,48 +18,48 @@ use Rattle.mlt_object_kinds.proofs.Sizes.{other_set_untouched, size_after_step}
 
 -- the first changes no size that the second tells
 abbrev pub LeavesTold : ObjOp × ObjReply → ObjOp × ObjReply → Type 0
-LeavesTold p (op.Size t, reply) = (put_into t p ≡ 0) × (taken_from t p ≡ 0)
+LeavesTold p (ObjOp.Size t, reply) = (put_into t p ≡ 0) × (taken_from t p ≡ 0)
 LeavesTold p _ = Unit {0}
 
-size_left : (p : ObjOp × ObjReply) (b m : Base) (t : ℕ) → LeavesTold p (op.Size t, Is 0) → Step b p m → size_at m t ≡ size_at b t
+size_left : (p : ObjOp × ObjReply) (b m : Base) (t : ℕ) → LeavesTold p (ObjOp.Size t, Is 0) → Step b p m → size_at m t ≡ size_at b t
 size_left p b m t left h = let sizes = size_after_step b m p t h in omega arith
 
 -- then what the second tells is so before the first, where it is so after it
 told_before : (p q : ObjOp × ObjReply) (b m : Base) → LeavesTold p q → Step b p m → TellsSize m q → TellsSize b q
-told_before p (op.Size t, reply) b m left h told = told ∙ ap Is (size_left p b m t left h)
-told_before p (op.Account a o, reply) b m left h told = tt
-told_before p (op.Element s e o, reply) b m left h told = tt
-told_before p (op.Counter c o, reply) b m left h told = tt
+told_before p (ObjOp.Size t, reply) b m left h told = told ∙ ap Is (size_left p b m t left h)
+told_before p (ObjOp.Account a o, reply) b m left h told = tt
+told_before p (ObjOp.Element s e o, reply) b m left h told = tt
+told_before p (ObjOp.Counter c o, reply) b m left h told = tt
 
 -- and the other way round
 told_after : (p q : ObjOp × ObjReply) (b m : Base) → LeavesTold p q → Step b p m → TellsSize b q → TellsSize m q
-told_after p (op.Size t, reply) b m left h told = told ∙ ap Is (sym (size_left p b m t left h))
-told_after p (op.Account a o, reply) b m left h told = tt
-told_after p (op.Element s e o, reply) b m left h told = tt
-told_after p (op.Counter c o, reply) b m left h told = tt
+told_after p (ObjOp.Size t, reply) b m left h told = told ∙ ap Is (sym (size_left p b m t left h))
+told_after p (ObjOp.Account a o, reply) b m left h told = tt
+told_after p (ObjOp.Element s e o, reply) b m left h told = tt
+told_after p (ObjOp.Counter c o, reply) b m left h told = tt
 
 -- an operation changes the size of no set on whose size it is not locked
-untouched : (p : ObjOp × ObjReply) (t : ℕ) → (Contains (cells_of p.0) (cell.Size t) → ⊥) → (put_into t p ≡ 0) × (taken_from t p ≡ 0)
-untouched (op.Element s e Add, r) t n = other_set_untouched s e Add r t (λ same. n (1, omega arith, ap cell.Size same))
-untouched (op.Element s e Remove, r) t n = other_set_untouched s e Remove r t (λ same. n (1, omega arith, ap cell.Size same))
+untouched : (p : ObjOp × ObjReply) (t : ℕ) → (Contains (cells_of p.0) (Cell.Size t) → ⊥) → (put_into t p ≡ 0) × (taken_from t p ≡ 0)
+untouched (ObjOp.Element s e Add, r) t n = other_set_untouched s e Add r t (λ same. n (1, omega arith, ap Cell.Size same))
+untouched (ObjOp.Element s e Remove, r) t n = other_set_untouched s e Remove r t (λ same. n (1, omega arith, ap Cell.Size same))
 untouched _ t n = (refl, refl)
 
 -- operations that are locked on no cell of both change no size that the other tells
 pub apart_leaves_told : (p q : ObjOp × ObjReply) → AreApart p.0 q.0 → LeavesTold p q
-apart_leaves_told p (op.Size t, reply) apart = untouched p t (λ there. apart (cell.Size t) there (0, omega arith, refl))
-apart_leaves_told p (op.Account a o, reply) apart = tt
-apart_leaves_told p (op.Element s e o, reply) apart = tt
-apart_leaves_told p (op.Counter c o, reply) apart = tt
+apart_leaves_told p (ObjOp.Size t, reply) apart = untouched p t (λ there. apart (Cell.Size t) there (0, omega arith, refl))
+apart_leaves_told p (ObjOp.Account a o, reply) apart = tt
+apart_leaves_told p (ObjOp.Element s e o, reply) apart = tt
+apart_leaves_told p (ObjOp.Counter c o, reply) apart = tt
 
 -- nor do operations on one cell
 one_cell_leaves_told : (p q : ObjOp × ObjReply) → cell_of p.0 ≡ cell_of q.0 → LeavesTold p q
-one_cell_leaves_told (op.Size s, r) (op.Size t, reply) one = (refl, refl)
-one_cell_leaves_told (op.Account a o, r) (op.Size t, reply) one = absurd (cc)
-one_cell_leaves_told (op.Element s e o, r) (op.Size t, reply) one = absurd (cc)
-one_cell_leaves_told (op.Counter c o, r) (op.Size t, reply) one = absurd (cc)
-one_cell_leaves_told p (op.Account a o, reply) one = tt
-one_cell_leaves_told p (op.Element s e o, reply) one = tt
-one_cell_leaves_told p (op.Counter c o, reply) one = tt
+one_cell_leaves_told (ObjOp.Size s, r) (ObjOp.Size t, reply) one = (refl, refl)
+one_cell_leaves_told (ObjOp.Account a o, r) (ObjOp.Size t, reply) one = absurd (cc)
+one_cell_leaves_told (ObjOp.Element s e o, r) (ObjOp.Size t, reply) one = absurd (cc)
+one_cell_leaves_told (ObjOp.Counter c o, r) (ObjOp.Size t, reply) one = absurd (cc)
+one_cell_leaves_told p (ObjOp.Account a o, reply) one = tt
+one_cell_leaves_told p (ObjOp.Element s e o, reply) one = tt
+one_cell_leaves_told p (ObjOp.Counter c o, reply) one = tt
 
 -- ---- commuting
 
@@ -71,8 +69,8 @@ own_cell op = (0, omega arith, refl)
 
 -- an operation is locked on two cells at most
 pub few_cells : (op : ObjOp) → length (cells_of op) ≤ 2
-few_cells (op.Element s e Add) = omega arith
-few_cells (op.Element s e Remove) = omega arith
+few_cells (ObjOp.Element s e Add) = omega arith
+few_cells (ObjOp.Element s e Remove) = omega arith
 few_cells _ = omega arith
 
 pub apart_on_two_cells : (op other : ObjOp) → AreApart op other → cell_of op ≢ cell_of other

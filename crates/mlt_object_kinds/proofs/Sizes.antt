@@ -1,6 +1,6 @@
 -- The sizes of sets: what a step does to them, and how great they can be.
-use Rattle.std.proofs.Common.{◌≡◌, ◌≢◌, ◌⊎◌, inl, inr, ℕ, zero, suc, ◌+◌, ◌-◌, ◌<◌, ◌≤◌, Bool, true, false, cond, Option, None, Some, is_some, nat_eq, refl, sym, ap, subst, ◌∙◌, arith}
-use Rattle.std.proofs.lemmas.Bool.{cases_eq, eq-eqb, ne_eqb}
+use Rattle.std.proofs.Common.{◌≡◌, ◌≢◌, ◌⊎◌, inl, inr, ℕ, zero, suc, ◌+◌, ◌-◌, ◌<◌, ◌≤◌, Bool, true, false, cond, Option, None, Some, is_some, nat_eq, refl, sym, ap, subst, ◌∙◌, arith, eq-eqb, ne_eqb}
+use Rattle.std.proofs.lemmas.Bool.{cases_eq}
 use Rattle.std.proofs.lemmas.Cmp.{tied_itself}
 use Rattle.std.specs.declared.cmp.Ordering.{Ordering}
 use Rattle.std.specs.declared.cmp.Ordering.TheVariants.{Less, Equal, Greater}
@@ -11,9 +11,7 @@ use Rattle.mlt_types.specs.Maps.{with_entry}
 use Rattle.mlt_object_kinds.specs.declared.element.ElementOp.{ElementOp}
 use Rattle.mlt_object_kinds.specs.declared.element.ElementOp.TheVariants.{Add, Remove, Has}
 use Rattle.mlt_object_kinds.specs.declared.operation.ObjOp.{ObjOp}
-use Rattle.mlt_object_kinds.specs.declared.operation.ObjOp.TheVariants as op
 use Rattle.mlt_object_kinds.specs.declared.operation.ObjReply.{ObjReply}
-use Rattle.mlt_object_kinds.specs.declared.operation.ObjReply.TheVariants as reply
 use Rattle.mlt_object_kinds.specs.Bases.{Base, Step, element_at, element_cmp, element_entry, empty_base, size_at, with_state}
 use Rattle.mlt_object_kinds.specs.Cells.CellState.{ElementState}
 use Rattle.mlt_object_kinds.specs.Elements.{ElementStep}
@@ -138,29 +136,29 @@ size_beside_element b s e p t n =
     ap map.len (kept_beside element_cmp_total element_cmp_tells_apart b.elements (is_in t) (s, e) (element_entry p) (ne_eqb s t n))
 
 -- an operation changes the size of no set of which it neither adds nor removes an element
-pub other_set_untouched : (s e : ℕ) (o : ElementOp) (r : ObjReply) (t : ℕ) → s ≢ t → (put_into t (op.Element s e o, r) ≡ 0) × (taken_from t (op.Element s e o, r) ≡ 0)
-other_set_untouched s e Add reply.Added t n = (ap (λ b. cond b 1 0) (ne_eqb s t n), refl)
-other_set_untouched s e Remove reply.Removed t n = (refl, ap (λ b. cond b 1 0) (ne_eqb s t n))
+pub other_set_untouched : (s e : ℕ) (o : ElementOp) (r : ObjReply) (t : ℕ) → s ≢ t → (put_into t (ObjOp.Element s e o, r) ≡ 0) × (taken_from t (ObjOp.Element s e o, r) ≡ 0)
+other_set_untouched s e Add ObjReply.Added t n = (ap (λ b. cond b 1 0) (ne_eqb s t n), refl)
+other_set_untouched s e Remove ObjReply.Removed t n = (refl, ap (λ b. cond b 1 0) (ne_eqb s t n))
 other_set_untouched s e o r t n = (refl, refl)
 
 -- what a step of an element puts in and takes out is what changes
 step_counts : (s e : ℕ) (o : ElementOp) (r : ObjReply) (p q : Bool) → ElementStep p o r q →
-    cond q 1 0 + taken_from s (op.Element s e o, r) ≡ cond p 1 0 + put_into s (op.Element s e o, r)
-step_counts s e Add reply.Added false q step = rw (sym step.1, eq-eqb s s refl) refl
-step_counts s e Add reply.Present true q step = rw (sym step.1) refl
-step_counts s e Remove reply.Removed true q step = rw (sym step.1, eq-eqb s s refl) refl
-step_counts s e Remove reply.Absent false q step = rw (sym step.1) refl
-step_counts s e Has reply.Yes true q step = rw (sym step.1) refl
-step_counts s e Has reply.No false q step = rw (sym step.1) refl
+    cond q 1 0 + taken_from s (ObjOp.Element s e o, r) ≡ cond p 1 0 + put_into s (ObjOp.Element s e o, r)
+step_counts s e Add ObjReply.Added false q step = rw (sym step.1, eq-eqb s s refl) refl
+step_counts s e Add ObjReply.Present true q step = rw (sym step.1) refl
+step_counts s e Remove ObjReply.Removed true q step = rw (sym step.1, eq-eqb s s refl) refl
+step_counts s e Remove ObjReply.Absent false q step = rw (sym step.1) refl
+step_counts s e Has ObjReply.Yes true q step = rw (sym step.1) refl
+step_counts s e Has ObjReply.No false q step = rw (sym step.1) refl
 step_counts s e o r p q step = absurd step.0
 
 -- the size of a set after a step, and what was taken out of it, are the size before and what was put in
 pub size_after_step : (b c : Base) (x : ObjOp × ObjReply) (t : ℕ) → Step b x c → size_at c t + taken_from t x ≡ size_at b t + put_into t x
-size_after_step b c (op.Account a o, r) t h = ap (λ n. n + 0) (ap (λ d. size_at d t) (step_is b c (op.Account a o, r) h) ∙ same_size _ b t (λ e. refl))
-size_after_step b c (op.Counter d o, r) t h = ap (λ n. n + 0) (ap (λ d. size_at d t) (step_is b c (op.Counter d o, r) h) ∙ same_size _ b t (λ e. refl))
-size_after_step b c (op.Size s, r) t h = ap (λ n. n + 0) (ap (λ d. size_at d t) (step_is b c (op.Size s, r) h))
-size_after_step b c (op.Element s e o, r) t h =
-    let x : ObjOp × ObjReply = (op.Element s e o, r) in
+size_after_step b c (ObjOp.Account a o, r) t h = ap (λ n. n + 0) (ap (λ d. size_at d t) (step_is b c (ObjOp.Account a o, r) h) ∙ same_size _ b t (λ e. refl))
+size_after_step b c (ObjOp.Counter d o, r) t h = ap (λ n. n + 0) (ap (λ d. size_at d t) (step_is b c (ObjOp.Counter d o, r) h) ∙ same_size _ b t (λ e. refl))
+size_after_step b c (ObjOp.Size s, r) t h = ap (λ n. n + 0) (ap (λ d. size_at d t) (step_is b c (ObjOp.Size s, r) h))
+size_after_step b c (ObjOp.Element s e o, r) t h =
+    let x : ObjOp × ObjReply = (ObjOp.Element s e o, r) in
     let is : size_at c t ≡ size_at (with_state b (Element s e) (ElementState (element_at c s e))) t = ap (λ d. size_at d t) (step_is b c x h) in
     elim (cases_eq s t) [
       | inl one ↦

@@ -9,7 +9,6 @@ use Rattle.mlt_types.specs.declared.cell.Cell.{Cell}
 use Rattle.mlt_types.specs.declared.cell.Cell.TheVariants.{Account, Element, Counter, Size}
 use Rattle.mlt_types.specs.Maps.{with_entry}
 use Rattle.mlt_object_kinds.specs.declared.operation.ObjOp.{ObjOp}
-use Rattle.mlt_object_kinds.specs.declared.operation.ObjOp.TheVariants as op
 use Rattle.mlt_object_kinds.specs.declared.operation.ObjReply.{ObjReply}
 use Rattle.mlt_object_kinds.specs.declared.operation.ObjReply.TheVariants.{Is}
 use Rattle.mlt_object_kinds.specs.Cells.{CellState, CellStep}
@@ -91,7 +90,7 @@ SameBut b b' cell = (other : Cell) → other ≢ cell → state_at b' other ≡ 
 
 -- an operation that asks for the size of a set is told how many elements the set has
 abbrev pub TellsSize : Base → ObjOp × ObjReply → Type 0
-TellsSize b (op.Size s, reply) = reply ≡ Is (size_at b s)
+TellsSize b (ObjOp.Size s, reply) = reply ≡ Is (size_at b s)
 TellsSize b _ = Unit {0}
 
 -- An operation with its reply is a step of the cell that it is on; all other cells are as before. A size is told as it is.

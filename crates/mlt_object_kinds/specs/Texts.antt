@@ -1,5 +1,5 @@
 -- The texts of operations and replies.
-use Rattle.std.specs.Prelude.{ℕ, List, ◌∷◌, ◌++◌, codes}
+use Rattle.std.specs.Prelude.{ℕ, List, ◌∷◌, ◌++◌, codes, decimal}
 use Rattle.mlt_object_kinds.specs.declared.account.AccountOp.{AccountOp}
 use Rattle.mlt_object_kinds.specs.declared.account.AccountOp.TheVariants.{Open, Close, Deposit, Withdraw, Balance}
 use Rattle.mlt_object_kinds.specs.declared.element.ElementOp.{ElementOp}
@@ -10,7 +10,6 @@ use Rattle.mlt_object_kinds.specs.declared.operation.ObjOp.{ObjOp}
 use Rattle.mlt_object_kinds.specs.declared.operation.ObjOp.TheVariants.{Account, Element, Counter, Size}
 use Rattle.mlt_object_kinds.specs.declared.operation.ObjReply.{ObjReply}
 use Rattle.mlt_object_kinds.specs.declared.operation.ObjReply.TheVariants.{Opened, Exists, Closed, NotEmpty, Done, Over, Short, Missing, Added, Present, Removed, Absent, Yes, No, Is}
-use Rattle.std.specs.Fmt.{decimal}
 
 -- a word and a number after it, parted by a space
 abbrev pub with_number : List ℕ → ℕ → List ℕ

@@ -1,9 +1,7 @@
 -- Sets of classes as the bits of numbers.
-use Prim.Native.Nat.{zero}
+use Rattle.mlt_object_locks.proofs.Names.{zero, cases_eq, Adds, InSet, Meets}
 use Rattle.std.proofs.Common.{◌≡◌, ◌⊎◌, ℕ, suc, ◌/◌, ◌%◌, ◌*◌, ◌^◌, ◌<◌, ◌≤◌, bit_and, bit_or, w32, sym, subst, ◌∙◌, inl, inr, arith}
 use Rattle.std.proofs.lemmas.Nat.Bits.{bit_at-lt, bit_at-zero, bit_at-suc, bit_at_lowest, bit_at_and, bit_at_or, bit_at_set_same, bit_at_set_other}
-use Rattle.std.proofs.lemmas.Bool.{cases_eq}
-use Rattle.mlt_object_locks.specs.Classes.{Adds, InSet, Meets}
 
 -- nothing has no bit
 pub none_in_set : (k : ℕ) → InSet 0 k → ⊥

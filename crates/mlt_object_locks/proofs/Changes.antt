@@ -1,14 +1,7 @@
 -- What coming, being granted and giving up at one place, and at one place more, leaves at each.
-use Rattle.std.proofs.Common.{◌≡◌, ◌≢◌, ◌⊎◌, ℕ, List, [], ◌∷◌, ◌++◌, true, nat_eq, Option, Some, Contains, sym, subst, refl, inl, inr, arith}
-use Rattle.std.specs.List.{filter}
-use Rattle.std.proofs.lemmas.Bool.{cases_eq}
-use Rattle.std.proofs.lemmas.Bool.Decides.{nat_tests}
-use Rattle.std.proofs.lemmas.List.Elements.{Contains-append_left, Contains-push, Contains-push_cases}
-use Rattle.indexmap.specs.IndexMap.{IndexMap, IsUnique}
-use Rattle.mlt_object_locks.specs.declared.holders.Holder.{Holder}
-use Rattle.mlt_object_locks.specs.Holders.{Grants, HasBit, IsHere, Joins, holder_of, is_not_idle_of}
-use Rattle.mlt_object_locks.specs.Cells.{AreBitsNoted, ChangesAt, GivesUp, GrantsAt, IsGivenUp, IsHereAt, JoinsAt, list_at}
-use Rattle.mlt_object_locks.specs.Noted.{KeysWithRoom, NotesEach, SameNoted, noted_of}
+use Rattle.std.proofs.Common.{◌≡◌, ◌≢◌, ◌⊎◌, ℕ, List, [], ◌∷◌, ◌++◌, true, nat_eq, Option, Some, Contains, sym, subst, refl, inl, inr, arith, filter}
+use Rattle.mlt_object_locks.proofs.Names.{cases_eq, nat_tests, Contains-append_left, Contains-push, Contains-push_cases, IndexMap, IsUnique, Holder, Grants, HasBit, IsHere, Joins, holder_of, is_not_idle_of, ChangesAt, GivesUp, GrantsAt, IsGivenUp, IsHereAt, JoinsAt, list_at, KeysWithRoom, NotesEach, SameNoted, noted_of}
+use Rattle.mlt_object_locks.specs.Cells.{AreBitsNoted}
 use Rattle.mlt_object_locks.proofs.Membership.{contains_filtered, filter_contains, none_in_empty}
 
 not_idle : (tx : ℕ) (holder : Holder) → is_not_idle_of tx holder ≡ true → holder.tx ≡ tx → holder.classes ≢ 0

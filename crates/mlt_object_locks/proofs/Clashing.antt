@@ -1,18 +1,6 @@
 -- Who stands against a requested operation at a place where it looks holds one with which it clashes, and back.
 use Rattle.std.proofs.Common.{◌≡◌, ◌⊎◌, ℕ, List, [], ◌∷◌, ◌++◌, Option, None, Some, Contains, sym, subst, inl, inr}
-use Rattle.std.proofs.lemmas.List.Elements.{Contains-append_left, Contains-push, Contains-push_cases}
-use Rattle.indexmap.specs.IndexMap.{IndexMap}
-use Rattle.mlt_types.specs.declared.cell.Cell.{Cell}
-use Rattle.mlt_types.specs.Cells.{IsInRange}
-use Rattle.mlt_object_kinds.specs.Operations.{cell_of}
-use Rattle.mlt_object_kinds.specs.declared.operation.ObjOp.{ObjOp}
-use Rattle.mlt_object_kinds.specs.declared.operation.ObjReply.{ObjReply}
-use Rattle.mlt_object_locks.specs.declared.holders.Holder.{Holder}
-use Rattle.mlt_object_locks.specs.Locks.{Held, HoldsClash, IsLowestOf, lower_of}
-use Rattle.mlt_object_locks.specs.Holders.{StandsAgainst}
-use Rattle.mlt_object_locks.specs.Noted.{KeysWithRoom}
-use Rattle.mlt_object_locks.specs.Cells.{IsSound, StandsAtOne, list_at}
-use Rattle.mlt_object_locks.specs.Places.{looked_at}
+use Rattle.mlt_object_locks.proofs.Names.{Contains-append_left, Contains-push, Contains-push_cases, IndexMap, Cell, IsInRange, cell_of, ObjOp, ObjReply, Holder, Held, HoldsClash, IsLowestOf, lower_of, StandsAgainst, KeysWithRoom, IsSound, StandsAtOne, list_at, looked_at}
 use Rattle.mlt_object_locks.proofs.ClassLaws.{clash_hinders, hindered_clash, share_place}
 use Rattle.mlt_object_locks.proofs.Lowest.{lowest_of_both, lowest_of_first, same_lowest}
 

@@ -1,55 +1,47 @@
 -- Each class has a bit of its own, and clashes on one cell are told by classes.
-use Rattle.std.proofs.Common.{◌≡◌, ◌⊎◌, ℕ, ◌<◌, Bool, true, false, ◌≤◌, List, [], ◌∷◌, ◌++◌, map, Option, Some, None, Contains, get_or, length, sym, ap, subst, refl, ◌∙◌, true≢false, inl, inr, arith}
-use Rattle.std.specs.Option.{option_map}
+use Rattle.std.proofs.Common.{◌≡◌, ◌⊎◌, ℕ, ◌<◌, Bool, true, false, ◌≤◌, List, [], ◌∷◌, ◌++◌, map, Option, Some, None, Contains, get_or, length, sym, ap, subst, refl, ◌∙◌, true≢false, inl, inr, arith, option_map, eq-eqb, ne_eqb}
 use Rattle.std.proofs.lemmas.List.{get_or_past}
-use Rattle.std.proofs.lemmas.List.Elements.{Contains-push_cases}
-use Rattle.std.proofs.lemmas.Bool.{cases_eq, cases_lt, eq-eqb, ne_eqb}
-use Rattle.mlt_types.specs.declared.cell.Cell.TheVariants as cell
-use Rattle.mlt_types.specs.Cells.{IsInRange, key_number}
+use Rattle.mlt_object_locks.proofs.Names.{Contains-push_cases, cases_eq, Cell, IsInRange, ObjOp, ObjReply, cell_of, CLASSES, bit_of, bit_of_item, Adds, AreInTheWay, InSet, looked_at, places_of}
+use Rattle.std.proofs.lemmas.Bool.{cases_lt}
+use Rattle.mlt_types.specs.Cells.{key_number}
 use Rattle.mlt_object_kinds.specs.declared.element.ElementOp.{ElementOp}
 use Rattle.mlt_object_kinds.specs.declared.element.ElementOp.TheVariants.{Add, Remove, Has}
-use Rattle.mlt_object_kinds.specs.declared.operation.ObjOp.{ObjOp}
-use Rattle.mlt_object_kinds.specs.declared.operation.ObjOp.TheVariants as op
-use Rattle.mlt_object_kinds.specs.declared.operation.ObjReply.{ObjReply}
-use Rattle.mlt_object_kinds.specs.declared.operation.ObjReply.TheVariants as reply
-use Rattle.mlt_object_kinds.specs.Operations.{cell_of, size_cells}
+use Rattle.mlt_object_kinds.specs.Operations.{size_cells}
 use Rattle.mlt_object_conflicts.specs.Clashes.{clashes, marked_classes}
-use Rattle.mlt_object_conflicts.specs.declared.accounts.AccountClass.TheVariants as account
+use Rattle.mlt_object_conflicts.specs.declared.accounts.AccountClass.{AccountClass}
 use Rattle.mlt_object_conflicts.specs.declared.elements.ElementClass.{ElementClass}
-use Rattle.mlt_object_conflicts.specs.declared.elements.ElementClass.TheVariants as element
-use Rattle.mlt_object_conflicts.specs.declared.counters.CounterClass.TheVariants as counter
+use Rattle.mlt_object_conflicts.specs.declared.counters.CounterClass.{CounterClass}
 use Rattle.mlt_object_conflicts.specs.AccountTable.{account_class, account_marks}
 use Rattle.mlt_object_conflicts.specs.CounterTable.{counter_class, counter_marks}
 use Rattle.mlt_object_conflicts.specs.ElementTable.{element_class, element_marks}
 use Rattle.mlt_object_conflicts.specs.Sizes.{changes_told, counts}
 use Rattle.mlt_object_locks.specs.declared.classes.Class.{Class}
 use Rattle.mlt_object_locks.specs.declared.classes.Class.TheVariants.{Account, Element, Counter, Size}
-use Rattle.mlt_object_locks.specs.declared.classes.TheConstants.{CLASSES}
-use Rattle.mlt_object_locks.specs.Classes.{bit_of, bit_of_item, class_of, marks, size_class, Adds, AreInTheWay, Hinders, InSet, IsColumn}
-use Rattle.mlt_object_locks.specs.Places.{looked_at, place_of_set, places_of, SharesPlace}
+use Rattle.mlt_object_locks.specs.Classes.{class_of, marks, size_class, Hinders, IsColumn}
+use Rattle.mlt_object_locks.specs.Places.{place_of_set, SharesPlace}
 use Rattle.mlt_object_locks.proofs.Bits.{none_in_set}
 use Rattle.mlt_object_locks.proofs.Membership.{contains_first, contains_later, one_of_two, the_one}
 
 -- a class stands at its bit in the list of all
 at_its_bit : (class d : Class) → get_or CLASSES (bit_of class) d ≡ class
-at_its_bit (Account account.Opened) d = refl
-at_its_bit (Account account.Exists) d = refl
-at_its_bit (Account account.Closed) d = refl
-at_its_bit (Account account.NotEmpty) d = refl
-at_its_bit (Account account.Deposited) d = refl
-at_its_bit (Account account.Over) d = refl
-at_its_bit (Account account.Withdrawn) d = refl
-at_its_bit (Account account.Short) d = refl
-at_its_bit (Account account.Balance) d = refl
-at_its_bit (Account account.Missing) d = refl
-at_its_bit (Element element.Added) d = refl
-at_its_bit (Element element.Present) d = refl
-at_its_bit (Element element.Removed) d = refl
-at_its_bit (Element element.Absent) d = refl
-at_its_bit (Element element.Yes) d = refl
-at_its_bit (Element element.No) d = refl
-at_its_bit (Counter counter.Counted) d = refl
-at_its_bit (Counter counter.Read) d = refl
+at_its_bit (Account AccountClass.Opened) d = refl
+at_its_bit (Account AccountClass.Exists) d = refl
+at_its_bit (Account AccountClass.Closed) d = refl
+at_its_bit (Account AccountClass.NotEmpty) d = refl
+at_its_bit (Account AccountClass.Deposited) d = refl
+at_its_bit (Account AccountClass.Over) d = refl
+at_its_bit (Account AccountClass.Withdrawn) d = refl
+at_its_bit (Account AccountClass.Short) d = refl
+at_its_bit (Account AccountClass.Balance) d = refl
+at_its_bit (Account AccountClass.Missing) d = refl
+at_its_bit (Element ElementClass.Added) d = refl
+at_its_bit (Element ElementClass.Present) d = refl
+at_its_bit (Element ElementClass.Removed) d = refl
+at_its_bit (Element ElementClass.Absent) d = refl
+at_its_bit (Element ElementClass.Yes) d = refl
+at_its_bit (Element ElementClass.No) d = refl
+at_its_bit (Counter CounterClass.Counted) d = refl
+at_its_bit (Counter CounterClass.Read) d = refl
 at_its_bit Size d = refl
 
 -- so no other class has its bit
@@ -100,8 +92,8 @@ below class = by (cases_lt (bit_of class) (length CLASSES))
     by : (bit_of class < length CLASSES) ⊎ (length CLASSES ≤ bit_of class) → bit_of class < length CLASSES
     by (inl lt) = lt
     by (inr past) =
-        let first = sym (get_or_past CLASSES (bit_of class) (Counter counter.Read) past) ∙ at_its_bit class (Counter counter.Read) in
-        let second = sym (get_or_past CLASSES (bit_of class) (Counter counter.Counted) past) ∙ at_its_bit class (Counter counter.Counted) in
+        let first = sym (get_or_past CLASSES (bit_of class) (Counter CounterClass.Read) past) ∙ at_its_bit class (Counter CounterClass.Read) in
+        let second = sym (get_or_past CLASSES (bit_of class) (Counter CounterClass.Counted) past) ∙ at_its_bit class (Counter CounterClass.Counted) in
         let both = ap bit_of (first ∙ sym second) in absurd (omega arith)
 
 -- once all were seen, it is the column
@@ -127,36 +119,36 @@ none_in_the_way requested is = record {
 -- ---- sizes that are told
 
 -- a reply tells a size, or has no class as one
-size_cases : (told : ObjReply) → ((n : ℕ) × (told ≡ reply.Is n)) ⊎ ((size_class told ≡ None) × ((class : ElementClass) → changes_told (Some class) told ≡ false))
-size_cases (reply.Is n) = inl (n, refl)
-size_cases reply.Opened = inr (refl, λ c. refl)
-size_cases reply.Exists = inr (refl, λ c. refl)
-size_cases reply.Closed = inr (refl, λ c. refl)
-size_cases reply.NotEmpty = inr (refl, λ c. refl)
-size_cases reply.Done = inr (refl, λ c. refl)
-size_cases reply.Over = inr (refl, λ c. refl)
-size_cases reply.Short = inr (refl, λ c. refl)
-size_cases reply.Missing = inr (refl, λ c. refl)
-size_cases reply.Added = inr (refl, λ c. refl)
-size_cases reply.Present = inr (refl, λ c. refl)
-size_cases reply.Removed = inr (refl, λ c. refl)
-size_cases reply.Absent = inr (refl, λ c. refl)
-size_cases reply.Yes = inr (refl, λ c. refl)
-size_cases reply.No = inr (refl, λ c. refl)
+size_cases : (told : ObjReply) → ((n : ℕ) × (told ≡ ObjReply.Is n)) ⊎ ((size_class told ≡ None) × ((class : ElementClass) → changes_told (Some class) told ≡ false))
+size_cases (ObjReply.Is n) = inl (n, refl)
+size_cases ObjReply.Opened = inr (refl, λ c. refl)
+size_cases ObjReply.Exists = inr (refl, λ c. refl)
+size_cases ObjReply.Closed = inr (refl, λ c. refl)
+size_cases ObjReply.NotEmpty = inr (refl, λ c. refl)
+size_cases ObjReply.Done = inr (refl, λ c. refl)
+size_cases ObjReply.Over = inr (refl, λ c. refl)
+size_cases ObjReply.Short = inr (refl, λ c. refl)
+size_cases ObjReply.Missing = inr (refl, λ c. refl)
+size_cases ObjReply.Added = inr (refl, λ c. refl)
+size_cases ObjReply.Present = inr (refl, λ c. refl)
+size_cases ObjReply.Removed = inr (refl, λ c. refl)
+size_cases ObjReply.Absent = inr (refl, λ c. refl)
+size_cases ObjReply.Yes = inr (refl, λ c. refl)
+size_cases ObjReply.No = inr (refl, λ c. refl)
 
 -- a size is changed where the classes are marked, held before it and after it
 changed_before : (class : Option ElementClass) (told : ObjReply) → changes_told class told ≡ marked_classes marks (option_map Element class) (size_class told)
 changed_before None told = refl
 changed_before (Some class) told = by (size_cases told)
   where
-    by : ((n : ℕ) × (told ≡ reply.Is n)) ⊎ ((size_class told ≡ None) × ((c : ElementClass) → changes_told (Some c) told ≡ false)) → changes_told (Some class) told ≡ marked_classes marks (Some (Element class)) (size_class told)
+    by : ((n : ℕ) × (told ≡ ObjReply.Is n)) ⊎ ((size_class told ≡ None) × ((c : ElementClass) → changes_told (Some c) told ≡ false)) → changes_told (Some class) told ≡ marked_classes marks (Some (Element class)) (size_class told)
     by (inl is) = subst (λ r. changes_told (Some class) r ≡ marked_classes marks (Some (Element class)) (size_class r)) (sym is.1) refl
     by (inr none) = none.1 class ∙ ap (marked_classes marks (Some (Element class))) (sym none.0)
 
 changed_after : (class : Option ElementClass) (told : ObjReply) → changes_told class told ≡ marked_classes marks (size_class told) (option_map Element class)
 changed_after class told = by class (size_cases told)
   where
-    by : (class : Option ElementClass) → ((n : ℕ) × (told ≡ reply.Is n)) ⊎ ((size_class told ≡ None) × ((c : ElementClass) → changes_told (Some c) told ≡ false)) → changes_told class told ≡ marked_classes marks (size_class told) (option_map Element class)
+    by : (class : Option ElementClass) → ((n : ℕ) × (told ≡ ObjReply.Is n)) ⊎ ((size_class told ≡ None) × ((c : ElementClass) → changes_told (Some c) told ≡ false)) → changes_told class told ≡ marked_classes marks (size_class told) (option_map Element class)
     by (Some c) (inl is) = subst (λ r. changes_told (Some c) r ≡ marked_classes marks (size_class r) (Some (Element c))) (sym is.1) refl
     by (Some c) (inr none) = none.1 c ∙ ap (λ t. marked_classes marks t (Some (Element c))) (sym none.0)
     by None (inl is) = subst (λ r. changes_told None r ≡ marked_classes marks (size_class r) None) (sym is.1) refl
@@ -166,56 +158,56 @@ changed_after class told = by class (size_cases told)
 not_counted : (class : ElementClass) (told : ObjReply) → counts class ≡ false → changes_told (Some class) told ≡ true → ⊥
 not_counted class told uncounted h = by (size_cases told)
   where
-    by : ((n : ℕ) × (told ≡ reply.Is n)) ⊎ ((size_class told ≡ None) × ((c : ElementClass) → changes_told (Some c) told ≡ false)) → ⊥
+    by : ((n : ℕ) × (told ≡ ObjReply.Is n)) ⊎ ((size_class told ≡ None) × ((c : ElementClass) → changes_told (Some c) told ≡ false)) → ⊥
     by (inl is) = true≢false (sym (subst (λ r. changes_told (Some class) r ≡ true) is.1 h) ∙ uncounted)
     by (inr none) = true≢false (sym h ∙ none.1 class)
 
 -- so nothing that asks whether an element is there changes one
 has_changes_none : (answer told : ObjReply) → changes_told (element_class Has answer) told ≡ true → ⊥
-has_changes_none reply.Yes told h = not_counted element.Yes told refl h
-has_changes_none reply.No told h = not_counted element.No told refl h
-has_changes_none (reply.Is n) told h = true≢false (sym h)
-has_changes_none reply.Opened told h = true≢false (sym h)
-has_changes_none reply.Exists told h = true≢false (sym h)
-has_changes_none reply.Closed told h = true≢false (sym h)
-has_changes_none reply.NotEmpty told h = true≢false (sym h)
-has_changes_none reply.Done told h = true≢false (sym h)
-has_changes_none reply.Over told h = true≢false (sym h)
-has_changes_none reply.Short told h = true≢false (sym h)
-has_changes_none reply.Missing told h = true≢false (sym h)
-has_changes_none reply.Added told h = true≢false (sym h)
-has_changes_none reply.Present told h = true≢false (sym h)
-has_changes_none reply.Removed told h = true≢false (sym h)
-has_changes_none reply.Absent told h = true≢false (sym h)
+has_changes_none ObjReply.Yes told h = not_counted ElementClass.Yes told refl h
+has_changes_none ObjReply.No told h = not_counted ElementClass.No told refl h
+has_changes_none (ObjReply.Is n) told h = true≢false (sym h)
+has_changes_none ObjReply.Opened told h = true≢false (sym h)
+has_changes_none ObjReply.Exists told h = true≢false (sym h)
+has_changes_none ObjReply.Closed told h = true≢false (sym h)
+has_changes_none ObjReply.NotEmpty told h = true≢false (sym h)
+has_changes_none ObjReply.Done told h = true≢false (sym h)
+has_changes_none ObjReply.Over told h = true≢false (sym h)
+has_changes_none ObjReply.Short told h = true≢false (sym h)
+has_changes_none ObjReply.Missing told h = true≢false (sym h)
+has_changes_none ObjReply.Added told h = true≢false (sym h)
+has_changes_none ObjReply.Present told h = true≢false (sym h)
+has_changes_none ObjReply.Removed told h = true≢false (sym h)
+has_changes_none ObjReply.Absent told h = true≢false (sym h)
 
 -- ---- operations that share a place
 
 -- where one stands, and where one looks
 abbrev Stands : ObjOp → ℕ → Type 0
-Stands (op.Element s e x) k = (key_number (cell.Element s e) ≡ k) ⊎ (place_of_set s ≡ k)
-Stands (op.Account a x) k = key_number (cell.Account a) ≡ k
-Stands (op.Counter c x) k = key_number (cell.Counter c) ≡ k
-Stands (op.Size s) k = key_number (cell.Size s) ≡ k
+Stands (ObjOp.Element s e x) k = (key_number (Cell.Element s e) ≡ k) ⊎ (place_of_set s ≡ k)
+Stands (ObjOp.Account a x) k = key_number (Cell.Account a) ≡ k
+Stands (ObjOp.Counter c x) k = key_number (Cell.Counter c) ≡ k
+Stands (ObjOp.Size s) k = key_number (Cell.Size s) ≡ k
 
 abbrev Looks : ObjOp → ℕ → Type 0
-Looks (op.Element s e x) k = (key_number (cell.Element s e) ≡ k) ⊎ (key_number (cell.Size s) ≡ k)
-Looks (op.Account a x) k = key_number (cell.Account a) ≡ k
-Looks (op.Counter c x) k = key_number (cell.Counter c) ≡ k
-Looks (op.Size s) k = place_of_set s ≡ k
+Looks (ObjOp.Element s e x) k = (key_number (Cell.Element s e) ≡ k) ⊎ (key_number (Cell.Size s) ≡ k)
+Looks (ObjOp.Account a x) k = key_number (Cell.Account a) ≡ k
+Looks (ObjOp.Counter c x) k = key_number (Cell.Counter c) ≡ k
+Looks (ObjOp.Size s) k = place_of_set s ≡ k
 
 stands_there : (o : ObjOp) (k : ℕ) → Contains (places_of (cell_of o)) k → Stands o k
-stands_there (op.Element s e x) k h = one_of_two (key_number (cell.Element s e)) (place_of_set s) k h
-stands_there (op.Account a x) k h = the_one (key_number (cell.Account a)) k h
-stands_there (op.Counter c x) k h = the_one (key_number (cell.Counter c)) k h
-stands_there (op.Size s) k h = the_one (key_number (cell.Size s)) k h
+stands_there (ObjOp.Element s e x) k h = one_of_two (key_number (Cell.Element s e)) (place_of_set s) k h
+stands_there (ObjOp.Account a x) k h = the_one (key_number (Cell.Account a)) k h
+stands_there (ObjOp.Counter c x) k h = the_one (key_number (Cell.Counter c)) k h
+stands_there (ObjOp.Size s) k h = the_one (key_number (Cell.Size s)) k h
 
 looks_there : (o : ObjOp) (k : ℕ) → Contains (looked_at o) k → Looks o k
-looks_there (op.Element s e Add) k h = one_of_two (key_number (cell.Element s e)) (key_number (cell.Size s)) k h
-looks_there (op.Element s e Remove) k h = one_of_two (key_number (cell.Element s e)) (key_number (cell.Size s)) k h
-looks_there (op.Element s e Has) k h = inl (the_one (key_number (cell.Element s e)) k h)
-looks_there (op.Account a x) k h = the_one (key_number (cell.Account a)) k h
-looks_there (op.Counter c x) k h = the_one (key_number (cell.Counter c)) k h
-looks_there (op.Size s) k h = the_one (place_of_set s) k h
+looks_there (ObjOp.Element s e Add) k h = one_of_two (key_number (Cell.Element s e)) (key_number (Cell.Size s)) k h
+looks_there (ObjOp.Element s e Remove) k h = one_of_two (key_number (Cell.Element s e)) (key_number (Cell.Size s)) k h
+looks_there (ObjOp.Element s e Has) k h = inl (the_one (key_number (Cell.Element s e)) k h)
+looks_there (ObjOp.Account a x) k h = the_one (key_number (Cell.Account a)) k h
+looks_there (ObjOp.Counter c x) k h = the_one (key_number (Cell.Counter c)) k h
+looks_there (ObjOp.Size s) k h = the_one (place_of_set s) k h
 
 wrapped : {C : Type 0} (wrap : C → Class) (table : C → C → Bool) → ((c d : C) → marks (wrap c) (wrap d) ≡ table c d) → (x y : Option C) → marked_classes marks (option_map wrap x) (option_map wrap y) ≡ marked_classes table x y
 wrapped wrap table same (Some c) (Some d) = same c d
@@ -225,46 +217,46 @@ wrapped wrap table same None None = refl
 
 -- at one place the classes alone tell
 told_by_class : (earlier requested : ObjOp × ObjReply) (k : ℕ) → IsInRange (cell_of earlier.0) → IsInRange (cell_of requested.0) → Stands earlier.0 k → Looks requested.0 k → clashes earlier requested ≡ marked_classes marks (class_of earlier) (class_of requested)
-told_by_class (op.Account a x, r) (op.Account b y, q) k m n st lk =
+told_by_class (ObjOp.Account a x, r) (ObjOp.Account b y, q) k m n st lk =
     let same : a ≡ b = omega arith in rw (eq-eqb a b same) (sym (wrapped Account account_marks (λ c d. refl) (account_class x r) (account_class y q)))
-told_by_class (op.Counter a x, r) (op.Counter b y, q) k m n st lk =
+told_by_class (ObjOp.Counter a x, r) (ObjOp.Counter b y, q) k m n st lk =
     let same : a ≡ b = omega arith in rw (eq-eqb a b same) (sym (wrapped Counter counter_marks (λ c d. refl) (counter_class x r) (counter_class y q)))
-told_by_class (op.Element s a x, r) (op.Element t b y, q) k m n (inl st) (inl lk) =
+told_by_class (ObjOp.Element s a x, r) (ObjOp.Element t b y, q) k m n (inl st) (inl lk) =
     let set : s ≡ t = omega arith in let same : a ≡ b = omega arith in
     rw (eq-eqb s t set) (rw (eq-eqb a b same) (sym (wrapped Element element_marks (λ c d. refl) (element_class x r) (element_class y q))))
-told_by_class (op.Element s a x, r) (op.Size t, q) k m n (inr st) lk =
+told_by_class (ObjOp.Element s a x, r) (ObjOp.Size t, q) k m n (inr st) lk =
     let set : s ≡ t = omega arith in rw (eq-eqb s t set) (changed_before (element_class x r) q)
-told_by_class (op.Size s, r) (op.Element t b y, q) k m n st (inr lk) =
+told_by_class (ObjOp.Size s, r) (ObjOp.Element t b y, q) k m n st (inr lk) =
     let set : s ≡ t = omega arith in rw (eq-eqb s t set) (changed_after (element_class y q) r)
-told_by_class (op.Account a x, r) (op.Counter b y, q) k m n st lk = absurd (omega arith)
-told_by_class (op.Account a x, r) (op.Size t, q) k m n st lk = absurd (omega arith)
-told_by_class (op.Account a x, r) (op.Element t b y, q) k m n st (inl lk) = absurd (omega arith)
-told_by_class (op.Account a x, r) (op.Element t b y, q) k m n st (inr lk) = absurd (omega arith)
-told_by_class (op.Counter a x, r) (op.Account b y, q) k m n st lk = absurd (omega arith)
-told_by_class (op.Counter a x, r) (op.Size t, q) k m n st lk = absurd (omega arith)
-told_by_class (op.Counter a x, r) (op.Element t b y, q) k m n st (inl lk) = absurd (omega arith)
-told_by_class (op.Counter a x, r) (op.Element t b y, q) k m n st (inr lk) = absurd (omega arith)
-told_by_class (op.Element s a x, r) (op.Account b y, q) k m n (inl st) lk = absurd (omega arith)
-told_by_class (op.Element s a x, r) (op.Account b y, q) k m n (inr st) lk = absurd (omega arith)
-told_by_class (op.Element s a x, r) (op.Counter b y, q) k m n (inl st) lk = absurd (omega arith)
-told_by_class (op.Element s a x, r) (op.Counter b y, q) k m n (inr st) lk = absurd (omega arith)
-told_by_class (op.Element s a x, r) (op.Size t, q) k m n (inl st) lk = absurd (omega arith)
-told_by_class (op.Element s a x, r) (op.Element t b y, q) k m n (inl st) (inr lk) = absurd (omega arith)
-told_by_class (op.Element s a x, r) (op.Element t b y, q) k m n (inr st) (inl lk) = absurd (omega arith)
-told_by_class (op.Element s a x, r) (op.Element t b y, q) k m n (inr st) (inr lk) = absurd (omega arith)
-told_by_class (op.Size s, r) (op.Account b y, q) k m n st lk = absurd (omega arith)
-told_by_class (op.Size s, r) (op.Counter b y, q) k m n st lk = absurd (omega arith)
-told_by_class (op.Size s, r) (op.Size t, q) k m n st lk = absurd (omega arith)
-told_by_class (op.Size s, r) (op.Element t b y, q) k m n st (inl lk) = absurd (omega arith)
+told_by_class (ObjOp.Account a x, r) (ObjOp.Counter b y, q) k m n st lk = absurd (omega arith)
+told_by_class (ObjOp.Account a x, r) (ObjOp.Size t, q) k m n st lk = absurd (omega arith)
+told_by_class (ObjOp.Account a x, r) (ObjOp.Element t b y, q) k m n st (inl lk) = absurd (omega arith)
+told_by_class (ObjOp.Account a x, r) (ObjOp.Element t b y, q) k m n st (inr lk) = absurd (omega arith)
+told_by_class (ObjOp.Counter a x, r) (ObjOp.Account b y, q) k m n st lk = absurd (omega arith)
+told_by_class (ObjOp.Counter a x, r) (ObjOp.Size t, q) k m n st lk = absurd (omega arith)
+told_by_class (ObjOp.Counter a x, r) (ObjOp.Element t b y, q) k m n st (inl lk) = absurd (omega arith)
+told_by_class (ObjOp.Counter a x, r) (ObjOp.Element t b y, q) k m n st (inr lk) = absurd (omega arith)
+told_by_class (ObjOp.Element s a x, r) (ObjOp.Account b y, q) k m n (inl st) lk = absurd (omega arith)
+told_by_class (ObjOp.Element s a x, r) (ObjOp.Account b y, q) k m n (inr st) lk = absurd (omega arith)
+told_by_class (ObjOp.Element s a x, r) (ObjOp.Counter b y, q) k m n (inl st) lk = absurd (omega arith)
+told_by_class (ObjOp.Element s a x, r) (ObjOp.Counter b y, q) k m n (inr st) lk = absurd (omega arith)
+told_by_class (ObjOp.Element s a x, r) (ObjOp.Size t, q) k m n (inl st) lk = absurd (omega arith)
+told_by_class (ObjOp.Element s a x, r) (ObjOp.Element t b y, q) k m n (inl st) (inr lk) = absurd (omega arith)
+told_by_class (ObjOp.Element s a x, r) (ObjOp.Element t b y, q) k m n (inr st) (inl lk) = absurd (omega arith)
+told_by_class (ObjOp.Element s a x, r) (ObjOp.Element t b y, q) k m n (inr st) (inr lk) = absurd (omega arith)
+told_by_class (ObjOp.Size s, r) (ObjOp.Account b y, q) k m n st lk = absurd (omega arith)
+told_by_class (ObjOp.Size s, r) (ObjOp.Counter b y, q) k m n st lk = absurd (omega arith)
+told_by_class (ObjOp.Size s, r) (ObjOp.Size t, q) k m n st lk = absurd (omega arith)
+told_by_class (ObjOp.Size s, r) (ObjOp.Element t b y, q) k m n st (inl lk) = absurd (omega arith)
 
 pub by_class : (earlier requested : ObjOp × ObjReply) → IsInRange (cell_of earlier.0) → IsInRange (cell_of requested.0) → SharesPlace earlier requested → clashes earlier requested ≡ marked_classes marks (class_of earlier) (class_of requested)
 by_class earlier requested m n shares =
     told_by_class earlier requested shares.0 m n (stands_there earlier.0 shares.0 shares.1) (looks_there requested.0 shares.0 shares.2)
 
 -- one that asks for a size, and one that may change it, share a place
-looks_at_size : (s t e : ℕ) (x : ElementOp) (answer told : ObjReply) → s ≡ t → changes_told (element_class x answer) told ≡ true → Contains (looked_at (op.Element t e x)) (key_number (cell.Size s))
-looks_at_size s t e Add answer told same h = subst (λ k. Contains (looked_at (op.Element t e Add)) (key_number (cell.Size k))) (sym same) (contains_later (key_number (cell.Element t e)) (key_number (cell.Size t) ∷ []) (key_number (cell.Size t)) (contains_first (key_number (cell.Size t)) []))
-looks_at_size s t e Remove answer told same h = subst (λ k. Contains (looked_at (op.Element t e Remove)) (key_number (cell.Size k))) (sym same) (contains_later (key_number (cell.Element t e)) (key_number (cell.Size t) ∷ []) (key_number (cell.Size t)) (contains_first (key_number (cell.Size t)) []))
+looks_at_size : (s t e : ℕ) (x : ElementOp) (answer told : ObjReply) → s ≡ t → changes_told (element_class x answer) told ≡ true → Contains (looked_at (ObjOp.Element t e x)) (key_number (Cell.Size s))
+looks_at_size s t e Add answer told same h = subst (λ k. Contains (looked_at (ObjOp.Element t e Add)) (key_number (Cell.Size k))) (sym same) (contains_later (key_number (Cell.Element t e)) (key_number (Cell.Size t) ∷ []) (key_number (Cell.Size t)) (contains_first (key_number (Cell.Size t)) []))
+looks_at_size s t e Remove answer told same h = subst (λ k. Contains (looked_at (ObjOp.Element t e Remove)) (key_number (Cell.Size k))) (sym same) (contains_later (key_number (Cell.Element t e)) (key_number (Cell.Size t) ∷ []) (key_number (Cell.Size t)) (contains_first (key_number (Cell.Size t)) []))
 looks_at_size s t e Has answer told same h = absurd (has_changes_none answer told h)
 
 -- operations on one cell share its key's number
@@ -274,46 +266,46 @@ one_cell earlier requested k others rest stands looks =
 
 -- operations that clash share a place
 pub share_place : (earlier requested : ObjOp × ObjReply) → clashes earlier requested ≡ true → SharesPlace earlier requested
-share_place (op.Account a x, r) (op.Account b y, q) h =
+share_place (ObjOp.Account a x, r) (ObjOp.Account b y, q) h =
     elim (cases_eq a b) [
-      | inl e ↦ one_cell (op.Account a x, r) (op.Account b y, q) (key_number (cell.Account a)) [] [] refl (ap (λ n. key_number (cell.Account n) ∷ []) (sym e))
+      | inl e ↦ one_cell (ObjOp.Account a x, r) (ObjOp.Account b y, q) (key_number (Cell.Account a)) [] [] refl (ap (λ n. key_number (Cell.Account n) ∷ []) (sym e))
       | inr ne ↦ absurd (true≢false (sym h ∙ rw (ne_eqb a b ne) refl))
     ]
-share_place (op.Counter a x, r) (op.Counter b y, q) h =
+share_place (ObjOp.Counter a x, r) (ObjOp.Counter b y, q) h =
     elim (cases_eq a b) [
-      | inl e ↦ one_cell (op.Counter a x, r) (op.Counter b y, q) (key_number (cell.Counter a)) [] [] refl (ap (λ n. key_number (cell.Counter n) ∷ []) (sym e))
+      | inl e ↦ one_cell (ObjOp.Counter a x, r) (ObjOp.Counter b y, q) (key_number (Cell.Counter a)) [] [] refl (ap (λ n. key_number (Cell.Counter n) ∷ []) (sym e))
       | inr ne ↦ absurd (true≢false (sym h ∙ rw (ne_eqb a b ne) refl))
     ]
-share_place (op.Element s a x, r) (op.Element t b y, q) h =
+share_place (ObjOp.Element s a x, r) (ObjOp.Element t b y, q) h =
     elim (cases_eq s t) [
       | inl e ↦ elim (cases_eq a b) [
-        | inl k ↦ one_cell (op.Element s a x, r) (op.Element t b y, q) (key_number (cell.Element s a)) (place_of_set s ∷ []) (map key_number (size_cells (op.Element t b y))) refl
-            (λ i. key_number (cell.Element (sym e i) (sym k i)) ∷ map key_number (size_cells (op.Element t b y)))
+        | inl k ↦ one_cell (ObjOp.Element s a x, r) (ObjOp.Element t b y, q) (key_number (Cell.Element s a)) (place_of_set s ∷ []) (map key_number (size_cells (ObjOp.Element t b y))) refl
+            (λ i. key_number (Cell.Element (sym e i) (sym k i)) ∷ map key_number (size_cells (ObjOp.Element t b y)))
         | inr ne ↦ absurd (true≢false (sym h ∙ rw (eq-eqb s t e) (rw (ne_eqb a b ne) refl)))
       ]
       | inr ne ↦ absurd (true≢false (sym h ∙ rw (ne_eqb s t ne) refl))
     ]
-share_place (op.Element s a x, r) (op.Size t, q) h =
+share_place (ObjOp.Element s a x, r) (ObjOp.Size t, q) h =
     elim (cases_eq s t) [
-      | inl e ↦ (place_of_set s, contains_later (key_number (cell.Element s a)) (place_of_set s ∷ []) (place_of_set s) (contains_first (place_of_set s) []), subst (λ n. Contains (place_of_set n ∷ []) (place_of_set s)) e (contains_first (place_of_set s) []))
+      | inl e ↦ (place_of_set s, contains_later (key_number (Cell.Element s a)) (place_of_set s ∷ []) (place_of_set s) (contains_first (place_of_set s) []), subst (λ n. Contains (place_of_set n ∷ []) (place_of_set s)) e (contains_first (place_of_set s) []))
       | inr ne ↦ absurd (true≢false (sym h ∙ rw (ne_eqb s t ne) refl))
     ]
-share_place (op.Size s, r) (op.Element t b y, q) h =
+share_place (ObjOp.Size s, r) (ObjOp.Element t b y, q) h =
     elim (cases_eq s t) [
-      | inl e ↦ (key_number (cell.Size s), contains_first (key_number (cell.Size s)) [], looks_at_size s t b y q r e (sym (rw (eq-eqb s t e) refl) ∙ h))
+      | inl e ↦ (key_number (Cell.Size s), contains_first (key_number (Cell.Size s)) [], looks_at_size s t b y q r e (sym (rw (eq-eqb s t e) refl) ∙ h))
       | inr ne ↦ absurd (true≢false (sym h ∙ rw (ne_eqb s t ne) refl))
     ]
-share_place (op.Account a x, r) (op.Counter b y, q) h = absurd (true≢false (sym h))
-share_place (op.Account a x, r) (op.Element t b y, q) h = absurd (true≢false (sym h))
-share_place (op.Account a x, r) (op.Size t, q) h = absurd (true≢false (sym h))
-share_place (op.Counter a x, r) (op.Account b y, q) h = absurd (true≢false (sym h))
-share_place (op.Counter a x, r) (op.Element t b y, q) h = absurd (true≢false (sym h))
-share_place (op.Counter a x, r) (op.Size t, q) h = absurd (true≢false (sym h))
-share_place (op.Element s a x, r) (op.Account b y, q) h = absurd (true≢false (sym h))
-share_place (op.Element s a x, r) (op.Counter b y, q) h = absurd (true≢false (sym h))
-share_place (op.Size s, r) (op.Account b y, q) h = absurd (true≢false (sym h))
-share_place (op.Size s, r) (op.Counter b y, q) h = absurd (true≢false (sym h))
-share_place (op.Size s, r) (op.Size t, q) h = absurd (true≢false (sym h))
+share_place (ObjOp.Account a x, r) (ObjOp.Counter b y, q) h = absurd (true≢false (sym h))
+share_place (ObjOp.Account a x, r) (ObjOp.Element t b y, q) h = absurd (true≢false (sym h))
+share_place (ObjOp.Account a x, r) (ObjOp.Size t, q) h = absurd (true≢false (sym h))
+share_place (ObjOp.Counter a x, r) (ObjOp.Account b y, q) h = absurd (true≢false (sym h))
+share_place (ObjOp.Counter a x, r) (ObjOp.Element t b y, q) h = absurd (true≢false (sym h))
+share_place (ObjOp.Counter a x, r) (ObjOp.Size t, q) h = absurd (true≢false (sym h))
+share_place (ObjOp.Element s a x, r) (ObjOp.Account b y, q) h = absurd (true≢false (sym h))
+share_place (ObjOp.Element s a x, r) (ObjOp.Counter b y, q) h = absurd (true≢false (sym h))
+share_place (ObjOp.Size s, r) (ObjOp.Account b y, q) h = absurd (true≢false (sym h))
+share_place (ObjOp.Size s, r) (ObjOp.Counter b y, q) h = absurd (true≢false (sym h))
+share_place (ObjOp.Size s, r) (ObjOp.Size t, q) h = absurd (true≢false (sym h))
 
 -- ---- clashes by bits
 

@@ -1,12 +1,6 @@
 -- Lists of entries, each of a transaction.
-use Prim.Native.Nat.{zero}
-use Rattle.std.proofs.Common.{◌≡◌, ◌≢◌, ℕ, suc, ◌-◌, ◌<◌, List, [], ◌∷◌, ◌++◌, false, None, Some, nat_eq, length, length-append, slice_get, get_or, set, sym, ap, subst, ◌∙◌, refl, arith}
-use Rattle.std.specs.Prelude.{unwrap_or}
-use Rattle.std.proofs.lemmas.Bool.Decides.{nat_tests}
-use Rattle.std.proofs.lemmas.List.Elements.{Contains-get_or}
-use Rattle.std.proofs.lemmas.List.Quantifiers.{position-Some}
-use Rattle.std.specs.List.{position, remove}
-use Rattle.mlt_object_locks.specs.Entries.{HasEachOnce, is_entry_of, value_of}
+use Rattle.mlt_object_locks.proofs.Names.{zero, nat_tests, Contains-get_or, position-Some, HasEachOnce, is_entry_of, value_of}
+use Rattle.std.proofs.Common.{◌≡◌, ◌≢◌, ℕ, suc, ◌-◌, ◌<◌, List, [], ◌∷◌, ◌++◌, false, None, Some, nat_eq, length, length-append, slice_get, get_or, set, sym, ap, subst, ◌∙◌, refl, arith, unwrap_or, position, remove}
 use Rattle.mlt_object_locks.proofs.Membership.{some_found}
 
 pub differ : (a b : ℕ) → b ≢ a → nat_eq a b ≡ false

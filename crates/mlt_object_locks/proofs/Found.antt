@@ -1,16 +1,11 @@
 -- A place that was found in the map, by its index there.
-use Prim.Native.Nat.{zero}
-use Rattle.std.proofs.Common.{◌≡◌, ℕ, suc, List, [], ◌∷◌, true, false, Some, nat_eq, slice_get, sym, ap, subst, refl, ◌∙◌, true≢false, arith}
-use Rattle.std.specs.Prelude.{unwrap_or}
+use Rattle.mlt_object_locks.proofs.Names.{zero, list_all, nat_tests, IndexMap, IsUnique, Updates, Holder, is_of, is_not_of, ChangesAt, list_at}
+use Rattle.std.proofs.Common.{◌≡◌, ℕ, suc, List, [], ◌∷◌, true, false, Some, nat_eq, slice_get, sym, ap, subst, refl, ◌∙◌, true≢false, arith, unwrap_or, filter}
 use Rattle.std.specs.Cmp.{nat_eq_equiv}
-use Rattle.std.specs.List.{filter, list_all, IsDistinct}
+use Rattle.std.specs.List.{IsDistinct}
 use Rattle.std.specs.Map.{lookup_key, values_of}
-use Rattle.std.proofs.lemmas.Bool.Decides.{nat_tests}
-use Rattle.indexmap.specs.IndexMap.{IndexMap, IsUnique, Updates, get, values, with_value_at}
+use Rattle.indexmap.specs.IndexMap.{get, values, with_value_at}
 use Rattle.indexmap.proofs.CallerLemmas.{keys-with_value_at, updates-with_value_at}
-use Rattle.mlt_object_locks.specs.declared.holders.Holder.{Holder}
-use Rattle.mlt_object_locks.specs.Holders.{is_of, is_not_of}
-use Rattle.mlt_object_locks.specs.Cells.{ChangesAt, list_at}
 use Rattle.mlt_object_locks.proofs.Entries.{differ}
 
 pub same_some : {A : Type 0} {x y : A} → Some x ≡ Some y → x ≡ y

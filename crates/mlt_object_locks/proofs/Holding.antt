@@ -1,18 +1,7 @@
 -- The holders of one cell: one comes, is granted something, or goes.
-use Prim.Native.Nat.{zero}
-use Rattle.std.proofs.Common.{false, suc, ◌≢◌, ◌≡◌, ◌⊎◌, ℕ, ◌<◌, List, [], ◌∷◌, true, Option, None, Some, Contains, length, length-set, get_or, set, sym, ap, subst, ◌∙◌, refl, inl, inr, arith}
-use Rattle.std.specs.List.{list_all, list_any, position}
-use Rattle.std.proofs.lemmas.Bool.{cases_eq}
-use Rattle.std.proofs.lemmas.Bool.Decides.{nat_tests}
-use Rattle.std.proofs.lemmas.List.{get_or-set_other, get_or-set_same, get_or_default}
-use Rattle.std.proofs.lemmas.List.Elements.{Contains-get_or}
-use Rattle.std.proofs.lemmas.List.Quantifiers.{position-Some}
-use Rattle.mlt_object_locks.specs.declared.holders.Holder.{Holder}
-use Rattle.mlt_object_kinds.specs.declared.operation.ObjOp.{ObjOp}
-use Rattle.mlt_object_kinds.specs.declared.operation.ObjReply.{ObjReply}
-use Rattle.mlt_object_locks.specs.Locks.{IsLowestOf}
-use Rattle.mlt_object_locks.specs.Classes.{AddsItem, AreInTheWay, InSet}
-use Rattle.mlt_object_locks.specs.Holders.{AreOnce, Grants, HasBit, IsHere, IsInTheWay, Joins, StandsAgainst, holder_of, is_of}
+use Rattle.mlt_object_locks.proofs.Names.{zero, list_all, list_any, cases_eq, nat_tests, get_or_default, Contains-get_or, position-Some, Holder, ObjOp, ObjReply, IsLowestOf, AreInTheWay, InSet, AreOnce, Grants, HasBit, IsHere, IsInTheWay, Joins, StandsAgainst, holder_of, is_of}
+use Rattle.std.proofs.Common.{false, suc, ◌≢◌, ◌≡◌, ◌⊎◌, ℕ, ◌<◌, List, [], ◌∷◌, true, Option, None, Some, Contains, length, length-set, get_or, set, sym, ap, subst, ◌∙◌, refl, inl, inr, arith, position, get_or-set_other, get_or-set_same}
+use Rattle.mlt_object_locks.specs.Classes.{AddsItem}
 use Rattle.mlt_object_locks.proofs.Membership.{contains_cases, contains_first, contains_later, contains_set, each_passes, named, none_in_empty, none_passes, set_keeps, set_only, some_found}
 
 -- a holder is its transaction with its classes

@@ -1,3 +1,4 @@
+mod Names
 pub mod Membership
 pub mod Bits
 pub mod ClassLaws

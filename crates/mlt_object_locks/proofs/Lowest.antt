@@ -1,11 +1,7 @@
 -- The lowest number of another transaction that stands in the way, with one more holder.
 use Rattle.std.proofs.Common.{◌≡◌, ◌⊎◌, ℕ, ◌+◌, ◌≤◌, ◌<◌, List, [], ◌∷◌, ◌++◌, Option, None, Some, Contains, length, get_or, take, ap, sym, subst, ◌∙◌, refl, arith, inl, inr}
-use Rattle.std.proofs.lemmas.List.{take_more}
-use Rattle.std.proofs.lemmas.List.Elements.{Contains-append_left, Contains-push, Contains-push_cases}
-use Rattle.mlt_object_locks.specs.declared.holders.Holder.{Holder}
-use Rattle.mlt_object_locks.specs.Locks.{lower_of, IsLowestOf}
-use Rattle.mlt_object_locks.specs.Classes.{Meets}
-use Rattle.mlt_object_locks.specs.Holders.{IsInTheWay, IsLowestInTheWay, StandsIn, holder_of}
+use Rattle.mlt_object_locks.proofs.Names.{take_more, Contains-append_left, Contains-push, Contains-push_cases, Holder, lower_of, IsLowestOf, Meets, IsInTheWay, IsLowestInTheWay, holder_of}
+use Rattle.mlt_object_locks.specs.Holders.{StandsIn}
 
 lower_left : (low n : ℕ) → lower_of (Some low) n ≤ low
 lower_left low n = grind arith

@@ -1,11 +1,7 @@
 -- The places that are noted of each transaction.
-use Rattle.std.proofs.Common.{◌≡◌, ◌≢◌, ◌⊎◌, ℕ, ◌+◌, ◌≤◌, List, [], ◌∷◌, ◌++◌, Bool, true, false, cond, not, nat_eq, Contains, length, length-append, sym, ap, subst, refl, ◌∙◌, true≢false, inl, inr, arith}
-use Rattle.std.specs.List.{filter}
-use Rattle.std.proofs.lemmas.Bool.{cases_eq}
-use Rattle.std.proofs.lemmas.Bool.Decides.{nat_tests}
-use Rattle.std.proofs.lemmas.List.Elements.{Contains-push, Contains-push_cases, Contains-append_left}
-use Rattle.mlt_object_locks.specs.Locks.{Held, is_of_other}
-use Rattle.mlt_object_locks.specs.Noted.{KeepsNoted, KeysWithRoom, NotesAtMost, NotesEach, SameNoted, held_count, is_held_by, noted_of}
+use Rattle.std.proofs.Common.{◌≡◌, ◌≢◌, ◌⊎◌, ℕ, ◌+◌, ◌≤◌, List, [], ◌∷◌, ◌++◌, Bool, true, false, cond, not, nat_eq, Contains, length, length-append, sym, ap, subst, refl, ◌∙◌, true≢false, inl, inr, arith, filter}
+use Rattle.mlt_object_locks.proofs.Names.{cases_eq, nat_tests, Contains-push, Contains-push_cases, Contains-append_left, Held, is_of_other, KeepsNoted, KeysWithRoom, NotesEach, SameNoted, held_count, noted_of}
+use Rattle.mlt_object_locks.specs.Noted.{NotesAtMost, is_held_by}
 use Rattle.mlt_object_locks.proofs.Membership.{none_in_empty}
 
 -- a place more is noted

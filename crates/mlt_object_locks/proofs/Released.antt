@@ -1,13 +1,6 @@
 -- A transaction that is released, a cell at a time.
-use Rattle.std.proofs.Common.{◌≡◌, ◌≢◌, ◌⊎◌, ℕ, List, [], ◌∷◌, ◌++◌, true, nat_eq, Contains, sym, ap, subst, ◌∙◌, inl, inr, arith}
-use Rattle.std.specs.List.{filter}
-use Rattle.std.proofs.lemmas.Bool.{cases_eq}
-use Rattle.std.proofs.lemmas.Bool.Decides.{nat_tests}
-use Rattle.std.proofs.lemmas.List.Elements.{Contains-append_left, Contains-push, Contains-push_cases}
-use Rattle.indexmap.specs.IndexMap.{IndexMap, IsUnique}
-use Rattle.mlt_object_locks.specs.declared.holders.Holder.{Holder}
-use Rattle.mlt_object_locks.specs.Holders.{is_not_of}
-use Rattle.mlt_object_locks.specs.Cells.{list_at, ChangesAt, ReleasesAt}
+use Rattle.std.proofs.Common.{◌≡◌, ◌≢◌, ◌⊎◌, ℕ, List, [], ◌∷◌, ◌++◌, true, nat_eq, Contains, sym, ap, subst, ◌∙◌, inl, inr, arith, filter}
+use Rattle.mlt_object_locks.proofs.Names.{cases_eq, nat_tests, Contains-append_left, Contains-push, Contains-push_cases, IndexMap, IsUnique, Holder, is_not_of, list_at, ChangesAt, ReleasesAt}
 use Rattle.mlt_object_locks.proofs.Membership.{contains_cases, none_in_empty, contains_filtered, filter_contains}
 
 module _ {S : Type 0} where

@@ -1,23 +1,8 @@
 -- A table stays sound through each of its steps.
-use Rattle.std.proofs.Common.{◌≡◌, ◌≢◌, ◌⊎◌, ℕ, ◌*◌, ◌≤◌, List, [], ◌∷◌, ◌++◌, nat_eq, Some, None, length, Contains, refl, sym, ap, subst, ◌∙◌, inl, inr, arith}
-use Rattle.std.specs.List.{filter}
-use Rattle.std.proofs.lemmas.Bool.{cases_eq}
-use Rattle.std.proofs.lemmas.Bool.Decides.{nat_tests}
-use Rattle.std.proofs.lemmas.List.Elements.{Contains-append_left, Contains-push, Contains-push_cases}
-use Rattle.indexmap.specs.IndexMap.{IndexMap, IsUnique}
-use Rattle.mlt_types.specs.declared.cell.Cell.{Cell}
+use Rattle.std.proofs.Common.{◌≡◌, ◌≢◌, ◌⊎◌, ℕ, ◌*◌, ◌≤◌, List, [], ◌∷◌, ◌++◌, nat_eq, Some, None, length, Contains, refl, sym, ap, subst, ◌∙◌, inl, inr, arith, filter}
+use Rattle.mlt_object_locks.proofs.Names.{cases_eq, nat_tests, Contains-append_left, Contains-push, Contains-push_cases, IndexMap, IsUnique, Cell, IsInRange, cell_of, ObjOp, ObjReply, Holder, Held, SameReservations, is_of_other, reservation_of, InSet, bit_of_item, HasBit, IsHere, holder_of, GivesUp, GrantsAt, IsGivenUp, IsHereAt, IsSound, JoinsAt, ReleasesAt, list_at, KeepsNoted, KeysWithRoom, NotesEach, SameNoted, held_count, noted_of, places_if_any, places_of, reserved_places}
 use Rattle.mlt_types.specs.declared.cell.Cell.TheVariants.{Account, Element, Counter, Size}
-use Rattle.mlt_types.specs.Cells.{IsInRange}
-use Rattle.mlt_object_kinds.specs.Operations.{cell_of}
-use Rattle.mlt_object_kinds.specs.declared.operation.ObjOp.{ObjOp}
-use Rattle.mlt_object_kinds.specs.declared.operation.ObjReply.{ObjReply}
-use Rattle.mlt_object_locks.specs.declared.holders.Holder.{Holder}
-use Rattle.mlt_object_locks.specs.Locks.{Held, SameReservations, is_of_other, reservation_of}
-use Rattle.mlt_object_locks.specs.Classes.{InSet, bit_of_item}
-use Rattle.mlt_object_locks.specs.Holders.{HasBit, IsHere, holder_of}
-use Rattle.mlt_object_locks.specs.Cells.{GivesUp, GrantsAt, HoldsBit, IsGivenUp, IsHereAt, IsSound, JoinsAt, ReleasesAt, list_at}
-use Rattle.mlt_object_locks.specs.Noted.{KeepsNoted, KeysWithRoom, NotesEach, SameNoted, held_count, noted_of}
-use Rattle.mlt_object_locks.specs.Places.{places_if_any, places_of, reserved_places}
+use Rattle.mlt_object_locks.specs.Cells.{HoldsBit}
 use Rattle.mlt_object_locks.proofs.Bits.{none_in_set, some_bit}
 use Rattle.mlt_object_locks.proofs.Changes.{bits_noted_more}
 use Rattle.mlt_object_locks.proofs.Membership.{among_or_not, contains_filtered, filter_contains, none_in_empty}

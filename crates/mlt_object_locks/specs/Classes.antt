@@ -1,14 +1,11 @@
 -- Classes of operations of all kinds, and sets of them as the bits of a number.
-use Rattle.std.specs.Prelude.{ℕ, ◌≡◌, ◌⊎◌, Bool, true, false, Option, None, Some}
-use Rattle.std.specs.Option.{option_map}
+use Rattle.std.specs.Prelude.{ℕ, ◌≡◌, ◌⊎◌, Bool, true, false, Option, None, Some, option_map}
 use Rattle.std.specs.Int.{bit_at}
 use Rattle.mlt_object_kinds.specs.declared.operation.ObjOp.{ObjOp}
-use Rattle.mlt_object_kinds.specs.declared.operation.ObjOp.TheVariants as op
 use Rattle.mlt_object_kinds.specs.declared.operation.ObjReply.{ObjReply}
-use Rattle.mlt_object_kinds.specs.declared.operation.ObjReply.TheVariants as reply
-use Rattle.mlt_object_conflicts.specs.declared.accounts.AccountClass.TheVariants as account
-use Rattle.mlt_object_conflicts.specs.declared.elements.ElementClass.TheVariants as element
-use Rattle.mlt_object_conflicts.specs.declared.counters.CounterClass.TheVariants as counter
+use Rattle.mlt_object_conflicts.specs.declared.accounts.AccountClass.{AccountClass}
+use Rattle.mlt_object_conflicts.specs.declared.elements.ElementClass.{ElementClass}
+use Rattle.mlt_object_conflicts.specs.declared.counters.CounterClass.{CounterClass}
 use Rattle.mlt_object_conflicts.specs.AccountTable.{account_class, account_marks}
 use Rattle.mlt_object_conflicts.specs.CounterTable.{counter_class, counter_marks}
 use Rattle.mlt_object_conflicts.specs.ElementTable.{element_class, element_marks}
@@ -18,15 +15,15 @@ use Rattle.mlt_object_locks.specs.declared.classes.Class.TheVariants.{Account, E
 
 -- the class of one that asks for the size of a set
 abbrev pub size_class : ObjReply → Option Class
-size_class (reply.Is n) = Some Size
+size_class (ObjReply.Is n) = Some Size
 size_class _ = None
 
 -- the class of an operation with its reply, None where the table of its kind has no such row
 abbrev pub class_of : ObjOp × ObjReply → Option Class
-class_of (op.Account a asked, told) = option_map Account (account_class asked told)
-class_of (op.Element s e asked, told) = option_map Element (element_class asked told)
-class_of (op.Counter c asked, told) = option_map Counter (counter_class asked told)
-class_of (op.Size s, told) = size_class told
+class_of (ObjOp.Account a asked, told) = option_map Account (account_class asked told)
+class_of (ObjOp.Element s e asked, told) = option_map Element (element_class asked told)
+class_of (ObjOp.Counter c asked, told) = option_map Counter (counter_class asked told)
+class_of (ObjOp.Size s, told) = size_class told
 
 -- The table of their kind marks the two, held and then requested; or the one tells a size, and the other changes it.
 abbrev pub marks : Class → Class → Bool
@@ -39,24 +36,24 @@ marks _ _ = false
 
 -- the bit of a class
 abbrev pub bit_of : Class → ℕ
-bit_of (Account account.Opened) = 0
-bit_of (Account account.Exists) = 1
-bit_of (Account account.Closed) = 2
-bit_of (Account account.NotEmpty) = 3
-bit_of (Account account.Deposited) = 4
-bit_of (Account account.Over) = 5
-bit_of (Account account.Withdrawn) = 6
-bit_of (Account account.Short) = 7
-bit_of (Account account.Balance) = 8
-bit_of (Account account.Missing) = 9
-bit_of (Element element.Added) = 10
-bit_of (Element element.Present) = 11
-bit_of (Element element.Removed) = 12
-bit_of (Element element.Absent) = 13
-bit_of (Element element.Yes) = 14
-bit_of (Element element.No) = 15
-bit_of (Counter counter.Counted) = 16
-bit_of (Counter counter.Read) = 17
+bit_of (Account AccountClass.Opened) = 0
+bit_of (Account AccountClass.Exists) = 1
+bit_of (Account AccountClass.Closed) = 2
+bit_of (Account AccountClass.NotEmpty) = 3
+bit_of (Account AccountClass.Deposited) = 4
+bit_of (Account AccountClass.Over) = 5
+bit_of (Account AccountClass.Withdrawn) = 6
+bit_of (Account AccountClass.Short) = 7
+bit_of (Account AccountClass.Balance) = 8
+bit_of (Account AccountClass.Missing) = 9
+bit_of (Element ElementClass.Added) = 10
+bit_of (Element ElementClass.Present) = 11
+bit_of (Element ElementClass.Removed) = 12
+bit_of (Element ElementClass.Absent) = 13
+bit_of (Element ElementClass.Yes) = 14
+bit_of (Element ElementClass.No) = 15
+bit_of (Counter CounterClass.Counted) = 16
+bit_of (Counter CounterClass.Read) = 17
 bit_of Size = 18
 
 -- the bit of an operation's class, where it has one

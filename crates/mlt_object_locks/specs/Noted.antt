@@ -1,6 +1,5 @@
 -- The places at which transactions hold something, and the room to note more.
-use Rattle.std.specs.Prelude.{ℕ, ◌≡◌, ◌≢◌, ◌+◌, ◌≤◌, nat_eq, Bool, List, [], length, unwrap_or, Contains}
-use Rattle.std.specs.List.{filter}
+use Rattle.std.specs.Prelude.{ℕ, ◌≡◌, ◌≢◌, ◌+◌, ◌≤◌, nat_eq, Bool, List, [], length, unwrap_or, Contains, filter}
 use Rattle.mlt_object_locks.specs.Locks.{Held}
 use Rattle.mlt_object_locks.specs.Entries.{value_of}
 

@@ -5,7 +5,6 @@ use Rattle.mlt_types.specs.declared.cell.Cell.TheVariants.{Account, Element, Cou
 use Rattle.mlt_types.specs.Cells.{key_number}
 use Rattle.mlt_object_kinds.specs.declared.operation.ObjOp.{ObjOp}
 use Rattle.mlt_object_kinds.specs.declared.operation.ObjReply.{ObjReply}
-use Rattle.mlt_object_kinds.specs.declared.operation.ObjOp.TheVariants as op
 use Rattle.mlt_object_kinds.specs.Operations.{cell_of, cells_of}
 use Rattle.mlt_object_locks.specs.Locks.{reservation_of}
 
@@ -23,7 +22,7 @@ places_of (Size s) = key_number (Size s) ∷ []
 -- Where those stand with which the operation may clash: at the keys of the cells on which it is locked. One that asks for a
 -- size looks at its set's place instead, since it never clashes with its like.
 abbrev pub looked_at : ObjOp → List ℕ
-looked_at (op.Size s) = place_of_set s ∷ []
+looked_at (ObjOp.Size s) = place_of_set s ∷ []
 looked_at other = map key_number (cells_of other)
 
 -- the places of a cell, if there is one

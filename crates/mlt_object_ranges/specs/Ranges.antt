@@ -1,23 +1,21 @@
 -- What numbers operations and replies can have.
 use Rattle.std.specs.Prelude.{◌<◌, ◌^◌}
 use Rattle.mlt_object_kinds.specs.declared.account.AccountOp.{AccountOp}
-use Rattle.mlt_object_kinds.specs.declared.account.AccountOp.TheVariants as account
 use Rattle.mlt_object_kinds.specs.declared.counter.CounterOp.{CounterOp}
-use Rattle.mlt_object_kinds.specs.declared.counter.CounterOp.TheVariants as counter
 use Rattle.mlt_object_kinds.specs.declared.operation.ObjOp.{ObjOp}
 use Rattle.mlt_object_kinds.specs.declared.operation.ObjOp.TheVariants.{Account, Element, Counter, Size}
 use Rattle.mlt_object_kinds.specs.declared.operation.ObjReply.{ObjReply}
 use Rattle.mlt_object_kinds.specs.declared.operation.ObjReply.TheVariants.{Is}
 
 abbrev pub FitsAccount : AccountOp → Type 0
-FitsAccount (account.Deposit n) = n < 2 ^ 64
-FitsAccount (account.Withdraw n) = n < 2 ^ 64
+FitsAccount (AccountOp.Deposit n) = n < 2 ^ 64
+FitsAccount (AccountOp.Withdraw n) = n < 2 ^ 64
 FitsAccount op = Unit {0}
 
 abbrev pub FitsCounter : CounterOp → Type 0
-FitsCounter (counter.Up n) = n < 2 ^ 64
-FitsCounter (counter.Down n) = n < 2 ^ 64
-FitsCounter counter.Read = Unit {0}
+FitsCounter (CounterOp.Up n) = n < 2 ^ 64
+FitsCounter (CounterOp.Down n) = n < 2 ^ 64
+FitsCounter CounterOp.Read = Unit {0}
 
 -- the numbers of the operation are those of their types
 abbrev pub FitsOp : ObjOp → Type 0

@@ -1,7 +1,6 @@
 -- Texts one after the other.
-use Rattle.std.proofs.Common.{◌≡◌, ◌++◌, ◌+◌, ◌∷◌, [], ◌<◌, ℕ, List, Option, Result, Ok, Err, OnOk, refl, sym, subst, append_assoc, add-one, take, get_or, length}
+use Rattle.std.proofs.Common.{◌≡◌, ◌++◌, ◌+◌, ◌∷◌, [], ◌<◌, ℕ, List, Option, Result, Ok, Err, OnOk, refl, sym, subst, append_assoc, add-one, take, get_or, length, append-nil}
 use Rattle.std.proofs.Math.Seq.{take-suc}
-use Rattle.std.proofs.lemmas.List.{append-nil}
 use Rattle.mlt_object_tables.specs.Tables.{AreTexts, IsTextOfTables}
 use Rattle.mlt_object_tables.specs.declared.tables.TableName.{TableName}
 

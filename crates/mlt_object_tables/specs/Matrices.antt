@@ -1,6 +1,5 @@
 -- The matrix of a conflict table: what is held down, what is asked across.
-use Rattle.std.specs.Prelude.{ℕ, ◌-◌, Bool, true, false, List, [], ◌∷◌, ◌++◌, length, replicate, codes}
-use Rattle.std.specs.List.{flat_map}
+use Rattle.std.specs.Prelude.{ℕ, ◌-◌, Bool, true, false, List, [], ◌∷◌, ◌++◌, length, replicate, codes, flat_map}
 use Rattle.mlt_object_conflicts.specs.declared.elements.ElementClass.{ElementClass}
 use Rattle.mlt_object_conflicts.specs.Sizes.{counts}
 use Rattle.mlt_object_tables.specs.Words.{element_classes, element_word}

@@ -1,11 +1,10 @@
 -- The words of classes, and the objects on which operations are shown.
-use Rattle.std.specs.Prelude.{ℕ, Bool, List, [], ◌∷◌, Contains, Option, codes}
-use Rattle.std.proofs.Common.{arith, refl}
+use Rattle.std.specs.Prelude.{ℕ, Bool, List, [], ◌∷◌, Contains, Option, codes, refl}
+use Rattle.std.proofs.Common.{arith}
 use Rattle.mlt_object_kinds.specs.declared.account.AccountOp.{AccountOp}
 use Rattle.mlt_object_kinds.specs.declared.element.ElementOp.{ElementOp}
 use Rattle.mlt_object_kinds.specs.declared.counter.CounterOp.{CounterOp}
 use Rattle.mlt_object_kinds.specs.declared.operation.ObjOp.{ObjOp}
-use Rattle.mlt_object_kinds.specs.declared.operation.ObjOp.TheVariants as op
 use Rattle.mlt_object_kinds.specs.declared.operation.ObjReply.{ObjReply}
 use Rattle.mlt_object_conflicts.specs.declared.accounts.AccountClass.{AccountClass}
 use Rattle.mlt_object_conflicts.specs.declared.accounts.AccountClass.TheVariants.{Opened, Exists, Closed, NotEmpty, Deposited, Over, Withdrawn, Short, Balance, Missing}
@@ -14,7 +13,6 @@ use Rattle.mlt_object_conflicts.specs.declared.elements.ElementClass.TheVariants
 use Rattle.mlt_object_conflicts.specs.declared.counters.CounterClass.{CounterClass}
 use Rattle.mlt_object_conflicts.specs.declared.counters.CounterClass.TheVariants.{Counted, Read}
 use Rattle.mlt_object_tables.specs.declared.cell_value.CellValue.{CellValue}
-use Rattle.mlt_object_tables.specs.declared.cell_value.CellValue.TheVariants as value
 
 -- the classes of accounts, in the order of the table
 abbrev pub account_classes : List AccountClass
@@ -54,23 +52,23 @@ counter_word Read = codes "Read"
 
 -- an operation with its reply, on account 1, element 1 of set 1, or counter 1
 abbrev pub on_account : AccountOp → ObjReply → ObjOp × ObjReply
-on_account asked reply = (op.Account 1 asked, reply)
+on_account asked reply = (ObjOp.Account 1 asked, reply)
 
 abbrev pub on_element : ElementOp → ObjReply → ObjOp × ObjReply
-on_element asked reply = (op.Element 1 1 asked, reply)
+on_element asked reply = (ObjOp.Element 1 1 asked, reply)
 
 abbrev pub on_counter : CounterOp → ObjReply → ObjOp × ObjReply
-on_counter asked reply = (op.Counter 1 asked, reply)
+on_counter asked reply = (ObjOp.Counter 1 asked, reply)
 
 -- that object, with what it holds
 abbrev pub account_value : Option ℕ → CellValue
-account_value balance = value.Account 1 balance
+account_value balance = CellValue.Account 1 balance
 
 abbrev pub element_value : Bool → CellValue
-element_value present = value.Element 1 1 present
+element_value present = CellValue.Element 1 1 present
 
 abbrev pub counter_value : ℕ → CellValue
-counter_value n = value.Counter 1 n
+counter_value n = CellValue.Counter 1 n
 
 -- each class is listed
 pub each_account_class_is_listed : (class : AccountClass) → Contains account_classes class

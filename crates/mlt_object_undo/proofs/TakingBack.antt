@@ -2,15 +2,10 @@
 use Rattle.std.proofs.Common.{◌≡◌, ℕ, suc, ◌+◌, ◌<◌, Bool, true, false, Option, None, Some, [], ◌∷◌, ◌++◌, take, length, get_or, refl, sym, ap, subst, ◌∙◌, arith, inl, inr}
 use Rattle.std.proofs.Math.Seq.{take-suc}
 use Rattle.mlt_types.specs.declared.cell.Cell.{Cell}
-use Rattle.mlt_types.specs.declared.cell.Cell.TheVariants as cell
 use Rattle.mlt_object_kinds.specs.declared.account.AccountOp.{AccountOp}
-use Rattle.mlt_object_kinds.specs.declared.account.AccountOp.TheVariants as account
 use Rattle.mlt_object_kinds.specs.declared.counter.CounterOp.{CounterOp}
-use Rattle.mlt_object_kinds.specs.declared.counter.CounterOp.TheVariants as counter
 use Rattle.mlt_object_kinds.specs.declared.element.ElementOp.{ElementOp}
-use Rattle.mlt_object_kinds.specs.declared.element.ElementOp.TheVariants as element
 use Rattle.mlt_object_kinds.specs.declared.operation.ObjOp.{ObjOp}
-use Rattle.mlt_object_kinds.specs.declared.operation.ObjOp.TheVariants as op
 use Rattle.mlt_object_kinds.specs.declared.operation.ObjReply.{ObjReply}
 use Rattle.mlt_object_kinds.specs.declared.operation.ObjReply.TheVariants.{Opened, Closed, Done, Added, Removed}
 use Rattle.mlt_object_kinds.specs.Accounts as accounts
@@ -28,29 +23,29 @@ abbrev LeadsBack : Cell → Option ObjOp → CellState → CellState → Type 0
 LeadsBack c None s t = s ≡ t
 LeadsBack c (Some o) s t = (cell_of o ≡ c) × (r : ObjReply) × CellStep t (o, r) s
 
-account_back : (a : ℕ) (o : AccountOp) (r : ObjReply) (s : Option ℕ) → accounts.IsLegalOnAccount o r s → LeadsBack (cell.Account a) (opposite_of (op.Account a o, r)) (AccountState s) (AccountState (accounts.account_after o r s))
-account_back a account.Open Opened None h = (refl, Closed, (refl, refl))
-account_back a account.Close Closed (Some b) h = (refl, Opened, (tt, ap Some (sym h)))
-account_back a (account.Deposit n) Done (Some b) h = (refl, Done, ((h.0, h.1, omega arith), ap Some (omega arith)))
-account_back a (account.Withdraw n) Done (Some b) h = (refl, Done, ((h.0, omega arith), ap Some (omega arith)))
+account_back : (a : ℕ) (o : AccountOp) (r : ObjReply) (s : Option ℕ) → accounts.IsLegalOnAccount o r s → LeadsBack (Cell.Account a) (opposite_of (ObjOp.Account a o, r)) (AccountState s) (AccountState (accounts.account_after o r s))
+account_back a AccountOp.Open Opened None h = (refl, Closed, (refl, refl))
+account_back a AccountOp.Close Closed (Some b) h = (refl, Opened, (tt, ap Some (sym h)))
+account_back a (AccountOp.Deposit n) Done (Some b) h = (refl, Done, ((h.0, h.1, omega arith), ap Some (omega arith)))
+account_back a (AccountOp.Withdraw n) Done (Some b) h = (refl, Done, ((h.0, omega arith), ap Some (omega arith)))
 account_back a _ _ _ h = first_of (cc, grind arith)
 
-element_back : (set e : ℕ) (o : ElementOp) (r : ObjReply) (s : Bool) → elements.IsLegalOnElement o r s → LeadsBack (cell.Element set e) (opposite_of (op.Element set e o, r)) (ElementState s) (ElementState (elements.element_after o r s))
-element_back set e element.Add Added false h = (refl, Removed, (tt, refl))
-element_back set e element.Remove Removed true h = (refl, Added, (tt, refl))
+element_back : (set e : ℕ) (o : ElementOp) (r : ObjReply) (s : Bool) → elements.IsLegalOnElement o r s → LeadsBack (Cell.Element set e) (opposite_of (ObjOp.Element set e o, r)) (ElementState s) (ElementState (elements.element_after o r s))
+element_back set e ElementOp.Add Added false h = (refl, Removed, (tt, refl))
+element_back set e ElementOp.Remove Removed true h = (refl, Added, (tt, refl))
 element_back set e _ _ _ h = first_of (cc, grind arith)
 
-counter_back : (c : ℕ) (o : CounterOp) (r : ObjReply) (s : ℕ) → counters.IsLegalOnCounter o r s → LeadsBack (cell.Counter c) (opposite_of (op.Counter c o, r)) (CounterState s) (CounterState (counters.counter_after o r s))
-counter_back c (counter.Up n) Done s h = (refl, Done, ((h.0, omega arith), omega arith))
-counter_back c (counter.Down n) Done s h = (refl, Done, ((h.0, omega arith), omega arith))
-counter_back c counter.Read r s h = refl
+counter_back : (c : ℕ) (o : CounterOp) (r : ObjReply) (s : ℕ) → counters.IsLegalOnCounter o r s → LeadsBack (Cell.Counter c) (opposite_of (ObjOp.Counter c o, r)) (CounterState s) (CounterState (counters.counter_after o r s))
+counter_back c (CounterOp.Up n) Done s h = (refl, Done, ((h.0, omega arith), omega arith))
+counter_back c (CounterOp.Down n) Done s h = (refl, Done, ((h.0, omega arith), omega arith))
+counter_back c CounterOp.Read r s h = refl
 counter_back c _ _ s h = absurd h
 
 cell_back : (x : ObjOp × ObjReply) (s t : CellState) → CellStep s x t → LeadsBack (cell_of x.0) (opposite_of x) s t
-cell_back (op.Account a o, r) (AccountState s) (AccountState t) h = subst (λ z. LeadsBack (cell.Account a) (opposite_of (op.Account a o, r)) (AccountState s) (AccountState z)) h.1 (account_back a o r s h.0)
-cell_back (op.Element set e o, r) (ElementState s) (ElementState t) h = subst (λ z. LeadsBack (cell.Element set e) (opposite_of (op.Element set e o, r)) (ElementState s) (ElementState z)) h.1 (element_back set e o r s h.0)
-cell_back (op.Counter c o, r) (CounterState s) (CounterState t) h = subst (λ z. LeadsBack (cell.Counter c) (opposite_of (op.Counter c o, r)) (CounterState s) (CounterState z)) h.1 (counter_back c o r s h.0)
-cell_back (op.Size s, r) NoState NoState h = refl
+cell_back (ObjOp.Account a o, r) (AccountState s) (AccountState t) h = subst (λ z. LeadsBack (Cell.Account a) (opposite_of (ObjOp.Account a o, r)) (AccountState s) (AccountState z)) h.1 (account_back a o r s h.0)
+cell_back (ObjOp.Element set e o, r) (ElementState s) (ElementState t) h = subst (λ z. LeadsBack (Cell.Element set e) (opposite_of (ObjOp.Element set e o, r)) (ElementState s) (ElementState z)) h.1 (element_back set e o r s h.0)
+cell_back (ObjOp.Counter c o, r) (CounterState s) (CounterState t) h = subst (λ z. LeadsBack (Cell.Counter c) (opposite_of (ObjOp.Counter c o, r)) (CounterState s) (CounterState z)) h.1 (counter_back c o r s h.0)
+cell_back (ObjOp.Size s, r) NoState NoState h = refl
 cell_back _ _ _ h = absurd h
 
 -- the opposite operation asks for no size
@@ -59,14 +54,14 @@ AsksNoSize None = Unit {0}
 AsksNoSize (Some o) = (b : Base) (r : ObjReply) → TellsSize b (o, r)
 
 asks_no_size : (x : ObjOp × ObjReply) → AsksNoSize (opposite_of x)
-asks_no_size (op.Account a account.Open, Opened) = λ b r. tt
-asks_no_size (op.Account a account.Close, Closed) = λ b r. tt
-asks_no_size (op.Account a (account.Deposit n), Done) = λ b r. tt
-asks_no_size (op.Account a (account.Withdraw n), Done) = λ b r. tt
-asks_no_size (op.Element s e element.Add, Added) = λ b r. tt
-asks_no_size (op.Element s e element.Remove, Removed) = λ b r. tt
-asks_no_size (op.Counter c (counter.Up n), reply) = λ b r. tt
-asks_no_size (op.Counter c (counter.Down n), reply) = λ b r. tt
+asks_no_size (ObjOp.Account a AccountOp.Open, Opened) = λ b r. tt
+asks_no_size (ObjOp.Account a AccountOp.Close, Closed) = λ b r. tt
+asks_no_size (ObjOp.Account a (AccountOp.Deposit n), Done) = λ b r. tt
+asks_no_size (ObjOp.Account a (AccountOp.Withdraw n), Done) = λ b r. tt
+asks_no_size (ObjOp.Element s e ElementOp.Add, Added) = λ b r. tt
+asks_no_size (ObjOp.Element s e ElementOp.Remove, Removed) = λ b r. tt
+asks_no_size (ObjOp.Counter c (CounterOp.Up n), reply) = λ b r. tt
+asks_no_size (ObjOp.Counter c (CounterOp.Down n), reply) = λ b r. tt
 asks_no_size _ = tt
 
 -- the opposite operation leads to the base before, whatever it is told

@@ -1,8 +1,8 @@
 -- The operations that take others back.
 use Rattle.std.specs.Prelude.{Option, Some, None}
-use Rattle.mlt_object_kinds.specs.declared.account.AccountOp.TheVariants as account
-use Rattle.mlt_object_kinds.specs.declared.counter.CounterOp.TheVariants as counter
-use Rattle.mlt_object_kinds.specs.declared.element.ElementOp.TheVariants as element
+use Rattle.mlt_object_kinds.specs.declared.account.AccountOp.{AccountOp}
+use Rattle.mlt_object_kinds.specs.declared.counter.CounterOp.{CounterOp}
+use Rattle.mlt_object_kinds.specs.declared.element.ElementOp.{ElementOp}
 use Rattle.mlt_object_kinds.specs.declared.operation.ObjOp.{ObjOp}
 use Rattle.mlt_object_kinds.specs.declared.operation.ObjOp.TheVariants.{Account, Element, Counter}
 use Rattle.mlt_object_kinds.specs.declared.operation.ObjReply.{ObjReply}
@@ -10,12 +10,12 @@ use Rattle.mlt_object_kinds.specs.declared.operation.ObjReply.TheVariants.{Opene
 
 -- the operation that takes one with its reply back, None where that changed nothing
 abbrev pub opposite_of : ObjOp × ObjReply → Option ObjOp
-opposite_of (Account a account.Open, Opened) = Some (Account a account.Close)
-opposite_of (Account a account.Close, Closed) = Some (Account a account.Open)
-opposite_of (Account a (account.Deposit n), Done) = Some (Account a (account.Withdraw n))
-opposite_of (Account a (account.Withdraw n), Done) = Some (Account a (account.Deposit n))
-opposite_of (Element s e element.Add, Added) = Some (Element s e element.Remove)
-opposite_of (Element s e element.Remove, Removed) = Some (Element s e element.Add)
-opposite_of (Counter c (counter.Up n), reply) = Some (Counter c (counter.Down n))
-opposite_of (Counter c (counter.Down n), reply) = Some (Counter c (counter.Up n))
+opposite_of (Account a AccountOp.Open, Opened) = Some (Account a AccountOp.Close)
+opposite_of (Account a AccountOp.Close, Closed) = Some (Account a AccountOp.Open)
+opposite_of (Account a (AccountOp.Deposit n), Done) = Some (Account a (AccountOp.Withdraw n))
+opposite_of (Account a (AccountOp.Withdraw n), Done) = Some (Account a (AccountOp.Deposit n))
+opposite_of (Element s e ElementOp.Add, Added) = Some (Element s e ElementOp.Remove)
+opposite_of (Element s e ElementOp.Remove, Removed) = Some (Element s e ElementOp.Add)
+opposite_of (Counter c (CounterOp.Up n), reply) = Some (Counter c (CounterOp.Down n))
+opposite_of (Counter c (CounterOp.Down n), reply) = Some (Counter c (CounterOp.Up n))
 opposite_of _ = None

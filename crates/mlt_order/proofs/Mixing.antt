@@ -1,6 +1,5 @@
 -- Interleavings made from others, and of finitely many lists.
-use Rattle.std.proofs.Common.{◌≡◌, ◌≢◌, ◌↔◌, ℕ, zero, suc, ◌+◌, ◌≤◌, List, [], ◌∷◌, ◌++◌, refl, sym, ap, ◌∙◌, arith}
-use Rattle.std.proofs.lemmas.List.{append-nil}
+use Rattle.std.proofs.Common.{◌≡◌, ◌≢◌, ◌↔◌, ℕ, zero, suc, ◌+◌, ◌≤◌, List, [], ◌∷◌, ◌++◌, refl, sym, ap, ◌∙◌, arith, append-nil}
 use Rattle.mlt_order.specs.Interleavings.{items_of, IsInterleaving}
 use Rattle.mlt_order.specs.Tables.{Gains, IsEmptied, AreFinitelyMany, table_with}
 use Rattle.mlt_order.proofs.Tables.{at_each, changed}

@@ -1,12 +1,10 @@
 -- Bits of masks: marks that are set and taken away.
-use Rattle.std.proofs.Common.{◌≡◌, ◌⊎◌, ℕ, ◌+◌, ◌-◌, ◌/◌, ◌%◌, ◌^◌, ◌<◌, ◌≤◌, List, length, get_or, set, length-set, bit_and, bit_or, w64, div-le_self, sym, ap, ◌∙◌, inl, inr, arith}
-use Rattle.std.specs.Int.{bit_at, trailing_zeros}
+use Rattle.std.proofs.Common.{◌≡◌, ◌⊎◌, ℕ, ◌+◌, ◌-◌, ◌/◌, ◌%◌, ◌^◌, ◌<◌, ◌≤◌, List, length, get_or, set, length-set, bit_and, bit_or, w64, div-le_self, sym, ap, ◌∙◌, inl, inr, arith, get_or-set_same, get_or-set_other, shr-shr}
+use Rattle.mlt_page_locks.proofs.Names.{bit_at, bit_at-zero, cases_eq, mask_of, row_of, IsMarked, IsUnmarked}
+use Rattle.std.specs.Int.{trailing_zeros}
 use Rattle.std.specs.Int.Count.{trailing_of_zero}
-use Rattle.std.proofs.lemmas.Nat.Bits.{bit_at-lt, bit_at-zero, bit_at-trailing_zeros, bit_at_and, bit_at_or}
-use Rattle.std.proofs.lemmas.Bool.{cases_eq}
-use Rattle.std.proofs.lemmas.List.{get_or-set_same, get_or-set_other}
-use Rattle.std.proofs.lemmas.Nat.{shr-shr}
-use Rattle.mlt_page_locks.specs.Marks.{mask_of, row_of, IsMarked, IsUnmarked, IsNextPlace}
+use Rattle.std.proofs.lemmas.Nat.Bits.{bit_at-lt, bit_at-trailing_zeros, bit_at_and, bit_at_or}
+use Rattle.mlt_page_locks.specs.Marks.{IsNextPlace}
 
 module _ (masks : List ℕ) (at v : ℕ) (inside : at < length masks) where
   -- what the mask keeps, its number keeps

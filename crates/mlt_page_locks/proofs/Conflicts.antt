@@ -1,13 +1,8 @@
 -- The lowest transaction that has a lock in the way, over the lists one after another.
-use Rattle.std.proofs.Common.{◌≡◌, ℕ, eqb, min, Bool, true, false, not, cond, ◌&&◌, ◌||◌, Option, Some, None, is_some, unwrap_or, List, [], ◌∷◌, ◌++◌, refl, sym, ◌∙◌, arith}
-use Rattle.std.specs.Prelude.{MatchOption}
-use Rattle.std.specs.Ordering.{nat_cmp}
+use Rattle.std.proofs.Common.{◌≡◌, ℕ, eqb, min, Bool, true, false, not, cond, ◌&&◌, ◌||◌, Option, Some, None, is_some, unwrap_or, List, [], ◌∷◌, ◌++◌, refl, sym, ◌∙◌, arith, MatchOption, nat_cmp}
 use Rattle.std.specs.FinMap as map
-use Rattle.std.proofs.lemmas.Bool.Decides.{nat_tests}
-use Rattle.mlt_types.specs.declared.mode.Mode.{Mode}
-use Rattle.mlt_page_locks.specs.LockTables.{Modes}
-use Rattle.mlt_page_locks.specs.Requests.{conflicts, is_against, IsNobody, IsLowest}
-use Rattle.mlt_page_locks.specs.LockLists.{HeldPages, is_free, table_of, lists_in_use, lock_table}
+use Rattle.mlt_page_locks.proofs.Names.{nat_tests, Mode, Modes, conflicts, is_against, IsNobody, HeldPages, is_free, table_of, lists_in_use, lock_table}
+use Rattle.mlt_page_locks.specs.Requests.{IsLowest}
 use Rattle.mlt_page_locks.proofs.Tables.{OneEach, get-table_of, later, no_second}
 
 -- whether a list has a lock that does not go with one of tx

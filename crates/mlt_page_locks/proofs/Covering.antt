@@ -1,19 +1,9 @@
 -- What the marks cover: where none is, there is nothing; a list that is changed; and the first place of a list.
-use Prim.Native.Nat.{zero}
-use Rattle.std.proofs.Common.{suc, ◌+◌, ◌≡◌, ◌≢◌, ◌⊎◌, ℕ, ◌<◌, ◌≤◌, List, [], ◌∷◌, Bool, true, false, Option, Some, None, is_some, length, get_or, set, length-set, replicate, take, take_all, sym, ap, subst, ◌∙◌, refl, true≢false, inl, inr, arith}
-use Rattle.std.specs.Prelude.{position}
+use Rattle.mlt_page_locks.proofs.Names.{zero, bit_at, bit_at-zero, cases_eq, cases_lt, cases_Bool, nat_tests, length-replicate, take_more, Mode, stronger, with_page, conflicts, IsNobody, HeldPages, is_list_of, lock_table, mask_of, IsMarked, IsUnmarked, KeepsOthers}
+use Rattle.std.proofs.Common.{suc, ◌+◌, ◌≡◌, ◌≢◌, ◌⊎◌, ℕ, ◌<◌, ◌≤◌, List, [], ◌∷◌, Bool, true, false, Option, Some, None, is_some, length, get_or, set, length-set, replicate, take, take_all, sym, ap, subst, ◌∙◌, refl, true≢false, inl, inr, arith, position, nat_cmp, get_or-set_same, get_or-set_other}
 use Rattle.std.specs.List.{position_or_len}
-use Rattle.std.specs.Int.{bit_at}
-use Rattle.std.specs.Ordering.{nat_cmp}
-use Rattle.std.proofs.lemmas.Nat.Bits.{bit_at-zero}
 use Rattle.std.specs.FinMap as map
-use Rattle.std.proofs.lemmas.Bool.{cases_eq, cases_lt, cases_Bool}
-use Rattle.std.proofs.lemmas.Bool.Decides.{nat_tests}
-use Rattle.std.proofs.lemmas.List.{get_or-set_same, get_or-set_other, length-replicate, take_more}
-use Rattle.mlt_types.specs.declared.mode.Mode.{Mode}
-use Rattle.mlt_page_locks.specs.Requests.{stronger, with_page, conflicts, IsNobody}
-use Rattle.mlt_page_locks.specs.LockLists.{HeldPages, is_list_of, lock_table}
-use Rattle.mlt_page_locks.specs.Marks.{mask_of, IsMarked, IsUnmarked, KeepsOthers, InMask, IsMaskOf, Covers, has_page}
+use Rattle.mlt_page_locks.specs.Marks.{InMask, IsMaskOf, Covers, has_page}
 use Rattle.mlt_page_locks.proofs.Maps.{get_inserted}
 use Rattle.mlt_page_locks.proofs.Conflicts.{in_way, in_way_of, in_way-conflicts, nothing_more}
 

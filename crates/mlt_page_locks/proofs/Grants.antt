@@ -1,16 +1,8 @@
 -- A lock that is granted in one list, and a list that is cleared, over the whole table.
-use Rattle.std.proofs.Common.{◌≡◌, ℕ, ◌≤◌, true, false, Some, None, is_some, unwrap_or, List, length, get_or, set, refl, sym, ap, subst, ◌∙◌, arith}
-use Rattle.std.specs.Prelude.{position}
-use Rattle.std.specs.Ordering.{nat_cmp}
-use Rattle.std.specs.Cmp.{nat_cmp_total}
+use Rattle.std.proofs.Common.{◌≡◌, ℕ, ◌≤◌, true, false, Some, None, is_some, unwrap_or, List, length, get_or, set, refl, sym, ap, subst, ◌∙◌, arith, position, nat_cmp}
+use Rattle.mlt_page_locks.proofs.Names.{nat_cmp_total, nat_tests, position-Some, Mode, Modes, LockTable, pages_of, page_count, AreCompatible, HasRoom, stronger, with_page, granted, released, HeldPages, is_free, is_list_of, table_of, lists_in_use, lock_table, IsSound}
 use Rattle.std.specs.FinMap as map
-use Rattle.std.proofs.lemmas.Bool.Decides.{nat_tests}
-use Rattle.std.proofs.lemmas.List.Quantifiers.{position-Some}
-use Rattle.mlt_types.specs.declared.mode.Mode.{Mode}
-use Rattle.mlt_page_locks.specs.LockTables.{Modes, LockTable, pages_of, page_count, AreCompatible, HasRoom}
-use Rattle.mlt_page_locks.specs.Requests.{stronger, with_page, granted, released}
 use Rattle.mlt_page_locks.proofs.LockLaws.{pages_of-granted, compatible_released}
-use Rattle.mlt_page_locks.specs.LockLists.{HeldPages, is_free, is_list_of, table_of, lists_in_use, lock_table, IsSound}
 use Rattle.mlt_page_locks.proofs.Tables.{Changed, own_list, new_list, freed_list, get-table_of_place, some_list_is_free}
 
 -- the lists make this table, and are sound

@@ -1,3 +1,4 @@
+mod Names
 pub mod Bits
 pub mod Maps
 pub mod LockLaws

@@ -1,7 +1,7 @@
 -- Finite maps whose keys are numbers, with the test of numbers in what `get` answers. Other crates cite these lemmas.
-use Rattle.std.proofs.Common.{◌≡◌, ℕ, eqb, cond, Some, None, ◌∙◌, ap}
-use Rattle.std.specs.Ordering.{nat_cmp}
-use Rattle.std.specs.Cmp.{nat_cmp_total, unsigned_tied}
+use Rattle.std.proofs.Common.{◌≡◌, ℕ, eqb, cond, Some, None, ◌∙◌, ap, nat_cmp}
+use Rattle.mlt_page_locks.proofs.Names.{nat_cmp_total}
+use Rattle.std.specs.Cmp.{unsigned_tied}
 use Rattle.std.specs.FinMap as map
 
 pub get_inserted : {X : Type 0} (m : map.FinMap nat_cmp X) (k : ℕ) (v : X) (q : ℕ) → map.get (map.insert m k v) q ≡ cond (eqb q k) (Some v) (map.get m q)

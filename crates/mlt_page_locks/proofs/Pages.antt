@@ -1,24 +1,15 @@
 -- The pages of a list of locks, by rising numbers.
-use Prim.Native.Nat.{zero}
-use Rattle.std.proofs.Common.{◌≡◌, ◌⊎◌, ℕ, suc, ◌≤◌, ◌<◌, ◌+◌, ◌-◌, eqb, Bool, true, false, cond, Some, None, is_some, true≢false, Result, Ok, Err, List, [], ◌∷◌, ◌++◌, length, get_or, set, refl, sym, ap, subst, inl, inr, ◌∙◌, length-set, arith}
-use Rattle.std.specs.Prelude.{MatchResult}
-use Rattle.std.specs.List.{insert}
-use Rattle.std.specs.List.Sorted.{IsSearchInRange, IsBinarySearchResult}
-use Rattle.std.specs.Ordering.{nat_cmp, MatchOrdering, ordering_index}
-use Rattle.std.specs.Cmp.{nat_cmp_total, ranks}
+use Rattle.mlt_page_locks.proofs.Names.{zero, IsBinarySearchResult, nat_cmp_total, nat_tests, cases_eq, cases_lt, cases_Bool, get_or_default, with_items, Mode, PageLock, Modes, stronger, with_page, IsAt, IsBetween}
+use Rattle.std.proofs.Common.{◌≡◌, ◌⊎◌, ℕ, suc, ◌≤◌, ◌<◌, ◌+◌, ◌-◌, eqb, Bool, true, false, cond, Some, None, is_some, true≢false, Result, Ok, Err, List, [], ◌∷◌, ◌++◌, length, get_or, set, refl, sym, ap, subst, inl, inr, ◌∙◌, length-set, arith, MatchResult, insert, nat_cmp, get_or-set_same, get_or-set_other}
+use Rattle.std.specs.List.Sorted.{IsSearchInRange}
+use Rattle.std.specs.Ordering.{MatchOrdering, ordering_index}
+use Rattle.std.specs.Cmp.{ranks}
 use Rattle.std.specs.FinMap as map
-use Rattle.std.proofs.lemmas.Bool.Decides.{nat_tests}
-use Rattle.std.proofs.lemmas.Bool.{cases_eq, cases_lt, cases_Bool}
-use Rattle.std.proofs.lemmas.List.{get_or-set_same, get_or-set_other, get_or_default}
 use Rattle.std.proofs.lemmas.List.Edits.{get_or-insert_at, get_or-insert_below, get_or-insert_above, insert_end}
-use Rattle.arrayvec.specs.ArrayVec.{ArrayVec, with_items}
+use Rattle.arrayvec.specs.ArrayVec.{ArrayVec}
 use Rattle.arrayvec.proofs.ArrayVecLemmas.{items-with_items}
-use Rattle.mlt_types.specs.declared.mode.Mode.{Mode}
-use Rattle.mlt_page_locks.specs.declared.lock_list.PageLock.{PageLock}
 use Rattle.mlt_page_locks.proofs.Maps.{get_inserted, same_entries}
-use Rattle.mlt_page_locks.specs.LockTables.{Modes}
-use Rattle.mlt_page_locks.specs.Requests.{stronger, with_page}
-use Rattle.mlt_page_locks.specs.LockLists.{modes_of, IsRising, IsInOrder, IsAt, IsBetween}
+use Rattle.mlt_page_locks.specs.LockLists.{modes_of, IsRising, IsInOrder}
 
 -- whether a lock is on page q
 abbrev pub is_on : ℕ → PageLock → Bool

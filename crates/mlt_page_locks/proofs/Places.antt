@@ -1,15 +1,8 @@
 -- The place of a transaction's list: the one that it has, or one that was nobody's.
-use Prim.Native.Nat.{zero}
-use Rattle.std.proofs.Common.{◌≡◌, ℕ, suc, Option, Some, None, List, [], ◌∷◌, get_or, set, refl, sym, ap, subst, inl, inr, ◌∙◌}
-use Rattle.std.specs.Prelude.{position, IsSome}
+use Rattle.mlt_page_locks.proofs.Names.{zero, false≢true, position-Some, Mode, pages_of, AreCompatible, HasRoom, granted, with_page, HeldPages, is_free, is_list_of, with_lock, lock_table, IsSound}
+use Rattle.std.proofs.Common.{◌≡◌, ℕ, suc, Option, Some, None, List, [], ◌∷◌, get_or, set, refl, sym, ap, subst, inl, inr, ◌∙◌, position, IsSome, get_or-set_same}
 use Rattle.std.specs.FinMap as map
-use Rattle.std.proofs.lemmas.Bool.{false≢true}
-use Rattle.std.proofs.lemmas.List.{get_or-set_same}
-use Rattle.std.proofs.lemmas.List.Quantifiers.{position-Some}
-use Rattle.mlt_types.specs.declared.mode.Mode.{Mode}
-use Rattle.mlt_page_locks.specs.LockTables.{pages_of, AreCompatible, HasRoom}
-use Rattle.mlt_page_locks.specs.Requests.{granted, with_page}
-use Rattle.mlt_page_locks.specs.LockLists.{HeldPages, is_free, is_list_of, with_lock, lock_table, IsSound, HasRoomFor}
+use Rattle.mlt_page_locks.specs.LockLists.{HasRoomFor}
 use Rattle.mlt_page_locks.specs.Marks.{HasPlaceFor, IsPlaceFor, TakesFree}
 use Rattle.mlt_page_locks.proofs.Tables.{get-table_of_none}
 use Rattle.mlt_page_locks.proofs.Grants.{Makes, blank, none_held, grown, started, theirs, room_in_list, list_left}

@@ -1,16 +1,7 @@
 -- Where one transaction shares a page, nobody has it exclusively.
-use Prim.Native.Nat.{zero}
-use Rattle.std.proofs.Common.{◌≡◌, ℕ, suc, ◌<◌, true, false, ◌⊎◌, Option, Some, None, is_some, List, [], ◌∷◌, length, get_or, refl, sym, ap, ◌∙◌, subst, inl, inr, true≢false, arith}
-use Rattle.std.specs.Option.{option_map_or}
-use Rattle.std.specs.Ordering.{nat_cmp}
+use Rattle.mlt_page_locks.proofs.Names.{zero, option_map_or, cases_Bool, nat_tests, Mode, Shared, Exclusive, allows_write, can_write, goes_with, mode_held, HeldPages, IsSound, is_free, is_list_of, lock_table, table_of, IsNobody, conflicts}
+use Rattle.std.proofs.Common.{◌≡◌, ℕ, suc, ◌<◌, true, false, ◌⊎◌, Option, Some, None, is_some, List, [], ◌∷◌, length, get_or, refl, sym, ap, ◌∙◌, subst, inl, inr, true≢false, arith, nat_cmp}
 use Rattle.std.specs.FinMap as map
-use Rattle.std.proofs.lemmas.Bool.{cases_Bool}
-use Rattle.std.proofs.lemmas.Bool.Decides.{nat_tests}
-use Rattle.mlt_types.specs.declared.mode.Mode.{Mode}
-use Rattle.mlt_types.specs.declared.mode.Mode.TheVariants.{Shared, Exclusive}
-use Rattle.mlt_page_locks.specs.LockTables.{allows_write, can_write, goes_with, mode_held}
-use Rattle.mlt_page_locks.specs.LockLists.{HeldPages, IsSound, is_free, is_list_of, lock_table, table_of}
-use Rattle.mlt_page_locks.specs.Requests.{IsNobody, conflicts}
 use Rattle.mlt_page_locks.proofs.LockLaws.{conflicts-shared}
 use Rattle.mlt_page_locks.proofs.Tables.{OneEach, get-table_of, later, no_second}
 

@@ -1,20 +1,10 @@
 -- The table of lists: the first list of a transaction counts.
-use Prim.Native.Nat.{zero}
-use Rattle.std.proofs.Common.{◌≡◌, ℕ, suc, ◌≤◌, ◌<◌, ◌+◌, eqb, true, false, not, cond, ◌&&◌, Some, None, is_some, unwrap_or, List, [], ◌∷◌, length, get_or, set, length-set, replicate, refl, sym, ap, subst, ◌∙◌, arith}
-use Rattle.std.specs.Prelude.{position}
+use Rattle.mlt_page_locks.proofs.Names.{zero, nat_cmp_total, nat_tests, length-replicate, position-Some, Mode, Modes, LockTable, mode_held, no_locks, AreCompatible, released, HeldPages, is_free, is_list_of, table_of, lists_in_use, lock_table, IsSound}
+use Rattle.std.proofs.Common.{◌≡◌, ℕ, suc, ◌≤◌, ◌<◌, ◌+◌, eqb, true, false, not, cond, ◌&&◌, Some, None, is_some, unwrap_or, List, [], ◌∷◌, length, get_or, set, length-set, replicate, refl, sym, ap, subst, ◌∙◌, arith, position, nat_cmp}
 use Rattle.std.specs.List.{position_from}
-use Rattle.std.specs.Ordering.{nat_cmp}
-use Rattle.std.specs.Cmp.{nat_cmp_total}
 use Rattle.std.specs.FinMap as map
-use Rattle.std.proofs.lemmas.Bool.Decides.{nat_tests}
 use Rattle.std.proofs.lemmas.Iterator.Adapters.{position_from-zero}
-use Rattle.std.proofs.lemmas.List.{length-replicate}
-use Rattle.std.proofs.lemmas.List.Quantifiers.{position-Some}
-use Rattle.mlt_types.specs.declared.mode.Mode.{Mode}
 use Rattle.mlt_page_locks.proofs.Maps.{get_inserted, get_removed, same_entries}
-use Rattle.mlt_page_locks.specs.LockTables.{Modes, LockTable, mode_held, no_locks, AreCompatible}
-use Rattle.mlt_page_locks.specs.Requests.{released}
-use Rattle.mlt_page_locks.specs.LockLists.{HeldPages, is_free, is_list_of, table_of, lists_in_use, lock_table, IsSound}
 
 -- what is seen of tx is what its first list has
 pub get-table_of : (pages : HeldPages) (lists : List HeldPages) (u : ℕ) → map.get (table_of (pages ∷ lists)) u ≡ cond (is_list_of u pages) (Some pages.modes) (map.get (table_of lists) u)

@@ -1,18 +1,14 @@
 -- The pages that the slots of a slab make: what is at a number, how many there are, and how a change of a slot
 -- changes them.
 use Prim.Native.Nat.{zero}
-use Rattle.std.proofs.Common.{◌≡◌, ℕ, suc, ◌<◌, ◌+◌, cond, List, [], ◌∷◌, Some, None, Option, get_or, length, is_some, refl, sym, ap, subst, ◌∙◌, arith}
+use Rattle.std.proofs.Common.{◌≡◌, ℕ, suc, ◌<◌, ◌+◌, cond, List, [], ◌∷◌, Some, None, Option, get_or, length, is_some, refl, sym, ap, subst, ◌∙◌, arith, get_or-set_same, get_or-set_other, count_by, nat_cmp}
 use Rattle.std.proofs.lemmas.Bool.{cases_eq}
 use Rattle.std.proofs.lemmas.List.Sums.{sum_by_from}
-use Rattle.std.proofs.lemmas.List.{get_or-set_same, get_or-set_other}
-use Rattle.std.specs.Prelude.{count_by}
-use Rattle.std.specs.Ordering.{nat_cmp}
 use Rattle.std.specs.Cmp.{nat_cmp_total, unsigned_tied}
 use Rattle.std.specs.FinMap as map
 use Rattle.std.specs.FinMap.{find}
 use Rattle.slab.specs.Slab.{Slab, Updates, entries_from, get, slab_len, with_value}
 use Rattle.mlt_page.specs.declared.page.Page.{Page}
-use Rattle.mlt_page.specs.declared.page.Page.TheVariants as page
 use Rattle.mlt_page.specs.declared.slot.Slot.{Slot}
 use Rattle.mlt_page.specs.Values.{BucketFields}
 use Rattle.mlt_page.specs.Pages.{page_with_slot}
@@ -85,7 +81,7 @@ same_page e = cc
 -- and a slot that is set in a page that is there
 pub slot_set : (slab : Slab Page) (max_pages key number i : ℕ) (old now : Page) (s : Slot) (seen : PageStore)
     → record { pages = pages_of slab; max_pages = max_pages } ≡ seen → key ≡ number → get slab key ≡ Some old
-    → ((bucket : BucketFields) → old ≡ page.Bucket bucket → now ≡ page_with_slot bucket i s)
+    → ((bucket : BucketFields) → old ≡ Page.Bucket bucket → now ≡ page_with_slot bucket i s)
     → SetsSlot seen (record { pages = pages_of (with_value slab key now); max_pages = max_pages }) number i s
 slot_set slab max_pages key number i old now s seen is of_number there set bucket bucket_is =
     let here : page_at seen.pages number ≡ Some old = subst (λ (t : PageStore). page_at t.pages number ≡ Some old) is (subst (λ n. page_at (pages_of slab) n ≡ Some old) of_number (page_in_slab slab key ∙ there)) in

@@ -4,7 +4,6 @@ use Rattle.std.specs.Ordering.{nat_cmp}
 use Rattle.std.specs.Coded.{Coded, code_by, coded×, coded_ℕ}
 use Rattle.std.specs.FinMap as map
 use Rattle.mlt_page.specs.declared.page.Page.{Page}
-use Rattle.mlt_page.specs.declared.page.Page.TheVariants as page
 use Rattle.mlt_page.specs.declared.slot.Slot.{Slot}
 use Rattle.mlt_page.specs.contracts.page.Page.{the_row}
 use Rattle.mlt_page.specs.Values.{BucketFields}
@@ -34,9 +33,9 @@ coded_store =
 
 -- the page of this number is a bucket
 abbrev pub HasBucketAt : Pages → ℕ → Type 0
-HasBucketAt pages number = (bucket : BucketFields) × (page_at pages number ≡ Some (page.Bucket bucket))
+HasBucketAt pages number = (bucket : BucketFields) × (page_at pages number ≡ Some (Page.Bucket bucket))
 
 -- the page of this number, which is a bucket, has slot i set to s, and nothing else changes
 abbrev pub SetsSlot : PageStore → PageStore → ℕ → ℕ → Slot → Type 0
-SetsSlot old new number i s = (bucket : BucketFields) → page_at old.pages number ≡ Some (page.Bucket bucket)
+SetsSlot old new number i s = (bucket : BucketFields) → page_at old.pages number ≡ Some (Page.Bucket bucket)
     → new ≡ record old { pages = map.insert old.pages number (page_with_slot bucket i s) }

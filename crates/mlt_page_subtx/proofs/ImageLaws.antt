@@ -1,16 +1,11 @@
 -- Laws of first images: what the pages have once they are put back. Other crates cite them.
-use Rattle.std.proofs.Common.{◌≡◌, ℕ, eqb, Bool, true, false, cond, Option, None, Some, is_some, List, [], ◌∷◌, refl, sym, ap, subst, ◌∙◌, arith}
-use Rattle.std.specs.Ordering.{nat_cmp}
+use Rattle.std.proofs.Common.{◌≡◌, ℕ, eqb, Bool, true, false, cond, Option, None, Some, is_some, List, [], ◌∷◌, refl, sym, ap, subst, ◌∙◌, arith, nat_cmp, eqb-true}
 use Rattle.std.specs.Cmp.{unsigned_tied}
 use Rattle.std.specs.FinMap as map
 use Rattle.std.specs.FinMap.Entries.{find}
-use Rattle.std.proofs.lemmas.Bool.{eqb-true, false≢true}
-use Rattle.std.proofs.lemmas.Bool.Decides.{nat_tests}
-use Rattle.mlt_page.specs.declared.page.Page.{Page}
-use Rattle.mlt_page_store.specs.Stores.{Pages, page_at}
-use Rattle.mlt_page_store.proofs.Numbered.{same_pages}
-use Rattle.mlt_page_locks.proofs.Maps.{get_inserted, get_removed}
-use Rattle.mlt_page_subtx.specs.Images.{Images, image_of, or_image, with_first, with_firsts, with_new, with_image, put_back, AreThere}
+use Rattle.mlt_page_subtx.proofs.Names.{false≢true, nat_tests, Page, Pages, page_at, same_pages, get_inserted, Images, image_of, with_first, put_back, AreThere}
+use Rattle.mlt_page_locks.proofs.Maps.{get_removed}
+use Rattle.mlt_page_subtx.specs.Images.{or_image, with_firsts, with_new, with_image}
 
 pub page_at-with_first : (pages : Pages) (k : ℕ) (first : Option Page) (q : ℕ) → page_at (with_first pages k first) q ≡ cond (eqb q k) first (page_at pages q)
 page_at-with_first pages k None q = get_removed pages k q

@@ -1,3 +1,4 @@
+mod Names
 pub mod ImageLaws
 pub mod Lists
 pub mod LockedPages

@@ -1,22 +1,14 @@
 -- Images in a list: each page has one, and the last is put back first.
 use Prim.Native.Nat.{zero}
-use Rattle.std.proofs.Common.{◌≡◌, ℕ, suc, ◌+◌, ◌<◌, ◌≤◌, eqb, nat_eq, Bool, true, false, cond, Option, None, Some, is_some, option_map, List, [], ◌∷◌, ◌++◌, length, refl, sym, ap, subst, ◌∙◌, append_assoc, length-append, arith}
-use Rattle.std.specs.List.{find}
+use Rattle.std.proofs.Common.{◌≡◌, ℕ, suc, ◌+◌, ◌<◌, ◌≤◌, eqb, nat_eq, Bool, true, false, cond, Option, None, Some, is_some, option_map, List, [], ◌∷◌, ◌++◌, length, refl, sym, ap, subst, ◌∙◌, append_assoc, length-append, arith, find, nat_cmp}
 use Rattle.std.specs.Map.{lookup}
 use Rattle.std.specs.Option.{option_or}
-use Rattle.std.specs.Ordering.{nat_cmp}
 use Rattle.std.specs.Cmp.{nat_cmp_total}
 use Rattle.std.specs.FinMap as map
-use Rattle.std.proofs.lemmas.Bool.{false≢true}
-use Rattle.std.proofs.lemmas.Bool.Decides.{nat_tests}
-use Rattle.mlt_page.specs.declared.page.Page.{Page}
-use Rattle.mlt_page_store.specs.Stores.{PageStore, Pages, page_at}
-use Rattle.mlt_page_store.proofs.Numbered.{same_pages}
-use Rattle.mlt_page_locks.proofs.Maps.{get_inserted, same_entries}
-use Rattle.mlt_page_subtx.specs.declared.image.Image.{Image}
-use Rattle.mlt_page_subtx.specs.Images.{image_of, with_first, put_back, AreThere}
+use Rattle.mlt_page_subtx.proofs.Names.{false≢true, nat_tests, Page, PageStore, Pages, page_at, same_pages, get_inserted, Image, image_of, with_first, put_back, AreThere, images_in, images_of}
+use Rattle.mlt_page_locks.proofs.Maps.{same_entries}
 use Rattle.mlt_page_subtx.proofs.ImageLaws.{not_there, page_at-put_back, page_at-with_first, put_back-none}
-use Rattle.mlt_page_subtx.specs.ImageLists.{images_in, images_of, IsKept}
+use Rattle.mlt_page_subtx.specs.ImageLists.{IsKept}
 
 -- whether an image is of page q
 abbrev pub is_of : ℕ → Image → Bool

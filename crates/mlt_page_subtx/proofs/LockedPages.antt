@@ -1,13 +1,9 @@
 -- Laws of locked pages: they are there, whatever locks are granted and whatever is written. Other crates cite them.
-use Rattle.std.proofs.Common.{◌≡◌, ℕ, true, is_some, sym, subst, inl, inr, arith}
-use Rattle.std.specs.Ordering.{nat_cmp}
+use Rattle.std.proofs.Common.{◌≡◌, ℕ, true, is_some, sym, subst, inl, inr, arith, nat_cmp}
 use Rattle.std.specs.FinMap as map
-use Rattle.std.proofs.lemmas.Bool.{cases_eq, false≢true}
-use Rattle.std.proofs.lemmas.Bool.Decides.{nat_tests}
+use Rattle.mlt_page_subtx.proofs.Names.{false≢true, nat_tests, Page, Pages, page_at, get_inserted}
+use Rattle.std.proofs.lemmas.Bool.{cases_eq}
 use Rattle.mlt_types.specs.declared.mode.Mode.{Mode}
-use Rattle.mlt_page.specs.declared.page.Page.{Page}
-use Rattle.mlt_page_store.specs.Stores.{Pages, page_at}
-use Rattle.mlt_page_locks.proofs.Maps.{get_inserted}
 use Rattle.mlt_page_locks.specs.LockTables.{LockTable, Modes, no_locks}
 use Rattle.mlt_page_locks.specs.Requests.{granted}
 use Rattle.mlt_page_locks.proofs.LockLaws.{can_read-granted}

@@ -1,28 +1,10 @@
 -- A scan finds the scripts of a text, and its first fault.
-use Rattle.std.proofs.Common.{◌≡◌, ℕ, ◌+◌, ◌<◌, ◌≤◌, List, [], ◌∷◌, ◌++◌, length, map, inl, inr, None, Result, Ok, Err, refl, sym, ap, ◌∙◌, append_assoc, length-append, arith}
-use Rattle.std.proofs.lemmas.List.{append-nil, map-append}
-use Rattle.std.proofs.lemmas.Bool.{lt-ltb, le-ltb}
-use Rattle.mlt_types.specs.declared.refusal.ScriptCause.{ScriptCause}
-use Rattle.mlt_types.specs.declared.refusal.ScriptCause.TheVariants as cause
-use Rattle.mlt_script.specs.declared.forms.LineForm.{LineForm}
-use Rattle.mlt_script.specs.declared.forms.LineForm.TheVariants.{Begins, Says, Closes}
-use Rattle.mlt_script.specs.declared.line.ScriptReading.{ScriptReading}
-use Rattle.mlt_script.specs.declared.line.ScriptReading.TheVariants.{Bad, Skip, Form}
-use Rattle.mlt_script_tree.specs.declared.statement.Asking.{Asking}
-use Rattle.mlt_script_tree.specs.declared.statement.Wanted.{Wanted}
-use Rattle.mlt_script_tree.specs.declared.statement.Statement.{Statement}
-use Rattle.mlt_script_tree.specs.declared.statement.Line.{Line}
-use Rattle.mlt_script_tree.specs.declared.statement.Line.TheVariants as line
-use Rattle.mlt_script_tree.specs.Blocks.{Block, Open, join, grow, longest, nesting, path, depth, widest, deepest}
-use Rattle.mlt_script_tree.specs.Blocks.Block.{Nothing, Then, If}
-use Rattle.mlt_script_tree.specs.Blocks.Open.{Top, InFirst, InSecond}
-use Rattle.mlt_text_words.specs.Lines.{Raw}
+use Rattle.std.proofs.Common.{◌≡◌, ℕ, ◌+◌, ◌<◌, ◌≤◌, List, [], ◌∷◌, ◌++◌, length, map, inl, inr, None, Result, Ok, Err, refl, sym, ap, ◌∙◌, append_assoc, length-append, arith, append-nil, lt-ltb, le-ltb}
+use Rattle.mlt_script.proofs.Names.{map-append, ScriptCause, LineForm, Begins, Says, Closes, ScriptReading, Bad, Skip, Form, Asking, Wanted, Statement, Line, Block, Open, join, grow, longest, nesting, path, depth, widest, deepest, Nothing, Then, If, Top, InFirst, InSecond, Raw, ScriptForm, IsScript, one_more, AreScripts, IsSpelled, IsSpelledOpen, IsSpelledScript, AreSpelled, IsLawful, AreLawful, form_in, forms_of, AreWhole, AreOpen, IsSound, IsFault, IsFirstFaultOf, ScanState, advance, said, after, line_fault, Outside, Inside}
 use Rattle.mlt_script.specs.Readings.{reading}
-use Rattle.mlt_script_tree.specs.Scripts.{ScriptForm, IsScript, one_more}
 use Rattle.mlt_script_tree.specs.TreeLaws.{grow_nothing, grow_twice}
-use Rattle.mlt_script.specs.Grammar.{AreScripts, IsSpelled, IsSpelledOpen, IsSpelledScript, AreSpelled, IsLawful, AreLawful, form_in, forms_of, AreWhole, AreOpen, IsSound, IsNoBegin, HasNoPlace, IsAskingHere, IsFault, IsFirstFaultOf}
-use Rattle.mlt_script.specs.Scan.{ScanState, scan, advance, step, said, after, line_fault}
-use Rattle.mlt_script.specs.Scan.ScanState.{Outside, Inside}
+use Rattle.mlt_script.specs.Grammar.{IsNoBegin, HasNoPlace, IsAskingHere}
+use Rattle.mlt_script.specs.Scan.{scan, step}
 use Rattle.mlt_script.proofs.Placing.{path_grow, depth_grow}
 
 abbrev and_then : Result ScanState ScriptCause → (ScanState → Result ScanState ScriptCause) → Result ScanState ScriptCause
@@ -54,10 +36,10 @@ module _ (scripts : List ScriptForm) (client : ℕ) where
   says : (o : Open) (l : Line) (fs : List LineForm) → line_fault o l ≡ None → walk (here o) (Says l ∷ fs) ≡ walk (here (one_more o l)) fs
   says o l fs f = walk_one (here o) (here (one_more o l)) (Says l) fs (ap (said scripts client (one_more o l)) f)
 
-  plain_stands : (o : Open) (s : Statement) → path o < 256 → line_fault o (line.Plain s) ≡ None
+  plain_stands : (o : Open) (s : Statement) → path o < 256 → line_fault o (Line.Plain s) ≡ None
   plain_stands o s l = rw (lt-ltb (path o) 256 l) refl
 
-  if_stands : (o : Open) (a : Asking) (w : Wanted) → path o < 256 → depth o < 16 → line_fault o (line.If a w) ≡ None
+  if_stands : (o : Open) (a : Asking) (w : Wanted) → path o < 256 → depth o < 16 → line_fault o (Line.If a w) ≡ None
   if_stands o a w l d = rw (lt-ltb (depth o) 16 d, lt-ltb (path o) 256 l) refl
 
   map_two : (x y : List Line) (l : Line) (more : List LineForm) → map Says (x ++ l ∷ y) ++ more ≡ map Says x ++ Says l ∷ (map Says y ++ more)
@@ -70,30 +52,30 @@ module _ (scripts : List ScriptForm) (client : ℕ) where
       ap (λ (ls : List Line). walk (here o) (map Says ls ++ more)) h ∙ ap (λ (p : Open). walk (here p) more) (sym (grow_nothing o))
   stands (Then s rest) x o more (z, e, h) l d =
       ap (λ (ls : List Line). walk (here o) (map Says ls ++ more)) e
-      ∙ says o (line.Plain s) (map Says z ++ more) (plain_stands o s (omega (arith, l)))
+      ∙ says o (Line.Plain s) (map Says z ++ more) (plain_stands o s (omega (arith, l)))
       ∙ stands rest z (grow o (Then s Nothing)) more h
       (let p = path_grow o (Then s Nothing) in omega (arith, p, l)) (let p = depth_grow o (Then s Nothing) in omega (arith, p, d))
       ∙ ap (λ (p : Open). walk (here p) more) (grow_twice o (Then s Nothing) rest)
   stands (If a w first second rest) x o more (u, v, z, p, q, r, inl e) l d =
       let whole : Block = If a w first second Nothing in
       ap (λ (ls : List Line). walk (here o) (map Says ls ++ more)) e
-      ∙ says o (line.If a w) (map Says (u ++ line.Else ∷ (v ++ line.End ∷ z)) ++ more) (if_stands o a w (omega (arith, l)) (omega (arith, d)))
-      ∙ ap (walk (here (InFirst o a w Nothing))) (map_two u (v ++ line.End ∷ z) line.Else more)
-      ∙ stands first u (InFirst o a w Nothing) (Says line.Else ∷ (map Says (v ++ line.End ∷ z) ++ more)) p (omega (arith, l)) (omega (arith, d))
-      ∙ says (InFirst o a w first) line.Else (map Says (v ++ line.End ∷ z) ++ more) refl
-      ∙ ap (walk (here (InSecond o a w first Nothing))) (map_two v z line.End more)
-      ∙ stands second v (InSecond o a w first Nothing) (Says line.End ∷ (map Says z ++ more)) q (omega (arith, l)) (omega (arith, d))
-      ∙ says (InSecond o a w first second) line.End (map Says z ++ more) refl
+      ∙ says o (Line.If a w) (map Says (u ++ Line.Else ∷ (v ++ Line.End ∷ z)) ++ more) (if_stands o a w (omega (arith, l)) (omega (arith, d)))
+      ∙ ap (walk (here (InFirst o a w Nothing))) (map_two u (v ++ Line.End ∷ z) Line.Else more)
+      ∙ stands first u (InFirst o a w Nothing) (Says Line.Else ∷ (map Says (v ++ Line.End ∷ z) ++ more)) p (omega (arith, l)) (omega (arith, d))
+      ∙ says (InFirst o a w first) Line.Else (map Says (v ++ Line.End ∷ z) ++ more) refl
+      ∙ ap (walk (here (InSecond o a w first Nothing))) (map_two v z Line.End more)
+      ∙ stands second v (InSecond o a w first Nothing) (Says Line.End ∷ (map Says z ++ more)) q (omega (arith, l)) (omega (arith, d))
+      ∙ says (InSecond o a w first second) Line.End (map Says z ++ more) refl
       ∙ stands rest z (grow o whole) more r (let k = path_grow o whole in omega (arith, k, l)) (let k = depth_grow o whole in omega (arith, k, d))
       ∙ ap (λ (p : Open). walk (here p) more) (grow_twice o whole rest)
   stands (If a w first second rest) x o more (u, v, z, p, q, r, inr (n, e)) l d =
       let whole : Block = If a w first Nothing Nothing in
       let same : join whole rest ≡ If a w first second rest = ap (λ (b : Block). If a w first b rest) (sym n) in
       ap (λ (ls : List Line). walk (here o) (map Says ls ++ more)) e
-      ∙ says o (line.If a w) (map Says (u ++ line.End ∷ z) ++ more) (if_stands o a w (omega (arith, l)) (omega (arith, d)))
-      ∙ ap (walk (here (InFirst o a w Nothing))) (map_two u z line.End more)
-      ∙ stands first u (InFirst o a w Nothing) (Says line.End ∷ (map Says z ++ more)) p (omega (arith, l)) (omega (arith, d))
-      ∙ says (InFirst o a w first) line.End (map Says z ++ more) refl
+      ∙ says o (Line.If a w) (map Says (u ++ Line.End ∷ z) ++ more) (if_stands o a w (omega (arith, l)) (omega (arith, d)))
+      ∙ ap (walk (here (InFirst o a w Nothing))) (map_two u z Line.End more)
+      ∙ stands first u (InFirst o a w Nothing) (Says Line.End ∷ (map Says z ++ more)) p (omega (arith, l)) (omega (arith, d))
+      ∙ says (InFirst o a w first) Line.End (map Says z ++ more) refl
       ∙ stands rest z (grow o whole) more r (let k = path_grow o whole in omega (arith, k, l)) (let k = depth_grow o whole in omega (arith, k, d))
       ∙ ap (λ (p : Open). walk (here p) more) (grow_twice o whole rest ∙ ap (grow o) same)
 
@@ -103,18 +85,18 @@ module _ (scripts : List ScriptForm) (client : ℕ) where
   opens (Top b) x more h l d = stands b x (Top Nothing) more h (omega (arith, l)) (omega (arith, d))
   opens (InFirst o a w first) x more (u, v, p, q, e) l d =
       ap (λ (ls : List Line). walk (here (Top Nothing)) (map Says ls ++ more)) e
-      ∙ ap (walk (here (Top Nothing))) (map_two u v (line.If a w) more)
-      ∙ opens o u (Says (line.If a w) ∷ (map Says v ++ more)) p (omega (arith, l)) (omega (arith, d))
-      ∙ says o (line.If a w) (map Says v ++ more) (if_stands o a w (omega (arith, l)) (omega (arith, d)))
+      ∙ ap (walk (here (Top Nothing))) (map_two u v (Line.If a w) more)
+      ∙ opens o u (Says (Line.If a w) ∷ (map Says v ++ more)) p (omega (arith, l)) (omega (arith, d))
+      ∙ says o (Line.If a w) (map Says v ++ more) (if_stands o a w (omega (arith, l)) (omega (arith, d)))
       ∙ stands first v (InFirst o a w Nothing) more q (omega (arith, l)) (omega (arith, d))
   opens (InSecond o a w first second) x more (u, v, z, p, q, r, e) l d =
       ap (λ (ls : List Line). walk (here (Top Nothing)) (map Says ls ++ more)) e
-      ∙ ap (walk (here (Top Nothing))) (map_two u (v ++ line.Else ∷ z) (line.If a w) more)
-      ∙ opens o u (Says (line.If a w) ∷ (map Says (v ++ line.Else ∷ z) ++ more)) p (omega (arith, l)) (omega (arith, d))
-      ∙ says o (line.If a w) (map Says (v ++ line.Else ∷ z) ++ more) (if_stands o a w (omega (arith, l)) (omega (arith, d)))
-      ∙ ap (walk (here (InFirst o a w Nothing))) (map_two v z line.Else more)
-      ∙ stands first v (InFirst o a w Nothing) (Says line.Else ∷ (map Says z ++ more)) q (omega (arith, l)) (omega (arith, d))
-      ∙ says (InFirst o a w first) line.Else (map Says z ++ more) refl
+      ∙ ap (walk (here (Top Nothing))) (map_two u (v ++ Line.Else ∷ z) (Line.If a w) more)
+      ∙ opens o u (Says (Line.If a w) ∷ (map Says (v ++ Line.Else ∷ z) ++ more)) p (omega (arith, l)) (omega (arith, d))
+      ∙ says o (Line.If a w) (map Says (v ++ Line.Else ∷ z) ++ more) (if_stands o a w (omega (arith, l)) (omega (arith, d)))
+      ∙ ap (walk (here (InFirst o a w Nothing))) (map_two v z Line.Else more)
+      ∙ stands first v (InFirst o a w Nothing) (Says Line.Else ∷ (map Says z ++ more)) q (omega (arith, l)) (omega (arith, d))
+      ∙ says (InFirst o a w first) Line.Else (map Says z ++ more) refl
       ∙ stands second z (InSecond o a w first Nothing) more r (omega (arith, l)) (omega (arith, d))
 
 walk_script : (s : ScriptForm) (scripts : List ScriptForm) (x more : List LineForm) → IsScript s → IsSpelledScript s x → walk (Outside scripts) (x ++ more) ≡ walk (Outside (scripts ++ s ∷ [])) more
@@ -193,54 +175,54 @@ fault_at before raw after_it s r c l h e a =
     ∙ ap (λ w. after w (0 + length before + 1) (λ t. scan t (0 + length before + 1) after_it)) a
     ∙ ap (λ n. Err (n, c)) (omega arith)
 
-no_begin : (scripts : List ScriptForm) (form : LineForm) → IsNoBegin form → advance (Outside scripts) (Form form) ≡ Err cause.Place
+no_begin : (scripts : List ScriptForm) (form : LineForm) → IsNoBegin form → advance (Outside scripts) (Form form) ≡ Err ScriptCause.Place
 no_begin scripts (Begins client) h = absurd h
 no_begin scripts (Says x) h = refl
 no_begin scripts (Closes e) h = refl
 
-no_place : (scripts : List ScriptForm) (client : ℕ) (o : Open) (form : LineForm) → HasNoPlace o form → advance (Inside scripts client o) (Form form) ≡ Err cause.Place
+no_place : (scripts : List ScriptForm) (client : ℕ) (o : Open) (form : LineForm) → HasNoPlace o form → advance (Inside scripts client o) (Form form) ≡ Err ScriptCause.Place
 no_place scripts client o (Begins other) h = refl
 no_place scripts client (Top b) (Closes e) h = absurd (omega (arith, h))
 no_place scripts client (InFirst o a w first) (Closes e) h = refl
 no_place scripts client (InSecond o a w first second) (Closes e) h = refl
-no_place scripts client (Top b) (Says line.Else) h = refl
-no_place scripts client (InFirst o a w first) (Says line.Else) h = absurd (cc h)
-no_place scripts client (InSecond o a w first second) (Says line.Else) h = refl
-no_place scripts client (Top b) (Says line.End) h = refl
-no_place scripts client (InFirst o a w first) (Says line.End) h = absurd (omega (arith, h))
-no_place scripts client (InSecond o a w first second) (Says line.End) h = absurd (omega (arith, h))
-no_place scripts client o (Says (line.Plain s)) h = absurd h
-no_place scripts client o (Says (line.If a w)) h = absurd h
+no_place scripts client (Top b) (Says Line.Else) h = refl
+no_place scripts client (InFirst o a w first) (Says Line.Else) h = absurd (cc h)
+no_place scripts client (InSecond o a w first second) (Says Line.Else) h = refl
+no_place scripts client (Top b) (Says Line.End) h = refl
+no_place scripts client (InFirst o a w first) (Says Line.End) h = absurd (omega (arith, h))
+no_place scripts client (InSecond o a w first second) (Says Line.End) h = absurd (omega (arith, h))
+no_place scripts client o (Says (Line.Plain s)) h = absurd h
+no_place scripts client o (Says (Line.If a w)) h = absurd h
 
-too_long : (scripts : List ScriptForm) (client : ℕ) (o : Open) (l : Line) → IsAskingHere o l → path o + 1 ≡ 257 → advance (Inside scripts client o) (Form (Says l)) ≡ Err cause.Long
-too_long scripts client o (line.Plain s) h k = rw (le-ltb (path o) 256 (omega (arith, k))) refl
-too_long scripts client o (line.If a w) h k = rw (lt-ltb (depth o) 16 h, le-ltb (path o) 256 (omega (arith, k))) refl
-too_long scripts client o line.Else h k = absurd h
-too_long scripts client o line.End h k = absurd h
+too_long : (scripts : List ScriptForm) (client : ℕ) (o : Open) (l : Line) → IsAskingHere o l → path o + 1 ≡ 257 → advance (Inside scripts client o) (Form (Says l)) ≡ Err ScriptCause.Long
+too_long scripts client o (Line.Plain s) h k = rw (le-ltb (path o) 256 (omega (arith, k))) refl
+too_long scripts client o (Line.If a w) h k = rw (lt-ltb (depth o) 16 h, le-ltb (path o) 256 (omega (arith, k))) refl
+too_long scripts client o Line.Else h k = absurd h
+too_long scripts client o Line.End h k = absurd h
 
-too_deep : (scripts : List ScriptForm) (client : ℕ) (o : Open) (a : Asking) (w : Wanted) → depth o ≡ 16 → advance (Inside scripts client o) (Form (Says (line.If a w))) ≡ Err cause.Deep
+too_deep : (scripts : List ScriptForm) (client : ℕ) (o : Open) (a : Asking) (w : Wanted) → depth o ≡ 16 → advance (Inside scripts client o) (Form (Says (Line.If a w))) ≡ Err ScriptCause.Deep
 too_deep scripts client o a w d = rw (le-ltb (depth o) 16 (omega (arith, d))) refl
 
-ends_open : (raws : List Raw) (scripts : List ScriptForm) (client : ℕ) (o : Open) → AreOpen raws scripts client o → scan (Outside []) 0 raws ≡ Err (length raws, cause.Unfinished)
+ends_open : (raws : List Raw) (scripts : List ScriptForm) (client : ℕ) (o : Open) → AreOpen raws scripts client o → scan (Outside []) 0 raws ≡ Err (length raws, ScriptCause.Unfinished)
 unfolding scan
 ends_open raws scripts client o h =
     ap (scan (Outside []) 0) (sym (append-nil raws)) ∙ goes raws [] (Outside []) (Inside scripts client o) 0 h.3 (open_leads raws scripts client o h)
-    ∙ ap (λ n. Err (n, cause.Unfinished)) (omega arith)
+    ∙ ap (λ n. Err (n, ScriptCause.Unfinished)) (omega arith)
 
 finds_it : (before : List Raw) (raw : Raw) (after_it : List Raw) (c : ScriptCause) → IsFault before raw after_it c → scan (Outside []) 0 (before ++ raw ∷ after_it) ≡ Err (length before + 1, c)
-finds_it before raw after_it cause.Line h = let u = up_to before h.0 in fault_at before raw after_it u.0 (Bad cause.Line) cause.Line u.1 u.2 h.1 refl
-finds_it before raw after_it cause.Words h = let u = up_to before h.0 in fault_at before raw after_it u.0 (Bad cause.Words) cause.Words u.1 u.2 h.1 refl
-finds_it before raw after_it cause.Place (inl ((scripts, h), (form, e, n))) =
-    fault_at before raw after_it (Outside scripts) (Form form) cause.Place h.1 (whole_leads before scripts h) e (no_begin scripts form n)
-finds_it before raw after_it cause.Place (inr (o, (scripts, client, h), (form, e, n))) =
-    fault_at before raw after_it (Inside scripts client o) (Form form) cause.Place h.3 (open_leads before scripts client o h) e (no_place scripts client o form n)
-finds_it before raw after_it cause.Deep (o, (scripts, client, h), (a, w, e), d) =
-    fault_at before raw after_it (Inside scripts client o) (Form (Says (line.If a w))) cause.Deep h.3 (open_leads before scripts client o h) e (too_deep scripts client o a w d)
-finds_it before raw after_it cause.Long (o, (scripts, client, h), (l, e, i), k) =
-    fault_at before raw after_it (Inside scripts client o) (Form (Says l)) cause.Long h.3 (open_leads before scripts client o h) e (too_long scripts client o l i k)
-finds_it before raw after_it cause.Unfinished (none, (o, (scripts, client, h))) =
+finds_it before raw after_it ScriptCause.Line h = let u = up_to before h.0 in fault_at before raw after_it u.0 (Bad ScriptCause.Line) ScriptCause.Line u.1 u.2 h.1 refl
+finds_it before raw after_it ScriptCause.Words h = let u = up_to before h.0 in fault_at before raw after_it u.0 (Bad ScriptCause.Words) ScriptCause.Words u.1 u.2 h.1 refl
+finds_it before raw after_it ScriptCause.Place (inl ((scripts, h), (form, e, n))) =
+    fault_at before raw after_it (Outside scripts) (Form form) ScriptCause.Place h.1 (whole_leads before scripts h) e (no_begin scripts form n)
+finds_it before raw after_it ScriptCause.Place (inr (o, (scripts, client, h), (form, e, n))) =
+    fault_at before raw after_it (Inside scripts client o) (Form form) ScriptCause.Place h.3 (open_leads before scripts client o h) e (no_place scripts client o form n)
+finds_it before raw after_it ScriptCause.Deep (o, (scripts, client, h), (a, w, e), d) =
+    fault_at before raw after_it (Inside scripts client o) (Form (Says (Line.If a w))) ScriptCause.Deep h.3 (open_leads before scripts client o h) e (too_deep scripts client o a w d)
+finds_it before raw after_it ScriptCause.Long (o, (scripts, client, h), (l, e, i), k) =
+    fault_at before raw after_it (Inside scripts client o) (Form (Says l)) ScriptCause.Long h.3 (open_leads before scripts client o h) e (too_long scripts client o l i k)
+finds_it before raw after_it ScriptCause.Unfinished (none, (o, (scripts, client, h))) =
     ap (λ (xs : List Raw). scan (Outside []) 0 (before ++ raw ∷ xs)) none ∙ ends_open (before ++ raw ∷ []) scripts client o h
-    ∙ ap (λ n. Err (n, cause.Unfinished)) (rw length-append (omega arith))
+    ∙ ap (λ n. Err (n, ScriptCause.Unfinished)) (rw length-append (omega arith))
 
 pub finds_fault : (raws : List Raw) (line : ℕ) (c : ScriptCause) → IsFirstFaultOf raws line c → scan (Outside []) 0 raws ≡ Err (line, c)
 finds_fault raws line c (before, raw, after_it, e, n, h) = ap (scan (Outside []) 0) e ∙ finds_it before raw after_it c h ∙ ap (λ k. Err (k, c)) (sym n)

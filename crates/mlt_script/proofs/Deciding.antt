@@ -1,14 +1,9 @@
 -- What a scan's exactness says of an answer that agrees with it.
-use Rattle.std.proofs.Common.{◌≡◌, ℕ, List, [], ◌⊎◌, inl, inr, Result, Ok, Err, refl, sym, ap, subst, ◌∙◌}
-use Rattle.std.specs.Prelude.{IfOk, IfErr, IsErrAnd, MatchResult}
-use Rattle.mlt_types.specs.declared.refusal.Refusal.{Refusal}
-use Rattle.mlt_types.specs.declared.refusal.Refusal.TheVariants.{OutOfMemory, ScriptFault}
-use Rattle.mlt_types.specs.declared.refusal.ScriptCause.{ScriptCause}
+use Rattle.std.proofs.Common.{◌≡◌, ℕ, List, [], ◌⊎◌, inl, inr, Result, Ok, Err, refl, sym, ap, subst, ◌∙◌, IfOk, IfErr, IsErrAnd, MatchResult}
+use Rattle.mlt_script.proofs.Names.{Refusal, OutOfMemory, ScriptFault, ScriptCause, Gives, Refuses, Outside, ScriptForm}
 use Rattle.mlt_script.specs.Grammar.{Spells, IsFirstFault, IsDecided}
 use Rattle.mlt_text_words.specs.Lines.{lines}
-use Rattle.mlt_script.specs.Scan.{scan, Gives, Refuses}
-use Rattle.mlt_script.specs.Scan.ScanState.{Outside}
-use Rattle.mlt_script_tree.specs.Scripts.{ScriptForm}
+use Rattle.mlt_script.specs.Scan.{scan}
 use Rattle.mlt_script.proofs.Soundness.{Answers, answers}
 use Rattle.mlt_script.proofs.Completeness.{finds_scripts, finds_fault}
 

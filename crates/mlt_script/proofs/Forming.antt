@@ -1,24 +1,13 @@
 -- What a line can be by itself: its faults are Line and Words, and a client is below 1000.
-use Rattle.std.proofs.Common.{◌≡◌, ℕ, ◌<◌, List, [], ◌∷◌, length, inl, inr, Bool, true, false, cond, ltb, Option, Some, None, refl, arith}
-use Rattle.std.specs.Prelude.{option_and_then, nat_lt}
-use Rattle.std.specs.List.{list_all}
-use Rattle.std.proofs.lemmas.Bool.{ltb-true}
-use Rattle.mlt_types.specs.declared.refusal.ScriptCause.TheVariants as cause
-use Rattle.mlt_script.specs.declared.forms.LineForm.{LineForm}
-use Rattle.mlt_script.specs.declared.forms.LineForm.TheVariants.{Begins, Says, Closes}
-use Rattle.mlt_text_words.specs.declared.keyword.Keyword.{Keyword}
-use Rattle.mlt_text_words.specs.declared.keyword.Keyword.TheVariants as key
-use Rattle.mlt_text_words.specs.declared.keyword.Word.{Word}
-use Rattle.mlt_text_words.specs.declared.keyword.Word.TheVariants.{Key, Variable, Number, Other}
+use Rattle.std.proofs.Common.{◌≡◌, ℕ, ◌<◌, List, [], ◌∷◌, length, inl, inr, Bool, true, false, cond, ltb, Option, Some, None, refl, arith, option_and_then, nat_lt, ltb-true}
+use Rattle.mlt_script.proofs.Names.{list_all, ScriptCause, LineForm, Begins, Says, Closes, Keyword, Word, Key, Variable, Number, Other, Bad, Skip, Commit, Ask, Plain, Else, End, Raw, is_comment, is_allowed, said_by, IsReading, words_of}
 use Rattle.mlt_text_words.specs.declared.letter.Letter.{Letter}
-use Rattle.mlt_script.specs.declared.line.ScriptReading.TheVariants.{Bad, Skip}
-use Rattle.mlt_script_tree.specs.declared.statement.Ending.TheVariants.{Commit, Abort}
-use Rattle.mlt_script_tree.specs.declared.statement.Statement.TheVariants.{Ask, Need, Let}
-use Rattle.mlt_script_tree.specs.declared.statement.Line.TheVariants.{Plain, If, Else, End}
+use Rattle.mlt_script_tree.specs.declared.statement.Ending.TheVariants.{Abort}
+use Rattle.mlt_script_tree.specs.declared.statement.Statement.TheVariants.{Need, Let}
+use Rattle.mlt_script_tree.specs.declared.statement.Line.TheVariants.{If}
 use Rattle.mlt_script.specs.Forms.{form_of, key_form, begin_form, ask_form, need_form, if_form, let_form, equals_source, number_below, letter_at, key_at, source_at, asking_at, asking_is_at, finish}
-use Rattle.mlt_text_words.specs.Lines.{Raw, content, is_comment, is_allowed}
-use Rattle.mlt_script.specs.Readings.{reading, said_by, form_or_fault, outside_comment, IsReading}
-use Rattle.mlt_text_words.specs.Words.{words_of}
+use Rattle.mlt_text_words.specs.Lines.{content}
+use Rattle.mlt_script.specs.Readings.{reading, form_or_fault, outside_comment}
 
 abbrev IsForm : LineForm → Type 0
 IsForm (Begins client) = client < 1000
@@ -61,7 +50,7 @@ unfolding if_form
 conditions rest = after_any (asking_is_at rest) _ (λ a. finished (Says (If a.0.0 a.0.1)) tt a.1)
 
 sources : (l : Letter) (k : Keyword) (rest : List Word) → AnyForm (equals_source l k rest)
-sources l key.Equals rest =
+sources l Keyword.Equals rest =
     after_any (key_at rest) _ (λ k. after_any (source_at k.0 k.1) _ (λ s. finished (Says (Plain (Let l s.0))) tt s.1))
 sources l k rest = tt
 
@@ -71,14 +60,14 @@ sets rest = after_any (letter_at rest) _ (λ l. after_any (key_at l.1) _ (λ k. 
 
 keyed : (k : Keyword) (rest : List Word) → AnyForm (key_form k rest)
 unfolding key_form
-keyed key.Begin rest = begins rest
-keyed key.Commit rest = finished (Closes Commit) tt rest
-keyed key.Abort rest = finished (Closes Abort) tt rest
-keyed key.Need rest = needs rest
-keyed key.Let rest = sets rest
-keyed key.If rest = conditions rest
-keyed key.Else rest = finished (Says Else) tt rest
-keyed key.End rest = finished (Says End) tt rest
+keyed Keyword.Begin rest = begins rest
+keyed Keyword.Commit rest = finished (Closes Commit) tt rest
+keyed Keyword.Abort rest = finished (Closes Abort) tt rest
+keyed Keyword.Need rest = needs rest
+keyed Keyword.Let rest = sets rest
+keyed Keyword.If rest = conditions rest
+keyed Keyword.Else rest = finished (Says Else) tt rest
+keyed Keyword.End rest = finished (Says End) tt rest
 keyed k rest = asks _ rest
 
 formed : (words : List Word) → AnyForm (form_of words)
@@ -95,7 +84,7 @@ of_words : (words : List Word) → IsReading (said_by words)
 of_words [] = tt
 of_words (w ∷ ws) = of_form (form_of (w ∷ ws)) (formed (w ∷ ws))
 
-if_allowed : (b : Bool) (raw : Raw) → IsReading (cond b (said_by (words_of (content raw))) (Bad cause.Line))
+if_allowed : (b : Bool) (raw : Raw) → IsReading (cond b (said_by (words_of (content raw))) (Bad ScriptCause.Line))
 if_allowed true raw = of_words (words_of (content raw))
 if_allowed false raw = inl refl
 
@@ -103,7 +92,7 @@ if_comment : (b : Bool) (raw : Raw) → IsReading (cond b Skip (outside_comment 
 if_comment true raw = tt
 if_comment false raw = if_allowed (list_all is_allowed (content raw)) raw
 
-if_long : (b : Bool) (raw : Raw) → IsReading (cond b (Bad cause.Line) (cond (is_comment (content raw)) Skip (outside_comment raw)))
+if_long : (b : Bool) (raw : Raw) → IsReading (cond b (Bad ScriptCause.Line) (cond (is_comment (content raw)) Skip (outside_comment raw)))
 if_long true raw = inl refl
 if_long false raw = if_comment (is_comment (content raw)) raw
 

@@ -1,3 +1,4 @@
+mod Names
 pub mod Placing
 pub mod Scanning
 pub mod Forming

@@ -1,8 +1,7 @@
 -- Numbers of operations, read without asking what other words are.
 use Rattle.std.proofs.Common.{◌≡◌, ℕ, List, Option, Some, None, option_and_then, nat_lt, if◌then◌else◌, refl}
-use Rattle.mlt_text_words.specs.declared.keyword.Word.{Word}
-use Rattle.mlt_text_words.specs.declared.keyword.Word.TheVariants.{Key, Variable, Number, Other}
-use Rattle.mlt_text_words.specs.Words.{word_at, number_at, number_word}
+use Rattle.mlt_script.proofs.Names.{Word, Key, Variable, Number, Other, word_at, number_at}
+use Rattle.mlt_text_words.specs.Words.{number_word}
 use Rattle.mlt_script.specs.Forms.{number_below, number_in}
 
 abbrev limited : ℕ → ℕ × List Word → Option (ℕ × List Word)

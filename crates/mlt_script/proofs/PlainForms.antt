@@ -1,27 +1,15 @@
 -- Operations and lines of a plain form, as they are read in the general way.
-use Rattle.std.proofs.Common.{◌≡◌, ℕ, ◌^◌, ◌<◌, List, [], ◌∷◌, ◌++◌, length, true, false, Option, Some, None, IfSome, option_and_then, refl, sym, ap, ◌∙◌, append_assoc, length-append, arith}
-use Rattle.std.proofs.lemmas.Bool.{lt-ltb}
-use Rattle.std.proofs.lemmas.List.{append-nil}
+use Rattle.std.proofs.Common.{◌≡◌, ℕ, ◌^◌, ◌<◌, List, [], ◌∷◌, ◌++◌, length, true, false, Option, Some, None, IfSome, option_and_then, refl, sym, ap, ◌∙◌, append_assoc, length-append, arith, lt-ltb, append-nil}
 use denote.Ref.{Bor}
 use Rattle.mlt_object_kinds.specs.declared.operation.ObjOp.{ObjOp}
 use Rattle.mlt_object_kinds.specs.declared.operation.ObjReply.{ObjReply}
-use Rattle.mlt_object_kinds.specs.declared.operation.ObjReply.TheVariants as reply
-use Rattle.mlt_script.specs.declared.forms.LineForm.{LineForm}
-use Rattle.mlt_script.specs.declared.forms.LineForm.TheVariants.{Begins, Says, Closes}
+use Rattle.mlt_script.proofs.Names.{LineForm, Begins, Says, Closes, Asking, Commit, Ask, Line, Keyword, Word, Key, Number, TextIs, is_comment, number_at}
 use Rattle.mlt_script_tree.specs.Amounts.{with_amount}
 use Rattle.mlt_script_tree.specs.declared.statement.AmountOp.{AmountOp}
-use Rattle.mlt_script_tree.specs.declared.statement.Asking.{Asking}
 use Rattle.mlt_script_tree.specs.declared.statement.Asking.TheVariants.{Fixed, By}
-use Rattle.mlt_script_tree.specs.declared.statement.Ending.TheVariants.{Commit}
-use Rattle.mlt_script_tree.specs.declared.statement.Statement.TheVariants.{Ask}
-use Rattle.mlt_script_tree.specs.declared.statement.Line.TheVariants as line
-use Rattle.mlt_text_words.specs.declared.keyword.Keyword.{Keyword}
-use Rattle.mlt_text_words.specs.declared.keyword.Keyword.TheVariants as key
-use Rattle.mlt_text_words.specs.declared.keyword.Word.{Word}
-use Rattle.mlt_text_words.specs.declared.keyword.Word.TheVariants.{Key, Number}
-use Rattle.mlt_text_words.specs.Fronts.{BeginsWithWords, TextIs}
-use Rattle.mlt_text_words.specs.Lines.{is_comment, lines}
-use Rattle.mlt_text_words.specs.Words.{number_at, spelling}
+use Rattle.mlt_text_words.specs.Fronts.{BeginsWithWords}
+use Rattle.mlt_text_words.specs.Lines.{lines}
+use Rattle.mlt_text_words.specs.Words.{spelling}
 use Rattle.mlt_text_words.proofs.Cutting.{line_cut}
 use Rattle.mlt_text_words.proofs.Fronts.{no_comment, words_then}
 use Rattle.mlt_text_words.proofs.Pieces.{at_most, beside, key_text}
@@ -101,28 +89,28 @@ module _ (k : Keyword) (one : (n : ℕ) → op_of_one k n ≡ None) (amount : (n
   unfolding asking_at
   no_asking words op h = let none : asking_at k words ≡ None = no_first (number_at words) in cc
 
-ask_key : (k : Keyword) (words : List Word) (op : ObjOp) → asking_at k words ≡ Some (Fixed op, []) → key_form k words ≡ Some (Says (line.Plain (Ask (Fixed op))))
+ask_key : (k : Keyword) (words : List Word) (op : ObjOp) → asking_at k words ≡ Some (Fixed op, []) → key_form k words ≡ Some (Says (Line.Plain (Ask (Fixed op))))
 unfolding key_form ask_form op_of_one op_of_amount element_op
-ask_key key.Begin words op h = absurd (no_asking key.Begin (λ n. refl) (λ n. refl) refl words op h)
-ask_key key.Commit words op h = absurd (no_asking key.Commit (λ n. refl) (λ n. refl) refl words op h)
-ask_key key.Abort words op h = absurd (no_asking key.Abort (λ n. refl) (λ n. refl) refl words op h)
-ask_key key.Need words op h = absurd (no_asking key.Need (λ n. refl) (λ n. refl) refl words op h)
-ask_key key.Let words op h = absurd (no_asking key.Let (λ n. refl) (λ n. refl) refl words op h)
-ask_key key.If words op h = absurd (no_asking key.If (λ n. refl) (λ n. refl) refl words op h)
-ask_key key.Else words op h = absurd (no_asking key.Else (λ n. refl) (λ n. refl) refl words op h)
-ask_key key.End words op h = absurd (no_asking key.End (λ n. refl) (λ n. refl) refl words op h)
+ask_key Keyword.Begin words op h = absurd (no_asking Keyword.Begin (λ n. refl) (λ n. refl) refl words op h)
+ask_key Keyword.Commit words op h = absurd (no_asking Keyword.Commit (λ n. refl) (λ n. refl) refl words op h)
+ask_key Keyword.Abort words op h = absurd (no_asking Keyword.Abort (λ n. refl) (λ n. refl) refl words op h)
+ask_key Keyword.Need words op h = absurd (no_asking Keyword.Need (λ n. refl) (λ n. refl) refl words op h)
+ask_key Keyword.Let words op h = absurd (no_asking Keyword.Let (λ n. refl) (λ n. refl) refl words op h)
+ask_key Keyword.If words op h = absurd (no_asking Keyword.If (λ n. refl) (λ n. refl) refl words op h)
+ask_key Keyword.Else words op h = absurd (no_asking Keyword.Else (λ n. refl) (λ n. refl) refl words op h)
+ask_key Keyword.End words op h = absurd (no_asking Keyword.End (λ n. refl) (λ n. refl) refl words op h)
 ask_key k words op h = rw h refl
 
 -- a line that is an operation
-ask_form_of : (words : List Word) (op : ObjOp) → op_at words ≡ Some (op, []) → form_of words ≡ Some (Says (line.Plain (Ask (Fixed op))))
+ask_form_of : (words : List Word) (op : ObjOp) → op_at words ≡ Some (op, []) → form_of words ≡ Some (Says (Line.Plain (Ask (Fixed op))))
 unfolding op_at form_of
 ask_form_of words op h = by_key (key_at words) h where
   by_key : (k : Option (Keyword × List Word)) → option_and_then (λ k. option_and_then (λ a. fixed a.0 a.1) (asking_at k.0 k.1)) k ≡ Some (op, [])
-      → option_and_then (λ k. key_form k.0 k.1) k ≡ Some (Says (line.Plain (Ask (Fixed op))))
+      → option_and_then (λ k. key_form k.0 k.1) k ≡ Some (Says (Line.Plain (Ask (Fixed op))))
   by_key None h = cc
   by_key (Some k) h = ask_key k.0 k.1 op (asked (asking_at k.0 k.1) op h)
 
-pub asking_line : (text rest : List ℕ) (op : ObjOp) → BeginsWithOp text op (10 ∷ rest) → BeginsWithForm text (Says (line.Plain (Ask (Fixed op)))) rest
+pub asking_line : (text rest : List ℕ) (op : ObjOp) → BeginsWithOp text op (10 ∷ rest) → BeginsWithForm text (Says (Line.Plain (Ask (Fixed op)))) rest
 unfolding op_at key_at
 asking_line text rest op (t, [], e, h, c, f) = let n : op_at [] ≡ Some (op, []) = f [] in cc
 asking_line text rest op (t, (w ∷ ws), e, h, c, f) =
@@ -131,13 +119,13 @@ asking_line text rest op (t, (w ∷ ws), e, h, c, f) =
 
 -- ---- replies
 
-is_no_reply : (r : ObjReply) → reply_word key.Is ≡ Some r → ⊥
+is_no_reply : (r : ObjReply) → reply_word Keyword.Is ≡ Some r → ⊥
 unfolding reply_word
 is_no_reply r h = cc
 
 reply_of_word : (k : Keyword) (r : ObjReply) (more : List Word) → reply_word k ≡ Some r → reply_at (Key k ∷ more) ≡ Some (r, more)
 unfolding reply_at reply_after key_at
-reply_of_word key.Is r more h = absurd (is_no_reply r h)
+reply_of_word Keyword.Is r more h = absurd (is_no_reply r h)
 reply_of_word k r more h = rw h refl
 
 pub reply_first : (k : Keyword) (text rest : List ℕ) (r : ObjReply) → text ≡ spelling k ++ rest → Some r ≡ reply_word k → BeginsWithReply text r rest
@@ -149,31 +137,31 @@ reply_first k text rest r e h = (
   λ more. reply_of_word k r more (sym h),
 )
 
-pub value_reply : (k : Keyword) (text behind middle rest : List ℕ) (v : ℕ) → k ≡ key.Is → text ≡ spelling k ++ behind → behind ≡ 32 ∷ middle
-    → BeginsWithWords middle (Number v ∷ []) 20 rest → v < 2 ^ 64 → BeginsWithReply text (reply.Is v) rest
+pub value_reply : (k : Keyword) (text behind middle rest : List ℕ) (v : ℕ) → k ≡ Keyword.Is → text ≡ spelling k ++ behind → behind ≡ 32 ∷ middle
+    → BeginsWithWords middle (Number v ∷ []) 20 rest → v < 2 ^ 64 → BeginsWithReply text (ObjReply.Is v) rest
 unfolding reply_at reply_after key_at number_below
 value_reply k text behind middle rest v same e f (t, is, h) below = (
-  spelling key.Is ++ 32 ∷ t,
-  Key key.Is ∷ Number v ∷ [],
-  e ∙ ap (λ (k : Keyword). spelling k ++ behind) same ∙ ap (λ (xs : List ℕ). spelling key.Is ++ xs) (f ∙ ap (λ (xs : List ℕ). 32 ∷ xs) is),
-  beside (spelling key.Is) t (Key key.Is ∷ []) (Number v ∷ []) 8 20 (key_text key.Is) h,
+  spelling Keyword.Is ++ 32 ∷ t,
+  Key Keyword.Is ∷ Number v ∷ [],
+  e ∙ ap (λ (k : Keyword). spelling k ++ behind) same ∙ ap (λ (xs : List ℕ). spelling Keyword.Is ++ xs) (f ∙ ap (λ (xs : List ℕ). 32 ∷ xs) is),
+  beside (spelling Keyword.Is) t (Key Keyword.Is ∷ []) (Number v ∷ []) 8 20 (key_text Keyword.Is) h,
   λ more. rw (lt-ltb v (2 ^ 64) below) refl,
 )
 
 -- ---- begin and commit
 
-pub begin_alone : (text rest : List ℕ) → text ≡ spelling key.Begin ++ 10 ∷ rest → BeginsWithForm text (Begins 0) rest
+pub begin_alone : (text rest : List ℕ) → text ≡ spelling Keyword.Begin ++ 10 ∷ rest → BeginsWithForm text (Begins 0) rest
 unfolding form_of key_form key_at begin_form
-begin_alone text rest e = first_line text _ rest _ [] _ e (at_most _ _ 8 200 (omega arith) (key_text key.Begin)) refl refl
+begin_alone text rest e = first_line text _ rest _ [] _ e (at_most _ _ 8 200 (omega arith) (key_text Keyword.Begin)) refl refl
 
-pub commit_alone : (text rest : List ℕ) → text ≡ spelling key.Commit ++ 10 ∷ rest → BeginsWithForm text (Closes Commit) rest
+pub commit_alone : (text rest : List ℕ) → text ≡ spelling Keyword.Commit ++ 10 ∷ rest → BeginsWithForm text (Closes Commit) rest
 unfolding form_of key_form key_at
-commit_alone text rest e = first_line text _ rest _ [] _ e (at_most _ _ 8 200 (omega arith) (key_text key.Commit)) refl refl
+commit_alone text rest e = first_line text _ rest _ [] _ e (at_most _ _ 8 200 (omega arith) (key_text Keyword.Commit)) refl refl
 
-pub begin_client : (text middle after rest : List ℕ) (n : ℕ) → text ≡ (spelling key.Begin ++ 32 ∷ []) ++ middle → BeginsWithWords middle (Number n ∷ []) 20 after → after ≡ 10 ∷ rest → n < 1000
+pub begin_client : (text middle after rest : List ℕ) (n : ℕ) → text ≡ (spelling Keyword.Begin ++ 32 ∷ []) ++ middle → BeginsWithWords middle (Number n ∷ []) 20 after → after ≡ 10 ∷ rest → n < 1000
     → BeginsWithForm text (Begins n) rest
 unfolding form_of key_form key_at begin_form number_below
 begin_client text middle after rest n e (t, is, h) l below =
-    first_line text (spelling key.Begin ++ 32 ∷ t) rest _ (Number n ∷ []) _
-    (e ∙ ap (λ (xs : List ℕ). spelling key.Begin ++ 32 ∷ xs) (is ∙ ap (λ (xs : List ℕ). t ++ xs) l))
-    (at_most _ _ 29 200 (omega arith) (beside (spelling key.Begin) t (Key key.Begin ∷ []) (Number n ∷ []) 8 20 (key_text key.Begin) h)) refl (rw (lt-ltb n 1000 below) refl)
+    first_line text (spelling Keyword.Begin ++ 32 ∷ t) rest _ (Number n ∷ []) _
+    (e ∙ ap (λ (xs : List ℕ). spelling Keyword.Begin ++ 32 ∷ xs) (is ∙ ap (λ (xs : List ℕ). t ++ xs) l))
+    (at_most _ _ 29 200 (omega arith) (beside (spelling Keyword.Begin) t (Key Keyword.Begin ∷ []) (Number n ∷ []) 8 20 (key_text Keyword.Begin) h)) refl (rw (lt-ltb n 1000 below) refl)

@@ -1,12 +1,9 @@
 -- A line of a scan, and its end.
 use Rattle.std.proofs.Common.{◌≡◌, ℕ, ◌+◌, List, [], ◌∷◌, length, Result, Ok, Err, sym, ap, ◌∙◌, arith}
-use Rattle.mlt_types.specs.declared.refusal.Refusal.{Refusal}
-use Rattle.mlt_types.specs.declared.refusal.Refusal.TheVariants.{OutOfMemory, ScriptFault}
-use Rattle.mlt_types.specs.declared.refusal.ScriptCause.{ScriptCause}
-use Rattle.mlt_text_words.specs.Lines.{Raw, lines}
+use Rattle.mlt_script.proofs.Names.{Refusal, OutOfMemory, ScriptFault, ScriptCause, Raw, ScanState, after, advance, at_end, Advances, Refuses, ScriptForm}
+use Rattle.mlt_text_words.specs.Lines.{lines}
 use Rattle.mlt_script.specs.Readings.{reading}
-use Rattle.mlt_script.specs.Scan.{ScanState, scan, after, advance, at_end, Advances, Refuses}
-use Rattle.mlt_script_tree.specs.Scripts.{ScriptForm}
+use Rattle.mlt_script.specs.Scan.{scan}
 
 abbrev Answer : Type 0
 Answer = Result (List ScriptForm) (ℕ × ScriptCause)

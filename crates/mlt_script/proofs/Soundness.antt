@@ -1,28 +1,11 @@
 -- What a scan answers is so: its scripts are those of the text, and its fault is the first one.
-use Rattle.std.proofs.Common.{◌≡◌, ℕ, ◌+◌, ◌<◌, List, [], ◌∷◌, ◌++◌, length, map, ◌⊎◌, inl, inr, Bool, true, false, cond, ltb, Option, Some, None, Result, Ok, Err, refl, sym, ap, subst, ◌∙◌, append_assoc, length-append, arith}
-use Rattle.std.proofs.lemmas.List.{append-nil, map-append}
-use Rattle.std.proofs.lemmas.Bool.{ltb-true, ltb-false}
-use Rattle.mlt_types.specs.declared.refusal.ScriptCause.{ScriptCause}
-use Rattle.mlt_types.specs.declared.refusal.ScriptCause.TheVariants as cause
-use Rattle.mlt_script.specs.declared.forms.LineForm.{LineForm}
-use Rattle.mlt_script.specs.declared.forms.LineForm.TheVariants.{Begins, Says, Closes}
-use Rattle.mlt_script.specs.declared.line.ScriptReading.{ScriptReading}
-use Rattle.mlt_script.specs.declared.line.ScriptReading.TheVariants.{Bad, Skip, Form}
-use Rattle.mlt_script_tree.specs.declared.statement.Asking.{Asking}
-use Rattle.mlt_script_tree.specs.declared.statement.Wanted.{Wanted}
-use Rattle.mlt_script_tree.specs.declared.statement.Statement.{Statement}
-use Rattle.mlt_script_tree.specs.declared.statement.Line.{Line}
-use Rattle.mlt_script_tree.specs.declared.statement.Line.TheVariants as line
+use Rattle.std.proofs.Common.{◌≡◌, ℕ, ◌+◌, ◌<◌, List, [], ◌∷◌, ◌++◌, length, map, ◌⊎◌, inl, inr, Bool, true, false, cond, ltb, Option, Some, None, Result, Ok, Err, refl, sym, ap, subst, ◌∙◌, append_assoc, length-append, arith, append-nil, ltb-true, ltb-false}
+use Rattle.mlt_script.proofs.Names.{map-append, ScriptCause, LineForm, Begins, Says, Closes, ScriptReading, Bad, Skip, Form, Asking, Wanted, Statement, Line, Block, Open, join, grow, path, depth, Nothing, Then, If, Top, InFirst, InSecond, Raw, IsReading, ScriptForm, IsScript, one_more, AreScripts, IsSpelled, IsSpelledOpen, IsSpelledScript, AreSpelled, IsLawful, AreLawful, form_in, forms_of, AreWhole, AreOpen, IsSound, IsFault, IsFirstFaultOf, ScanState, advance, after, at_end, said, ended, line_fault, Outside, Inside}
 use Rattle.mlt_script_tree.specs.declared.statement.Ending.{Ending}
-use Rattle.mlt_script_tree.specs.Blocks.{Block, Open, join, grow, path, depth, IsWithin}
-use Rattle.mlt_script_tree.specs.Blocks.Block.{Nothing, Then, If}
-use Rattle.mlt_script_tree.specs.Blocks.Open.{Top, InFirst, InSecond}
-use Rattle.mlt_text_words.specs.Lines.{Raw}
-use Rattle.mlt_script.specs.Readings.{reading, IsReading}
-use Rattle.mlt_script_tree.specs.Scripts.{ScriptForm, IsScript, one_more}
-use Rattle.mlt_script.specs.Grammar.{AreScripts, IsSpelled, IsSpelledOpen, IsSpelledScript, AreSpelled, AreSpelledOpen, IsLawful, AreLawful, form_in, forms_of, AreWhole, AreOpen, IsSound, IsFault, IsFirstFaultOf}
-use Rattle.mlt_script.specs.Scan.{ScanState, scan, advance, after, at_end, said, ended, line_fault}
-use Rattle.mlt_script.specs.Scan.ScanState.{Outside, Inside}
+use Rattle.mlt_script_tree.specs.Blocks.{IsWithin}
+use Rattle.mlt_script.specs.Readings.{reading}
+use Rattle.mlt_script.specs.Grammar.{AreSpelledOpen}
+use Rattle.mlt_script.specs.Scan.{scan}
 use Rattle.mlt_script.proofs.Forming.{readings}
 use Rattle.mlt_script.proofs.Placing.{widest_grow, deepest_grow, path_widest, depth_deepest, not_long, not_deep}
 
@@ -48,16 +31,16 @@ spelled_join (If a w first second rest) c x y (u, v, z, p, q, r, inl e) k = (
   q,
   spelled_join rest c z y r k,
   inl (ap (λ (ls : List Line). ls ++ y) e
-      ∙ ap (λ (ls : List Line). line.If a w ∷ ls) (append_assoc u (line.Else ∷ (v ++ line.End ∷ z)) y)
-      ∙ ap (λ (ls : List Line). line.If a w ∷ (u ++ line.Else ∷ ls)) (append_assoc v (line.End ∷ z) y)),
+      ∙ ap (λ (ls : List Line). Line.If a w ∷ ls) (append_assoc u (Line.Else ∷ (v ++ Line.End ∷ z)) y)
+      ∙ ap (λ (ls : List Line). Line.If a w ∷ (u ++ Line.Else ∷ ls)) (append_assoc v (Line.End ∷ z) y)),
 )
 spelled_join (If a w first second rest) c x y (u, v, z, p, q, r, inr (n, e)) k =
-    (u, v, z ++ y, p, q, spelled_join rest c z y r k, inr (n, ap (λ (ls : List Line). ls ++ y) e ∙ ap (λ (ls : List Line). line.If a w ∷ ls) (append_assoc u (line.End ∷ z) y)))
+    (u, v, z ++ y, p, q, spelled_join rest c z y r k, inr (n, ap (λ (ls : List Line). ls ++ y) e ∙ ap (λ (ls : List Line). Line.If a w ∷ ls) (append_assoc u (Line.End ∷ z) y)))
 
 spelled_grow : (o : Open) (b : Block) (x y : List Line) → IsSpelledOpen o x → IsSpelled b y → IsSpelledOpen (grow o b) (x ++ y)
 spelled_grow (Top b) c x y h k = spelled_join b c x y h k
 spelled_grow (InFirst o a w first) c x y (u, v, p, q, e) k =
-    (u, v ++ y, p, spelled_join first c v y q k, ap (λ (ls : List Line). ls ++ y) e ∙ append_assoc u (line.If a w ∷ v) y)
+    (u, v ++ y, p, spelled_join first c v y q k, ap (λ (ls : List Line). ls ++ y) e ∙ append_assoc u (Line.If a w ∷ v) y)
 spelled_grow (InSecond o a w first second) c x y (u, v, z, p, q, r, e) k = (
   u,
   v,
@@ -65,59 +48,59 @@ spelled_grow (InSecond o a w first second) c x y (u, v, z, p, q, r, e) k = (
   p,
   q,
   spelled_join second c z y r k,
-  ap (λ (ls : List Line). ls ++ y) e ∙ append_assoc u (line.If a w ∷ (v ++ line.Else ∷ z)) y
-      ∙ ap (λ (ls : List Line). u ++ line.If a w ∷ ls) (append_assoc v (line.Else ∷ z) y),
+  ap (λ (ls : List Line). ls ++ y) e ∙ append_assoc u (Line.If a w ∷ (v ++ Line.Else ∷ z)) y
+      ∙ ap (λ (ls : List Line). u ++ Line.If a w ∷ ls) (append_assoc v (Line.Else ∷ z) y),
 )
 
 spelled_same : (o : Open) (x y : List Line) → x ≡ y → IsSpelledOpen o x → IsSpelledOpen o y
 spelled_same o x y e h = subst (IsSpelledOpen o) e h
 
-spelled_plain : (o : Open) (s : Statement) (x : List Line) → IsSpelledOpen o x → IsSpelledOpen (grow o (Then s Nothing)) (x ++ line.Plain s ∷ [])
-spelled_plain o s x h = spelled_grow o (Then s Nothing) x (line.Plain s ∷ []) h ([], refl, refl)
+spelled_plain : (o : Open) (s : Statement) (x : List Line) → IsSpelledOpen o x → IsSpelledOpen (grow o (Then s Nothing)) (x ++ Line.Plain s ∷ [])
+spelled_plain o s x h = spelled_grow o (Then s Nothing) x (Line.Plain s ∷ []) h ([], refl, refl)
 
 no_fault : (c : ScriptCause) → Some c ≡ None → ⊥
 no_fault c e = cc e
 
 -- one more line that may stand here
 spelled_more : (o : Open) (l : Line) (x : List Line) → line_fault o l ≡ None → IsSpelledOpen o x → IsSpelledOpen (one_more o l) (x ++ l ∷ [])
-spelled_more o (line.Plain s) x f h = spelled_plain o s x h
-spelled_more o (line.If a w) x f h = (x, [], h, refl, refl)
-spelled_more (Top b) line.Else x f h = absurd (no_fault cause.Place f)
-spelled_more (InFirst o a w first) line.Else x f (u, v, p, q, e) =
-    (u, v, [], p, q, refl, ap (λ (ls : List Line). ls ++ line.Else ∷ []) e ∙ append_assoc u (line.If a w ∷ v) (line.Else ∷ []))
-spelled_more (InSecond o a w first second) line.Else x f h = absurd (no_fault cause.Place f)
-spelled_more (Top b) line.End x f h = absurd (no_fault cause.Place f)
-spelled_more (InFirst o a w first) line.End x f (u, v, p, q, e) =
+spelled_more o (Line.Plain s) x f h = spelled_plain o s x h
+spelled_more o (Line.If a w) x f h = (x, [], h, refl, refl)
+spelled_more (Top b) Line.Else x f h = absurd (no_fault ScriptCause.Place f)
+spelled_more (InFirst o a w first) Line.Else x f (u, v, p, q, e) =
+    (u, v, [], p, q, refl, ap (λ (ls : List Line). ls ++ Line.Else ∷ []) e ∙ append_assoc u (Line.If a w ∷ v) (Line.Else ∷ []))
+spelled_more (InSecond o a w first second) Line.Else x f h = absurd (no_fault ScriptCause.Place f)
+spelled_more (Top b) Line.End x f h = absurd (no_fault ScriptCause.Place f)
+spelled_more (InFirst o a w first) Line.End x f (u, v, p, q, e) =
     let b : Block = If a w first Nothing Nothing in
-    let ls : List Line = line.If a w ∷ (v ++ line.End ∷ []) in
-    spelled_same (grow o b) (u ++ ls) (x ++ line.End ∷ []) (sym (ap (λ (ls : List Line). ls ++ line.End ∷ []) e ∙ append_assoc u (line.If a w ∷ v) (line.End ∷ [])))
+    let ls : List Line = Line.If a w ∷ (v ++ Line.End ∷ []) in
+    spelled_same (grow o b) (u ++ ls) (x ++ Line.End ∷ []) (sym (ap (λ (ls : List Line). ls ++ Line.End ∷ []) e ∙ append_assoc u (Line.If a w ∷ v) (Line.End ∷ [])))
     (spelled_grow o b u ls p (v, [], [], q, refl, refl, inr (refl, refl)))
-spelled_more (InSecond o a w first second) line.End x f (u, v, z, p, q, r, e) =
+spelled_more (InSecond o a w first second) Line.End x f (u, v, z, p, q, r, e) =
     let b : Block = If a w first second Nothing in
-    let ls : List Line = line.If a w ∷ (v ++ line.Else ∷ (z ++ line.End ∷ [])) in
-    spelled_same (grow o b) (u ++ ls) (x ++ line.End ∷ [])
-    (sym (ap (λ (ls : List Line). ls ++ line.End ∷ []) e ∙ append_assoc u (line.If a w ∷ (v ++ line.Else ∷ z)) (line.End ∷ [])
-    ∙ ap (λ (ls : List Line). u ++ line.If a w ∷ ls) (append_assoc v (line.Else ∷ z) (line.End ∷ []))))
+    let ls : List Line = Line.If a w ∷ (v ++ Line.Else ∷ (z ++ Line.End ∷ [])) in
+    spelled_same (grow o b) (u ++ ls) (x ++ Line.End ∷ [])
+    (sym (ap (λ (ls : List Line). ls ++ Line.End ∷ []) e ∙ append_assoc u (Line.If a w ∷ (v ++ Line.Else ∷ z)) (Line.End ∷ [])
+    ∙ ap (λ (ls : List Line). u ++ Line.If a w ∷ ls) (append_assoc v (Line.Else ∷ z) (Line.End ∷ []))))
     (spelled_grow o b u ls p (v, z, [], q, r, refl, inl refl))
 
 within_more : (o : Open) (l : Line) → line_fault o l ≡ None → IsWithin o → IsWithin (one_more o l)
-within_more o (line.Plain s) f h = (
+within_more o (Line.Plain s) f h = (
   (let p = widest_grow o (Then s Nothing) in let q = not_long o f in let r = h.0 in omega (arith, p, q, r)),
   (let p = deepest_grow o (Then s Nothing) in let q = depth_deepest o in let r = h.1 in omega (arith, p, q, r)),
 )
-within_more o (line.If a w) f h = (
+within_more o (Line.If a w) f h = (
   (let q = (not_deep o a w f).1 in let r = h.0 in omega (arith, q, r)),
   (let q = (not_deep o a w f).0 in let r = h.1 in omega (arith, q, r)),
 )
-within_more (Top b) line.Else f h = h
-within_more (InFirst o a w first) line.Else f h = (let r = h.0 in omega (arith, r), let r = h.1 in omega (arith, r))
-within_more (InSecond o a w first second) line.Else f h = h
-within_more (Top b) line.End f h = h
-within_more (InFirst o a w first) line.End f h = (
+within_more (Top b) Line.Else f h = h
+within_more (InFirst o a w first) Line.Else f h = (let r = h.0 in omega (arith, r), let r = h.1 in omega (arith, r))
+within_more (InSecond o a w first second) Line.Else f h = h
+within_more (Top b) Line.End f h = h
+within_more (InFirst o a w first) Line.End f h = (
   (let p = widest_grow o (If a w first Nothing Nothing) in let q = path_widest o in let r = h.0 in omega (arith, p, q, r)),
   (let p = deepest_grow o (If a w first Nothing Nothing) in let q = depth_deepest o in let r = h.1 in omega (arith, p, q, r)),
 )
-within_more (InSecond o a w first second) line.End f h = (
+within_more (InSecond o a w first second) Line.End f h = (
   (let p = widest_grow o (If a w first second Nothing) in let q = path_widest o in let r = h.0 in omega (arith, p, q, r)),
   (let p = deepest_grow o (If a w first second Nothing) in let q = depth_deepest o in let r = h.1 in omega (arith, p, q, r)),
 )
@@ -196,7 +179,7 @@ sound_so_far : (before : List Raw) (s : ScanState) → Reached before s → IsSo
 sound_so_far before (Outside scripts) h = inl (scripts, h)
 sound_so_far before (Inside scripts client o) h = inr (o, (scripts, client, h))
 
-bad : (before : List Raw) (raw : Raw) (raws : List Raw) (s : ScanState) (c : ScriptCause) → (c ≡ cause.Line) ⊎ (c ≡ cause.Words) → reading raw ≡ Bad c → Reached before s → IsFault before raw raws c
+bad : (before : List Raw) (raw : Raw) (raws : List Raw) (s : ScanState) (c : ScriptCause) → (c ≡ ScriptCause.Line) ⊎ (c ≡ ScriptCause.Words) → reading raw ≡ Bad c → Reached before s → IsFault before raw raws c
 bad before raw raws s c (inl k) e h = subst (IsFault before raw raws) (sym k) (sound_so_far before s h, e ∙ ap Bad k)
 bad before raw raws s c (inr k) e h = subst (IsFault before raw raws) (sym k) (sound_so_far before s h, e ∙ ap Bad k)
 
@@ -218,27 +201,27 @@ full : (o : Open) → IsWithin o → ltb (path o) 256 ≡ false → path o + 1 �
 full o h e = let p = path_widest o in let q = h.0 in let r = ltb-false _ _ e in omega (arith, p, q, r)
 
 long_plain : (before : List Raw) (raw : Raw) (raws : List Raw) (scripts : List ScriptForm) (client : ℕ) (o : Open) (s : Statement) (b : Bool) → ltb (path o) 256 ≡ b
-    → reading raw ≡ Form (Says (line.Plain s)) → AreOpen before scripts client o → FaultOf before raw raws (cond b None (Some cause.Long))
+    → reading raw ≡ Form (Says (Line.Plain s)) → AreOpen before scripts client o → FaultOf before raw raws (cond b None (Some ScriptCause.Long))
 long_plain before raw raws scripts client o s true l e h = tt
-long_plain before raw raws scripts client o s false l e h = (o, (scripts, client, h), (line.Plain s, e, tt), full o h.2 l)
+long_plain before raw raws scripts client o s false l e h = (o, (scripts, client, h), (Line.Plain s, e, tt), full o h.2 l)
 
 long_if : (before : List Raw) (raw : Raw) (raws : List Raw) (scripts : List ScriptForm) (client : ℕ) (o : Open) (a : Asking) (w : Wanted) (d b : Bool) → ltb (depth o) 16 ≡ d → ltb (path o) 256 ≡ b
-    → reading raw ≡ Form (Says (line.If a w)) → AreOpen before scripts client o → FaultOf before raw raws (cond d (cond b None (Some cause.Long)) (Some cause.Deep))
+    → reading raw ≡ Form (Says (Line.If a w)) → AreOpen before scripts client o → FaultOf before raw raws (cond d (cond b None (Some ScriptCause.Long)) (Some ScriptCause.Deep))
 long_if before raw raws scripts client o a w true true n l e h = tt
-long_if before raw raws scripts client o a w true false n l e h = (o, (scripts, client, h), (line.If a w, e, ltb-true _ _ n), full o h.2 l)
+long_if before raw raws scripts client o a w true false n l e h = (o, (scripts, client, h), (Line.If a w, e, ltb-true _ _ n), full o h.2 l)
 long_if before raw raws scripts client o a w false b n l e h =
     (o, (scripts, client, h), (a, w, e), let p = depth_deepest o in let q = h.2.1 in let r = ltb-false _ _ n in omega (arith, p, q, r))
 
 fault_here : (before : List Raw) (raw : Raw) (raws : List Raw) (scripts : List ScriptForm) (client : ℕ) (o : Open) (l : Line)
     → reading raw ≡ Form (Says l) → AreOpen before scripts client o → FaultOf before raw raws (line_fault o l)
-fault_here before raw raws scripts client o (line.Plain s) e h = long_plain before raw raws scripts client o s (ltb (path o) 256) refl e h
-fault_here before raw raws scripts client o (line.If a w) e h = long_if before raw raws scripts client o a w (ltb (depth o) 16) (ltb (path o) 256) refl refl e h
-fault_here before raw raws scripts client (Top b) line.Else e h = inr (Top b, (scripts, client, h), (Says line.Else, e, refl))
-fault_here before raw raws scripts client (InFirst o a w first) line.Else e h = tt
-fault_here before raw raws scripts client (InSecond o a w first second) line.Else e h = inr (InSecond o a w first second, (scripts, client, h), (Says line.Else, e, refl))
-fault_here before raw raws scripts client (Top b) line.End e h = inr (Top b, (scripts, client, h), (Says line.End, e, refl))
-fault_here before raw raws scripts client (InFirst o a w first) line.End e h = tt
-fault_here before raw raws scripts client (InSecond o a w first second) line.End e h = tt
+fault_here before raw raws scripts client o (Line.Plain s) e h = long_plain before raw raws scripts client o s (ltb (path o) 256) refl e h
+fault_here before raw raws scripts client o (Line.If a w) e h = long_if before raw raws scripts client o a w (ltb (depth o) 16) (ltb (path o) 256) refl refl e h
+fault_here before raw raws scripts client (Top b) Line.Else e h = inr (Top b, (scripts, client, h), (Says Line.Else, e, refl))
+fault_here before raw raws scripts client (InFirst o a w first) Line.Else e h = tt
+fault_here before raw raws scripts client (InSecond o a w first second) Line.Else e h = inr (InSecond o a w first second, (scripts, client, h), (Says Line.Else, e, refl))
+fault_here before raw raws scripts client (Top b) Line.End e h = inr (Top b, (scripts, client, h), (Says Line.End, e, refl))
+fault_here before raw raws scripts client (InFirst o a w first) Line.End e h = tt
+fault_here before raw raws scripts client (InSecond o a w first second) Line.End e h = tt
 
 line_said : (before : List Raw) (raw : Raw) (raws : List Raw) (scripts : List ScriptForm) (client : ℕ) (o : Open) (l : Line) (f : Option ScriptCause) → line_fault o l ≡ f
     → reading raw ≡ Form (Says l) → AreOpen before scripts client o → FaultOf before raw raws f → Goes before raw raws → Advanced before raw raws (said scripts client (one_more o l) f)
@@ -249,18 +232,18 @@ line_ended : (before : List Raw) (raw : Raw) (raws : List Raw) (scripts : List S
     → reading raw ≡ Form (Closes end) → AreOpen before scripts client o → Goes before raw raws → Advanced before raw raws (ended scripts client o end)
 line_ended before raw raws scripts client (Top b) end e h go = go (Outside (scripts ++ record { client = client; block = b; ending = end } ∷ [])) (one_ended before raw scripts client b end e h)
 line_ended before raw raws scripts client (InFirst o a w first) end e h go =
-    faulty before raw raws cause.Place (inr (InFirst o a w first, (scripts, client, h), (Closes end, e, omega arith)))
+    faulty before raw raws ScriptCause.Place (inr (InFirst o a w first, (scripts, client, h), (Closes end, e, omega arith)))
 line_ended before raw raws scripts client (InSecond o a w first second) end e h go =
-    faulty before raw raws cause.Place (inr (InSecond o a w first second, (scripts, client, h), (Closes end, e, omega arith)))
+    faulty before raw raws ScriptCause.Place (inr (InSecond o a w first second, (scripts, client, h), (Closes end, e, omega arith)))
 
 line_goes : (before : List Raw) (raw : Raw) (raws : List Raw) (s : ScanState) (r : ScriptReading) → reading raw ≡ r → IsReading r → Reached before s → Goes before raw raws
     → Advanced before raw raws (advance s r)
 line_goes before raw raws s (Bad c) e i h go = faulty before raw raws c (bad before raw raws s c i e h)
 line_goes before raw raws s Skip e i h go = go s (skipped before raw s e h)
 line_goes before raw raws (Outside scripts) (Form (Begins client)) e i h go = go (Inside scripts client (Top Nothing)) (begun before raw scripts client i e h)
-line_goes before raw raws (Outside scripts) (Form (Says x)) e i h go = faulty before raw raws cause.Place (inl ((scripts, h), (Says x, e, tt)))
-line_goes before raw raws (Outside scripts) (Form (Closes end)) e i h go = faulty before raw raws cause.Place (inl ((scripts, h), (Closes end, e, tt)))
-line_goes before raw raws (Inside scripts client o) (Form (Begins other)) e i h go = faulty before raw raws cause.Place (inr (o, (scripts, client, h), (Begins other, e, tt)))
+line_goes before raw raws (Outside scripts) (Form (Says x)) e i h go = faulty before raw raws ScriptCause.Place (inl ((scripts, h), (Says x, e, tt)))
+line_goes before raw raws (Outside scripts) (Form (Closes end)) e i h go = faulty before raw raws ScriptCause.Place (inl ((scripts, h), (Closes end, e, tt)))
+line_goes before raw raws (Inside scripts client o) (Form (Begins other)) e i h go = faulty before raw raws ScriptCause.Place (inr (o, (scripts, client, h), (Begins other, e, tt)))
 line_goes before raw raws (Inside scripts client o) (Form (Says x)) e i h go =
     line_said before raw raws scripts client o x (line_fault o x) refl e h (fault_here before raw raws scripts client o x e h) go
 line_goes before raw raws (Inside scripts client o) (Form (Closes end)) e i h go = line_ended before raw raws scripts client o end e h go
@@ -274,7 +257,7 @@ no_lines [] f fs e = cc e
 no_lines (g ∷ gs) f fs e = cc e
 
 unfinished : (before : List Raw) (scripts : List ScriptForm) (client : ℕ) (o : Open) → AreOpen before scripts client o
-    → IsFirstFaultOf before (length before) cause.Unfinished
+    → IsFirstFaultOf before (length before) ScriptCause.Unfinished
 unfinished [] scripts client o (all, small, within, lawful, (x, ls, p, q, k)) = absurd (no_lines x (Begins client) (map Says ls) k)
 unfinished (x ∷ xs) scripts client o h =
     let l = last_of x xs in

@@ -1,32 +1,26 @@
 -- The forms of a line. A function reads from the front of the words, and gives what it read and the words after it.
 use Rattle.std.specs.Prelude.{◌≡◌, ℕ, ◌^◌, List, [], ◌∷◌, Option, Some, None, option_and_then, option_map, nat_lt, if◌then◌else◌}
 use denote.Ref.{Bor}
-use Rattle.mlt_object_kinds.specs.declared.account.AccountOp.TheVariants as account
+use Rattle.mlt_object_kinds.specs.declared.account.AccountOp.{AccountOp}
 use Rattle.mlt_object_kinds.specs.declared.element.ElementOp.{ElementOp}
-use Rattle.mlt_object_kinds.specs.declared.element.ElementOp.TheVariants as element
-use Rattle.mlt_object_kinds.specs.declared.counter.CounterOp.TheVariants as counter
+use Rattle.mlt_object_kinds.specs.declared.counter.CounterOp.{CounterOp}
 use Rattle.mlt_object_kinds.specs.declared.operation.ObjOp.{ObjOp}
 use Rattle.mlt_object_kinds.specs.declared.operation.ObjOp.TheVariants.{Account, Element, Counter, Size}
 use Rattle.mlt_object_kinds.specs.declared.operation.ObjReply.{ObjReply}
-use Rattle.mlt_object_kinds.specs.declared.operation.ObjReply.TheVariants as reply
 use Rattle.mlt_script.specs.declared.forms.LineForm.{LineForm}
 use Rattle.mlt_script.specs.declared.forms.LineForm.TheVariants.{Begins, Says, Closes}
 use Rattle.mlt_text_words.specs.declared.keyword.Keyword.{Keyword}
-use Rattle.mlt_text_words.specs.declared.keyword.Keyword.TheVariants as key
 use Rattle.mlt_text_words.specs.declared.keyword.Word.{Word}
 use Rattle.mlt_text_words.specs.declared.keyword.Word.TheVariants.{Key, Variable, Number, Other}
 use Rattle.mlt_text_words.specs.declared.letter.Letter.{Letter}
 use Rattle.mlt_script_tree.specs.declared.statement.AmountOp.{AmountOp}
-use Rattle.mlt_script_tree.specs.declared.statement.AmountOp.TheVariants as amount
 use Rattle.mlt_script_tree.specs.declared.statement.Asking.{Asking}
 use Rattle.mlt_script_tree.specs.declared.statement.Asking.TheVariants.{Fixed, By}
 use Rattle.mlt_script_tree.specs.declared.statement.Wanted.{Wanted}
-use Rattle.mlt_script_tree.specs.declared.statement.Wanted.TheVariants as wanted
 use Rattle.mlt_script_tree.specs.declared.statement.Source.{Source}
-use Rattle.mlt_script_tree.specs.declared.statement.Source.TheVariants as source
 use Rattle.mlt_script_tree.specs.declared.statement.Ending.TheVariants.{Commit, Abort}
 use Rattle.mlt_script_tree.specs.declared.statement.Statement.TheVariants.{Ask, Need, Let}
-use Rattle.mlt_script_tree.specs.declared.statement.Line.TheVariants as line
+use Rattle.mlt_script_tree.specs.declared.statement.Line.{Line}
 use Rattle.mlt_script_tree.specs.Amounts.{with_amount}
 use Rattle.mlt_text_words.specs.Words.{number_at, words_of, word_at}
 
@@ -85,26 +79,26 @@ if_below limit n made = if nat_lt n limit then Some made else None
 
 -- an OP of a keyword and one number
 unfoldable pub op_of_one : Keyword → ℕ → Option ObjOp
-op_of_one key.Open n = if_below (2 ^ 32) n (Account n account.Open)
-op_of_one key.Close n = if_below (2 ^ 32) n (Account n account.Close)
-op_of_one key.Balance n = if_below (2 ^ 32) n (Account n account.Balance)
-op_of_one key.Read n = if_below (2 ^ 32) n (Counter n counter.Read)
-op_of_one key.Size n = if_below (2 ^ 16) n (Size n)
+op_of_one Keyword.Open n = if_below (2 ^ 32) n (Account n AccountOp.Open)
+op_of_one Keyword.Close n = if_below (2 ^ 32) n (Account n AccountOp.Close)
+op_of_one Keyword.Balance n = if_below (2 ^ 32) n (Account n AccountOp.Balance)
+op_of_one Keyword.Read n = if_below (2 ^ 32) n (Counter n CounterOp.Read)
+op_of_one Keyword.Size n = if_below (2 ^ 16) n (Size n)
 op_of_one keyword n = None
 
 -- an OP of a keyword, a number and an amount, without the amount
 unfoldable pub op_of_amount : Keyword → ℕ → Option AmountOp
-op_of_amount key.Deposit n = if_below (2 ^ 32) n (amount.Deposit n)
-op_of_amount key.Withdraw n = if_below (2 ^ 32) n (amount.Withdraw n)
-op_of_amount key.Up n = if_below (2 ^ 32) n (amount.Up n)
-op_of_amount key.Down n = if_below (2 ^ 32) n (amount.Down n)
+op_of_amount Keyword.Deposit n = if_below (2 ^ 32) n (AmountOp.Deposit n)
+op_of_amount Keyword.Withdraw n = if_below (2 ^ 32) n (AmountOp.Withdraw n)
+op_of_amount Keyword.Up n = if_below (2 ^ 32) n (AmountOp.Up n)
+op_of_amount Keyword.Down n = if_below (2 ^ 32) n (AmountOp.Down n)
 op_of_amount keyword n = None
 
 -- what a keyword asks of an element
 unfoldable pub element_op : Keyword → Option ElementOp
-element_op key.Add = Some element.Add
-element_op key.Remove = Some element.Remove
-element_op key.Has = Some element.Has
+element_op Keyword.Add = Some ElementOp.Add
+element_op Keyword.Remove = Some ElementOp.Remove
+element_op Keyword.Has = Some ElementOp.Has
 element_op keyword = None
 
 -- an OP of a keyword, a set and an element
@@ -141,20 +135,20 @@ op_at words = do
 
 -- a reply of one word
 unfoldable pub reply_word : Keyword → Option ObjReply
-reply_word key.Opened = Some reply.Opened
-reply_word key.Exists = Some reply.Exists
-reply_word key.Closed = Some reply.Closed
-reply_word key.NotEmpty = Some reply.NotEmpty
-reply_word key.Done = Some reply.Done
-reply_word key.Over = Some reply.Over
-reply_word key.Short = Some reply.Short
-reply_word key.Missing = Some reply.Missing
-reply_word key.Added = Some reply.Added
-reply_word key.Present = Some reply.Present
-reply_word key.Removed = Some reply.Removed
-reply_word key.Absent = Some reply.Absent
-reply_word key.Yes = Some reply.Yes
-reply_word key.No = Some reply.No
+reply_word Keyword.Opened = Some ObjReply.Opened
+reply_word Keyword.Exists = Some ObjReply.Exists
+reply_word Keyword.Closed = Some ObjReply.Closed
+reply_word Keyword.NotEmpty = Some ObjReply.NotEmpty
+reply_word Keyword.Done = Some ObjReply.Done
+reply_word Keyword.Over = Some ObjReply.Over
+reply_word Keyword.Short = Some ObjReply.Short
+reply_word Keyword.Missing = Some ObjReply.Missing
+reply_word Keyword.Added = Some ObjReply.Added
+reply_word Keyword.Present = Some ObjReply.Present
+reply_word Keyword.Removed = Some ObjReply.Removed
+reply_word Keyword.Absent = Some ObjReply.Absent
+reply_word Keyword.Yes = Some ObjReply.Yes
+reply_word Keyword.No = Some ObjReply.No
 reply_word keyword = None
 
 abbrev pub with_reply : List Word → Option ObjReply → Option (ObjReply × List Word)
@@ -164,10 +158,10 @@ with_reply rest None = None
 abbrev pub value_at : List Word → Option (ObjReply × List Word)
 value_at words = do
   n ← number_below (2 ^ 64) words
-  Some (reply.Is n.0, n.1)
+  Some (ObjReply.Is n.0, n.1)
 
 unfoldable pub reply_after : Keyword → List Word → Option (ObjReply × List Word)
-reply_after key.Is rest = value_at rest
+reply_after Keyword.Is rest = value_at rest
 reply_after keyword rest = with_reply rest (reply_word keyword)
 
 -- the reply that a list of words begins with, a word or `is v`, and the words after it
@@ -177,13 +171,13 @@ reply_at words = do
   reply_after k.0 k.1
 
 abbrev pub with_wanted : List Word → Option ObjReply → Option (Wanted × List Word)
-with_wanted rest (Some r) = Some (wanted.Reply r, rest)
+with_wanted rest (Some r) = Some (Wanted.Reply r, rest)
 with_wanted rest None = None
 
 abbrev pub wanted_in : Word → List Word → Option (Wanted × List Word)
 wanted_in (Key keyword) rest = with_wanted rest (reply_word keyword)
-wanted_in (Number n) rest = Some (wanted.Reply (reply.Is n), rest)
-wanted_in (Variable l) rest = Some (wanted.ValueOf l, rest)
+wanted_in (Number n) rest = Some (Wanted.Reply (ObjReply.Is n), rest)
+wanted_in (Variable l) rest = Some (Wanted.ValueOf l, rest)
 wanted_in Other rest = None
 
 -- a REPLY of a script: a reply word, or an amount, which stands for `is v`
@@ -193,7 +187,7 @@ wanted_at words = do
   wanted_in w.0 w.1
 
 abbrev pub is_wanted : Asking → Keyword → List Word → Option ((Asking × Wanted) × List Word)
-is_wanted a key.Is rest = do
+is_wanted a Keyword.Is rest = do
   w ← wanted_at rest
   Some ((a, w.0), w.1)
 is_wanted a keyword rest = None
@@ -220,22 +214,22 @@ begin_form (w ∷ ws) = do
 
 -- what a variable is set from, whose first word is the keyword
 unfoldable pub source_at : Keyword → List Word → Option (Source × List Word)
-source_at key.Balance words = do
+source_at Keyword.Balance words = do
   a ← number_below (2 ^ 32) words
-  Some (source.Balance a.0, a.1)
-source_at key.Read words = do
+  Some (Source.Balance a.0, a.1)
+source_at Keyword.Read words = do
   c ← number_below (2 ^ 32) words
-  Some (source.Read c.0, c.1)
-source_at key.Size words = do
+  Some (Source.Read c.0, c.1)
+source_at Keyword.Size words = do
   s ← number_below (2 ^ 16) words
-  Some (source.Size s.0, s.1)
+  Some (Source.Size s.0, s.1)
 source_at keyword words = None
 
 abbrev pub equals_source : Letter → Keyword → List Word → Option LineForm
-equals_source l key.Equals rest = do
+equals_source l Keyword.Equals rest = do
   k ← key_at rest
   s ← source_at k.0 k.1
-  finish (Says (line.Plain (Let l s.0))) s.1
+  finish (Says (Line.Plain (Let l s.0))) s.1
 equals_source l keyword rest = None
 
 -- let v = balance A, let v = read C, or let v = size S
@@ -248,28 +242,28 @@ let_form words = do
 unfoldable pub need_form : List Word → Option LineForm
 need_form words = do
   a ← asking_is_at words
-  finish (Says (line.Plain (Need a.0.0 a.0.1))) a.1
+  finish (Says (Line.Plain (Need a.0.0 a.0.1))) a.1
 
 unfoldable pub if_form : List Word → Option LineForm
 if_form words = do
   a ← asking_is_at words
-  finish (Says (line.If a.0.0 a.0.1)) a.1
+  finish (Says (Line.If a.0.0 a.0.1)) a.1
 
 unfoldable pub ask_form : Keyword → List Word → Option LineForm
 ask_form keyword words = do
   a ← asking_at keyword words
-  finish (Says (line.Plain (Ask a.0))) a.1
+  finish (Says (Line.Plain (Ask a.0))) a.1
 
 -- a line whose first word is the keyword
 unfoldable pub key_form : Keyword → List Word → Option LineForm
-key_form key.Begin rest = begin_form rest
-key_form key.Commit rest = finish (Closes Commit) rest
-key_form key.Abort rest = finish (Closes Abort) rest
-key_form key.Need rest = need_form rest
-key_form key.Let rest = let_form rest
-key_form key.If rest = if_form rest
-key_form key.Else rest = finish (Says line.Else) rest
-key_form key.End rest = finish (Says line.End) rest
+key_form Keyword.Begin rest = begin_form rest
+key_form Keyword.Commit rest = finish (Closes Commit) rest
+key_form Keyword.Abort rest = finish (Closes Abort) rest
+key_form Keyword.Need rest = need_form rest
+key_form Keyword.Let rest = let_form rest
+key_form Keyword.If rest = if_form rest
+key_form Keyword.Else rest = finish (Says Line.Else) rest
+key_form Keyword.End rest = finish (Says Line.End) rest
 key_form keyword rest = ask_form keyword rest
 
 -- the form of a line of these words, if they are one

@@ -1,7 +1,6 @@
 -- Which scripts a text is, and where its first fault stands.
 use Rattle.std.specs.Prelude.{◌≡◌, ℕ, ◌+◌, ◌<◌, List, [], ◌∷◌, ◌++◌, length, map, Bool, true, false, ◌⊎◌}
 use Rattle.mlt_types.specs.declared.refusal.ScriptCause.{ScriptCause}
-use Rattle.mlt_types.specs.declared.refusal.ScriptCause.TheVariants as cause
 use Rattle.mlt_script.specs.declared.forms.LineForm.{LineForm}
 use Rattle.mlt_script.specs.declared.forms.LineForm.TheVariants.{Begins, Says, Closes}
 use Rattle.mlt_script.specs.declared.line.ScriptReading.{ScriptReading}
@@ -9,7 +8,6 @@ use Rattle.mlt_script.specs.declared.line.ScriptReading.TheVariants.{Bad, Form}
 use Rattle.mlt_script_tree.specs.declared.statement.Asking.{Asking}
 use Rattle.mlt_script_tree.specs.declared.statement.Wanted.{Wanted}
 use Rattle.mlt_script_tree.specs.declared.statement.Line.{Line}
-use Rattle.mlt_script_tree.specs.declared.statement.Line.TheVariants as line
 use Rattle.mlt_script_tree.specs.Blocks.{Block, Open, path, depth, IsWithin}
 use Rattle.mlt_script_tree.specs.Blocks.Block.{Nothing, Then, If}
 use Rattle.mlt_script_tree.specs.Blocks.Open.{Top, InFirst, InSecond}
@@ -24,13 +22,13 @@ AreScripts (s ∷ scripts) = IsScript s × AreScripts scripts
 -- The lines of statements. Where the second part of an if is empty, its else may be left out.
 abbrev pub IsSpelled : Block → List Line → Type 0
 IsSpelled Nothing ls = ls ≡ []
-IsSpelled (Then s rest) ls = (z : List Line) × (ls ≡ line.Plain s ∷ z) × IsSpelled rest z
+IsSpelled (Then s rest) ls = (z : List Line) × (ls ≡ Line.Plain s ∷ z) × IsSpelled rest z
 IsSpelled (If a w first second rest) ls =
     (x : List Line) × (y : List Line) × (z : List Line)
     × IsSpelled first x
     × IsSpelled second y
     × IsSpelled rest z
-    × ((ls ≡ line.If a w ∷ (x ++ line.Else ∷ (y ++ line.End ∷ z))) ⊎ ((second ≡ Nothing) × (ls ≡ line.If a w ∷ (x ++ line.End ∷ z))))
+    × ((ls ≡ Line.If a w ∷ (x ++ Line.Else ∷ (y ++ Line.End ∷ z))) ⊎ ((second ≡ Nothing) × (ls ≡ Line.If a w ∷ (x ++ Line.End ∷ z))))
 
 -- the lines of a script that is read up to somewhere, behind its begin
 abbrev pub IsSpelledOpen : Open → List Line → Type 0
@@ -39,13 +37,13 @@ IsSpelledOpen (InFirst o a w first) ls =
     (x : List Line) × (y : List Line)
     × IsSpelledOpen o x
     × IsSpelled first y
-    × (ls ≡ x ++ line.If a w ∷ y)
+    × (ls ≡ x ++ Line.If a w ∷ y)
 IsSpelledOpen (InSecond o a w first second) ls =
     (x : List Line) × (y : List Line) × (z : List Line)
     × IsSpelledOpen o x
     × IsSpelled first y
     × IsSpelled second z
-    × (ls ≡ x ++ line.If a w ∷ (y ++ line.Else ∷ z))
+    × (ls ≡ x ++ Line.If a w ∷ (y ++ Line.Else ∷ z))
 
 -- a script is its begin, the lines of its statements and its ending
 abbrev pub IsSpelledScript : ScriptForm → List LineForm → Type 0
@@ -129,31 +127,31 @@ is_in_first o = false
 abbrev pub HasNoPlace : Open → LineForm → Type 0
 HasNoPlace o (Begins client) = Unit {0}
 HasNoPlace o (Closes e) = 0 < depth o
-HasNoPlace o (Says line.Else) = is_in_first o ≡ false
-HasNoPlace o (Says line.End) = depth o ≡ 0
+HasNoPlace o (Says Line.Else) = is_in_first o ≡ false
+HasNoPlace o (Says Line.End) = depth o ≡ 0
 HasNoPlace o (Says l) = ⊥
 
 -- the line asks an operation, and is no if inside 16 others
 abbrev pub IsAskingHere : Open → Line → Type 0
-IsAskingHere o (line.Plain s) = Unit {0}
-IsAskingHere o (line.If a w) = depth o < 16
+IsAskingHere o (Line.Plain s) = Unit {0}
+IsAskingHere o (Line.If a w) = depth o < 16
 IsAskingHere o l = ⊥
 
 -- After lines that have no fault, the line has this one. The lines after it matter only to Unfinished.
 abbrev pub IsFault : List Raw → Raw → List Raw → ScriptCause → Type 0
-IsFault before raw after cause.Line = IsSound before × (reading raw ≡ Bad cause.Line)
-IsFault before raw after cause.Words = IsSound before × (reading raw ≡ Bad cause.Words)
-IsFault before raw after cause.Place =
+IsFault before raw after ScriptCause.Line = IsSound before × (reading raw ≡ Bad ScriptCause.Line)
+IsFault before raw after ScriptCause.Words = IsSound before × (reading raw ≡ Bad ScriptCause.Words)
+IsFault before raw after ScriptCause.Place =
     (IsClosed before × ((form : LineForm) × (reading raw ≡ Form form) × IsNoBegin form))
     ⊎ ((o : Open) × IsOpen before o × ((form : LineForm) × (reading raw ≡ Form form) × HasNoPlace o form))
-IsFault before raw after cause.Deep =
+IsFault before raw after ScriptCause.Deep =
     (o : Open)
     × IsOpen before o
-    × ((a : Asking) × (w : Wanted) × (reading raw ≡ Form (Says (line.If a w))))
+    × ((a : Asking) × (w : Wanted) × (reading raw ≡ Form (Says (Line.If a w))))
     × (depth o ≡ 16)
-IsFault before raw after cause.Long =
+IsFault before raw after ScriptCause.Long =
     (o : Open) × IsOpen before o × ((l : Line) × (reading raw ≡ Form (Says l)) × IsAskingHere o l) × (path o + 1 ≡ 257)
-IsFault before raw after cause.Unfinished = (after ≡ []) × ((o : Open) × IsOpen (before ++ raw ∷ []) o)
+IsFault before raw after ScriptCause.Unfinished = (after ≡ []) × ((o : Open) × IsOpen (before ++ raw ∷ []) o)
 
 -- the first fault of the lines, which are counted from 1
 abbrev pub IsFirstFaultOf : List Raw → ℕ → ScriptCause → Type 0

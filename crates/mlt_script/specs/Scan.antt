@@ -10,7 +10,6 @@ use Rattle.mlt_script.specs.declared.line.ScriptReading.{ScriptReading}
 use Rattle.mlt_script.specs.declared.line.ScriptReading.TheVariants.{Bad, Skip, Form}
 use Rattle.mlt_script_tree.specs.declared.statement.Ending.{Ending}
 use Rattle.mlt_script_tree.specs.declared.statement.Line.{Line}
-use Rattle.mlt_script_tree.specs.declared.statement.Line.TheVariants as line
 use Rattle.mlt_script_tree.specs.Blocks.{Open, path, depth}
 use Rattle.mlt_script_tree.specs.Blocks.Block.{Nothing}
 use Rattle.mlt_script_tree.specs.Blocks.Open.{Top, InFirst}
@@ -36,10 +35,10 @@ end_fault o = None
 
 -- why a line may not stand here
 abbrev pub line_fault : Open → Line → Option ScriptCause
-line_fault o (line.Plain s) = long_fault o
-line_fault o (line.If a w) = if nat_lt (depth o) 16 then long_fault o else Some Deep
-line_fault o line.Else = else_fault o
-line_fault o line.End = end_fault o
+line_fault o (Line.Plain s) = long_fault o
+line_fault o (Line.If a w) = if nat_lt (depth o) 16 then long_fault o else Some Deep
+line_fault o Line.Else = else_fault o
+line_fault o Line.End = end_fault o
 
 abbrev pub said : List ScriptForm → ℕ → Open → Option ScriptCause → Result ScanState ScriptCause
 said scripts client o None = Ok (Inside scripts client o)

@@ -1,12 +1,9 @@
 -- Scripts that are played, as their transcripts grow.
 use Rattle.std.proofs.Common.{ℕ, [], ◌∷◌, ◌++◌, refl, sym, subst}
-use Rattle.mlt_object_kinds.specs.declared.operation.ObjOp.{ObjOp}
-use Rattle.mlt_object_kinds.specs.declared.operation.ObjReply.{ObjReply}
-use Rattle.mlt_object_kinds.specs.Bases.{Transcript}
+use Rattle.mlt_script_cursor.proofs.Names.{ObjOp, ObjReply, Transcript, Gives}
 use Rattle.mlt_script_cursor.specs.declared.call.DeskAnswer.TheVariants.{Replied}
 use Rattle.mlt_script_cursor.specs.declared.call.DeskCall.TheVariants.{Operation}
 use Rattle.mlt_script_cursor.specs.Calls.{Moves}
-use Rattle.mlt_script_cursor.specs.Plays.{Gives}
 
 -- one more reply is given
 pub gives_more : {D : Type 0} (moves : Moves D) (tx : ℕ) (d : D) (t : Transcript) (m e : D) (op : ObjOp) (r : ObjReply)

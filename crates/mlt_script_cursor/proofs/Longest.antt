@@ -1,13 +1,6 @@
 -- How many operations a script asks at most.
 use Rattle.std.proofs.Common.{◌≤◌, ◌+◌, max, ℕ, Bool, true, false, cond, [], ◌∷◌, ◌++◌, length, arith, length-append}
-use Rattle.mlt_script_tree.specs.declared.statement.Ending.{Ending}
-use Rattle.mlt_script_tree.specs.declared.statement.Ending.TheVariants.{Abort}
-use Rattle.mlt_script_tree.specs.declared.statement.Line.TheVariants as line
-use Rattle.mlt_script_tree.specs.Blocks.{Block, lines_of, longest}
-use Rattle.mlt_script_tree.specs.Blocks.Block.{Nothing, Then, If}
-use Rattle.mlt_script_tree.specs.Scripts.{ScriptForm}
-use Rattle.mlt_script_cursor.specs.Follows.{AsksAtMost, Questions, Variables, goes_on, is_wanted, no_values, questions, questions_of_script, set_by}
-use Rattle.mlt_script_cursor.specs.Follows.Questions.{Ends}
+use Rattle.mlt_script_cursor.proofs.Names.{Ending, Abort, Line, Block, lines_of, longest, Nothing, Then, If, ScriptForm, AsksAtMost, Questions, Variables, goes_on, is_wanted, no_values, questions, questions_of_script, set_by, Ends}
 
 end_asks_none : (e : Ending) (n : ℕ) → AsksAtMost n (Ends e)
 end_asks_none e n [] q h = omega arith
@@ -53,6 +46,6 @@ longest_lines (If a w first second rest) =
     let one = longest_lines first in
     let other = longest_lines second in
     let more = longest_lines rest in
-    let all = length-append (lines_of first) (line.Else ∷ (lines_of second ++ line.End ∷ lines_of rest)) in
-    let later = length-append (lines_of second) (line.End ∷ lines_of rest) in
+    let all = length-append (lines_of first) (Line.Else ∷ (lines_of second ++ Line.End ∷ lines_of rest)) in
+    let later = length-append (lines_of second) (Line.End ∷ lines_of rest) in
     omega (arith, one, other, more, all, later)

@@ -1,56 +1,47 @@
 -- What lines ask, line by line.
 use Rattle.std.proofs.Common.{Some, None, cond, ⊎_elim, ◌≡◌, ℕ, ◌+◌, ◌<◌, ◌≤◌, List, [], ◌∷◌, length, drop, get_or, Bool, true, false, refl, sym, ap, ◌∙◌, subst, add-one, drop-cons}
-use Rattle.std.proofs.lemmas.List.{drop_all}
+use Rattle.mlt_script_cursor.proofs.Names.{drop_all, ObjOp, ObjReply, Line, Ending, Abort, Nowhere, ToElse, ToEnd, Next, Questions, Variables, IsNext, answered, goes_on, set_by, Ends, Asks, heard, heard_values, after_hearing}
 use Rattle.std.proofs.lemmas.Bool.{cases_lt}
 use Rattle.mlt_object_kinds.specs.declared.account.AccountOp.TheVariants.{Open}
-use Rattle.mlt_object_kinds.specs.declared.operation.ObjOp.{ObjOp}
 use Rattle.mlt_object_kinds.specs.declared.operation.ObjOp.TheVariants.{Account}
-use Rattle.mlt_object_kinds.specs.declared.operation.ObjReply.{ObjReply}
-use Rattle.mlt_script_tree.specs.declared.statement.Line.{Line}
-use Rattle.mlt_script_tree.specs.declared.statement.Line.TheVariants as line
 use Rattle.mlt_script_tree.specs.declared.statement.Asking.TheVariants.{Fixed}
 use Rattle.mlt_script_tree.specs.declared.statement.Statement.TheVariants.{Ask}
-use Rattle.mlt_script_tree.specs.declared.statement.Ending.{Ending}
-use Rattle.mlt_script_tree.specs.declared.statement.Ending.TheVariants.{Commit, Abort}
+use Rattle.mlt_script_tree.specs.declared.statement.Ending.TheVariants.{Commit}
 use Rattle.mlt_script_cursor.specs.declared.skipping.Skipping.{Skipping}
-use Rattle.mlt_script_cursor.specs.declared.skipping.Skipping.TheVariants.{Nowhere, ToElse, ToEnd}
-use Rattle.mlt_script_cursor.specs.declared.cursor.Next.{Next}
-use Rattle.mlt_script_cursor.specs.declared.cursor.Next.TheVariants as next
-use Rattle.mlt_script_cursor.specs.Follows.{Questions, Variables, IsNext, IsAsking, answered, goes_on, set_by}
-use Rattle.mlt_script_cursor.specs.Follows.Questions.{Ends, Asks}
-use Rattle.mlt_script_cursor.specs.Hearing.{question, heard, heard_values, after_hearing}
+use Rattle.mlt_script_cursor.specs.Follows.{IsAsking}
+use Rattle.mlt_script_cursor.specs.Hearing.{question}
 use Rattle.mlt_script_cursor.specs.Runs.{run, skipped, stops_at, is_settled}
 
 -- the line that is read past the end of lines
 abbrev pub some_line : Line
-some_line = line.Plain (Ask (Fixed (Account 0 Open)))
+some_line = Line.Plain (Ask (Fixed (Account 0 Open)))
 
 pub passes : (l : Line) (ls : List Line) (m : Skipping) (vs : Variables) (end : Ending) → stops_at l m ≡ false
     → run (l ∷ ls) m vs end ≡ run ls (skipped l m) vs end
 unfolding run
-passes line.Else ls Nowhere vs end h = refl
-passes line.End ls Nowhere vs end h = refl
-passes (line.Plain s) ls Nowhere vs end h = absurd (cc h)
-passes (line.If a w) ls Nowhere vs end h = absurd (cc h)
-passes (line.Plain s) ls (ToElse n) vs end h = refl
-passes (line.If a w) ls (ToElse n) vs end h = refl
-passes line.Else ls (ToElse n) vs end h = refl
-passes line.End ls (ToElse n) vs end h = refl
-passes (line.Plain s) ls (ToEnd n) vs end h = refl
-passes (line.If a w) ls (ToEnd n) vs end h = refl
-passes line.Else ls (ToEnd n) vs end h = refl
-passes line.End ls (ToEnd n) vs end h = refl
+passes Line.Else ls Nowhere vs end h = refl
+passes Line.End ls Nowhere vs end h = refl
+passes (Line.Plain s) ls Nowhere vs end h = absurd (cc h)
+passes (Line.If a w) ls Nowhere vs end h = absurd (cc h)
+passes (Line.Plain s) ls (ToElse n) vs end h = refl
+passes (Line.If a w) ls (ToElse n) vs end h = refl
+passes Line.Else ls (ToElse n) vs end h = refl
+passes Line.End ls (ToElse n) vs end h = refl
+passes (Line.Plain s) ls (ToEnd n) vs end h = refl
+passes (Line.If a w) ls (ToEnd n) vs end h = refl
+passes Line.Else ls (ToEnd n) vs end h = refl
+passes Line.End ls (ToEnd n) vs end h = refl
 
 pub is_nowhere : (l : Line) (m : Skipping) → stops_at l m ≡ true → m ≡ Nowhere
 is_nowhere l Nowhere h = refl
-is_nowhere line.Else (ToElse n) h = absurd (cc h)
-is_nowhere line.End (ToElse n) h = absurd (cc h)
-is_nowhere (line.Plain s) (ToElse n) h = absurd (cc h)
-is_nowhere (line.If a w) (ToElse n) h = absurd (cc h)
-is_nowhere line.Else (ToEnd n) h = absurd (cc h)
-is_nowhere line.End (ToEnd n) h = absurd (cc h)
-is_nowhere (line.Plain s) (ToEnd n) h = absurd (cc h)
-is_nowhere (line.If a w) (ToEnd n) h = absurd (cc h)
+is_nowhere Line.Else (ToElse n) h = absurd (cc h)
+is_nowhere Line.End (ToElse n) h = absurd (cc h)
+is_nowhere (Line.Plain s) (ToElse n) h = absurd (cc h)
+is_nowhere (Line.If a w) (ToElse n) h = absurd (cc h)
+is_nowhere Line.Else (ToEnd n) h = absurd (cc h)
+is_nowhere Line.End (ToEnd n) h = absurd (cc h)
+is_nowhere (Line.Plain s) (ToEnd n) h = absurd (cc h)
+is_nowhere (Line.If a w) (ToEnd n) h = absurd (cc h)
 
 pub settles : (l : Line) (ls : List Line) (m : Skipping) → stops_at l m ≡ true → is_settled (l ∷ ls) ≡ true
 settles l ls m h = ap (stops_at l) (sym (is_nowhere l m h)) ∙ h
@@ -69,10 +60,10 @@ turn ls at m d vs end h s = sym (ap (λ (xs : List Line). run xs m vs end) (fron
 
 asks_first : (l : Line) (ls : List Line) (vs : Variables) (end : Ending) → stops_at l Nowhere ≡ true → IsNext (question l vs) (run (l ∷ ls) Nowhere vs end)
 unfolding run
-asks_first (line.Plain s) ls vs end h = refl
-asks_first (line.If a w) ls vs end h = refl
-asks_first line.Else ls vs end h = absurd (cc h)
-asks_first line.End ls vs end h = absurd (cc h)
+asks_first (Line.Plain s) ls vs end h = refl
+asks_first (Line.If a w) ls vs end h = refl
+asks_first Line.Else ls vs end h = absurd (cc h)
+asks_first Line.End ls vs end h = absurd (cc h)
 
 pub next_line : (ls : List Line) (at : ℕ) (d : Line) (vs : Variables) (end : Ending) → at < length ls → is_settled (drop at ls) ≡ true
     → IsNext (question (get_or ls at d) vs) (run (drop at ls) Nowhere vs end)
@@ -82,8 +73,8 @@ next_line ls at d vs end h s =
     subst (λ (xs : List Line). IsNext (question (get_or ls at d) vs) (run xs Nowhere vs end)) (sym e) (asks_first (get_or ls at d) (drop (at + 1) ls) vs end t)
 
 pub end_of : Ending → Next
-end_of Commit = next.Commit
-end_of Abort = next.Abort
+end_of Commit = Next.Commit
+end_of Abort = Next.Abort
 
 ends_so : (end : Ending) → IsNext (end_of end) (Ends end)
 unfolding end_of
@@ -95,7 +86,7 @@ unfolding run
 run_out ls at vs end h = rw (drop_all at ls h) refl
 
 -- where an operation comes next, it is being asked
-pub asks : (o : ObjOp) (p : Questions) → IsNext (next.Op o) p → IsAsking p
+pub asks : (o : ObjOp) (p : Questions) → IsNext (Next.Op o) p → IsAsking p
 asks o (Asks op after) h = tt
 asks o (Ends e) h = absurd h
 
@@ -112,10 +103,10 @@ goes_or_ends false ls vs end = refl
 answers : (l : Line) (ls : List Line) (vs : Variables) (end : Ending) (r : ObjReply) → stops_at l Nowhere ≡ true
     → answered (run (l ∷ ls) Nowhere vs end) r ≡ after_hearing (heard l vs r) ls (heard_values l vs r) end
 unfolding run
-answers (line.Plain s) ls vs end r h = goes_or_ends (goes_on vs s r) ls (set_by vs s r) end
-answers (line.If a w) ls vs end r h = refl
-answers line.Else ls vs end r h = absurd (cc h)
-answers line.End ls vs end r h = absurd (cc h)
+answers (Line.Plain s) ls vs end r h = goes_or_ends (goes_on vs s r) ls (set_by vs s r) end
+answers (Line.If a w) ls vs end r h = refl
+answers Line.Else ls vs end r h = absurd (cc h)
+answers Line.End ls vs end r h = absurd (cc h)
 
 pub tells : (ls : List Line) (at : ℕ) (d : Line) (vs : Variables) (end : Ending) (r : ObjReply) → at < length ls → is_settled (drop at ls) ≡ true
     → answered (run (drop at ls) Nowhere vs end) r ≡ after_hearing (heard (get_or ls at d) vs r) (drop (at + 1) ls) (heard_values (get_or ls at d) vs r) end

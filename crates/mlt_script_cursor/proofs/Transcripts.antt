@@ -1,27 +1,21 @@
 -- Transcripts of questions, as they grow.
 use Rattle.std.proofs.Common.{◌+◌, ◌≤◌, ◌<◌, [], ◌∷◌, ◌++◌, length, ℕ, ◌≡◌, refl, sym, subst, arith, length-append}
-use Rattle.mlt_object_kinds.specs.declared.operation.ObjOp.{ObjOp}
-use Rattle.mlt_object_kinds.specs.declared.operation.ObjReply.{ObjReply}
+use Rattle.mlt_script_cursor.proofs.Names.{ObjOp, ObjReply, Transcript, Ending, ScriptForm, Next, AsksAtMost, Questions, Reaches, IsNext, answered, questions_of_script, Ends, Asks}
 use Rattle.mlt_object_kinds.specs.declared.operation.ObjReply.TheVariants.{Missing}
-use Rattle.mlt_object_kinds.specs.Bases.{Transcript}
-use Rattle.mlt_script_tree.specs.declared.statement.Ending.{Ending}
-use Rattle.mlt_script_tree.specs.Scripts.{ScriptForm}
-use Rattle.mlt_script_cursor.specs.declared.cursor.Next.TheVariants as next
-use Rattle.mlt_script_cursor.specs.Follows.{AsksAtMost, Questions, Reaches, IsNext, IsPartial, answered, questions_of_script}
-use Rattle.mlt_script_cursor.specs.Follows.Questions.{Ends, Asks}
+use Rattle.mlt_script_cursor.specs.Follows.{IsPartial}
 
-answers_next : (q : Questions) (op : ObjOp) (r : ObjReply) → IsNext (next.Op op) q → Reaches q ((op, r) ∷ []) (answered q r)
+answers_next : (q : Questions) (op : ObjOp) (r : ObjReply) → IsNext (Next.Op op) q → Reaches q ((op, r) ∷ []) (answered q r)
 answers_next (Ends e) op r h = absurd h
 answers_next (Asks o after) op r h = (h, refl)
 
 -- one more operation is asked and told its reply
-pub reaches_more : (p : Questions) (t : Transcript) (q : Questions) (op : ObjOp) (r : ObjReply) → Reaches p t q → IsNext (next.Op op) q → Reaches p (t ++ (op, r) ∷ []) (answered q r)
+pub reaches_more : (p : Questions) (t : Transcript) (q : Questions) (op : ObjOp) (r : ObjReply) → Reaches p t q → IsNext (Next.Op op) q → Reaches p (t ++ (op, r) ∷ []) (answered q r)
 reaches_more p [] q op r h n = subst (λ (z : Questions). Reaches z ((op, r) ∷ []) (answered q r)) (sym h) (answers_next q op r n)
 reaches_more (Ends e) (x ∷ t) q op r h n = absurd h
 reaches_more (Asks o after) (x ∷ t) q op r h n = (h.0, reaches_more (after x.1) t q op r h.1 n)
 
 -- where one more operation is asked, there was room for its reply
-pub room_for_more : (most : ℕ) (p : Questions) (t : Transcript) (q : Questions) (op : ObjOp) → AsksAtMost most p → Reaches p t q → IsNext (next.Op op) q → length t < most
+pub room_for_more : (most : ℕ) (p : Questions) (t : Transcript) (q : Questions) (op : ObjOp) → AsksAtMost most p → Reaches p t q → IsNext (Next.Op op) q → length t < most
 room_for_more most p t q op within reaches asked =
     let more : length (t ++ (op, Missing) ∷ []) ≤ most = within (t ++ (op, Missing) ∷ []) (answered q Missing) (reaches_more p t q op Missing reaches asked) in
     let long : length (t ++ (op, Missing) ∷ []) ≡ length t + 1 = length-append t ((op, Missing) ∷ []) in

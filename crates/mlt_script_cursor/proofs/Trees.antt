@@ -1,16 +1,8 @@
 -- The lines of a tree ask what the tree asks.
-use Rattle.std.proofs.Common.{◌≡◌, ℕ, suc, List, [], ◌∷◌, ◌++◌, Bool, true, false, cond, refl, sym, ap, ◌∙◌}
-use Rattle.std.proofs.lemmas.List.{append-nil}
-use Rattle.mlt_script_tree.specs.declared.statement.Line.{Line}
-use Rattle.mlt_script_tree.specs.declared.statement.Line.TheVariants as line
-use Rattle.mlt_script_tree.specs.declared.statement.Ending.{Ending}
-use Rattle.mlt_script_tree.specs.declared.statement.Ending.TheVariants.{Abort}
-use Rattle.mlt_script_cursor.specs.declared.skipping.Skipping.TheVariants.{Nowhere, ToElse, ToEnd}
-use Rattle.mlt_script_tree.specs.Blocks.{Block, lines_of}
-use Rattle.mlt_script_tree.specs.Blocks.Block.{Nothing, Then, If}
+use Rattle.std.proofs.Common.{◌≡◌, ℕ, suc, List, [], ◌∷◌, ◌++◌, Bool, true, false, cond, refl, sym, ap, ◌∙◌, append-nil}
+use Rattle.mlt_script_cursor.proofs.Names.{Line, Ending, Abort, Nowhere, ToElse, ToEnd, Block, lines_of, Nothing, Then, If, Questions, Variables, questions, goes_on, set_by, is_wanted, Ends, Asks}
 use Rattle.mlt_script_tree.specs.TreeLaws.{regroup}
-use Rattle.mlt_script_cursor.specs.Follows.{Questions, Variables, questions, asked, asked_by, goes_on, set_by, is_wanted}
-use Rattle.mlt_script_cursor.specs.Follows.Questions.{Ends, Asks}
+use Rattle.mlt_script_cursor.specs.Follows.{asked, asked_by}
 use Rattle.mlt_script_cursor.specs.Runs.{run}
 
 ext : {A : Type 0} {B : Type 0} (f g : A → B) → ((x : A) → f x ≡ g x) → f ≡ g
@@ -22,9 +14,9 @@ unfolding run
 skips_else Nothing more n vs end = refl
 skips_else (Then s rest) more n vs end = skips_else rest more n vs end
 skips_else (If a w first second rest) more n vs end =
-    let tail : List Line = line.End ∷ (lines_of rest ++ more) in
-    ap (λ (xs : List Line). run xs (ToElse (suc n)) vs end) (regroup (lines_of first) (lines_of second) line.Else line.End (lines_of rest) more)
-    ∙ skips_else first (line.Else ∷ (lines_of second ++ tail)) (suc n) vs end
+    let tail : List Line = Line.End ∷ (lines_of rest ++ more) in
+    ap (λ (xs : List Line). run xs (ToElse (suc n)) vs end) (regroup (lines_of first) (lines_of second) Line.Else Line.End (lines_of rest) more)
+    ∙ skips_else first (Line.Else ∷ (lines_of second ++ tail)) (suc n) vs end
     ∙ skips_else second tail (suc n) vs end
     ∙ skips_else rest more n vs end
 
@@ -33,26 +25,26 @@ unfolding run
 skips_end Nothing more n vs end = refl
 skips_end (Then s rest) more n vs end = skips_end rest more n vs end
 skips_end (If a w first second rest) more n vs end =
-    let tail : List Line = line.End ∷ (lines_of rest ++ more) in
-    ap (λ (xs : List Line). run xs (ToEnd (suc n)) vs end) (regroup (lines_of first) (lines_of second) line.Else line.End (lines_of rest) more)
-    ∙ skips_end first (line.Else ∷ (lines_of second ++ tail)) (suc n) vs end
+    let tail : List Line = Line.End ∷ (lines_of rest ++ more) in
+    ap (λ (xs : List Line). run xs (ToEnd (suc n)) vs end) (regroup (lines_of first) (lines_of second) Line.Else Line.End (lines_of rest) more)
+    ∙ skips_end first (Line.Else ∷ (lines_of second ++ tail)) (suc n) vs end
     ∙ skips_end second tail (suc n) vs end
     ∙ skips_end rest more n vs end
 
 -- at the else behind a first part, and at that behind one that was left out
-at_else : (xs : List Line) (vs : Variables) (end : Ending) → run (line.Else ∷ xs) Nowhere vs end ≡ run xs (ToEnd 0) vs end
+at_else : (xs : List Line) (vs : Variables) (end : Ending) → run (Line.Else ∷ xs) Nowhere vs end ≡ run xs (ToEnd 0) vs end
 unfolding run
 at_else xs vs end = refl
 
-to_else : (xs : List Line) (vs : Variables) (end : Ending) → run (line.Else ∷ xs) (ToElse 0) vs end ≡ run xs Nowhere vs end
+to_else : (xs : List Line) (vs : Variables) (end : Ending) → run (Line.Else ∷ xs) (ToElse 0) vs end ≡ run xs Nowhere vs end
 unfolding run
 to_else xs vs end = refl
 
-at_end : (xs : List Line) (vs : Variables) (end : Ending) → run (line.End ∷ xs) Nowhere vs end ≡ run xs Nowhere vs end
+at_end : (xs : List Line) (vs : Variables) (end : Ending) → run (Line.End ∷ xs) Nowhere vs end ≡ run xs Nowhere vs end
 unfolding run
 at_end xs vs end = refl
 
-to_end : (xs : List Line) (vs : Variables) (end : Ending) → run (line.End ∷ xs) (ToEnd 0) vs end ≡ run xs Nowhere vs end
+to_end : (xs : List Line) (vs : Variables) (end : Ending) → run (Line.End ∷ xs) (ToEnd 0) vs end ≡ run xs Nowhere vs end
 unfolding run
 to_end xs vs end = refl
 
@@ -67,17 +59,17 @@ tree Nothing more vs end = refl
 tree (Then s rest) more vs end = ap (Asks (asked_by vs s)) (ext _ _ (λ r. ap (λ (q : Questions). cond (goes_on vs s r) q (Ends Abort)) (tree rest more (set_by vs s r) end)))
 tree (If a w first second rest) more vs end =
     let tail : List Line = lines_of rest ++ more in
-    let part : List Line = line.Else ∷ (lines_of second ++ line.End ∷ tail) in
-    let xs : List Line = (lines_of first ++ line.Else ∷ (lines_of second ++ line.End ∷ lines_of rest)) ++ more in
+    let part : List Line = Line.Else ∷ (lines_of second ++ Line.End ∷ tail) in
+    let xs : List Line = (lines_of first ++ Line.Else ∷ (lines_of second ++ Line.End ∷ lines_of rest)) ++ more in
     let next : Variables → Questions = λ us. questions rest us (λ ts. run more Nowhere ts end) in
-    let e : xs ≡ lines_of first ++ part = regroup (lines_of first) (lines_of second) line.Else line.End (lines_of rest) more in
+    let e : xs ≡ lines_of first ++ part = regroup (lines_of first) (lines_of second) Line.Else Line.End (lines_of rest) more in
     let t : run xs Nowhere vs end ≡ questions first vs next =
     ap (λ (ls : List Line). run ls Nowhere vs end) e ∙ tree first part vs end
     ∙ ap (questions first vs) (ext (λ us. run part Nowhere us end) next
-    (λ us. at_else (lines_of second ++ line.End ∷ tail) us end ∙ skips_end second (line.End ∷ tail) 0 us end ∙ to_end tail us end ∙ tree rest more us end)) in
+    (λ us. at_else (lines_of second ++ Line.End ∷ tail) us end ∙ skips_end second (Line.End ∷ tail) 0 us end ∙ to_end tail us end ∙ tree rest more us end)) in
     let u : run xs (ToElse 0) vs end ≡ questions second vs next =
-    ap (λ (ls : List Line). run ls (ToElse 0) vs end) e ∙ skips_else first part 0 vs end ∙ to_else (lines_of second ++ line.End ∷ tail) vs end ∙ tree second (line.End ∷ tail) vs end
-    ∙ ap (questions second vs) (ext (λ us. run (line.End ∷ tail) Nowhere us end) next (λ us. at_end tail us end ∙ tree rest more us end)) in
+    ap (λ (ls : List Line). run ls (ToElse 0) vs end) e ∙ skips_else first part 0 vs end ∙ to_else (lines_of second ++ Line.End ∷ tail) vs end ∙ tree second (Line.End ∷ tail) vs end
+    ∙ ap (questions second vs) (ext (λ us. run (Line.End ∷ tail) Nowhere us end) next (λ us. at_end tail us end ∙ tree rest more us end)) in
     ap (Asks (asked vs a)) (ext _ _ (λ r. either (is_wanted vs w r) xs vs end (questions first vs next) (questions second vs next) t u))
 
 out_of_lines : (us : Variables) (end : Ending) → run [] Nowhere us end ≡ Ends end

@@ -5,7 +5,6 @@ use Rattle.mlt_types.specs.declared.refusal.Refusal.TheVariants.{GaveUp}
 use Rattle.mlt_script_cursor.specs.declared.call.DeskAnswer.{DeskAnswer}
 use Rattle.mlt_script_cursor.specs.declared.call.DeskAnswer.TheVariants.{Begun, Replied, Committed, Aborted, Refused}
 use Rattle.mlt_script_cursor.specs.declared.call.DeskCall.{DeskCall}
-use Rattle.mlt_script_cursor.specs.declared.call.DeskCall.TheVariants as call
 
 -- the moves of a desk: of the state before, a call, its answer and the state after
 abbrev pub Moves : Type 0 → Type 1
@@ -18,9 +17,9 @@ answer_by answer (Err refusal) = Refused refusal
 
 -- this answer where it is one to the call, and else a refusal; an abort has one answer
 abbrev pub answer_to : DeskCall → DeskAnswer → DeskAnswer
-answer_to (call.Abort tx) answer = Aborted
-answer_to call.Begin (Begun tx) = Begun tx
-answer_to (call.Operation tx op) (Replied reply) = Replied reply
-answer_to (call.Commit tx) (Committed number) = Committed number
+answer_to (DeskCall.Abort tx) answer = Aborted
+answer_to DeskCall.Begin (Begun tx) = Begun tx
+answer_to (DeskCall.Operation tx op) (Replied reply) = Replied reply
+answer_to (DeskCall.Commit tx) (Committed number) = Committed number
 answer_to asked (Refused refusal) = Refused refusal
 answer_to asked other = Refused GaveUp

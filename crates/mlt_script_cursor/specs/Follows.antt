@@ -1,24 +1,20 @@
 -- What a script asks, and which transcripts follow it.
 use Rattle.std.specs.Prelude.{◌≡◌, ◌≤◌, ℕ, List, [], ◌∷◌, ◌++◌, length, Bool, true, false, ◌==◌, slice_index, slice_set, replicate, if◌then◌else◌}
-use Rattle.mlt_object_kinds.specs.declared.account.AccountOp.TheVariants as account
-use Rattle.mlt_object_kinds.specs.declared.counter.CounterOp.TheVariants as counter
+use Rattle.mlt_object_kinds.specs.declared.account.AccountOp.{AccountOp}
+use Rattle.mlt_object_kinds.specs.declared.counter.CounterOp.{CounterOp}
 use Rattle.mlt_object_kinds.specs.declared.operation.ObjOp.{ObjOp}
 use Rattle.mlt_object_kinds.specs.declared.operation.ObjOp.TheVariants.{Account, Counter, Size}
 use Rattle.mlt_object_kinds.specs.declared.operation.ObjReply.{ObjReply}
-use Rattle.mlt_object_kinds.specs.declared.operation.ObjReply.TheVariants as reply
 use Rattle.mlt_object_kinds.specs.Bases.{Transcript}
 use Rattle.mlt_script_tree.specs.declared.statement.Asking.{Asking}
 use Rattle.mlt_script_tree.specs.declared.statement.Asking.TheVariants.{Fixed, By}
 use Rattle.mlt_script_tree.specs.declared.statement.Wanted.{Wanted}
-use Rattle.mlt_script_tree.specs.declared.statement.Wanted.TheVariants as wanted
 use Rattle.mlt_script_tree.specs.declared.statement.Source.{Source}
-use Rattle.mlt_script_tree.specs.declared.statement.Source.TheVariants as source
 use Rattle.mlt_script_tree.specs.declared.statement.Statement.{Statement}
 use Rattle.mlt_script_tree.specs.declared.statement.Statement.TheVariants.{Ask, Need, Let}
 use Rattle.mlt_script_tree.specs.declared.statement.Ending.{Ending}
 use Rattle.mlt_script_tree.specs.declared.statement.Ending.TheVariants.{Commit, Abort}
 use Rattle.mlt_script_cursor.specs.declared.cursor.Next.{Next}
-use Rattle.mlt_script_cursor.specs.declared.cursor.Next.TheVariants as next
 use Rattle.mlt_script_tree.specs.Blocks.{Block}
 use Rattle.mlt_script_tree.specs.Blocks.Block.{Nothing, Then, If}
 use Rattle.mlt_script_tree.specs.Amounts.{with_amount}
@@ -43,40 +39,40 @@ asked vs (Fixed op) = op
 asked vs (By op l) = with_amount op (slice_index vs (index_of l))
 
 abbrev pub asked_from : Source → ObjOp
-asked_from (source.Balance a) = Account a account.Balance
-asked_from (source.Read c) = Counter c counter.Read
-asked_from (source.Size s) = Size s
+asked_from (Source.Balance a) = Account a AccountOp.Balance
+asked_from (Source.Read c) = Counter c CounterOp.Read
+asked_from (Source.Size s) = Size s
 
 -- whether the two replies are the same one
 abbrev pub same_reply : ObjReply → ObjReply → Bool
-same_reply reply.Opened reply.Opened = true
-same_reply reply.Exists reply.Exists = true
-same_reply reply.Closed reply.Closed = true
-same_reply reply.NotEmpty reply.NotEmpty = true
-same_reply reply.Done reply.Done = true
-same_reply reply.Over reply.Over = true
-same_reply reply.Short reply.Short = true
-same_reply reply.Missing reply.Missing = true
-same_reply reply.Added reply.Added = true
-same_reply reply.Present reply.Present = true
-same_reply reply.Removed reply.Removed = true
-same_reply reply.Absent reply.Absent = true
-same_reply reply.Yes reply.Yes = true
-same_reply reply.No reply.No = true
-same_reply (reply.Is v) (reply.Is w) = v == w
+same_reply ObjReply.Opened ObjReply.Opened = true
+same_reply ObjReply.Exists ObjReply.Exists = true
+same_reply ObjReply.Closed ObjReply.Closed = true
+same_reply ObjReply.NotEmpty ObjReply.NotEmpty = true
+same_reply ObjReply.Done ObjReply.Done = true
+same_reply ObjReply.Over ObjReply.Over = true
+same_reply ObjReply.Short ObjReply.Short = true
+same_reply ObjReply.Missing ObjReply.Missing = true
+same_reply ObjReply.Added ObjReply.Added = true
+same_reply ObjReply.Present ObjReply.Present = true
+same_reply ObjReply.Removed ObjReply.Removed = true
+same_reply ObjReply.Absent ObjReply.Absent = true
+same_reply ObjReply.Yes ObjReply.Yes = true
+same_reply ObjReply.No ObjReply.No = true
+same_reply (ObjReply.Is v) (ObjReply.Is w) = v == w
 same_reply _ _ = false
 
 -- the reply that a script compares with
 abbrev pub wanted_reply : Variables → Wanted → ObjReply
-wanted_reply vs (wanted.Reply r) = r
-wanted_reply vs (wanted.ValueOf l) = reply.Is (slice_index vs (index_of l))
+wanted_reply vs (Wanted.Reply r) = r
+wanted_reply vs (Wanted.ValueOf l) = ObjReply.Is (slice_index vs (index_of l))
 
 abbrev pub is_wanted : Variables → Wanted → ObjReply → Bool
 is_wanted vs w r = same_reply r (wanted_reply vs w)
 
 -- the value of a reply, 0 where it is none
 abbrev pub value_of : ObjReply → ℕ
-value_of (reply.Is v) = v
+value_of (ObjReply.Is v) = v
 value_of r = 0
 
 -- What a statement of one line asks.
@@ -131,9 +127,9 @@ AsksAtMost most p = (t : Transcript) (q : Questions) → Reaches p t q → lengt
 
 -- what comes next of these questions: the operation that they ask, or their ending
 abbrev pub IsNext : Next → Questions → Type 0
-IsNext (next.Op o) (Asks op after) = o ≡ op
-IsNext next.Commit (Ends e) = e ≡ Commit
-IsNext next.Abort (Ends e) = e ≡ Abort
+IsNext (Next.Op o) (Asks op after) = o ≡ op
+IsNext Next.Commit (Ends e) = e ≡ Commit
+IsNext Next.Abort (Ends e) = e ≡ Abort
 IsNext n p = ⊥
 
 -- these questions ask an operation: they are not at their end

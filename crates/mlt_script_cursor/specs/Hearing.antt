@@ -2,11 +2,9 @@
 use Rattle.std.specs.Prelude.{List, Option, Some, None, if◌then◌else◌}
 use Rattle.mlt_object_kinds.specs.declared.operation.ObjReply.{ObjReply}
 use Rattle.mlt_script_cursor.specs.declared.cursor.Next.{Next}
-use Rattle.mlt_script_cursor.specs.declared.cursor.Next.TheVariants as next
 use Rattle.mlt_script_cursor.specs.declared.skipping.Skipping.{Skipping}
 use Rattle.mlt_script_cursor.specs.declared.skipping.Skipping.TheVariants.{Nowhere, ToElse}
 use Rattle.mlt_script_tree.specs.declared.statement.Line.{Line}
-use Rattle.mlt_script_tree.specs.declared.statement.Line.TheVariants as line
 use Rattle.mlt_script_tree.specs.declared.statement.Ending.{Ending}
 use Rattle.mlt_script_tree.specs.declared.statement.Ending.TheVariants.{Abort}
 use Rattle.mlt_script_cursor.specs.Follows.{Questions, Variables, asked, asked_by, goes_on, set_by, is_wanted}
@@ -14,19 +12,19 @@ use Rattle.mlt_script_cursor.specs.Follows.Questions.{Ends}
 use Rattle.mlt_script_cursor.specs.Runs.{run}
 
 abbrev pub question : Line → Variables → Next
-question (line.Plain s) vs = next.Op (asked_by vs s)
-question (line.If a w) vs = next.Op (asked vs a)
-question l vs = next.Abort
+question (Line.Plain s) vs = Next.Op (asked_by vs s)
+question (Line.If a w) vs = Next.Op (asked vs a)
+question l vs = Next.Abort
 
 -- up to where it is skipped at the reply; None where the script aborts
 abbrev pub heard : Line → Variables → ObjReply → Option Skipping
-heard (line.Plain s) vs r = if goes_on vs s r then Some Nowhere else None
-heard (line.If a w) vs r = Some (if is_wanted vs w r then Nowhere else ToElse 0)
+heard (Line.Plain s) vs r = if goes_on vs s r then Some Nowhere else None
+heard (Line.If a w) vs r = Some (if is_wanted vs w r then Nowhere else ToElse 0)
 heard l vs r = Some Nowhere
 
 -- the variables after the reply
 abbrev pub heard_values : Line → Variables → ObjReply → Variables
-heard_values (line.Plain s) vs r = set_by vs s r
+heard_values (Line.Plain s) vs r = set_by vs s r
 heard_values l vs r = vs
 
 abbrev pub after_hearing : Option Skipping → List Line → Variables → Ending → Questions

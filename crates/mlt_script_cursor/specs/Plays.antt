@@ -7,7 +7,7 @@ use Rattle.mlt_script_tree.specs.declared.statement.Ending.{Ending}
 use Rattle.mlt_script_tree.specs.Scripts.{ScriptForm}
 use Rattle.mlt_script_cursor.specs.declared.call.DeskAnswer.TheVariants.{Refused, Replied}
 use Rattle.mlt_script_cursor.specs.declared.call.DeskCall.TheVariants.{Operation}
-use Rattle.mlt_script_cursor.specs.declared.cursor.Next.TheVariants as next
+use Rattle.mlt_script_cursor.specs.declared.cursor.Next.{Next}
 use Rattle.mlt_script_cursor.specs.Calls.{Moves}
 use Rattle.mlt_script_cursor.specs.Follows.{Follows, IsNext, Questions, Reaches, questions_of_script}
 
@@ -25,7 +25,7 @@ module _ {D : Type 0} (moves : Moves D) where
     pub middle : D
     pub gives : Gives tx d t middle
     pub op : ObjOp
-    pub asked : IsNext (next.Op op) left
+    pub asked : IsNext (Next.Op op) left
     pub refused : moves middle (Operation tx op) (Refused refusal) e
 
   -- the script comes to its end, or is stopped by a refusal

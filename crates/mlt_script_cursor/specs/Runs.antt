@@ -1,7 +1,6 @@
 -- What the lines of a script ask, line by line, where a part that is left out is skipped.
 use Rattle.std.specs.Prelude.{ℕ, zero, suc, List, [], ◌∷◌, Bool, true, false, if◌then◌else◌}
 use Rattle.mlt_script_tree.specs.declared.statement.Line.{Line}
-use Rattle.mlt_script_tree.specs.declared.statement.Line.TheVariants as line
 use Rattle.mlt_script_tree.specs.declared.statement.Ending.{Ending}
 use Rattle.mlt_script_tree.specs.declared.statement.Ending.TheVariants.{Abort}
 use Rattle.mlt_script_cursor.specs.declared.skipping.Skipping.{Skipping}
@@ -11,22 +10,22 @@ use Rattle.mlt_script_cursor.specs.Follows.Questions.{Ends, Asks}
 
 -- where it is skipped to once a line is skipped
 abbrev pub skipped : Line → Skipping → Skipping
-skipped line.Else Nowhere = ToEnd 0
+skipped Line.Else Nowhere = ToEnd 0
 skipped l Nowhere = Nowhere
-skipped line.Else (ToElse zero) = Nowhere
-skipped line.End (ToElse zero) = Nowhere
-skipped line.End (ToElse (suc n)) = ToElse n
-skipped (line.If a w) (ToElse n) = ToElse (suc n)
+skipped Line.Else (ToElse zero) = Nowhere
+skipped Line.End (ToElse zero) = Nowhere
+skipped Line.End (ToElse (suc n)) = ToElse n
+skipped (Line.If a w) (ToElse n) = ToElse (suc n)
 skipped l (ToElse n) = ToElse n
-skipped line.End (ToEnd zero) = Nowhere
-skipped line.End (ToEnd (suc n)) = ToEnd n
-skipped (line.If a w) (ToEnd n) = ToEnd (suc n)
+skipped Line.End (ToEnd zero) = Nowhere
+skipped Line.End (ToEnd (suc n)) = ToEnd n
+skipped (Line.If a w) (ToEnd n) = ToEnd (suc n)
 skipped l (ToEnd n) = ToEnd n
 
 unfoldable pub run : List Line → Skipping → Variables → Ending → Questions
 run [] m vs end = Ends end
-run (line.Plain s ∷ ls) Nowhere vs end = Asks (asked_by vs s) (λ r. if goes_on vs s r then run ls Nowhere (set_by vs s r) end else Ends Abort)
-run (line.If a w ∷ ls) Nowhere vs end = Asks (asked vs a) (λ r. run ls (if is_wanted vs w r then Nowhere else ToElse 0) vs end)
+run (Line.Plain s ∷ ls) Nowhere vs end = Asks (asked_by vs s) (λ r. if goes_on vs s r then run ls Nowhere (set_by vs s r) end else Ends Abort)
+run (Line.If a w ∷ ls) Nowhere vs end = Asks (asked vs a) (λ r. run ls (if is_wanted vs w r then Nowhere else ToElse 0) vs end)
 run (l ∷ ls) m vs end = run ls (skipped l m) vs end
 
 -- below how many ifs it is skipped
@@ -37,8 +36,8 @@ level (ToEnd n) = n
 
 -- whether the line asks, and is not skipped
 abbrev pub stops_at : Line → Skipping → Bool
-stops_at (line.Plain s) Nowhere = true
-stops_at (line.If a w) Nowhere = true
+stops_at (Line.Plain s) Nowhere = true
+stops_at (Line.If a w) Nowhere = true
 stops_at l m = false
 
 -- the lines are at their end, or begin with one that asks

@@ -4,7 +4,6 @@ use Rattle.mlt_types.specs.declared.refusal.Refusal.TheVariants.{GaveUp}
 use Rattle.mlt_script_cursor.specs.declared.call.DeskAnswer.{DeskAnswer}
 use Rattle.mlt_script_cursor.specs.declared.call.DeskAnswer.TheVariants.{Aborted, Refused}
 use Rattle.mlt_script_cursor.specs.declared.call.DeskCall.{DeskCall}
-use Rattle.mlt_script_cursor.specs.declared.call.DeskCall.TheVariants as call
 use Rattle.mlt_script_cursor.specs.Calls.{answer_to}
 use Rattle.mlt_script_desk.specs.declared.fake_desk.FakeDesk.{FakeDesk}
 
@@ -20,5 +19,5 @@ after_answer d = record {
 
 -- a call is given the next answer, but for an abort
 abbrev pub IsGiven : FakeDesk → DeskCall → DeskAnswer → FakeDesk → Type 0
-IsGiven d (call.Abort tx) answer e = (answer ≡ Aborted) × (e ≡ d)
+IsGiven d (DeskCall.Abort tx) answer e = (answer ≡ Aborted) × (e ≡ d)
 IsGiven d asked answer e = (answer ≡ answer_to asked (next_answer d)) × (e ≡ after_answer d)

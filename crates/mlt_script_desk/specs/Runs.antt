@@ -1,14 +1,13 @@
 -- Scripts at a desk, over the desk's relation of its states, calls and answers.
 use Rattle.std.specs.Prelude.{◌≡◌, ◌⊎◌, ℕ, [], Result, Ok, Err}
 use Rattle.mlt_types.specs.declared.refusal.Refusal.{Refusal}
-use Rattle.mlt_types.specs.declared.refusal.Refusal.TheVariants as refusal
 use Rattle.mlt_object_kinds.specs.Bases.{Transcript}
 use Rattle.mlt_script_tree.specs.declared.statement.Ending.{Ending}
 use Rattle.mlt_script_tree.specs.declared.statement.Ending.TheVariants.{Commit, Abort}
 use Rattle.mlt_script_tree.specs.Scripts.{ScriptForm}
 use Rattle.mlt_script_cursor.specs.Follows.{Follows, IsPartial}
-use Rattle.mlt_script_cursor.specs.declared.call.DeskAnswer.TheVariants as answer
-use Rattle.mlt_script_cursor.specs.declared.call.DeskCall.TheVariants as call
+use Rattle.mlt_script_cursor.specs.declared.call.DeskAnswer.{DeskAnswer}
+use Rattle.mlt_script_cursor.specs.declared.call.DeskCall.{DeskCall}
 use Rattle.mlt_script_cursor.specs.Calls.{Moves}
 use Rattle.mlt_script_cursor.specs.Plays.{PlaysAt}
 use Rattle.mlt_script_serial.specs.declared.outcome.End.{End}
@@ -24,29 +23,29 @@ HasEndedAs s t (Refused refusal) = IsPartial s t
 -- What a script is refused with whose transaction was refused this. That there is none of its number, that its abort has
 -- begun or that it is at an operation is told only where another acts for it; then the script gives up.
 abbrev pub refusal_of_script : Refusal → Refusal
-refusal_of_script refusal.NoSuchTx = refusal.GaveUp
-refusal_of_script refusal.Undoing = refusal.GaveUp
-refusal_of_script refusal.Running = refusal.GaveUp
+refusal_of_script Refusal.NoSuchTx = Refusal.GaveUp
+refusal_of_script Refusal.Undoing = Refusal.GaveUp
+refusal_of_script Refusal.Running = Refusal.GaveUp
 refusal_of_script other = other
 
 module _ {D : Type 0} (moves : Moves D) where
   -- how a transaction is closed, by how its script ended; where it does not commit it is aborted
   abbrev pub ClosesAs : ℕ → Result Ending Refusal → D → End → D → Type 0
   ClosesAs tx (Ok Commit) d (Committed number) e =
-      moves d (call.Commit tx) (answer.Committed number) e
+      moves d (DeskCall.Commit tx) (DeskAnswer.Committed number) e
   ClosesAs tx (Ok Commit) d (Refused other) e =
       (refusal : Refusal) × (other ≡ refusal_of_script refusal)
-      × ((m : D) × moves d (call.Commit tx) (answer.Refused refusal) m
-      × moves m (call.Abort tx) answer.Aborted e)
-  ClosesAs tx (Ok Abort) d Aborted e = moves d (call.Abort tx) answer.Aborted e
+      × ((m : D) × moves d (DeskCall.Commit tx) (DeskAnswer.Refused refusal) m
+      × moves m (DeskCall.Abort tx) DeskAnswer.Aborted e)
+  ClosesAs tx (Ok Abort) d Aborted e = moves d (DeskCall.Abort tx) DeskAnswer.Aborted e
   ClosesAs tx (Err refusal) d (Refused other) e =
-      (other ≡ refusal_of_script refusal) × moves d (call.Abort tx) answer.Aborted e
+      (other ≡ refusal_of_script refusal) × moves d (DeskCall.Abort tx) DeskAnswer.Aborted e
   ClosesAs tx ended d end e = ⊥
 
   -- no transaction begins for the script
   pub record IsUnbegun (d : D) (tx : ℕ) (t : Transcript) (end : End) (e : D) : Type 0 where
     pub refusal : Refusal
-    pub begins_none : moves d call.Begin (answer.Refused refusal) e
+    pub begins_none : moves d DeskCall.Begin (DeskAnswer.Refused refusal) e
     pub no_number : tx ≡ 0
     pub nothing : t ≡ []
     pub refused : end ≡ Refused refusal
@@ -57,7 +56,7 @@ module _ {D : Type 0} (moves : Moves D) where
     pub after_begin : D
     pub after_script : D
     pub ended : Result Ending Refusal
-    pub begun : moves d call.Begin (answer.Begun tx) after_begin
+    pub begun : moves d DeskCall.Begin (DeskAnswer.Begun tx) after_begin
     pub plays : PlaysAt moves s tx after_begin t ended after_script
     pub closes : ClosesAs tx ended after_script end e
 

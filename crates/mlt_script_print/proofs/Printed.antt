@@ -1,13 +1,12 @@
 -- Printed scripts are read again.
-use Rattle.std.proofs.Common.{◌≡◌, ℕ, List, [], ◌∷◌, ◌++◌, map, inl, inr, true, Result, Ok, Err, OnOk, refl, sym, ap, subst, ◌∙◌, append_assoc}
+use Rattle.std.proofs.Common.{◌≡◌, ℕ, List, [], ◌∷◌, ◌++◌, map, inl, inr, true, Result, Ok, Err, OnOk, refl, sym, ap, subst, ◌∙◌, append_assoc, append-nil}
 use Rattle.std.specs.List.{list_all}
-use Rattle.std.proofs.lemmas.List.{append-nil, map-append}
+use Rattle.std.proofs.lemmas.List.{map-append}
 use Rattle.mlt_script.specs.declared.forms.LineForm.{LineForm}
 use Rattle.mlt_script.specs.declared.forms.LineForm.TheVariants.{Begins, Says, Closes}
 use Rattle.mlt_script.specs.declared.line.ScriptReading.{ScriptReading}
 use Rattle.mlt_script.specs.declared.line.ScriptReading.TheVariants.{Form}
 use Rattle.mlt_script_tree.specs.declared.statement.Line.{Line}
-use Rattle.mlt_script_tree.specs.declared.statement.Line.TheVariants as line
 use Rattle.mlt_script_print.specs.Again.{IsReadAs, IsReadAgain, AreReadAgain, second_lines, written, forms_of_script, IsScriptAgain, AreScriptsAgain}
 use Rattle.mlt_script_tree.specs.Blocks.{Block, lines_of}
 use Rattle.mlt_script_tree.specs.Blocks.Block.{Nothing, Then, If}
@@ -47,28 +46,28 @@ again_split [] ys h = (tt, h)
 again_split (x ∷ xs) ys h = let k = again_split xs ys h.1 in ((h.0, k.0), k.1)
 
 -- the second part of an if, with its else or without
-reads_second : (b : Block) (t : List ℕ) (ls : List Line) → IsReadAgain line.Else → IsReadAs t (map Says ls) → IsReadAs (second_part b t) (map Says (second_lines b ls))
+reads_second : (b : Block) (t : List ℕ) (ls : List Line) → IsReadAgain Line.Else → IsReadAs t (map Says ls) → IsReadAs (second_part b t) (map Says (second_lines b ls))
 reads_second Nothing t ls e h = reads_nothing
-reads_second (Then s rest) t ls e h = reads_both (as_line (line_text line.Else)) t (Says line.Else ∷ []) (map Says ls) e h
-reads_second (If a w first second rest) t ls e h = reads_both (as_line (line_text line.Else)) t (Says line.Else ∷ []) (map Says ls) e h
+reads_second (Then s rest) t ls e h = reads_both (as_line (line_text Line.Else)) t (Says Line.Else ∷ []) (map Says ls) e h
+reads_second (If a w first second rest) t ls e h = reads_both (as_line (line_text Line.Else)) t (Says Line.Else ∷ []) (map Says ls) e h
 
 reads_block : (b : Block) → AreReadAgain (lines_of b) → IsReadAs (block_text b) (map Says (written b))
 reads_block Nothing h = reads_nothing
-reads_block (Then s rest) h = reads_both (as_line (line_text (line.Plain s))) (block_text rest) (Says (line.Plain s) ∷ []) (map Says (written rest)) h.0 (reads_block rest h.1)
+reads_block (Then s rest) h = reads_both (as_line (line_text (Line.Plain s))) (block_text rest) (Says (Line.Plain s) ∷ []) (map Says (written rest)) h.0 (reads_block rest h.1)
 reads_block (If a w first second rest) h =
-    let one = again_split (lines_of first) (line.Else ∷ (lines_of second ++ line.End ∷ lines_of rest)) h.1 in
-    let two = again_split (lines_of second) (line.End ∷ lines_of rest) one.1.1 in
+    let one = again_split (lines_of first) (Line.Else ∷ (lines_of second ++ Line.End ∷ lines_of rest)) h.1 in
+    let two = again_split (lines_of second) (Line.End ∷ lines_of rest) one.1.1 in
     let f = reads_block first one.0 in
     let s = reads_second second (block_text second) (written second) one.1.0 (reads_block second two.0) in
-    let r = reads_both (as_line (line_text line.End)) (block_text rest) (Says line.End ∷ []) (map Says (written rest)) two.1.0 (reads_block rest two.1.1) in
-    let more : List Line = second_lines second (written second) ++ line.End ∷ written rest in
-    let sr = reads_both (second_part second (block_text second)) (as_line (line_text line.End) ++ block_text rest) (map Says (second_lines second (written second))) (Says line.End ∷ map Says (written rest)) s r in
-    let k : map Says (written first) ++ (map Says (second_lines second (written second)) ++ Says line.End ∷ map Says (written rest)) ≡ map Says (written first ++ more) =
-    ap (λ (fs : List LineForm). map Says (written first) ++ fs) (sym (map-append Says (second_lines second (written second)) (line.End ∷ written rest))) ∙ sym (map-append Says (written first) more) in
-    let fsr = reads_both (block_text first) (second_part second (block_text second) ++ (as_line (line_text line.End) ++ block_text rest)) (map Says (written first))
-    (map Says (second_lines second (written second)) ++ Says line.End ∷ map Says (written rest)) f sr in
-    reads_both (as_line (line_text (line.If a w))) (block_text first ++ (second_part second (block_text second) ++ (as_line (line_text line.End) ++ block_text rest))) (Says (line.If a w) ∷ []) (map Says (written first ++ more)) h.0
-    (subst (λ (fs : List LineForm). IsReadAs (block_text first ++ (second_part second (block_text second) ++ (as_line (line_text line.End) ++ block_text rest))) fs) k fsr)
+    let r = reads_both (as_line (line_text Line.End)) (block_text rest) (Says Line.End ∷ []) (map Says (written rest)) two.1.0 (reads_block rest two.1.1) in
+    let more : List Line = second_lines second (written second) ++ Line.End ∷ written rest in
+    let sr = reads_both (second_part second (block_text second)) (as_line (line_text Line.End) ++ block_text rest) (map Says (second_lines second (written second))) (Says Line.End ∷ map Says (written rest)) s r in
+    let k : map Says (written first) ++ (map Says (second_lines second (written second)) ++ Says Line.End ∷ map Says (written rest)) ≡ map Says (written first ++ more) =
+    ap (λ (fs : List LineForm). map Says (written first) ++ fs) (sym (map-append Says (second_lines second (written second)) (Line.End ∷ written rest))) ∙ sym (map-append Says (written first) more) in
+    let fsr = reads_both (block_text first) (second_part second (block_text second) ++ (as_line (line_text Line.End) ++ block_text rest)) (map Says (written first))
+    (map Says (second_lines second (written second)) ++ Says Line.End ∷ map Says (written rest)) f sr in
+    reads_both (as_line (line_text (Line.If a w))) (block_text first ++ (second_part second (block_text second) ++ (as_line (line_text Line.End) ++ block_text rest))) (Says (Line.If a w) ∷ []) (map Says (written first ++ more)) h.0
+    (subst (λ (fs : List LineForm). IsReadAs (block_text first ++ (second_part second (block_text second) ++ (as_line (line_text Line.End) ++ block_text rest))) fs) k fsr)
 
 spelled : (b : Block) → IsSpelled b (written b)
 spelled Nothing = refl
@@ -78,28 +77,28 @@ spelled (If a w first (Then s more) rest) = (written first, written (Then s more
 spelled (If a w first (If b v one two more) rest) =
     (written first, written (If b v one two more), written rest, spelled first, spelled (If b v one two more), spelled rest, inl refl)
 
-at_else : (b : Block) (tail : List Line) (after : List ℕ) → shown (lines_of b ++ line.End ∷ tail) ≡ block_text b ++ after → shown (line.Else ∷ (lines_of b ++ line.End ∷ tail)) ≡ second_part b (block_text b) ++ after
+at_else : (b : Block) (tail : List Line) (after : List ℕ) → shown (lines_of b ++ Line.End ∷ tail) ≡ block_text b ++ after → shown (Line.Else ∷ (lines_of b ++ Line.End ∷ tail)) ≡ second_part b (block_text b) ++ after
 at_else Nothing tail after h = h
 at_else (Then s rest) tail after h =
-    ap (λ (t : List ℕ). as_line (line_text line.Else) ++ t) h ∙ sym (append_assoc (as_line (line_text line.Else)) (block_text (Then s rest)) after)
+    ap (λ (t : List ℕ). as_line (line_text Line.Else) ++ t) h ∙ sym (append_assoc (as_line (line_text Line.Else)) (block_text (Then s rest)) after)
 at_else (If a w first second rest) tail after h =
-    ap (λ (t : List ℕ). as_line (line_text line.Else) ++ t) h ∙ sym (append_assoc (as_line (line_text line.Else)) (block_text (If a w first second rest)) after)
+    ap (λ (t : List ℕ). as_line (line_text Line.Else) ++ t) h ∙ sym (append_assoc (as_line (line_text Line.Else)) (block_text (If a w first second rest)) after)
 
 shown_block : (b : Block) (more : List Line) → shown (lines_of b ++ more) ≡ block_text b ++ shown more
 shown_block Nothing more = refl
 shown_block (Then s rest) more =
-    ap (λ (t : List ℕ). as_line (line_text (line.Plain s)) ++ t) (shown_block rest more) ∙ sym (append_assoc (as_line (line_text (line.Plain s))) (block_text rest) (shown more))
+    ap (λ (t : List ℕ). as_line (line_text (Line.Plain s)) ++ t) (shown_block rest more) ∙ sym (append_assoc (as_line (line_text (Line.Plain s))) (block_text rest) (shown more))
 shown_block (If a w first second rest) more =
     let tail : List Line = lines_of rest ++ more in
-    let end : List ℕ = as_line (line_text line.End) in
-    let head : List ℕ = as_line (line_text (line.If a w)) in
+    let end : List ℕ = as_line (line_text Line.End) in
+    let head : List ℕ = as_line (line_text (Line.If a w)) in
     let other : List ℕ = second_part second (block_text second) in
-    let e : shown (line.End ∷ tail) ≡ (end ++ block_text rest) ++ shown more = ap (λ (t : List ℕ). end ++ t) (shown_block rest more) ∙ sym (append_assoc end (block_text rest) (shown more)) in
-    let s : shown (line.Else ∷ (lines_of second ++ line.End ∷ tail)) ≡ (other ++ (end ++ block_text rest)) ++ shown more =
-    at_else second tail (shown (line.End ∷ tail)) (shown_block second (line.End ∷ tail)) ∙ ap (λ (t : List ℕ). other ++ t) e ∙ sym (append_assoc other (end ++ block_text rest) (shown more)) in
-    let f : shown (lines_of first ++ line.Else ∷ (lines_of second ++ line.End ∷ tail)) ≡ (block_text first ++ (other ++ (end ++ block_text rest))) ++ shown more =
-    shown_block first (line.Else ∷ (lines_of second ++ line.End ∷ tail)) ∙ ap (λ (t : List ℕ). block_text first ++ t) s ∙ sym (append_assoc (block_text first) (other ++ (end ++ block_text rest)) (shown more)) in
-    ap (λ (ls : List Line). head ++ shown ls) (regroup (lines_of first) (lines_of second) line.Else line.End (lines_of rest) more)
+    let e : shown (Line.End ∷ tail) ≡ (end ++ block_text rest) ++ shown more = ap (λ (t : List ℕ). end ++ t) (shown_block rest more) ∙ sym (append_assoc end (block_text rest) (shown more)) in
+    let s : shown (Line.Else ∷ (lines_of second ++ Line.End ∷ tail)) ≡ (other ++ (end ++ block_text rest)) ++ shown more =
+    at_else second tail (shown (Line.End ∷ tail)) (shown_block second (Line.End ∷ tail)) ∙ ap (λ (t : List ℕ). other ++ t) e ∙ sym (append_assoc other (end ++ block_text rest) (shown more)) in
+    let f : shown (lines_of first ++ Line.Else ∷ (lines_of second ++ Line.End ∷ tail)) ≡ (block_text first ++ (other ++ (end ++ block_text rest))) ++ shown more =
+    shown_block first (Line.Else ∷ (lines_of second ++ Line.End ∷ tail)) ∙ ap (λ (t : List ℕ). block_text first ++ t) s ∙ sym (append_assoc (block_text first) (other ++ (end ++ block_text rest)) (shown more)) in
+    ap (λ (ls : List Line). head ++ shown ls) (regroup (lines_of first) (lines_of second) Line.Else Line.End (lines_of rest) more)
     ∙ ap (λ (t : List ℕ). head ++ t) f ∙ sym (append_assoc head (block_text first ++ (other ++ (end ++ block_text rest))) (shown more))
 
 pub shown_whole : (b : Block) → shown (lines_of b) ≡ block_text b

@@ -3,7 +3,6 @@ use Rattle.std.specs.Prelude.{◌≡◌, ℕ, List, [], ◌∷◌, ◌++◌, map
 use Rattle.mlt_script.specs.declared.forms.LineForm.{LineForm}
 use Rattle.mlt_script.specs.declared.forms.LineForm.TheVariants.{Begins, Says, Closes}
 use Rattle.mlt_script_tree.specs.declared.statement.Line.{Line}
-use Rattle.mlt_script_tree.specs.declared.statement.Line.TheVariants as line
 use Rattle.mlt_script_tree.specs.Blocks.{Block}
 use Rattle.mlt_script_tree.specs.Blocks.Block.{Nothing, Then, If}
 use Rattle.mlt_script.specs.Grammar.{AreLawful, forms_of}
@@ -28,13 +27,13 @@ AreReadAgain (l ∷ ls) = IsReadAgain l × AreReadAgain ls
 -- the lines of a block that are written: no else before an empty part
 abbrev pub second_lines : Block → List Line → List Line
 second_lines Nothing ls = []
-second_lines b ls = line.Else ∷ ls
+second_lines b ls = Line.Else ∷ ls
 
 abbrev pub written : Block → List Line
 written Nothing = []
-written (Then s rest) = line.Plain s ∷ written rest
+written (Then s rest) = Line.Plain s ∷ written rest
 written (If a w first second rest) =
-    line.If a w ∷ (written first ++ (second_lines second (written second) ++ line.End ∷ written rest))
+    Line.If a w ∷ (written first ++ (second_lines second (written second) ++ Line.End ∷ written rest))
 
 abbrev pub forms_of_script : ScriptForm → List LineForm
 forms_of_script s = Begins s.client ∷ (map Says (written s.block) ++ Closes s.ending ∷ [])

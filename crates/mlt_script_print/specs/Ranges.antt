@@ -2,23 +2,20 @@
 use Rattle.std.specs.Prelude.{◌<◌, ◌^◌}
 use Rattle.mlt_object_ranges.specs.Ranges.{FitsOp, FitsReply}
 use Rattle.mlt_script_tree.specs.declared.statement.AmountOp.{AmountOp}
-use Rattle.mlt_script_tree.specs.declared.statement.AmountOp.TheVariants as amount
 use Rattle.mlt_script_tree.specs.declared.statement.Asking.{Asking}
 use Rattle.mlt_script_tree.specs.declared.statement.Asking.TheVariants.{Fixed, By}
 use Rattle.mlt_script_tree.specs.declared.statement.Wanted.{Wanted}
 use Rattle.mlt_script_tree.specs.declared.statement.Wanted.TheVariants.{Reply, ValueOf}
 use Rattle.mlt_script_tree.specs.declared.statement.Source.{Source}
-use Rattle.mlt_script_tree.specs.declared.statement.Source.TheVariants as source
 use Rattle.mlt_script_tree.specs.declared.statement.Statement.{Statement}
 use Rattle.mlt_script_tree.specs.declared.statement.Statement.TheVariants.{Ask, Need, Let}
 use Rattle.mlt_script_tree.specs.declared.statement.Line.{Line}
-use Rattle.mlt_script_tree.specs.declared.statement.Line.TheVariants as line
 
 abbrev pub FitsAmount : AmountOp → Type 0
-FitsAmount (amount.Deposit a) = a < 2 ^ 32
-FitsAmount (amount.Withdraw a) = a < 2 ^ 32
-FitsAmount (amount.Up c) = c < 2 ^ 32
-FitsAmount (amount.Down c) = c < 2 ^ 32
+FitsAmount (AmountOp.Deposit a) = a < 2 ^ 32
+FitsAmount (AmountOp.Withdraw a) = a < 2 ^ 32
+FitsAmount (AmountOp.Up c) = c < 2 ^ 32
+FitsAmount (AmountOp.Down c) = c < 2 ^ 32
 
 abbrev pub FitsAsking : Asking → Type 0
 FitsAsking (Fixed op) = FitsOp op
@@ -29,9 +26,9 @@ FitsWanted (Reply r) = FitsReply r
 FitsWanted (ValueOf l) = Unit {0}
 
 abbrev pub FitsSource : Source → Type 0
-FitsSource (source.Balance a) = a < 2 ^ 32
-FitsSource (source.Read c) = c < 2 ^ 32
-FitsSource (source.Size s) = s < 2 ^ 16
+FitsSource (Source.Balance a) = a < 2 ^ 32
+FitsSource (Source.Read c) = c < 2 ^ 32
+FitsSource (Source.Size s) = s < 2 ^ 16
 
 abbrev pub FitsStatement : Statement → Type 0
 FitsStatement (Ask a) = FitsAsking a
@@ -39,6 +36,6 @@ FitsStatement (Need a w) = FitsAsking a × FitsWanted w
 FitsStatement (Let l s) = FitsSource s
 
 abbrev pub FitsLine : Line → Type 0
-FitsLine (line.Plain s) = FitsStatement s
-FitsLine (line.If a w) = FitsAsking a × FitsWanted w
+FitsLine (Line.Plain s) = FitsStatement s
+FitsLine (Line.If a w) = FitsAsking a × FitsWanted w
 FitsLine l = Unit {0}

@@ -1,6 +1,6 @@
 -- Runs of scripts, one more at the end.
-use Rattle.std.proofs.Common.{take, zero, suc, add-zero, ◌<◌, ◌≤◌, ◌≢◌, Bool, true, false, cond, length, get_or, set, arith, inl, inr, ◌≡◌, ℕ, ◌+◌, List, [], ◌∷◌, ◌++◌, Option, Some, None, map, count_by, ◌==◌, refl, sym, ap, ◌∙◌, subst, append_assoc}
-use Rattle.std.proofs.lemmas.List.{take_more, append-nil, map-append, get_or-set_same, get_or-set_other}
+use Rattle.std.proofs.Common.{take, zero, suc, add-zero, ◌<◌, ◌≤◌, ◌≢◌, Bool, true, false, cond, length, get_or, set, arith, inl, inr, ◌≡◌, ℕ, ◌+◌, List, [], ◌∷◌, ◌++◌, Option, Some, None, map, count_by, ◌==◌, refl, sym, ap, ◌∙◌, subst, append_assoc, append-nil, get_or-set_same, get_or-set_other}
+use Rattle.std.proofs.lemmas.List.{take_more, map-append}
 use Rattle.std.proofs.lemmas.List.Sums.{fold-append}
 use Rattle.std.proofs.lemmas.Bool.Decides.{eqb_tells}
 use Rattle.mlt_types.specs.declared.refusal.Refusal.{Refusal}

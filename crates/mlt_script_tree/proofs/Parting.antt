@@ -1,6 +1,6 @@
 -- Scripts that are parted by their clients.
-use Rattle.std.proofs.Common.{Vec, Global, ◌≡◌, ℕ, zero, suc, ◌+◌, ◌<◌, List, [], ◌∷◌, ◌++◌, length, reverse, replicate, get_or, set, map, ◌==◌, Bool, true, false, cond, refl, sym, ap, subst, ◌∙◌, append_assoc, length-append, arith}
-use Rattle.std.proofs.lemmas.List.{append-nil, reverse-append, reverse-reverse, map-append, get_or-replicate, length-replicate, length-set, length-map, map-set, get_or-map, replicate-append-replicate}
+use Rattle.std.proofs.Common.{Vec, Global, ◌≡◌, ℕ, zero, suc, ◌+◌, ◌<◌, List, [], ◌∷◌, ◌++◌, length, reverse, replicate, get_or, set, map, ◌==◌, Bool, true, false, cond, refl, sym, ap, subst, ◌∙◌, append_assoc, length-append, arith, append-nil, length-set}
+use Rattle.std.proofs.lemmas.List.{reverse-append, reverse-reverse, map-append, get_or-replicate, length-replicate, length-map, map-set, get_or-map, replicate-append-replicate}
 use Rattle.mlt_script_tree.specs.declared.script.Script.{Script}
 use Rattle.mlt_script_tree.specs.Clients.{scripts_of, if_any, parts_below, parts_of, AreFilled}
 use Rattle.mlt_script_tree.specs.Scripts.{ScriptForm}

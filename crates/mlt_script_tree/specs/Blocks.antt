@@ -4,7 +4,6 @@ use Rattle.mlt_script_tree.specs.declared.statement.Asking.{Asking}
 use Rattle.mlt_script_tree.specs.declared.statement.Wanted.{Wanted}
 use Rattle.mlt_script_tree.specs.declared.statement.Statement.{Statement}
 use Rattle.mlt_script_tree.specs.declared.statement.Line.{Line}
-use Rattle.mlt_script_tree.specs.declared.statement.Line.TheVariants as line
 
 -- Nothing more; or a statement of one line and those after it; or an if with its first part, its second part, which
 -- may be empty, and the statements after it.
@@ -34,8 +33,8 @@ join (If a w first second rest) more = If a w first second (join rest more)
 -- the lines of statements as a script keeps them: each if with its else and its end
 abbrev pub lines_of : Block → List Line
 lines_of Nothing = []
-lines_of (Then s rest) = line.Plain s ∷ lines_of rest
-lines_of (If a w first second rest) = line.If a w ∷ (lines_of first ++ line.Else ∷ (lines_of second ++ line.End ∷ lines_of rest))
+lines_of (Then s rest) = Line.Plain s ∷ lines_of rest
+lines_of (If a w first second rest) = Line.If a w ∷ (lines_of first ++ Line.Else ∷ (lines_of second ++ Line.End ∷ lines_of rest))
 
 -- A script that is read up to somewhere: the statements so far; or it is read into the first part of an if, and these
 -- are the statements of that part so far; or into the second part, behind the whole first part.
@@ -81,5 +80,5 @@ grow (InSecond o a w first second) more = InSecond o a w first (join second more
 -- its lines so far
 abbrev pub lines_open : Open → List Line
 lines_open (Top b) = lines_of b
-lines_open (InFirst o a w first) = lines_open o ++ line.If a w ∷ lines_of first
-lines_open (InSecond o a w first second) = lines_open o ++ line.If a w ∷ (lines_of first ++ line.Else ∷ lines_of second)
+lines_open (InFirst o a w first) = lines_open o ++ Line.If a w ∷ lines_of first
+lines_open (InSecond o a w first second) = lines_open o ++ Line.If a w ∷ (lines_of first ++ Line.Else ∷ lines_of second)

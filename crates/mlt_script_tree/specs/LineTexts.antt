@@ -1,6 +1,5 @@
 -- The texts of the lines of a script.
-use Rattle.std.specs.Prelude.{ℕ, List, ◌∷◌, ◌++◌, codes}
-use Rattle.std.specs.Fmt.{decimal}
+use Rattle.std.specs.Prelude.{ℕ, List, ◌∷◌, ◌++◌, codes, decimal}
 use Rattle.mlt_object_kinds.specs.declared.operation.ObjReply.{ObjReply}
 use Rattle.mlt_object_kinds.specs.declared.operation.ObjReply.TheVariants.{Is}
 use Rattle.mlt_object_kinds.specs.Texts.{with_number, op_text, reply_text}
@@ -16,7 +15,6 @@ use Rattle.mlt_script_tree.specs.declared.statement.Source.TheVariants.{Balance,
 use Rattle.mlt_script_tree.specs.declared.statement.Statement.{Statement}
 use Rattle.mlt_script_tree.specs.declared.statement.Statement.TheVariants.{Ask, Need, Let}
 use Rattle.mlt_script_tree.specs.declared.statement.Line.{Line}
-use Rattle.mlt_script_tree.specs.declared.statement.Line.TheVariants as line
 use Rattle.mlt_script_tree.specs.declared.statement.Ending.{Ending}
 use Rattle.mlt_script_tree.specs.declared.statement.Ending.TheVariants.{Commit, Abort}
 
@@ -60,10 +58,10 @@ statement_text (Let l s) = with_word (with_word (with_word (codes "let") (letter
 
 -- the text of a line
 abbrev pub line_text : Line → List ℕ
-line_text (line.Plain s) = statement_text s
-line_text (line.If a w) = with_word (with_word (with_word (codes "if") (asking_text a)) (codes "is")) (wanted_text w)
-line_text line.Else = codes "else"
-line_text line.End = codes "end"
+line_text (Line.Plain s) = statement_text s
+line_text (Line.If a w) = with_word (with_word (with_word (codes "if") (asking_text a)) (codes "is")) (wanted_text w)
+line_text Line.Else = codes "else"
+line_text Line.End = codes "end"
 
 -- the text of an ending
 abbrev pub ending_text : Ending → List ℕ

@@ -1,7 +1,6 @@
 -- A script, as contracts see it.
 use Rattle.std.specs.Prelude.{ℕ, ◌<◌, ◌≤◌, List, [], ◌∷◌}
 use Rattle.mlt_script_tree.specs.declared.statement.Line.{Line}
-use Rattle.mlt_script_tree.specs.declared.statement.Line.TheVariants as line
 use Rattle.mlt_script_tree.specs.declared.statement.Ending.{Ending}
 use Rattle.mlt_script_tree.specs.Blocks.{Block, longest, nesting, Open, grow}
 use Rattle.mlt_script_tree.specs.Blocks.Block.{Nothing, Then, If}
@@ -28,10 +27,10 @@ closed (InFirst o a w first) = grow o (If a w first Nothing Nothing)
 closed (InSecond o a w first second) = grow o (If a w first second Nothing)
 
 abbrev pub one_more : Open → Line → Open
-one_more o (line.Plain s) = grow o (Then s Nothing)
-one_more o (line.If a w) = InFirst o a w Nothing
-one_more o line.Else = turned o
-one_more o line.End = closed o
+one_more o (Line.Plain s) = grow o (Then s Nothing)
+one_more o (Line.If a w) = InFirst o a w Nothing
+one_more o Line.Else = turned o
+one_more o Line.End = closed o
 
 -- what lines say, read after what is open
 abbrev pub read_on : Open → List Line → Open

@@ -4,7 +4,6 @@ use Rattle.std.proofs.Common.{sym, ap, ◌∙◌, append_assoc}
 use Rattle.std.proofs.lemmas.List.{append-nil}
 use Rattle.std.specs.Coded.{Coded, code_by, coded_ℕ, coded_list, coded×}
 use Rattle.mlt_script_tree.specs.declared.statement.Line.{Line}
-use Rattle.mlt_script_tree.specs.declared.statement.Line.TheVariants as line
 use Rattle.mlt_script_tree.specs.declared.statement.Ending.{Ending}
 use Rattle.mlt_script_tree.specs.contracts.statement.Line as line_row
 use Rattle.mlt_script_tree.specs.contracts.statement.Ending as ending_row
@@ -46,10 +45,10 @@ reads_block (Then s rest) more o =
     reads_block rest more (grow o (Then s Nothing))
     ∙ ap (λ (o : Open). read_on o more) (grow_twice o (Then s Nothing) rest)
 reads_block (If a w first second rest) more o =
-    let tail : List Line = line.End ∷ (lines_of rest ++ more) in
+    let tail : List Line = Line.End ∷ (lines_of rest ++ more) in
     ap (λ (xs : List Line). read_on (InFirst o a w Nothing) xs)
-    (regroup (lines_of first) (lines_of second) line.Else line.End (lines_of rest) more)
-    ∙ reads_block first (line.Else ∷ (lines_of second ++ tail)) (InFirst o a w Nothing)
+    (regroup (lines_of first) (lines_of second) Line.Else Line.End (lines_of rest) more)
+    ∙ reads_block first (Line.Else ∷ (lines_of second ++ tail)) (InFirst o a w Nothing)
     ∙ reads_block second tail (InSecond o a w first Nothing)
     ∙ reads_block rest more (grow o (If a w first second Nothing))
     ∙ ap (λ (o : Open). read_on o more) (grow_twice o (If a w first second Nothing) rest)

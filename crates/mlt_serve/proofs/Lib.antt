@@ -1,3 +1,4 @@
+mod Names
 pub mod Merging
 pub mod Numbering
 pub mod Receiving

@@ -1,11 +1,6 @@
 -- Whose outcomes they are, where others come behind them.
-use Rattle.std.proofs.Common.{◌≡◌, ℕ, ◌≤◌, ◌++◌, List, [], max, All, subst, sym, arith}
-use Rattle.std.specs.Prelude.{IsPermutation}
-use Rattle.std.proofs.lemmas.List.Elements.{All-append, All-nil, All-weaker}
-use Rattle.std.proofs.lemmas.List.Sorted.{All-permutation}
-use Rattle.mlt_trace.specs.declared.item.TraceItem.{TraceItem}
-use Rattle.mlt_script_serial.specs.declared.outcome.Outcome.{Outcome}
-use Rattle.mlt_serve.specs.Clients.{AreOfClients, GrowsFor, IsOf, IsOfClient}
+use Rattle.std.proofs.Common.{◌≡◌, ℕ, ◌≤◌, ◌++◌, List, [], max, All, subst, sym, arith, IsPermutation}
+use Rattle.mlt_serve.proofs.Names.{All-append, All-nil, All-weaker, All-permutation, TraceItem, Outcome, AreOfClients, GrowsFor, IsOf, IsOfClient}
 
 -- those of the first connections are among those of more connections
 pub of_more : (least most : ℕ) (outcomes : List Outcome) → least ≤ most → AreOfClients least outcomes → AreOfClients most outcomes

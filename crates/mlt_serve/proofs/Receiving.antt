@@ -1,17 +1,10 @@
 -- Whose outcomes a session adds.
-use Rattle.std.proofs.Common.{◌≡◌, ◌⊎◌, inl, inr, ℕ, ◌+◌, [], ◌∷◌, List, refl, ap}
-use Rattle.std.specs.Prelude.{All, Option, Some, None, Result, Ok, Err, IfOk, IfErr}
-use Rattle.std.proofs.lemmas.List.Elements.{All-append, All-nil, All-push}
+use Rattle.std.proofs.Common.{◌≡◌, ◌⊎◌, inl, inr, ℕ, ◌+◌, [], ◌∷◌, List, refl, ap, All, Option, Some, None, Result, Ok, Err, IfOk, IfErr}
+use Rattle.mlt_serve.proofs.Names.{All-append, All-nil, All-push, TraceItem, Moves, StartsWith, DeskView, GrowsFor, IsOf}
 use Rattle.mlt_types.specs.declared.refusal.Refusal.{Refusal}
-use Rattle.mlt_types.specs.declared.refusal.Refusal.TheVariants as refusal
-use Rattle.mlt_trace.specs.declared.item.TraceItem.{TraceItem}
-use Rattle.mlt_script_cursor.specs.Calls.{Moves}
-use Rattle.mlt_work_log.specs.Prefixes.{StartsWith}
-use Rattle.mlt_work_desk.specs.Holds.{DeskView}
 use Rattle.mlt_serve_session.specs.Talks.{Turn}
 use Rattle.mlt_serve_session.specs.Outcomes.{begins_by, begun_in, call_of, outcome_if, outcome_behind, outcomes_of}
 use Rattle.mlt_serve_session.specs.Sessions.{BrokenOff, HeardAll, Scene, SpokenLong, Summed}
-use Rattle.mlt_serve.specs.Clients.{GrowsFor, IsOf}
 use Rattle.mlt_serve.proofs.Telling.{all_told, moves_of, run_more}
 
 one_of_client : (client number : ℕ) (began : Option ℕ) (behind : List Turn) → All (IsOf client) (outcome_if client number began behind)
@@ -40,10 +33,10 @@ module _ {P D S : Type 0} (bits_of : P → ℕ → ℕ) (view : D → DeskView) 
 
   -- however a session ends, it adds outcomes of its client alone
   pub grows : (result : Result S Refusal) → IfOk result (λ s. Summed moves client old new (lines s) (commits s))
-      → (result ≡ Err refusal.LineTooLong → SpokenLong moves client old new)
-      → (result ≡ Err refusal.Io → HeardAll moves client old new)
-      → (result ≡ Err refusal.OutOfMemory → BrokenOff moves client old new)
-      → IfErr result (λ r. (r ≡ refusal.LineTooLong) ⊎ (r ≡ refusal.OutOfMemory) ⊎ (r ≡ refusal.Io))
+      → (result ≡ Err Refusal.LineTooLong → SpokenLong moves client old new)
+      → (result ≡ Err Refusal.Io → HeardAll moves client old new)
+      → (result ≡ Err Refusal.OutOfMemory → BrokenOff moves client old new)
+      → IfErr result (λ r. (r ≡ Refusal.LineTooLong) ⊎ (r ≡ Refusal.OutOfMemory) ⊎ (r ≡ Refusal.Io))
       → GrowsFor items client old.outcomes new.outcomes
   grows (Ok s) ok long io memory why = record { more = outcomes_of client 0 ok.spoken.turns; appended = ok.spoken.noted; of_client = all_of_client client 0 ok.spoken.turns; told = all_told bits_of view new.desk _ ok.spoken.gave }
   grows (Err r) ok long io memory (inl e) = long_grows (long (ap (λ (x : Refusal). Err x) e))
@@ -52,10 +45,10 @@ module _ {P D S : Type 0} (bits_of : P → ℕ → ℕ) (view : D → DeskView) 
 
   -- and the desk has seen what it had seen
   pub sees_on : (result : Result S Refusal) → IfOk result (λ s. Summed moves client old new (lines s) (commits s))
-      → (result ≡ Err refusal.LineTooLong → SpokenLong moves client old new)
-      → (result ≡ Err refusal.Io → HeardAll moves client old new)
-      → (result ≡ Err refusal.OutOfMemory → BrokenOff moves client old new)
-      → IfErr result (λ r. (r ≡ refusal.LineTooLong) ⊎ (r ≡ refusal.OutOfMemory) ⊎ (r ≡ refusal.Io))
+      → (result ≡ Err Refusal.LineTooLong → SpokenLong moves client old new)
+      → (result ≡ Err Refusal.Io → HeardAll moves client old new)
+      → (result ≡ Err Refusal.OutOfMemory → BrokenOff moves client old new)
+      → IfErr result (λ r. (r ≡ Refusal.LineTooLong) ⊎ (r ≡ Refusal.OutOfMemory) ⊎ (r ≡ Refusal.Io))
       → StartsWith items (view old.desk).history
   sees_on (Ok s) ok long io memory why = run_more bits_of view old.desk _ _ new.desk ok.spoken.asked
   sees_on (Err r) ok long io memory (inl e) = run_more bits_of view old.desk _ _ new.desk (long (ap (λ (x : Refusal). Err x) e)).spoken.asked

@@ -1,10 +1,10 @@
 -- Outcomes that were sorted by client and then by number.
-use Rattle.std.proofs.Common.{◌≡◌, ℕ, zero, suc, ◌+◌, ◌-◌, ◌<◌, ◌≤◌, List, length, get_or, false, IsSortedByKey, refl, sym, subst, ◌∙◌, inl, inr, arith}
-use Rattle.std.specs.Ordering.{is_lt, nat_cmp, ordering_then}
+use Rattle.std.proofs.Common.{◌≡◌, ℕ, zero, suc, ◌+◌, ◌-◌, ◌<◌, ◌≤◌, List, length, get_or, false, IsSortedByKey, refl, sym, subst, ◌∙◌, inl, inr, arith, is_lt, nat_cmp}
+use Rattle.std.specs.Ordering.{ordering_then}
 use Rattle.std.specs.declared.cmp.Ordering.{Ordering}
 use Rattle.std.specs.declared.cmp.Ordering.TheVariants.{Less, Equal, Greater}
 use Rattle.std.specs.Cmp.{ranked}
-use Rattle.mlt_script_serial.specs.declared.outcome.Outcome.{Outcome}
+use Rattle.mlt_serve.proofs.Names.{Outcome}
 use Rattle.mlt_serve.specs.Clients.{AreByClientAndNumber, MayPrecede}
 
 abbrev pub place_of : Outcome → ℕ × ℕ

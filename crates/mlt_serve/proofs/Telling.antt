@@ -1,28 +1,19 @@
 -- A history tells all that is in outcomes, as it grows, and as others come behind them.
-use Rattle.std.proofs.Common.{◌≡◌, ◌++◌, List, [], ◌∷◌, All, ℕ, ap, subst, sym}
-use Rattle.std.specs.Prelude.{Contains, IsPermutation}
+use Rattle.std.proofs.Common.{◌≡◌, ◌++◌, List, [], ◌∷◌, All, ℕ, ap, subst, sym, Contains, IsPermutation}
 use Rattle.std.proofs.lemmas.Grind.{merely}
-use Rattle.std.proofs.lemmas.List.Elements.{All-append, All-nil, All-weaker, Contains-append_left, Contains-append_right}
-use Rattle.std.proofs.lemmas.List.Sorted.{All-permutation}
+use Rattle.mlt_serve.proofs.Names.{All-append, All-nil, All-weaker, All-permutation, TraceItem, Outcome, Moves, StartsWith, DeskView, GrowsFor, TellsOutcomes}
+use Rattle.std.proofs.lemmas.List.Elements.{Contains-append_left, Contains-append_right}
 use mathlib.Core.Logic.{∥∥₁_map}
 use Rattle.mlt_object_kinds.specs.declared.operation.ObjOp.{ObjOp}
 use Rattle.mlt_object_kinds.specs.declared.operation.ObjReply.{ObjReply}
-use Rattle.mlt_trace.specs.declared.item.TraceItem.{TraceItem}
-use Rattle.mlt_trace.specs.declared.item.TraceItem.TheVariants as trace
 use Rattle.mlt_script_serial.specs.declared.outcome.End.{End}
-use Rattle.mlt_script_serial.specs.declared.outcome.End.TheVariants as end
-use Rattle.mlt_script_serial.specs.declared.outcome.Outcome.{Outcome}
 use Rattle.mlt_script_cursor.specs.declared.call.DeskAnswer.{DeskAnswer}
 use Rattle.mlt_script_cursor.specs.declared.call.DeskCall.{DeskCall}
-use Rattle.mlt_script_cursor.specs.Calls.{Moves}
 use Rattle.mlt_serve_session.specs.Desks.{Answers}
 use Rattle.mlt_serve_session.specs.Given.{Gave, GaveAll, GaveEnd, GaveReply}
-use Rattle.mlt_work_log.specs.Prefixes.{StartsWith}
 use Rattle.mlt_work_desk.specs.Holds as desk
-use Rattle.mlt_work_desk.specs.Holds.{DeskView}
 use Rattle.mlt_work_desk.proofs.Seeing.{more_than, no_more}
-use Rattle.mlt_serve.specs.Clients.{GrowsFor}
-use Rattle.mlt_serve.specs.Tellings.{TellsAll, TellsEnd, TellsOutcome, TellsOutcomes, TellsReply}
+use Rattle.mlt_serve.specs.Tellings.{TellsAll, TellsEnd, TellsOutcome, TellsReply}
 
 module _ {D P : Type 0} (bits_of : P → ℕ → ℕ) (view : D → DeskView) where
   -- how a desk over a lock moves, by what it has seen of the history
@@ -51,16 +42,16 @@ module _ {D P : Type 0} (bits_of : P → ℕ → ℕ) (view : D → DeskView) wh
         subst (λ xs. Contains xs item) (sym more.1) (Contains-append_left (seen gave.after) more.0 item here)
 
     reply_told : (tx : ℕ) (done : ObjOp × ObjReply) → GaveReply moves_of last tx done → TellsReply (seen last) tx done
-    reply_told tx done gave = contains_last _ _ gave (trace.Op tx done) gave.moved.sees.have
+    reply_told tx done gave = contains_last _ _ gave (TraceItem.Op tx done) gave.moved.sees.have
 
     end_told : (tx : ℕ) (e : End) → GaveEnd moves_of last tx e → TellsEnd (seen last) tx e
-    end_told tx (end.Committed n) gave = contains_last _ _ gave (trace.Commit tx n) gave.moved.sees.have
-    end_told tx end.Aborted gave = tt
-    end_told tx (end.Refused r) gave = tt
+    end_told tx (End.Committed n) gave = contains_last _ _ gave (TraceItem.Commit tx n) gave.moved.sees.have
+    end_told tx End.Aborted gave = tt
+    end_told tx (End.Refused r) gave = tt
 
     outcome_told : (o : Outcome) → GaveAll moves_of last o → TellsOutcome (seen last) o
     outcome_told o gave = merely (record {
-      begun = contains_last _ _ gave.begun (trace.Begin o.tx) gave.begun.moved.sees.have;
+      begun = contains_last _ _ gave.begun (TraceItem.Begin o.tx) gave.begun.moved.sees.have;
       replies = All-weaker (GaveReply moves_of last o.tx) (TellsReply (seen last) o.tx) (reply_told o.tx) o.done gave.replies;
       end = end_told o.tx o.end gave.end;
     })
@@ -79,14 +70,14 @@ module _ (items first : List TraceItem) (more : StartsWith items first) where
   still_contains item have = subst (λ xs. Contains xs item) (sym more.1) (Contains-append_left first more.0 item have)
 
   still_ended : (tx : ℕ) (e : End) → TellsEnd first tx e → TellsEnd items tx e
-  still_ended tx (end.Committed n) tells = still_contains (trace.Commit tx n) tells
-  still_ended tx end.Aborted tells = tt
-  still_ended tx (end.Refused r) tells = tt
+  still_ended tx (End.Committed n) tells = still_contains (TraceItem.Commit tx n) tells
+  still_ended tx End.Aborted tells = tt
+  still_ended tx (End.Refused r) tells = tt
 
   still_tells : (o : Outcome) → TellsOutcome first o → TellsOutcome items o
   still_tells o told = ∥∥₁_map told (λ (tells : TellsAll first o). record {
-    begun = still_contains (trace.Begin o.tx) tells.begun;
-    replies = All-weaker (TellsReply first o.tx) (TellsReply items o.tx) (λ done. still_contains (trace.Op o.tx done)) o.done tells.replies;
+    begun = still_contains (TraceItem.Begin o.tx) tells.begun;
+    replies = All-weaker (TellsReply first o.tx) (TellsReply items o.tx) (λ done. still_contains (TraceItem.Op o.tx done)) o.done tells.replies;
     end = still_ended o.tx o.end tells.end;
   })
 

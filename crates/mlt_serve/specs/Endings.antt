@@ -1,13 +1,11 @@
 -- What is answered of how the accepting ended.
 use Rattle.std.specs.Prelude.{Result, Ok, Err}
 use Rattle.mlt_types.specs.declared.refusal.Refusal.{Refusal}
-use Rattle.mlt_types.specs.declared.refusal.Refusal.TheVariants as refusal
 use Rattle.mlt_serve.specs.declared.accepting.AcceptEnd.{AcceptEnd}
-use Rattle.mlt_serve.specs.declared.accepting.AcceptEnd.TheVariants as end
 
 -- a failed accept is told as Io, and a growth that was refused as OutOfMemory
 abbrev pub result_of_accepting : AcceptEnd → Result (Unit {0}) Refusal
-result_of_accepting end.Limit = Ok tt
-result_of_accepting end.Stop = Ok tt
-result_of_accepting end.Failed = Err refusal.Io
-result_of_accepting end.Short = Err refusal.OutOfMemory
+result_of_accepting AcceptEnd.Limit = Ok tt
+result_of_accepting AcceptEnd.Stop = Ok tt
+result_of_accepting AcceptEnd.Failed = Err Refusal.Io
+result_of_accepting AcceptEnd.Short = Err Refusal.OutOfMemory

@@ -1,6 +1,5 @@
 -- What all session threads have served.
-use Rattle.std.specs.Prelude.{◌≡◌, List, All, false}
-use Rattle.std.specs.List.{flat_map}
+use Rattle.std.specs.Prelude.{◌≡◌, List, All, false, flat_map}
 use Rattle.mlt_script_serial.specs.declared.outcome.Outcome.{Outcome}
 use Rattle.mlt_types.specs.declared.pseudo.Pseudo as pseudo
 use Rattle.mlt_work_desk.specs.declared.made_with.MadeWith as making

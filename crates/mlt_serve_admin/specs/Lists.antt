@@ -1,6 +1,5 @@
 -- The sessions and the waits of a server, in JSON.
-use Rattle.std.specs.Prelude.{ℕ, List, [], ◌∷◌, ◌++◌, codes}
-use Rattle.std.specs.Fmt.{decimal}
+use Rattle.std.specs.Prelude.{ℕ, List, [], ◌∷◌, ◌++◌, codes, decimal}
 use Rattle.mlt_serve_admin.specs.declared.view.WaitReason.{WaitReason}
 use Rattle.mlt_serve_admin.specs.declared.view.WaitReason.TheVariants.{Object, Page, Turn}
 use Rattle.mlt_serve_admin.specs.declared.view.SessionView.{SessionView}

@@ -1,7 +1,5 @@
 -- The numbers of a server, in the text format of Prometheus, version 0.0.4.
-use Rattle.std.specs.Prelude.{ℕ, List, ◌++◌, codes, if◌then◌else◌}
-use Rattle.std.specs.List.{flat_map}
-use Rattle.std.specs.Fmt.{decimal}
+use Rattle.std.specs.Prelude.{ℕ, List, ◌++◌, codes, if◌then◌else◌, flat_map, decimal}
 use Rattle.mlt_serve_admin.specs.declared.figures.Figure.{Figure}
 use Rattle.mlt_serve_admin.specs.declared.view.Counts.{Counts}
 use Rattle.mlt_serve_admin.specs.Figures.{figures, is_counter, metric_of, value_of, words_of}

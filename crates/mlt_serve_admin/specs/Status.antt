@@ -1,6 +1,5 @@
 -- The numbers of a server, in JSON.
-use Rattle.std.specs.Prelude.{ℕ, List, ◌++◌, codes}
-use Rattle.std.specs.Fmt.{decimal}
+use Rattle.std.specs.Prelude.{ℕ, List, ◌++◌, codes, decimal}
 use Rattle.mlt_serve_admin.specs.declared.figures.Figure.{Figure}
 use Rattle.mlt_serve_admin.specs.declared.view.Counts.{Counts}
 use Rattle.mlt_serve_admin.specs.Figures.{figures, name_of, value_of}

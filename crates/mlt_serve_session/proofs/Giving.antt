@@ -1,21 +1,9 @@
 -- All that is in the outcomes of turns is what the desk answered.
 use Rattle.std.proofs.Common.{◌≡◌, ◌⊎◌, inl, inr, ℕ, ◌+◌, List, [], ◌∷◌, All, Option, Some, None, refl, sym, ap, subst, ◌∙◌}
-use Rattle.std.proofs.lemmas.List.Elements.{All-append, All-nil, All-push}
-use Rattle.mlt_object_kinds.specs.declared.operation.ObjOp.{ObjOp}
-use Rattle.mlt_event_text.specs.declared.command.Command.TheVariants as command
-use Rattle.mlt_event_text.specs.declared.session_line.SessionLine.{SessionLine}
-use Rattle.mlt_event_text.specs.declared.session_line.SessionLine.TheVariants.{Says, TooLong}
-use Rattle.mlt_script_serial.specs.declared.outcome.End.{End}
-use Rattle.mlt_script_serial.specs.declared.outcome.End.TheVariants as end
-use Rattle.mlt_script_cursor.specs.declared.call.DeskAnswer.{DeskAnswer}
-use Rattle.mlt_script_cursor.specs.declared.call.DeskAnswer.TheVariants.{Begun, Replied, Committed, Aborted, Refused}
-use Rattle.mlt_script_cursor.specs.declared.call.DeskCall.{DeskCall}
-use Rattle.mlt_script_cursor.specs.declared.call.DeskCall.TheVariants as call
-use Rattle.mlt_script_cursor.specs.Calls.{Moves, answer_to}
-use Rattle.mlt_serve_session.specs.Given.{Gave, GaveAll, GaveEnd, GaveReply, LeadsTo}
-use Rattle.mlt_serve_session.specs.Outcomes.{all_done, before_next, begins_by, begun_in, call_of, done_in, end_in, ended_by, outcome_behind, outcome_if, outcomes_of, up_to}
-use Rattle.mlt_serve_session.specs.Talks.{Turn, call_for, open_after}
-use Rattle.mlt_serve_session.specs.Turns.{Asked, Goes, TalkState}
+use Rattle.mlt_serve_session.proofs.Names.{All-nil, ObjOp, Command, SessionLine, Says, TooLong, End, DeskAnswer, Begun, Replied, Committed, Aborted, Refused, DeskCall, Moves, GaveAll, all_done, before_next, begins_by, begun_in, call_of, done_in, end_in, ended_by, outcome_behind, outcome_if, outcomes_of, up_to, Turn, call_for, open_after, Asked, Goes, TalkState}
+use Rattle.std.proofs.lemmas.List.Elements.{All-append, All-push}
+use Rattle.mlt_script_cursor.specs.Calls.{answer_to}
+use Rattle.mlt_serve_session.specs.Given.{Gave, GaveEnd, GaveReply, LeadsTo}
 
 -- the transaction is open, or none is
 abbrev pub IsOpenOrNone : ℕ → Option ℕ → Type 0
@@ -70,7 +58,7 @@ module _ {D : Type 0} (moves : Moves D) (last : D) where
   asks_nothing tx before None o g = record { done = All-nil (GaveReply moves last tx); end = λ e k. k; stays = λ _. o }
   asks_nothing tx before (Some a) o g = absurd g
 
-  asks_begin : (tx : ℕ) (before : Option ℕ) (a : Option DeskAnswer) → IsOpenOrNone tx before → GaveIf (Some call.Begin) a → Turned tx before (Some call.Begin) a
+  asks_begin : (tx : ℕ) (before : Option ℕ) (a : Option DeskAnswer) → IsOpenOrNone tx before → GaveIf (Some DeskCall.Begin) a → Turned tx before (Some DeskCall.Begin) a
   asks_begin tx before None o g = absurd g
   asks_begin tx before (Some (Begun x)) o g = record { done = All-nil (GaveReply moves last tx); end = λ e k. k; stays = λ none. absurd (cc none) }
   asks_begin tx before (Some (Replied reply)) o g = record { done = All-nil (GaveReply moves last tx); end = λ e k. k; stays = λ _. o }
@@ -78,7 +66,7 @@ module _ {D : Type 0} (moves : Moves D) (last : D) where
   asks_begin tx before (Some Aborted) o g = record { done = All-nil (GaveReply moves last tx); end = λ e k. k; stays = λ _. inr refl }
   asks_begin tx before (Some (Refused r)) o g = record { done = All-nil (GaveReply moves last tx); end = λ e k. k; stays = λ _. o }
 
-  asks_operation : (tx : ℕ) (op : ObjOp) (a : Option DeskAnswer) → GaveIf (Some (call.Operation tx op)) a → Turned tx (Some tx) (Some (call.Operation tx op)) a
+  asks_operation : (tx : ℕ) (op : ObjOp) (a : Option DeskAnswer) → GaveIf (Some (DeskCall.Operation tx op)) a → Turned tx (Some tx) (Some (DeskCall.Operation tx op)) a
   asks_operation tx op None g = absurd g
   asks_operation tx op (Some (Begun x)) g = absurd (cc (g.0))
   asks_operation tx op (Some (Replied reply)) g = record {
@@ -90,7 +78,7 @@ module _ {D : Type 0} (moves : Moves D) (last : D) where
   asks_operation tx op (Some Aborted) g = record { done = All-nil (GaveReply moves last tx); end = λ e k. k; stays = λ _. inr refl }
   asks_operation tx op (Some (Refused r)) g = record { done = All-nil (GaveReply moves last tx); end = λ e k. k; stays = λ _. inl refl }
 
-  asks_commit : (tx : ℕ) (a : Option DeskAnswer) → GaveIf (Some (call.Commit tx)) a → Turned tx (Some tx) (Some (call.Commit tx)) a
+  asks_commit : (tx : ℕ) (a : Option DeskAnswer) → GaveIf (Some (DeskCall.Commit tx)) a → Turned tx (Some tx) (Some (DeskCall.Commit tx)) a
   asks_commit tx None g = absurd g
   asks_commit tx (Some (Begun x)) g = absurd (cc (g.0))
   asks_commit tx (Some (Replied reply)) g = record { done = All-nil (GaveReply moves last tx); end = λ e k. k; stays = λ _. inl refl }
@@ -98,7 +86,7 @@ module _ {D : Type 0} (moves : Moves D) (last : D) where
   asks_commit tx (Some Aborted) g = record { done = All-nil (GaveReply moves last tx); end = λ e k. k; stays = λ _. inr refl }
   asks_commit tx (Some (Refused r)) g = record { done = All-nil (GaveReply moves last tx); end = λ e k. k; stays = λ _. inl refl }
 
-  asks_abort : (tx : ℕ) (a : Option DeskAnswer) → GaveIf (Some (call.Abort tx)) a → Turned tx (Some tx) (Some (call.Abort tx)) a
+  asks_abort : (tx : ℕ) (a : Option DeskAnswer) → GaveIf (Some (DeskCall.Abort tx)) a → Turned tx (Some tx) (Some (DeskCall.Abort tx)) a
   asks_abort tx None g = absurd g
   asks_abort tx (Some (Begun x)) g = absurd (cc (g.0))
   asks_abort tx (Some (Replied reply)) g = record { done = All-nil (GaveReply moves last tx); end = λ e k. k; stays = λ _. inl refl }
@@ -107,23 +95,23 @@ module _ {D : Type 0} (moves : Moves D) (last : D) where
   asks_abort tx (Some (Refused r)) g = record { done = All-nil (GaveReply moves last tx); end = λ e k. k; stays = λ _. inl refl }
 
   turned_within : (tx : ℕ) (line : SessionLine) (a : Option DeskAnswer) → GaveIf (call_for (Some tx) line) a → Turned tx (Some tx) (call_for (Some tx) line) a
-  turned_within tx (Says command.Begin) a g = asks_nothing tx (Some tx) a (inl refl) g
-  turned_within tx (Says (command.Op op)) a g = asks_operation tx op a g
-  turned_within tx (Says command.Commit) a g = asks_commit tx a g
-  turned_within tx (Says command.Abort) a g = asks_abort tx a g
-  turned_within tx (Says command.Quit) a g = asks_abort tx a g
-  turned_within tx (Says command.Blank) a g = asks_nothing tx (Some tx) a (inl refl) g
-  turned_within tx (Says command.Other) a g = asks_nothing tx (Some tx) a (inl refl) g
+  turned_within tx (Says Command.Begin) a g = asks_nothing tx (Some tx) a (inl refl) g
+  turned_within tx (Says (Command.Op op)) a g = asks_operation tx op a g
+  turned_within tx (Says Command.Commit) a g = asks_commit tx a g
+  turned_within tx (Says Command.Abort) a g = asks_abort tx a g
+  turned_within tx (Says Command.Quit) a g = asks_abort tx a g
+  turned_within tx (Says Command.Blank) a g = asks_nothing tx (Some tx) a (inl refl) g
+  turned_within tx (Says Command.Other) a g = asks_nothing tx (Some tx) a (inl refl) g
   turned_within tx TooLong a g = asks_abort tx a g
 
   turned_alone : (tx : ℕ) (line : SessionLine) (a : Option DeskAnswer) → GaveIf (call_for None line) a → Turned tx None (call_for None line) a
-  turned_alone tx (Says command.Begin) a g = asks_begin tx None a (inr refl) g
-  turned_alone tx (Says (command.Op op)) a g = asks_nothing tx None a (inr refl) g
-  turned_alone tx (Says command.Commit) a g = asks_nothing tx None a (inr refl) g
-  turned_alone tx (Says command.Abort) a g = asks_nothing tx None a (inr refl) g
-  turned_alone tx (Says command.Quit) a g = asks_nothing tx None a (inr refl) g
-  turned_alone tx (Says command.Blank) a g = asks_nothing tx None a (inr refl) g
-  turned_alone tx (Says command.Other) a g = asks_nothing tx None a (inr refl) g
+  turned_alone tx (Says Command.Begin) a g = asks_begin tx None a (inr refl) g
+  turned_alone tx (Says (Command.Op op)) a g = asks_nothing tx None a (inr refl) g
+  turned_alone tx (Says Command.Commit) a g = asks_nothing tx None a (inr refl) g
+  turned_alone tx (Says Command.Abort) a g = asks_nothing tx None a (inr refl) g
+  turned_alone tx (Says Command.Quit) a g = asks_nothing tx None a (inr refl) g
+  turned_alone tx (Says Command.Blank) a g = asks_nothing tx None a (inr refl) g
+  turned_alone tx (Says Command.Other) a g = asks_nothing tx None a (inr refl) g
   turned_alone tx TooLong a g = asks_nothing tx None a (inr refl) g
 
   turned : (tx : ℕ) (before : Option ℕ) (line : SessionLine) (a : Option DeskAnswer) → IsOpenOrNone tx before → GaveIf (call_for before line) a → Turned tx before (call_for before line) a
@@ -158,17 +146,17 @@ module _ {D : Type 0} (moves : Moves D) (last : D) where
   begins : (client number : ℕ) (before : Option ℕ) (c : Option DeskCall) (a : Option DeskAnswer) (ts : List Turn) → GaveIf c a → AreGiven (open_after before a) ts
       → All (GaveAll moves last) (outcome_if client number (begun_in c a) ts)
   begins client number before None a ts g h = All-nil (GaveAll moves last)
-  begins client number before (Some call.Begin) None ts g h = All-nil (GaveAll moves last)
-  begins client number before (Some call.Begin) (Some (Begun tx)) ts g h =
+  begins client number before (Some DeskCall.Begin) None ts g h = All-nil (GaveAll moves last)
+  begins client number before (Some DeskCall.Begin) (Some (Begun tx)) ts g h =
       let rest = behind tx (Some tx) ts (inl refl) h in
-      All-push (GaveAll moves last) [] (outcome_behind client number tx ts) (All-nil (GaveAll moves last)) (record { begun = g.1; replies = rest.done; end = rest.end end.Aborted tt })
-  begins client number before (Some call.Begin) (Some (Replied reply)) ts g h = All-nil (GaveAll moves last)
-  begins client number before (Some call.Begin) (Some (Committed n)) ts g h = All-nil (GaveAll moves last)
-  begins client number before (Some call.Begin) (Some Aborted) ts g h = All-nil (GaveAll moves last)
-  begins client number before (Some call.Begin) (Some (Refused r)) ts g h = All-nil (GaveAll moves last)
-  begins client number before (Some (call.Operation tx op)) a ts g h = All-nil (GaveAll moves last)
-  begins client number before (Some (call.Commit tx)) a ts g h = All-nil (GaveAll moves last)
-  begins client number before (Some (call.Abort tx)) a ts g h = All-nil (GaveAll moves last)
+      All-push (GaveAll moves last) [] (outcome_behind client number tx ts) (All-nil (GaveAll moves last)) (record { begun = g.1; replies = rest.done; end = rest.end End.Aborted tt })
+  begins client number before (Some DeskCall.Begin) (Some (Replied reply)) ts g h = All-nil (GaveAll moves last)
+  begins client number before (Some DeskCall.Begin) (Some (Committed n)) ts g h = All-nil (GaveAll moves last)
+  begins client number before (Some DeskCall.Begin) (Some Aborted) ts g h = All-nil (GaveAll moves last)
+  begins client number before (Some DeskCall.Begin) (Some (Refused r)) ts g h = All-nil (GaveAll moves last)
+  begins client number before (Some (DeskCall.Operation tx op)) a ts g h = All-nil (GaveAll moves last)
+  begins client number before (Some (DeskCall.Commit tx)) a ts g h = All-nil (GaveAll moves last)
+  begins client number before (Some (DeskCall.Abort tx)) a ts g h = All-nil (GaveAll moves last)
 
   given_outcomes : (client begun : ℕ) (before : Option ℕ) (ts : List Turn) → AreGiven before ts → All (GaveAll moves last) (outcomes_of client begun ts)
   given_outcomes client begun before [] h = All-nil (GaveAll moves last)

@@ -1,6 +1,5 @@
 -- Two lists that are put into one.
-use Rattle.std.proofs.Common.{◌≡◌, ◌++◌, List, subst, sym}
-use Rattle.std.specs.Prelude.{IfOk, IsPermutation, Result, Ok, Err, is_ok, if◌then◌else◌}
+use Rattle.std.proofs.Common.{◌≡◌, ◌++◌, List, subst, sym, IfOk, IsPermutation, Result, Ok, Err, is_ok, if◌then◌else◌}
 
 -- where nothing was refused both lists are there, whichever was moved
 pub joined : {A E : Type 0} (result : Result (Unit {0}) E) (old more left right new : List A) → IsPermutation (old ++ more) (left ++ right)

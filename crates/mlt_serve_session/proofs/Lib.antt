@@ -1,3 +1,4 @@
+mod Names
 pub mod Closing
 pub mod Filling
 pub mod Giving

@@ -1,20 +1,12 @@
 -- A session that goes on, and how it ends.
-use Rattle.std.proofs.Common.{◌≡◌, ◌⊎◌, inl, inr, ℕ, ◌+◌, ◌≤◌, List, [], ◌∷◌, ◌++◌, length, take, drop, Option, Bool, true, false, refl, sym, ap, subst, ◌∙◌, arith, append_assoc, append-nil, take-append-drop, length-append, length-take}
+use Rattle.std.proofs.Common.{◌≡◌, ◌⊎◌, inl, inr, ℕ, ◌+◌, ◌≤◌, List, [], ◌∷◌, ◌++◌, length, take, drop, Option, Bool, true, false, refl, sym, ap, subst, ◌∙◌, arith, append_assoc, append-nil, take-append-drop, length-append, length-take, take_all, flat_map}
 use Rattle.std.proofs.Math.Seq.{take-append_seam}
-use Rattle.std.proofs.lemmas.List.{map-append, take_all}
-use Rattle.std.proofs.lemmas.Grind.{flat_map-append}
-use Rattle.std.specs.List.{flat_map}
-use Rattle.std.specs.Io.KnownBytes.{Appends, Consumes, IsAtEnd}
-use Rattle.std.proofs.KnownBytes.{Appends-nil, Appends-trans, Consumes-nil, Consumes-trans}
-use Rattle.mlt_text.specs.Texts.{AppendsFront}
-use Rattle.mlt_event_text.specs.declared.session_line.SessionLine.{SessionLine}
-use Rattle.mlt_serve_session.specs.Batches.{Answered, Covers, IsRest, front, lines_in}
-use Rattle.mlt_event_text.specs.Inputs.{lines_of, Begins, Splits}
-use Rattle.mlt_serve_session.specs.Rounds.{Replied, Stopped, Unwritten, Listens, Talked, Broken, BrokenHeard, AreLines, EndsInput, streams}
-use Rattle.mlt_serve_session.specs.Talks.{Turn, turn_text}
-use Rattle.mlt_serve_session.specs.Turns.{TalkState, Goes}
-use Rattle.mlt_event_text.proofs.Splitting.{splits_none, splits_both, prefix_lines, prefix_begins}
-use Rattle.mlt_script_cursor.specs.Calls.{Moves}
+use Rattle.mlt_serve_session.proofs.Names.{map-append, flat_map-append, Consumes, IsAtEnd, Appends-nil, Consumes-nil, AppendsFront, SessionLine, Covers, IsRest, front, lines_in, lines_of, Begins, Splits, Listens, Talked, Broken, BrokenHeard, AreLines, EndsInput, streams, Turn, turn_text, TalkState, Goes, splits_both, Moves}
+use Rattle.std.specs.Io.KnownBytes.{Appends}
+use Rattle.std.proofs.KnownBytes.{Appends-trans, Consumes-trans}
+use Rattle.mlt_serve_session.specs.Batches.{Answered}
+use Rattle.mlt_serve_session.specs.Rounds.{Replied, Stopped, Unwritten}
+use Rattle.mlt_event_text.proofs.Splitting.{splits_none, prefix_lines, prefix_begins}
 use Rattle.mlt_serve_session.proofs.Reaching.{covers_all, covers_begin}
 
 -- turns, and then more turns

@@ -1,22 +1,12 @@
 -- How far the lines of a text were answered.
-use Rattle.std.proofs.Common.{◌≡◌, ℕ, ◌+◌, ◌-◌, List, [], ◌∷◌, ◌++◌, length, take, drop, Bool, true, false, Some, refl, sym, ap, subst, ◌∙◌, arith, append_assoc, append-nil, take-append-drop, length-drop}
-use Rattle.std.proofs.Math.Seq.{take-add}
-use Rattle.std.proofs.lemmas.List.{take_rest, map-append}
-use Rattle.std.proofs.lemmas.Grind.{flat_map-append}
-use Rattle.std.proofs.lemmas.Result.{err_from_is_err_and}
-use Rattle.std.specs.List.{flat_map}
-use Rattle.std.specs.Prelude.{Result, Err, IsErrAnd, IsErrOf}
-use Rattle.mlt_event_text.specs.declared.session_line.SessionLine.{SessionLine}
-use Rattle.mlt_event_text.specs.declared.session_line.SessionLine.TheVariants.{Says, TooLong}
+use Rattle.std.proofs.Common.{◌≡◌, ℕ, ◌+◌, ◌-◌, List, [], ◌∷◌, ◌++◌, length, take, drop, Bool, true, false, Some, refl, sym, ap, subst, ◌∙◌, arith, append_assoc, append-nil, take-append-drop, length-drop, flat_map, Result, Err, IsErrAnd, IsErrOf}
+use Rattle.mlt_serve_session.proofs.Names.{take-add, map-append, flat_map-append, err_from_is_err_and, SessionLine, Says, TooLong, Covers, IsRest, Reaches, front, lines_in, AreLines, lines_of, Splits, Begins, splits_both, Turn, turn_text, ends, TalkState, Step, Goes, Moves}
+use Rattle.std.proofs.lemmas.List.{take_rest}
 use Rattle.mlt_serve_session.specs.declared.said.Said.{Said}
-use Rattle.mlt_serve_session.specs.Batches.{Covers, IsRest, Reaches, BrokeOff, front, lines_in}
-use Rattle.mlt_serve_session.specs.Rounds.{AreLines}
-use Rattle.mlt_event_text.specs.Inputs.{lines_of, Splits, Begins, NextLine, IsNext}
-use Rattle.mlt_event_text.proofs.Splitting.{splits_both}
-use Rattle.mlt_serve_session.specs.Talks.{Turn, turn_text, ends}
+use Rattle.mlt_serve_session.specs.Batches.{BrokeOff}
+use Rattle.mlt_event_text.specs.Inputs.{NextLine, IsNext}
 use Rattle.mlt_serve_session.specs.Texts.{said_text}
-use Rattle.mlt_serve_session.specs.Turns.{TalkState, Step, Goes, TakesTurn}
-use Rattle.mlt_script_cursor.specs.Calls.{Moves}
+use Rattle.mlt_serve_session.specs.Turns.{TakesTurn}
 
 -- an error that was passed on is the same one
 pub same_error : {S T E : Type 0} (result : Result T E) (e x : E) → IsErrAnd result (λ y. y ≡ e) → IsErrOf result x → IsErrOf {T = S} {E = E} (Err e) x

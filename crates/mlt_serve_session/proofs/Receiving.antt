@@ -1,21 +1,7 @@
 -- The outcomes that are kept turn by turn are those of the whole list of turns.
 use Rattle.std.proofs.Common.{◌≡◌, ℕ, ◌+◌, List, [], ◌∷◌, ◌++◌, Option, Some, None, refl, sym, ap, ◌∙◌, append_assoc, append-nil}
-use Rattle.mlt_object_kinds.specs.declared.operation.ObjOp.{ObjOp}
-use Rattle.mlt_object_kinds.specs.declared.operation.ObjReply.{ObjReply}
-use Rattle.mlt_script_serial.specs.declared.outcome.End.{End}
-use Rattle.mlt_script_serial.specs.declared.outcome.End.TheVariants as end
-use Rattle.mlt_script_serial.specs.declared.outcome.Outcome.{Outcome}
-use Rattle.mlt_event_text.specs.declared.command.Command.TheVariants as command
-use Rattle.mlt_script_cursor.specs.declared.call.DeskAnswer.{DeskAnswer}
-use Rattle.mlt_script_cursor.specs.declared.call.DeskAnswer.TheVariants.{Begun, Replied, Committed, Aborted, Refused}
-use Rattle.mlt_script_cursor.specs.declared.call.DeskCall.{DeskCall}
-use Rattle.mlt_script_cursor.specs.declared.call.DeskCall.TheVariants as call
-use Rattle.mlt_event_text.specs.declared.session_line.SessionLine.{SessionLine}
-use Rattle.mlt_event_text.specs.declared.session_line.SessionLine.TheVariants.{Says, TooLong}
-use Rattle.mlt_serve_session.specs.Noting.{noted}
-use Rattle.mlt_serve_session.specs.Outcomes.{outcome_of, begins_by, begun_in, done_in, end_in, call_of, up_to, before_next, all_done, ended_by, outcome_behind, outcome_if, outcomes_of}
+use Rattle.mlt_serve_session.proofs.Names.{ObjOp, ObjReply, End, Outcome, Command, DeskAnswer, Begun, Replied, Committed, Aborted, Refused, DeskCall, SessionLine, Says, TooLong, noted, outcome_of, begins_by, begun_in, done_in, end_in, call_of, up_to, before_next, all_done, ended_by, outcome_behind, outcome_if, outcomes_of, Turn, turns, call_for}
 use Rattle.mlt_serve_session.proofs.Closing.{at_last_end}
-use Rattle.mlt_serve_session.specs.Talks.{Turn, turns, call_for}
 
 -- the outcomes after a turn
 abbrev pub noted_by : ℕ → ℕ → List Outcome → Option DeskCall → Option DeskAnswer → List Outcome
@@ -36,41 +22,41 @@ grown r done end = record { client = r.client; number = r.number; tx = r.tx; don
 one_noted : (client b : ℕ) (rs : List Outcome) (r : Outcome) (c : Option DeskCall) (a : Option DeskAnswer) → begun_in c a ≡ None → noted_by client b (rs ++ r ∷ []) c a ≡ rs ++ grown r (done_in c a) (end_in r.end c a) ∷ []
 unfolding grown
 one_noted client b rs r None a e = ap (λ (d : List (ObjOp × ObjReply)). rs ++ record r { done = d } ∷ []) (sym (append-nil r.done))
-one_noted client b rs r (Some call.Begin) None e = ap (λ (d : List (ObjOp × ObjReply)). rs ++ record r { done = d } ∷ []) (sym (append-nil r.done))
-one_noted client b rs r (Some call.Begin) (Some (Begun tx)) e = absurd (cc e)
-one_noted client b rs r (Some call.Begin) (Some (Replied reply)) e = ap (λ (d : List (ObjOp × ObjReply)). rs ++ record r { done = d } ∷ []) (sym (append-nil r.done))
-one_noted client b rs r (Some call.Begin) (Some (Committed n)) e = ap (λ (d : List (ObjOp × ObjReply)). rs ++ record r { done = d } ∷ []) (sym (append-nil r.done))
-one_noted client b rs r (Some call.Begin) (Some Aborted) e = ap (λ (d : List (ObjOp × ObjReply)). rs ++ record r { done = d } ∷ []) (sym (append-nil r.done))
-one_noted client b rs r (Some call.Begin) (Some (Refused x)) e = ap (λ (d : List (ObjOp × ObjReply)). rs ++ record r { done = d } ∷ []) (sym (append-nil r.done))
-one_noted client b rs r (Some (call.Operation tx op)) None e = ap (λ (d : List (ObjOp × ObjReply)). rs ++ record r { done = d } ∷ []) (sym (append-nil r.done))
-one_noted client b rs r (Some (call.Operation tx op)) (Some (Begun t)) e = at_last_end _ rs r ∙ ap (λ (d : List (ObjOp × ObjReply)). rs ++ record r { done = d } ∷ []) (sym (append-nil r.done))
-one_noted client b rs r (Some (call.Operation tx op)) (Some (Replied reply)) e = at_last_end _ rs r
-one_noted client b rs r (Some (call.Operation tx op)) (Some (Committed n)) e = at_last_end _ rs r ∙ ap (λ (d : List (ObjOp × ObjReply)). rs ++ record r { done = d } ∷ []) (sym (append-nil r.done))
-one_noted client b rs r (Some (call.Operation tx op)) (Some Aborted) e = at_last_end _ rs r ∙ ap (λ (d : List (ObjOp × ObjReply)). rs ++ record r { done = d } ∷ []) (sym (append-nil r.done))
-one_noted client b rs r (Some (call.Operation tx op)) (Some (Refused x)) e = at_last_end _ rs r ∙ ap (λ (d : List (ObjOp × ObjReply)). rs ++ record r { done = d } ∷ []) (sym (append-nil r.done))
-one_noted client b rs r (Some (call.Commit tx)) None e = ap (λ (d : List (ObjOp × ObjReply)). rs ++ record r { done = d } ∷ []) (sym (append-nil r.done))
-one_noted client b rs r (Some (call.Commit tx)) (Some (Begun t)) e = at_last_end _ rs r ∙ ap (λ (d : List (ObjOp × ObjReply)). rs ++ record r { done = d } ∷ []) (sym (append-nil r.done))
-one_noted client b rs r (Some (call.Commit tx)) (Some (Replied reply)) e = at_last_end _ rs r ∙ ap (λ (d : List (ObjOp × ObjReply)). rs ++ record r { done = d } ∷ []) (sym (append-nil r.done))
-one_noted client b rs r (Some (call.Commit tx)) (Some (Committed n)) e =
-    at_last_end _ rs r ∙ ap (λ (d : List (ObjOp × ObjReply)). rs ++ record r { done = d; end = end.Committed n } ∷ []) (sym (append-nil r.done))
-one_noted client b rs r (Some (call.Commit tx)) (Some Aborted) e = at_last_end _ rs r ∙ ap (λ (d : List (ObjOp × ObjReply)). rs ++ record r { done = d } ∷ []) (sym (append-nil r.done))
-one_noted client b rs r (Some (call.Commit tx)) (Some (Refused x)) e = at_last_end _ rs r ∙ ap (λ (d : List (ObjOp × ObjReply)). rs ++ record r { done = d } ∷ []) (sym (append-nil r.done))
-one_noted client b rs r (Some (call.Abort tx)) None e = ap (λ (d : List (ObjOp × ObjReply)). rs ++ record r { done = d } ∷ []) (sym (append-nil r.done))
-one_noted client b rs r (Some (call.Abort tx)) (Some a) e = ap (λ (d : List (ObjOp × ObjReply)). rs ++ record r { done = d } ∷ []) (sym (append-nil r.done))
+one_noted client b rs r (Some DeskCall.Begin) None e = ap (λ (d : List (ObjOp × ObjReply)). rs ++ record r { done = d } ∷ []) (sym (append-nil r.done))
+one_noted client b rs r (Some DeskCall.Begin) (Some (Begun tx)) e = absurd (cc e)
+one_noted client b rs r (Some DeskCall.Begin) (Some (Replied reply)) e = ap (λ (d : List (ObjOp × ObjReply)). rs ++ record r { done = d } ∷ []) (sym (append-nil r.done))
+one_noted client b rs r (Some DeskCall.Begin) (Some (Committed n)) e = ap (λ (d : List (ObjOp × ObjReply)). rs ++ record r { done = d } ∷ []) (sym (append-nil r.done))
+one_noted client b rs r (Some DeskCall.Begin) (Some Aborted) e = ap (λ (d : List (ObjOp × ObjReply)). rs ++ record r { done = d } ∷ []) (sym (append-nil r.done))
+one_noted client b rs r (Some DeskCall.Begin) (Some (Refused x)) e = ap (λ (d : List (ObjOp × ObjReply)). rs ++ record r { done = d } ∷ []) (sym (append-nil r.done))
+one_noted client b rs r (Some (DeskCall.Operation tx op)) None e = ap (λ (d : List (ObjOp × ObjReply)). rs ++ record r { done = d } ∷ []) (sym (append-nil r.done))
+one_noted client b rs r (Some (DeskCall.Operation tx op)) (Some (Begun t)) e = at_last_end _ rs r ∙ ap (λ (d : List (ObjOp × ObjReply)). rs ++ record r { done = d } ∷ []) (sym (append-nil r.done))
+one_noted client b rs r (Some (DeskCall.Operation tx op)) (Some (Replied reply)) e = at_last_end _ rs r
+one_noted client b rs r (Some (DeskCall.Operation tx op)) (Some (Committed n)) e = at_last_end _ rs r ∙ ap (λ (d : List (ObjOp × ObjReply)). rs ++ record r { done = d } ∷ []) (sym (append-nil r.done))
+one_noted client b rs r (Some (DeskCall.Operation tx op)) (Some Aborted) e = at_last_end _ rs r ∙ ap (λ (d : List (ObjOp × ObjReply)). rs ++ record r { done = d } ∷ []) (sym (append-nil r.done))
+one_noted client b rs r (Some (DeskCall.Operation tx op)) (Some (Refused x)) e = at_last_end _ rs r ∙ ap (λ (d : List (ObjOp × ObjReply)). rs ++ record r { done = d } ∷ []) (sym (append-nil r.done))
+one_noted client b rs r (Some (DeskCall.Commit tx)) None e = ap (λ (d : List (ObjOp × ObjReply)). rs ++ record r { done = d } ∷ []) (sym (append-nil r.done))
+one_noted client b rs r (Some (DeskCall.Commit tx)) (Some (Begun t)) e = at_last_end _ rs r ∙ ap (λ (d : List (ObjOp × ObjReply)). rs ++ record r { done = d } ∷ []) (sym (append-nil r.done))
+one_noted client b rs r (Some (DeskCall.Commit tx)) (Some (Replied reply)) e = at_last_end _ rs r ∙ ap (λ (d : List (ObjOp × ObjReply)). rs ++ record r { done = d } ∷ []) (sym (append-nil r.done))
+one_noted client b rs r (Some (DeskCall.Commit tx)) (Some (Committed n)) e =
+    at_last_end _ rs r ∙ ap (λ (d : List (ObjOp × ObjReply)). rs ++ record r { done = d; end = End.Committed n } ∷ []) (sym (append-nil r.done))
+one_noted client b rs r (Some (DeskCall.Commit tx)) (Some Aborted) e = at_last_end _ rs r ∙ ap (λ (d : List (ObjOp × ObjReply)). rs ++ record r { done = d } ∷ []) (sym (append-nil r.done))
+one_noted client b rs r (Some (DeskCall.Commit tx)) (Some (Refused x)) e = at_last_end _ rs r ∙ ap (λ (d : List (ObjOp × ObjReply)). rs ++ record r { done = d } ∷ []) (sym (append-nil r.done))
+one_noted client b rs r (Some (DeskCall.Abort tx)) None e = ap (λ (d : List (ObjOp × ObjReply)). rs ++ record r { done = d } ∷ []) (sym (append-nil r.done))
+one_noted client b rs r (Some (DeskCall.Abort tx)) (Some a) e = ap (λ (d : List (ObjOp × ObjReply)). rs ++ record r { done = d } ∷ []) (sym (append-nil r.done))
 
 begin_noted : (client b : ℕ) (rs : List Outcome) (c : Option DeskCall) (a : Option DeskAnswer) (tx : ℕ) → begun_in c a ≡ Some tx
-    → noted_by client b rs c a ≡ rs ++ outcome_of client (b + 1) tx [] end.Aborted ∷ []
+    → noted_by client b rs c a ≡ rs ++ outcome_of client (b + 1) tx [] End.Aborted ∷ []
 begin_noted client b rs None a tx e = absurd (cc e)
-begin_noted client b rs (Some call.Begin) None tx e = absurd (cc e)
-begin_noted client b rs (Some call.Begin) (Some (Begun t)) tx e =
-    let same : t ≡ tx = cc in ap (λ (n : ℕ). rs ++ outcome_of client (b + 1) n [] end.Aborted ∷ []) same
-begin_noted client b rs (Some call.Begin) (Some (Replied reply)) tx e = absurd (cc e)
-begin_noted client b rs (Some call.Begin) (Some (Committed n)) tx e = absurd (cc e)
-begin_noted client b rs (Some call.Begin) (Some Aborted) tx e = absurd (cc e)
-begin_noted client b rs (Some call.Begin) (Some (Refused x)) tx e = absurd (cc e)
-begin_noted client b rs (Some (call.Operation t op)) a tx e = absurd (cc e)
-begin_noted client b rs (Some (call.Commit t)) a tx e = absurd (cc e)
-begin_noted client b rs (Some (call.Abort t)) a tx e = absurd (cc e)
+begin_noted client b rs (Some DeskCall.Begin) None tx e = absurd (cc e)
+begin_noted client b rs (Some DeskCall.Begin) (Some (Begun t)) tx e =
+    let same : t ≡ tx = cc in ap (λ (n : ℕ). rs ++ outcome_of client (b + 1) n [] End.Aborted ∷ []) same
+begin_noted client b rs (Some DeskCall.Begin) (Some (Replied reply)) tx e = absurd (cc e)
+begin_noted client b rs (Some DeskCall.Begin) (Some (Committed n)) tx e = absurd (cc e)
+begin_noted client b rs (Some DeskCall.Begin) (Some Aborted) tx e = absurd (cc e)
+begin_noted client b rs (Some DeskCall.Begin) (Some (Refused x)) tx e = absurd (cc e)
+begin_noted client b rs (Some (DeskCall.Operation t op)) a tx e = absurd (cc e)
+begin_noted client b rs (Some (DeskCall.Commit t)) a tx e = absurd (cc e)
+begin_noted client b rs (Some (DeskCall.Abort t)) a tx e = absurd (cc e)
 
 -- a turn, and those behind it
 open_case : (client b : ℕ) (rs : List Outcome) (r : Outcome) (t : Turn) (ts : List Turn) (x : Option ℕ) → begun_in (call_of t) t.answer ≡ x
@@ -87,7 +73,7 @@ open_case client b rs r t ts None e ih =
     (append_assoc r.done d (all_done (before_next ts)))
 open_case client b rs r t ts (Some tx) e ih =
     let n = b + begins_by t.answer in
-    let new : Outcome = outcome_of client (b + 1) tx [] end.Aborted in
+    let new : Outcome = outcome_of client (b + 1) tx [] End.Aborted in
     ap (λ (l : List Outcome). noted_all client n l ts) (begin_noted client b (rs ++ r ∷ []) (call_of t) t.answer tx e) ∙ ih n (rs ++ r ∷ []) new
     ∙ append_assoc rs (r ∷ []) (outcome_behind client (b + 1) tx ts ∷ outcomes_of client n ts)
     ∙ ap (λ (l : List (ObjOp × ObjReply)). rs ++ record r { done = l } ∷ (outcome_behind client (b + 1) tx ts ∷ outcomes_of client n ts)) (sym (append-nil r.done))
@@ -103,17 +89,17 @@ open_noted client b rs r (t ∷ ts) = open_case client b rs r t ts (begun_in (ca
 pub all_noted : (client b : ℕ) (rs : List Outcome) (ls : List SessionLine) (answers : List DeskAnswer) → noted_all client b rs (turns None ls answers) ≡ rs ++ outcomes_of client b (turns None ls answers)
 unfolding grown
 all_noted client b rs [] answers = sym (append-nil rs)
-all_noted client b rs (Says command.Begin ∷ ls) [] = sym (append-nil rs)
-all_noted client b rs (Says command.Begin ∷ ls) (Begun tx ∷ answers) =
-    open_noted client (b + 1) rs (outcome_of client (b + 1) tx [] end.Aborted) (turns (Some tx) ls answers)
-all_noted client b rs (Says command.Begin ∷ ls) (Replied reply ∷ answers) = all_noted client (b + 0) rs ls answers
-all_noted client b rs (Says command.Begin ∷ ls) (Committed n ∷ answers) = all_noted client (b + 0) rs ls answers
-all_noted client b rs (Says command.Begin ∷ ls) (Aborted ∷ answers) = all_noted client (b + 0) rs ls answers
-all_noted client b rs (Says command.Begin ∷ ls) (Refused x ∷ answers) = all_noted client (b + 0) rs ls answers
-all_noted client b rs (Says (command.Op op) ∷ ls) answers = all_noted client (b + 0) rs ls answers
-all_noted client b rs (Says command.Commit ∷ ls) answers = all_noted client (b + 0) rs ls answers
-all_noted client b rs (Says command.Abort ∷ ls) answers = all_noted client (b + 0) rs ls answers
-all_noted client b rs (Says command.Quit ∷ ls) answers = sym (append-nil rs)
-all_noted client b rs (Says command.Blank ∷ ls) answers = all_noted client (b + 0) rs ls answers
-all_noted client b rs (Says command.Other ∷ ls) answers = all_noted client (b + 0) rs ls answers
+all_noted client b rs (Says Command.Begin ∷ ls) [] = sym (append-nil rs)
+all_noted client b rs (Says Command.Begin ∷ ls) (Begun tx ∷ answers) =
+    open_noted client (b + 1) rs (outcome_of client (b + 1) tx [] End.Aborted) (turns (Some tx) ls answers)
+all_noted client b rs (Says Command.Begin ∷ ls) (Replied reply ∷ answers) = all_noted client (b + 0) rs ls answers
+all_noted client b rs (Says Command.Begin ∷ ls) (Committed n ∷ answers) = all_noted client (b + 0) rs ls answers
+all_noted client b rs (Says Command.Begin ∷ ls) (Aborted ∷ answers) = all_noted client (b + 0) rs ls answers
+all_noted client b rs (Says Command.Begin ∷ ls) (Refused x ∷ answers) = all_noted client (b + 0) rs ls answers
+all_noted client b rs (Says (Command.Op op) ∷ ls) answers = all_noted client (b + 0) rs ls answers
+all_noted client b rs (Says Command.Commit ∷ ls) answers = all_noted client (b + 0) rs ls answers
+all_noted client b rs (Says Command.Abort ∷ ls) answers = all_noted client (b + 0) rs ls answers
+all_noted client b rs (Says Command.Quit ∷ ls) answers = sym (append-nil rs)
+all_noted client b rs (Says Command.Blank ∷ ls) answers = all_noted client (b + 0) rs ls answers
+all_noted client b rs (Says Command.Other ∷ ls) answers = all_noted client (b + 0) rs ls answers
 all_noted client b rs (TooLong ∷ ls) answers = sym (append-nil rs)

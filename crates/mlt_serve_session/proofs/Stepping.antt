@@ -1,12 +1,8 @@
 -- One turn of a session.
 use Rattle.std.proofs.Common.{◌≡◌, ℕ, ◌+◌, Option, Some, None, refl, sym, ap, ◌∙◌, subst, arith}
-use Rattle.mlt_script_cursor.specs.declared.call.DeskAnswer.{DeskAnswer}
-use Rattle.mlt_script_cursor.specs.declared.call.DeskAnswer.TheVariants.{Committed}
-use Rattle.mlt_script_cursor.specs.declared.call.DeskCall.{DeskCall}
+use Rattle.mlt_serve_session.proofs.Names.{DeskAnswer, Committed, DeskCall, noted, TalkState, Asked, Moves}
 use Rattle.mlt_serve_session.specs.declared.notes.Progress.{Progress}
-use Rattle.mlt_serve_session.specs.Noting.{noted}
-use Rattle.mlt_serve_session.specs.Turns.{TalkState, Asked, after_answer}
-use Rattle.mlt_script_cursor.specs.Calls.{Moves}
+use Rattle.mlt_serve_session.specs.Turns.{after_answer}
 use Rattle.mlt_serve_session.specs.Desks.{Moved}
 
 -- nothing was answered

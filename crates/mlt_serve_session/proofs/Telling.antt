@@ -1,25 +1,11 @@
 -- The turns that were taken are those that the whole input and the answers fix.
 use Rattle.std.proofs.Common.{◌≡◌, ℕ, ◌+◌, List, [], ◌∷◌, ◌++◌, length, take, Option, Bool, true, false, ◌||◌, Some, None, refl, sym, ap, subst, ◌∙◌, arith, append-nil, cond}
-use Rattle.std.proofs.KnownBytes.{Appends-nil, Consumes-nil}
-use Rattle.std.proofs.lemmas.List.Elements.{All-nil}
-use Rattle.mlt_event_text.proofs.Cutting.{empty}
+use Rattle.mlt_serve_session.proofs.Names.{Appends-nil, Consumes-nil, All-nil, empty, Outcome, DeskAnswer, DeskCall, SessionLine, Says, TooLong, lines_in, Moves, Begins, GaveAll, begins_by, outcomes_of, Talked, Broken, BrokenHeard, AreLines, EndsInput, streams, SpokenLong, Summed, BrokenOff, HeardAll, Turn, turns, ends, open_after, call_for, TalkState, Step, Goes, Asked}
 use Rattle.mlt_serve_session.proofs.Giving.{gave_all}
 use Rattle.mlt_serve_session.proofs.Receiving.{noted_by, noted_all, all_noted}
-use Rattle.mlt_script_serial.specs.declared.outcome.Outcome.{Outcome}
-use Rattle.mlt_script_cursor.specs.declared.call.DeskAnswer.{DeskAnswer}
-use Rattle.mlt_script_cursor.specs.declared.call.DeskCall.{DeskCall}
-use Rattle.mlt_event_text.specs.declared.session_line.SessionLine.{SessionLine}
-use Rattle.mlt_event_text.specs.declared.session_line.SessionLine.TheVariants.{Says, TooLong}
-use Rattle.mlt_serve_session.specs.Batches.{lines_in}
-use Rattle.mlt_script_cursor.specs.Calls.{Moves}
 use Rattle.mlt_serve_session.specs.Desks.{Answers}
-use Rattle.mlt_event_text.specs.Inputs.{Begins}
-use Rattle.mlt_serve_session.specs.Given.{GaveAll}
-use Rattle.mlt_serve_session.specs.Outcomes.{begins_by, outcomes_of}
-use Rattle.mlt_serve_session.specs.Rounds.{Talked, Broken, BrokenHeard, AreLines, EndsInput, streams}
-use Rattle.mlt_serve_session.specs.Sessions.{Spoken, SpokenLong, Summed, BrokenOff, HeardAll, all_calls, all_answers, scene}
-use Rattle.mlt_serve_session.specs.Talks.{Turn, turns, one_turn, unless_ended, ends, option_list, open_after, call_for, calls_in, answers_in, open_at_end, closing, closing_answers, session_turns, commits_by, commits_in, ends_in, long_in, is_long}
-use Rattle.mlt_serve_session.specs.Turns.{TalkState, Step, Goes, Asked}
+use Rattle.mlt_serve_session.specs.Sessions.{Spoken, all_calls, all_answers, scene}
+use Rattle.mlt_serve_session.specs.Talks.{one_turn, unless_ended, option_list, calls_in, answers_in, open_at_end, closing, closing_answers, session_turns, commits_by, commits_in, ends_in, long_in, is_long}
 
 or_false : (b : Bool) → b || false ≡ b
 or_false true = refl

@@ -1,6 +1,5 @@
 -- The complete lines of one read.
-use Rattle.std.specs.Prelude.{◌≡◌, ◌≤◌, ℕ, List, [], ◌++◌, length, take, drop, map, Bool, true, false}
-use Rattle.std.specs.List.{flat_map}
+use Rattle.std.specs.Prelude.{◌≡◌, ◌≤◌, ℕ, List, [], ◌++◌, length, take, drop, map, Bool, true, false, flat_map}
 use Rattle.mlt_event_text.specs.declared.session_line.SessionLine.{SessionLine}
 use Rattle.mlt_event_text.specs.Inputs.{lines_of, Splits, Begins}
 use Rattle.mlt_serve_session.specs.Talks.{Turn, turn_text}

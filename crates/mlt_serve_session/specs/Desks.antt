@@ -2,7 +2,6 @@
 use Rattle.std.specs.Prelude.{◌≡◌, ℕ, List, [], ◌∷◌, Option, Some, None}
 use Rattle.mlt_script_cursor.specs.declared.call.DeskAnswer.{DeskAnswer}
 use Rattle.mlt_script_cursor.specs.declared.call.DeskCall.{DeskCall}
-use Rattle.mlt_script_cursor.specs.declared.call.DeskCall.TheVariants as call
 use Rattle.mlt_script_cursor.specs.Calls.{Moves, answer_to}
 
 -- the desk moves so, and the answer is one to the call
@@ -19,7 +18,7 @@ Answers moves old (c ∷ calls) [] new = ⊥
 
 -- the transaction that has to be open for a call
 abbrev pub open_for : DeskCall → Option ℕ
-open_for call.Begin = None
-open_for (call.Operation tx op) = Some tx
-open_for (call.Commit tx) = Some tx
-open_for (call.Abort tx) = Some tx
+open_for DeskCall.Begin = None
+open_for (DeskCall.Operation tx op) = Some tx
+open_for (DeskCall.Commit tx) = Some tx
+open_for (DeskCall.Abort tx) = Some tx

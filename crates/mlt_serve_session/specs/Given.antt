@@ -3,12 +3,10 @@ use Rattle.std.specs.Prelude.{ℕ, List, All}
 use Rattle.mlt_object_kinds.specs.declared.operation.ObjOp.{ObjOp}
 use Rattle.mlt_object_kinds.specs.declared.operation.ObjReply.{ObjReply}
 use Rattle.mlt_script_serial.specs.declared.outcome.End.{End}
-use Rattle.mlt_script_serial.specs.declared.outcome.End.TheVariants as end
 use Rattle.mlt_script_serial.specs.declared.outcome.Outcome.{Outcome}
 use Rattle.mlt_script_cursor.specs.declared.call.DeskAnswer.{DeskAnswer}
 use Rattle.mlt_script_cursor.specs.declared.call.DeskAnswer.TheVariants.{Begun, Replied, Committed}
 use Rattle.mlt_script_cursor.specs.declared.call.DeskCall.{DeskCall}
-use Rattle.mlt_script_cursor.specs.declared.call.DeskCall.TheVariants as call
 use Rattle.mlt_script_cursor.specs.Calls.{Moves}
 use Rattle.mlt_serve_session.specs.Desks.{Answers}
 
@@ -28,15 +26,15 @@ pub record Gave {D : Type 0} (moves : Moves D) (last : D) (asked : DeskCall) (an
 
 -- it gave the transaction this reply to this operation
 abbrev pub GaveReply : {D : Type 0} → Moves D → D → ℕ → ObjOp × ObjReply → Type 0
-GaveReply moves last tx done = Gave moves last (call.Operation tx done.0) (Replied done.1)
+GaveReply moves last tx done = Gave moves last (DeskCall.Operation tx done.0) (Replied done.1)
 
 -- it gave the transaction its commit, if it has one
 abbrev pub GaveEnd : {D : Type 0} → Moves D → D → ℕ → End → Type 0
-GaveEnd moves last tx (end.Committed number) = Gave moves last (call.Commit tx) (Committed number)
+GaveEnd moves last tx (End.Committed number) = Gave moves last (DeskCall.Commit tx) (Committed number)
 GaveEnd moves last tx other = Unit {0}
 
 -- it began the transaction, and gave it each of its replies and its commit, if it has one
 pub record GaveAll {D : Type 0} (moves : Moves D) (last : D) (o : Outcome) : Type 0 where
-  pub begun : Gave moves last call.Begin (Begun o.tx)
+  pub begun : Gave moves last DeskCall.Begin (Begun o.tx)
   pub replies : All (GaveReply moves last o.tx) o.done
   pub end : GaveEnd moves last o.tx o.end

@@ -3,12 +3,10 @@ use Rattle.std.specs.Prelude.{ℕ, ◌+◌, List, [], ◌∷◌, ◌++◌, Optio
 use Rattle.mlt_object_kinds.specs.declared.operation.ObjOp.{ObjOp}
 use Rattle.mlt_object_kinds.specs.declared.operation.ObjReply.{ObjReply}
 use Rattle.mlt_script_serial.specs.declared.outcome.End.{End}
-use Rattle.mlt_script_serial.specs.declared.outcome.End.TheVariants as end
 use Rattle.mlt_script_serial.specs.declared.outcome.Outcome.{Outcome}
 use Rattle.mlt_script_cursor.specs.declared.call.DeskAnswer.{DeskAnswer}
 use Rattle.mlt_script_cursor.specs.declared.call.DeskAnswer.TheVariants.{Begun, Replied, Committed}
 use Rattle.mlt_script_cursor.specs.declared.call.DeskCall.{DeskCall}
-use Rattle.mlt_script_cursor.specs.declared.call.DeskCall.TheVariants as call
 use Rattle.mlt_serve_session.specs.Talks.{Turn, call_for}
 
 -- what became of a transaction of a client
@@ -23,17 +21,17 @@ begins_by answer = 0
 
 -- whether a transaction began in the turn
 abbrev pub begun_in : Option DeskCall → Option DeskAnswer → Option ℕ
-begun_in (Some call.Begin) (Some (Begun tx)) = Some tx
+begun_in (Some DeskCall.Begin) (Some (Begun tx)) = Some tx
 begun_in asked answer = None
 
 -- what was done in the turn
 abbrev pub done_in : Option DeskCall → Option DeskAnswer → List (ObjOp × ObjReply)
-done_in (Some (call.Operation tx op)) (Some (Replied reply)) = (op, reply) ∷ []
+done_in (Some (DeskCall.Operation tx op)) (Some (Replied reply)) = (op, reply) ∷ []
 done_in asked answer = []
 
 -- how a transaction ends by the turn, if it ended so before
 abbrev pub end_in : End → Option DeskCall → Option DeskAnswer → End
-end_in before (Some (call.Commit tx)) (Some (Committed n)) = end.Committed n
+end_in before (Some (DeskCall.Commit tx)) (Some (Committed n)) = End.Committed n
 end_in before asked answer = before
 
 abbrev pub call_of : Turn → Option DeskCall
@@ -62,7 +60,7 @@ ended_by before (t ∷ ts) = ended_by (end_in before (call_of t) t.answer) ts
 abbrev pub outcome_behind : ℕ → ℕ → ℕ → List Turn → Outcome
 outcome_behind client number tx behind =
     outcome_of client number tx (all_done (before_next behind))
-    (ended_by end.Aborted (before_next behind))
+    (ended_by End.Aborted (before_next behind))
 
 abbrev pub outcome_if : ℕ → ℕ → Option ℕ → List Turn → List Outcome
 outcome_if client number None behind = []

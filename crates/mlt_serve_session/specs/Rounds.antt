@@ -1,6 +1,5 @@
 -- How far a session has read, answered and written.
-use Rattle.std.specs.Prelude.{◌≡◌, ◌≤◌, ◌+◌, ℕ, List, [], ◌++◌, length, take, drop, Option, Bool, true, false}
-use Rattle.std.specs.List.{flat_map}
+use Rattle.std.specs.Prelude.{◌≡◌, ◌≤◌, ◌+◌, ℕ, List, [], ◌++◌, length, take, drop, Option, Bool, true, false, flat_map}
 use Rattle.std.specs.Io.KnownBytes.{Appends, Consumes, IsAtEnd}
 use Rattle.mlt_text.specs.Texts.{AppendsFront}
 use Rattle.mlt_event_text.specs.declared.session_line.SessionLine.{SessionLine}

@@ -1,31 +1,28 @@
 -- What a session says, as a function of its whole input and of the desk's answers in order.
-use Rattle.std.specs.Prelude.{ℕ, ◌+◌, List, [], ◌∷◌, Option, Some, None, Bool, true, false, ◌||◌, if◌then◌else◌}
-use Rattle.std.specs.List.{flat_map}
-use Rattle.mlt_types.specs.declared.refusal.Refusal.TheVariants as refusal
-use Rattle.mlt_event_text.specs.declared.command.Command.TheVariants as command
+use Rattle.std.specs.Prelude.{ℕ, ◌+◌, List, [], ◌∷◌, Option, Some, None, Bool, true, false, ◌||◌, if◌then◌else◌, flat_map}
+use Rattle.mlt_types.specs.declared.refusal.Refusal.{Refusal}
+use Rattle.mlt_event_text.specs.declared.command.Command.{Command}
 use Rattle.mlt_script_cursor.specs.declared.call.DeskAnswer.{DeskAnswer}
 use Rattle.mlt_script_cursor.specs.declared.call.DeskAnswer.TheVariants.{Begun, Replied, Committed, Aborted, Refused}
 use Rattle.mlt_script_cursor.specs.declared.call.DeskCall.{DeskCall}
-use Rattle.mlt_script_cursor.specs.declared.call.DeskCall.TheVariants as call
 use Rattle.mlt_event_text.specs.declared.session_line.SessionLine.{SessionLine}
 use Rattle.mlt_event_text.specs.declared.session_line.SessionLine.TheVariants.{Says, TooLong}
 use Rattle.mlt_serve_session.specs.declared.said.Said.{Said}
-use Rattle.mlt_serve_session.specs.declared.said.Said.TheVariants as said
 use Rattle.mlt_event_text.specs.Inputs.{lines_of}
 use Rattle.mlt_serve_session.specs.Texts.{said_text}
 
 -- what a line asks of the desk, with no transaction open
 abbrev pub call_alone : SessionLine → Option DeskCall
-call_alone (Says command.Begin) = Some call.Begin
+call_alone (Says Command.Begin) = Some DeskCall.Begin
 call_alone line = None
 
 -- what a line asks of the desk, with this transaction open
 abbrev pub call_within : ℕ → SessionLine → Option DeskCall
-call_within tx (Says (command.Op op)) = Some (call.Operation tx op)
-call_within tx (Says command.Commit) = Some (call.Commit tx)
-call_within tx (Says command.Abort) = Some (call.Abort tx)
-call_within tx (Says command.Quit) = Some (call.Abort tx)
-call_within tx TooLong = Some (call.Abort tx)
+call_within tx (Says (Command.Op op)) = Some (DeskCall.Operation tx op)
+call_within tx (Says Command.Commit) = Some (DeskCall.Commit tx)
+call_within tx (Says Command.Abort) = Some (DeskCall.Abort tx)
+call_within tx (Says Command.Quit) = Some (DeskCall.Abort tx)
+call_within tx TooLong = Some (DeskCall.Abort tx)
 call_within tx line = None
 
 abbrev pub call_for : Option ℕ → SessionLine → Option DeskCall
@@ -49,7 +46,7 @@ open_after before (Some (Refused r)) = before
 
 -- whether a line ends the session
 abbrev pub ends : SessionLine → Bool
-ends (Says command.Quit) = true
+ends (Says Command.Quit) = true
 ends TooLong = true
 ends line = false
 
@@ -83,33 +80,33 @@ session_turns bytes answers = turns None (lines_of bytes) answers
 
 -- what is said to a line that asks nothing, with no transaction open
 abbrev pub said_alone : SessionLine → Said
-said_alone (Says command.Begin) = said.Nothing
-said_alone (Says (command.Op op)) = said.Error refusal.NoSuchTx
-said_alone (Says command.Commit) = said.Error refusal.NoSuchTx
-said_alone (Says command.Abort) = said.Error refusal.NoSuchTx
-said_alone (Says command.Quit) = said.Bye
-said_alone (Says command.Blank) = said.Nothing
-said_alone (Says command.Other) = said.Fault
-said_alone TooLong = said.Error refusal.LineTooLong
+said_alone (Says Command.Begin) = Said.Nothing
+said_alone (Says (Command.Op op)) = Said.Error Refusal.NoSuchTx
+said_alone (Says Command.Commit) = Said.Error Refusal.NoSuchTx
+said_alone (Says Command.Abort) = Said.Error Refusal.NoSuchTx
+said_alone (Says Command.Quit) = Said.Bye
+said_alone (Says Command.Blank) = Said.Nothing
+said_alone (Says Command.Other) = Said.Fault
+said_alone TooLong = Said.Error Refusal.LineTooLong
 
 -- the same with one open
 abbrev pub said_within : SessionLine → Said
-said_within (Says command.Begin) = said.Error refusal.Running
-said_within (Says (command.Op op)) = said.Nothing
-said_within (Says command.Commit) = said.Nothing
-said_within (Says command.Abort) = said.Nothing
-said_within (Says command.Quit) = said.Bye
-said_within (Says command.Blank) = said.Nothing
-said_within (Says command.Other) = said.Fault
-said_within TooLong = said.Error refusal.LineTooLong
+said_within (Says Command.Begin) = Said.Error Refusal.Running
+said_within (Says (Command.Op op)) = Said.Nothing
+said_within (Says Command.Commit) = Said.Nothing
+said_within (Says Command.Abort) = Said.Nothing
+said_within (Says Command.Quit) = Said.Bye
+said_within (Says Command.Blank) = Said.Nothing
+said_within (Says Command.Other) = Said.Fault
+said_within TooLong = Said.Error Refusal.LineTooLong
 
 -- what is said where the desk answered
 abbrev pub said_with : SessionLine → DeskAnswer → Said
-said_with (Says command.Quit) answer = said.Bye
-said_with (Says command.Blank) answer = said.Nothing
-said_with (Says command.Other) answer = said.Fault
-said_with TooLong answer = said.Error refusal.LineTooLong
-said_with line answer = said.Told answer
+said_with (Says Command.Quit) answer = Said.Bye
+said_with (Says Command.Blank) answer = Said.Nothing
+said_with (Says Command.Other) answer = Said.Fault
+said_with TooLong answer = Said.Error Refusal.LineTooLong
+said_with line answer = Said.Told answer
 
 -- what is said of a line: the answer of the desk, or what the line itself calls for
 abbrev pub said_by : Option ℕ → SessionLine → Option DeskAnswer → Said
@@ -140,7 +137,7 @@ open_at_end before (t ∷ ts) = open_at_end (open_after before t.answer) ts
 -- a session that ends with a transaction open takes it back
 abbrev pub closing : Option ℕ → List DeskCall
 closing None = []
-closing (Some tx) = call.Abort tx ∷ []
+closing (Some tx) = DeskCall.Abort tx ∷ []
 
 abbrev pub closing_answers : Option ℕ → List DeskAnswer
 closing_answers None = []

@@ -7,7 +7,6 @@ use Rattle.mlt_script_serial.specs.Texts.{line}
 use Rattle.mlt_script_cursor.specs.declared.call.DeskAnswer.{DeskAnswer}
 use Rattle.mlt_script_cursor.specs.declared.call.DeskAnswer.TheVariants.{Begun, Replied, Committed, Aborted, Refused}
 use Rattle.mlt_serve_session.specs.declared.said.Said.{Said}
-use Rattle.mlt_serve_session.specs.declared.said.Said.TheVariants as said
 
 -- the line of a refusal: its number and its name
 abbrev pub error_text : Refusal → List ℕ
@@ -23,8 +22,8 @@ answer_text (Refused refusal) = error_text refusal
 
 -- the line that is said, if one is
 abbrev pub said_text : Said → List ℕ
-said_text (said.Told answer) = answer_text answer
-said_text (said.Error refusal) = error_text refusal
-said_text said.Fault = line (codes "error 10 ScriptFault")
-said_text said.Bye = line (codes "bye")
-said_text said.Nothing = []
+said_text (Said.Told answer) = answer_text answer
+said_text (Said.Error refusal) = error_text refusal
+said_text Said.Fault = line (codes "error 10 ScriptFault")
+said_text Said.Bye = line (codes "bye")
+said_text Said.Nothing = []

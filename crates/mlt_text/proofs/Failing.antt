@@ -1,6 +1,5 @@
 -- What fails cleanly: before the input is read, before anything is written, while it is written, and not at all.
-use Rattle.std.proofs.Common.{◌≡◌, ◌<◌, ℕ, List, length, IfSome, Result, Ok, Err, arith, inl, inr}
-use Rattle.std.specs.Prelude.{IsErrAnd}
+use Rattle.std.proofs.Common.{◌≡◌, ◌<◌, ℕ, List, length, IfSome, Result, Ok, Err, arith, inl, inr, IsErrAnd}
 use Rattle.std.specs.declared.option.Option.{Option}
 use Rattle.std.specs.Io.KnownBytes.{Keeps}
 use Rattle.std.proofs.KnownBytes.{Consumes-whole}

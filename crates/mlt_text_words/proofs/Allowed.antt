@@ -1,10 +1,8 @@
 -- Lines of allowed bytes.
-use Rattle.std.proofs.Common.{◌≡◌, ℕ, ◌-◌, List, [], ◌∷◌, length, take, get_or, Bool, true, false, cond, nat_lt, ◌==◌, ◌&&◌, ◌||◌, refl, sym, ◌∙◌, arith}
-use Rattle.std.specs.List.{list_all}
-use Rattle.std.proofs.lemmas.Bool.{ltb-true}
+use Rattle.std.proofs.Common.{◌≡◌, ℕ, ◌-◌, List, [], ◌∷◌, length, take, get_or, Bool, true, false, cond, nat_lt, ◌==◌, ◌&&◌, ◌||◌, refl, sym, ◌∙◌, arith, ltb-true}
+use Rattle.mlt_text_words.proofs.Names.{list_all, is_printable, is_allowed}
 use Rattle.std.proofs.lemmas.List.Folds.{list_all_at}
-use Rattle.mlt_text_words.specs.Fronts.{is_printable}
-use Rattle.mlt_text_words.specs.Lines.{is_allowed, without_cr}
+use Rattle.mlt_text_words.specs.Lines.{without_cr}
 
 kept : (a b : Bool) (x y : List ℕ) → (a ≡ true → b ≡ true → ⊥) → cond (a && b) x y ≡ y
 kept true true x y n = absurd (n refl refl)

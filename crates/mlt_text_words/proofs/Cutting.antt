@@ -1,12 +1,7 @@
 -- The first line of a text.
-use Rattle.std.proofs.Common.{◌≡◌, ℕ, suc, zero, ◌+◌, ◌-◌, ◌<◌, ◌≤◌, List, [], ◌∷◌, ◌++◌, length, take, drop, get_or, Bool, true, false, cond, ltb, Some, None, refl, ap, ◌∙◌, arith}
-use Rattle.std.specs.List.{list_all, position, position_or_len}
-use Rattle.std.proofs.lemmas.List.{take_all, length-drop}
-use Rattle.std.proofs.lemmas.List.Sums.{fails_before_first}
-use Rattle.std.proofs.lemmas.List.Quantifiers.{position-Some}
-use Rattle.std.proofs.lemmas.Bool.{ltb-false}
-use Rattle.mlt_text_words.specs.Fronts.{is_printable}
-use Rattle.mlt_text_words.specs.Lines.{lines, onto, is_lf, is_allowed, is_unprintable}
+use Rattle.std.proofs.Common.{◌≡◌, ℕ, suc, zero, ◌+◌, ◌-◌, ◌<◌, ◌≤◌, List, [], ◌∷◌, ◌++◌, length, take, drop, get_or, Bool, true, false, cond, ltb, Some, None, refl, ap, ◌∙◌, arith, position, take_all, length-drop, ltb-false}
+use Rattle.mlt_text_words.proofs.Names.{list_all, position_or_len, fails_before_first, position-Some, is_printable, is_lf, is_allowed}
+use Rattle.mlt_text_words.specs.Lines.{lines, onto, is_unprintable}
 use Rattle.mlt_text_words.proofs.Pieces.{first_and}
 
 pub no_lines : (rest : List ℕ) → length rest ≡ 0 → lines rest ≡ []

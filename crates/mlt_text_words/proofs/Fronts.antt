@@ -1,22 +1,13 @@
 -- Digits at the front of a text.
-use Rattle.std.proofs.Common.{◌≡◌, ℕ, suc, zero, ◌+◌, ◌-◌, ◌^◌, ◌<◌, ◌≤◌, List, [], ◌∷◌, ◌++◌, length, take, drop, map, Bool, true, false, cond, not, Some, None, refl, sym, ap, subst, ◌∙◌, append_assoc, arith}
-use Rattle.std.specs.List.{list_all, position, position_or_len, prefix_len}
-use Rattle.std.specs.Char.{digit_value}
-use Rattle.std.specs.Str.{bytes_eq}
-use Rattle.std.specs.Str.Parse.{AllDigits, digits_value}
+use Rattle.std.proofs.Common.{◌≡◌, ℕ, suc, zero, ◌+◌, ◌-◌, ◌^◌, ◌<◌, ◌≤◌, List, [], ◌∷◌, ◌++◌, length, take, drop, map, Bool, true, false, cond, not, Some, None, refl, sym, ap, subst, ◌∙◌, append_assoc, arith, position, bytes_eq, ltb-false, take-append-drop, take_all}
+use Rattle.mlt_text_words.proofs.Names.{list_all, position_or_len, digit_value, digits_value, bytes_eq-Decides, Keyword, Word, Number, is_comment, is_digit, all_keywords, spelled_among, spelling}
+use Rattle.std.specs.List.{prefix_len}
+use Rattle.std.specs.Str.Parse.{AllDigits}
 use Rattle.std.proofs.Math.Nat.{pow-le-pow_right}
-use Rattle.std.proofs.lemmas.Bool.{ltb-false}
 use Rattle.std.proofs.lemmas.Int.Digits.{digits_value-lt}
-use Rattle.std.proofs.lemmas.List.{take-append-drop, take_all}
-use Rattle.std.proofs.lemmas.Slice.Eq.{bytes_eq-Decides}
-use Rattle.mlt_text_words.specs.declared.keyword.Keyword.{Keyword}
-use Rattle.mlt_text_words.specs.declared.keyword.Keyword.TheVariants as key
-use Rattle.mlt_text_words.specs.declared.keyword.Word.{Word}
-use Rattle.mlt_text_words.specs.declared.keyword.Word.TheVariants.{Number}
 use Rattle.mlt_text_words.specs.Fronts.{BeginsWithNumber, BeginsWithWords, begins_with_digit, front_letters, is_letter, is_no_letter}
-use Rattle.mlt_text_words.specs.Lines.{is_comment}
-use Rattle.mlt_text_words.specs.Numbers.{is_digit, number_of}
-use Rattle.mlt_text_words.specs.Words.{all_keywords, keyword_of, spelled_among, spelling, word_of, words_of}
+use Rattle.mlt_text_words.specs.Numbers.{number_of}
+use Rattle.mlt_text_words.specs.Words.{keyword_of, word_of, words_of}
 use Rattle.mlt_text_words.proofs.Digits.{writes, taken}
 use Rattle.mlt_text_words.proofs.Pieces.{beside, digits_printable, digits_word, first_and, word_alone, word_is_number}
 use Rattle.mlt_text_words.proofs.Splitting.{none_found, to_the_end}
@@ -135,39 +126,39 @@ parted text end = rw (to_the_end text end) (sym (take-append-drop end text))
 
 -- what begins with a keyword is no comment
 pub no_comment : (k : Keyword) (rest : List ℕ) → is_comment (spelling k ++ rest) ≡ false
-no_comment key.Begin rest = refl
-no_comment key.Commit rest = refl
-no_comment key.Abort rest = refl
-no_comment key.Need rest = refl
-no_comment key.Let rest = refl
-no_comment key.If rest = refl
-no_comment key.Else rest = refl
-no_comment key.End rest = refl
-no_comment key.Is rest = refl
-no_comment key.Equals rest = refl
-no_comment key.Open rest = refl
-no_comment key.Close rest = refl
-no_comment key.Deposit rest = refl
-no_comment key.Withdraw rest = refl
-no_comment key.Balance rest = refl
-no_comment key.Add rest = refl
-no_comment key.Remove rest = refl
-no_comment key.Has rest = refl
-no_comment key.Up rest = refl
-no_comment key.Down rest = refl
-no_comment key.Read rest = refl
-no_comment key.Size rest = refl
-no_comment key.Opened rest = refl
-no_comment key.Exists rest = refl
-no_comment key.Closed rest = refl
-no_comment key.NotEmpty rest = refl
-no_comment key.Done rest = refl
-no_comment key.Over rest = refl
-no_comment key.Short rest = refl
-no_comment key.Missing rest = refl
-no_comment key.Added rest = refl
-no_comment key.Present rest = refl
-no_comment key.Removed rest = refl
-no_comment key.Absent rest = refl
-no_comment key.Yes rest = refl
-no_comment key.No rest = refl
+no_comment Keyword.Begin rest = refl
+no_comment Keyword.Commit rest = refl
+no_comment Keyword.Abort rest = refl
+no_comment Keyword.Need rest = refl
+no_comment Keyword.Let rest = refl
+no_comment Keyword.If rest = refl
+no_comment Keyword.Else rest = refl
+no_comment Keyword.End rest = refl
+no_comment Keyword.Is rest = refl
+no_comment Keyword.Equals rest = refl
+no_comment Keyword.Open rest = refl
+no_comment Keyword.Close rest = refl
+no_comment Keyword.Deposit rest = refl
+no_comment Keyword.Withdraw rest = refl
+no_comment Keyword.Balance rest = refl
+no_comment Keyword.Add rest = refl
+no_comment Keyword.Remove rest = refl
+no_comment Keyword.Has rest = refl
+no_comment Keyword.Up rest = refl
+no_comment Keyword.Down rest = refl
+no_comment Keyword.Read rest = refl
+no_comment Keyword.Size rest = refl
+no_comment Keyword.Opened rest = refl
+no_comment Keyword.Exists rest = refl
+no_comment Keyword.Closed rest = refl
+no_comment Keyword.NotEmpty rest = refl
+no_comment Keyword.Done rest = refl
+no_comment Keyword.Over rest = refl
+no_comment Keyword.Short rest = refl
+no_comment Keyword.Missing rest = refl
+no_comment Keyword.Added rest = refl
+no_comment Keyword.Present rest = refl
+no_comment Keyword.Removed rest = refl
+no_comment Keyword.Absent rest = refl
+no_comment Keyword.Yes rest = refl
+no_comment Keyword.No rest = refl

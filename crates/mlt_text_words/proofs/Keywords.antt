@@ -1,10 +1,7 @@
 -- Each keyword is found by its ends.
-use Rattle.std.proofs.Common.{◌≡◌, ℕ, ◌-◌, List, [], ◌∷◌, length, get_or, find, true, false, Option, Some, None, refl, sym, ap, ◌∙◌, arith}
-use Rattle.std.specs.Str.{bytes_eq}
-use Rattle.std.proofs.lemmas.Slice.Eq.{bytes_eq-Decides}
-use Rattle.mlt_text_words.specs.declared.keyword.Keyword.{Keyword}
-use Rattle.mlt_text_words.specs.declared.keyword.Keyword.TheVariants as key
-use Rattle.mlt_text_words.specs.Words.{all_keywords, has_ends, keyword_of, spelled_among, spelling}
+use Rattle.std.proofs.Common.{◌≡◌, ℕ, ◌-◌, List, [], ◌∷◌, length, get_or, find, true, false, Option, Some, None, refl, sym, ap, ◌∙◌, arith, bytes_eq}
+use Rattle.mlt_text_words.proofs.Names.{bytes_eq-Decides, Keyword, all_keywords, spelled_among, spelling}
+use Rattle.mlt_text_words.specs.Words.{has_ends, keyword_of}
 use Rattle.mlt_text_words.proofs.Fronts.{spelled_so}
 
 -- the first keyword with the ends of a word
@@ -13,42 +10,42 @@ alike word = find (has_ends (get_or word 0 0) (length word) (get_or word (length
 
 -- a keyword is found by its ends, and by its spelling
 found : (k : Keyword) → (alike (spelling k) ≡ Some k) × (spelled_among all_keywords (spelling k) ≡ Some k)
-found key.Begin = (refl, refl)
-found key.Commit = (refl, refl)
-found key.Abort = (refl, refl)
-found key.Need = (refl, refl)
-found key.Let = (refl, refl)
-found key.If = (refl, refl)
-found key.Else = (refl, refl)
-found key.End = (refl, refl)
-found key.Is = (refl, refl)
-found key.Equals = (refl, refl)
-found key.Open = (refl, refl)
-found key.Close = (refl, refl)
-found key.Deposit = (refl, refl)
-found key.Withdraw = (refl, refl)
-found key.Balance = (refl, refl)
-found key.Add = (refl, refl)
-found key.Remove = (refl, refl)
-found key.Has = (refl, refl)
-found key.Up = (refl, refl)
-found key.Down = (refl, refl)
-found key.Read = (refl, refl)
-found key.Size = (refl, refl)
-found key.Opened = (refl, refl)
-found key.Exists = (refl, refl)
-found key.Closed = (refl, refl)
-found key.NotEmpty = (refl, refl)
-found key.Done = (refl, refl)
-found key.Over = (refl, refl)
-found key.Short = (refl, refl)
-found key.Missing = (refl, refl)
-found key.Added = (refl, refl)
-found key.Present = (refl, refl)
-found key.Removed = (refl, refl)
-found key.Absent = (refl, refl)
-found key.Yes = (refl, refl)
-found key.No = (refl, refl)
+found Keyword.Begin = (refl, refl)
+found Keyword.Commit = (refl, refl)
+found Keyword.Abort = (refl, refl)
+found Keyword.Need = (refl, refl)
+found Keyword.Let = (refl, refl)
+found Keyword.If = (refl, refl)
+found Keyword.Else = (refl, refl)
+found Keyword.End = (refl, refl)
+found Keyword.Is = (refl, refl)
+found Keyword.Equals = (refl, refl)
+found Keyword.Open = (refl, refl)
+found Keyword.Close = (refl, refl)
+found Keyword.Deposit = (refl, refl)
+found Keyword.Withdraw = (refl, refl)
+found Keyword.Balance = (refl, refl)
+found Keyword.Add = (refl, refl)
+found Keyword.Remove = (refl, refl)
+found Keyword.Has = (refl, refl)
+found Keyword.Up = (refl, refl)
+found Keyword.Down = (refl, refl)
+found Keyword.Read = (refl, refl)
+found Keyword.Size = (refl, refl)
+found Keyword.Opened = (refl, refl)
+found Keyword.Exists = (refl, refl)
+found Keyword.Closed = (refl, refl)
+found Keyword.NotEmpty = (refl, refl)
+found Keyword.Done = (refl, refl)
+found Keyword.Over = (refl, refl)
+found Keyword.Short = (refl, refl)
+found Keyword.Missing = (refl, refl)
+found Keyword.Added = (refl, refl)
+found Keyword.Present = (refl, refl)
+found Keyword.Removed = (refl, refl)
+found Keyword.Absent = (refl, refl)
+found Keyword.Yes = (refl, refl)
+found Keyword.No = (refl, refl)
 
 pub empty_word : (word : List ℕ) → length word ≡ 0 → keyword_of word ≡ None
 unfolding keyword_of

@@ -1,3 +1,4 @@
+mod Names
 pub mod Splitting
 pub mod Cutting
 pub mod Allowed

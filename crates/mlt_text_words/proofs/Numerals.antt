@@ -1,10 +1,8 @@
 -- Reading a number digit by digit, up to the first that takes it past 2 ^ 64 - 1.
-use Rattle.std.proofs.Common.{◌≡◌, ℕ, ◌+◌, ◌-◌, ◌*◌, ◌^◌, ◌<◌, ◌≤◌, List, [], ◌∷◌, length, Bool, true, false, cond, Option, Some, None, nat_lt, ◌&&◌, if◌then◌else◌, refl, sym, ap, ◌∙◌, arith}
-use Rattle.std.specs.List.{list_all}
-use Rattle.std.specs.Char.{digit_value}
+use Rattle.std.proofs.Common.{◌≡◌, ℕ, ◌+◌, ◌-◌, ◌*◌, ◌^◌, ◌<◌, ◌≤◌, List, [], ◌∷◌, length, Bool, true, false, cond, Option, Some, None, nat_lt, ◌&&◌, if◌then◌else◌, refl, sym, ap, ◌∙◌, arith, lt-ltb, le-ltb, le-leb, ltb-true, ltb-false}
+use Rattle.mlt_text_words.proofs.Names.{list_all, digit_value, is_digit}
 use Rattle.std.specs.Str.Parse.{digits_value_after}
-use Rattle.std.proofs.lemmas.Bool.{lt-ltb, le-ltb, le-leb, ltb-true, ltb-false}
-use Rattle.mlt_text_words.specs.Numbers.{is_digit, number_of}
+use Rattle.mlt_text_words.specs.Numbers.{number_of}
 
 -- the number, if digits follow those of n, and nothing else, and it stays below 2 ^ 64
 abbrev pub goes_on : ℕ → List ℕ → Option ℕ

@@ -1,21 +1,13 @@
 -- Words of printed lines, read back.
-use Rattle.std.proofs.Common.{◌≡◌, ℕ, ◌+◌, ◌%◌, ◌^◌, ◌<◌, ◌≤◌, List, [], ◌∷◌, ◌++◌, length, map, leb, ◌==◌, ◌&&◌, Bool, true, false, cond, Some, None, codes, refl, sym, ap, ◌∙◌, append_assoc, length-append, arith}
-use Rattle.std.specs.Fmt.{decimal}
-use Rattle.std.specs.List.{list_all}
-use Rattle.std.specs.Str.{bytes_eq}
-use Rattle.std.proofs.lemmas.List.{append-nil, map-append}
-use Rattle.std.proofs.lemmas.Bool.{lt-ltb, le-leb}
+use Rattle.std.proofs.Common.{◌≡◌, ℕ, ◌+◌, ◌%◌, ◌^◌, ◌<◌, ◌≤◌, List, [], ◌∷◌, ◌++◌, length, map, leb, ◌==◌, ◌&&◌, Bool, true, false, cond, Some, None, codes, refl, sym, ap, ◌∙◌, append_assoc, length-append, arith, decimal, bytes_eq, append-nil, lt-ltb, le-leb}
+use Rattle.mlt_text_words.proofs.Names.{list_all, Keyword, Word, Number, Letter, is_printable, is_digit, spelling, spelled_among, word_if, raw_words, is_blank, all_keywords}
+use Rattle.std.proofs.lemmas.List.{map-append}
 use Rattle.std.proofs.lemmas.Fmt.{decimal_by_steps, decimal_is_IsNumeral, decimal_nonempty, length-decimal-le}
-use Rattle.mlt_text_words.specs.declared.keyword.Keyword.{Keyword}
-use Rattle.mlt_text_words.specs.declared.keyword.Keyword.TheVariants as key
-use Rattle.mlt_text_words.specs.declared.keyword.Word.{Word}
-use Rattle.mlt_text_words.specs.declared.keyword.Word.TheVariants.{Key, Variable, Number}
-use Rattle.mlt_text_words.specs.declared.letter.Letter.{Letter}
-use Rattle.mlt_text_words.specs.declared.letter.Letter.TheVariants as letter
+use Rattle.mlt_text_words.specs.declared.keyword.Word.TheVariants.{Key, Variable}
 use Rattle.mlt_text_words.specs.Letters.{byte_of, letter_of}
-use Rattle.mlt_text_words.specs.Fronts.{TextIs, is_printable}
-use Rattle.mlt_text_words.specs.Numbers.{is_digit, number_of}
-use Rattle.mlt_text_words.specs.Words.{spelling, spelled_among, keyword_of, letter_word, word_of, word_if, raw_words, words_from, words_of, is_blank, all_keywords}
+use Rattle.mlt_text_words.specs.Fronts.{TextIs}
+use Rattle.mlt_text_words.specs.Numbers.{number_of}
+use Rattle.mlt_text_words.specs.Words.{keyword_of, letter_word, word_of, words_from, words_of}
 use Rattle.mlt_text_words.proofs.Splitting.{at_other}
 
 both : (c : Bool) (w p q r s t : List (List ℕ)) → p ≡ q ++ t → r ≡ s ++ t → cond c (w ++ p) r ≡ cond c (w ++ q) s ++ t
@@ -61,72 +53,72 @@ at_most t ws n m l h = (h.0, h.1, let p = h.2 in omega (arith, p, l))
 -- a keyword
 pub key_text : (k : Keyword) → TextIs (spelling k) (Key k ∷ []) 8
 unfolding words_of words_from word_of keyword_of
-key_text key.Begin = (refl, refl, omega arith)
-key_text key.Commit = (refl, refl, omega arith)
-key_text key.Abort = (refl, refl, omega arith)
-key_text key.Need = (refl, refl, omega arith)
-key_text key.Let = (refl, refl, omega arith)
-key_text key.If = (refl, refl, omega arith)
-key_text key.Else = (refl, refl, omega arith)
-key_text key.End = (refl, refl, omega arith)
-key_text key.Is = (refl, refl, omega arith)
-key_text key.Equals = (refl, refl, omega arith)
-key_text key.Open = (refl, refl, omega arith)
-key_text key.Close = (refl, refl, omega arith)
-key_text key.Deposit = (refl, refl, omega arith)
-key_text key.Withdraw = (refl, refl, omega arith)
-key_text key.Balance = (refl, refl, omega arith)
-key_text key.Add = (refl, refl, omega arith)
-key_text key.Remove = (refl, refl, omega arith)
-key_text key.Has = (refl, refl, omega arith)
-key_text key.Up = (refl, refl, omega arith)
-key_text key.Down = (refl, refl, omega arith)
-key_text key.Read = (refl, refl, omega arith)
-key_text key.Size = (refl, refl, omega arith)
-key_text key.Opened = (refl, refl, omega arith)
-key_text key.Exists = (refl, refl, omega arith)
-key_text key.Closed = (refl, refl, omega arith)
-key_text key.NotEmpty = (refl, refl, omega arith)
-key_text key.Done = (refl, refl, omega arith)
-key_text key.Over = (refl, refl, omega arith)
-key_text key.Short = (refl, refl, omega arith)
-key_text key.Missing = (refl, refl, omega arith)
-key_text key.Added = (refl, refl, omega arith)
-key_text key.Present = (refl, refl, omega arith)
-key_text key.Removed = (refl, refl, omega arith)
-key_text key.Absent = (refl, refl, omega arith)
-key_text key.Yes = (refl, refl, omega arith)
-key_text key.No = (refl, refl, omega arith)
+key_text Keyword.Begin = (refl, refl, omega arith)
+key_text Keyword.Commit = (refl, refl, omega arith)
+key_text Keyword.Abort = (refl, refl, omega arith)
+key_text Keyword.Need = (refl, refl, omega arith)
+key_text Keyword.Let = (refl, refl, omega arith)
+key_text Keyword.If = (refl, refl, omega arith)
+key_text Keyword.Else = (refl, refl, omega arith)
+key_text Keyword.End = (refl, refl, omega arith)
+key_text Keyword.Is = (refl, refl, omega arith)
+key_text Keyword.Equals = (refl, refl, omega arith)
+key_text Keyword.Open = (refl, refl, omega arith)
+key_text Keyword.Close = (refl, refl, omega arith)
+key_text Keyword.Deposit = (refl, refl, omega arith)
+key_text Keyword.Withdraw = (refl, refl, omega arith)
+key_text Keyword.Balance = (refl, refl, omega arith)
+key_text Keyword.Add = (refl, refl, omega arith)
+key_text Keyword.Remove = (refl, refl, omega arith)
+key_text Keyword.Has = (refl, refl, omega arith)
+key_text Keyword.Up = (refl, refl, omega arith)
+key_text Keyword.Down = (refl, refl, omega arith)
+key_text Keyword.Read = (refl, refl, omega arith)
+key_text Keyword.Size = (refl, refl, omega arith)
+key_text Keyword.Opened = (refl, refl, omega arith)
+key_text Keyword.Exists = (refl, refl, omega arith)
+key_text Keyword.Closed = (refl, refl, omega arith)
+key_text Keyword.NotEmpty = (refl, refl, omega arith)
+key_text Keyword.Done = (refl, refl, omega arith)
+key_text Keyword.Over = (refl, refl, omega arith)
+key_text Keyword.Short = (refl, refl, omega arith)
+key_text Keyword.Missing = (refl, refl, omega arith)
+key_text Keyword.Added = (refl, refl, omega arith)
+key_text Keyword.Present = (refl, refl, omega arith)
+key_text Keyword.Removed = (refl, refl, omega arith)
+key_text Keyword.Absent = (refl, refl, omega arith)
+key_text Keyword.Yes = (refl, refl, omega arith)
+key_text Keyword.No = (refl, refl, omega arith)
 
 -- the name of a variable
 pub letter_is : (l : Letter) → TextIs (byte_of l ∷ []) (Variable l ∷ []) 1
 unfolding words_of words_from word_of keyword_of letter_of
-letter_is letter.A = (refl, refl, omega arith)
-letter_is letter.B = (refl, refl, omega arith)
-letter_is letter.C = (refl, refl, omega arith)
-letter_is letter.D = (refl, refl, omega arith)
-letter_is letter.E = (refl, refl, omega arith)
-letter_is letter.F = (refl, refl, omega arith)
-letter_is letter.G = (refl, refl, omega arith)
-letter_is letter.H = (refl, refl, omega arith)
-letter_is letter.I = (refl, refl, omega arith)
-letter_is letter.J = (refl, refl, omega arith)
-letter_is letter.K = (refl, refl, omega arith)
-letter_is letter.L = (refl, refl, omega arith)
-letter_is letter.M = (refl, refl, omega arith)
-letter_is letter.N = (refl, refl, omega arith)
-letter_is letter.O = (refl, refl, omega arith)
-letter_is letter.P = (refl, refl, omega arith)
-letter_is letter.Q = (refl, refl, omega arith)
-letter_is letter.R = (refl, refl, omega arith)
-letter_is letter.S = (refl, refl, omega arith)
-letter_is letter.T = (refl, refl, omega arith)
-letter_is letter.U = (refl, refl, omega arith)
-letter_is letter.V = (refl, refl, omega arith)
-letter_is letter.W = (refl, refl, omega arith)
-letter_is letter.X = (refl, refl, omega arith)
-letter_is letter.Y = (refl, refl, omega arith)
-letter_is letter.Z = (refl, refl, omega arith)
+letter_is Letter.A = (refl, refl, omega arith)
+letter_is Letter.B = (refl, refl, omega arith)
+letter_is Letter.C = (refl, refl, omega arith)
+letter_is Letter.D = (refl, refl, omega arith)
+letter_is Letter.E = (refl, refl, omega arith)
+letter_is Letter.F = (refl, refl, omega arith)
+letter_is Letter.G = (refl, refl, omega arith)
+letter_is Letter.H = (refl, refl, omega arith)
+letter_is Letter.I = (refl, refl, omega arith)
+letter_is Letter.J = (refl, refl, omega arith)
+letter_is Letter.K = (refl, refl, omega arith)
+letter_is Letter.L = (refl, refl, omega arith)
+letter_is Letter.M = (refl, refl, omega arith)
+letter_is Letter.N = (refl, refl, omega arith)
+letter_is Letter.O = (refl, refl, omega arith)
+letter_is Letter.P = (refl, refl, omega arith)
+letter_is Letter.Q = (refl, refl, omega arith)
+letter_is Letter.R = (refl, refl, omega arith)
+letter_is Letter.S = (refl, refl, omega arith)
+letter_is Letter.T = (refl, refl, omega arith)
+letter_is Letter.U = (refl, refl, omega arith)
+letter_is Letter.V = (refl, refl, omega arith)
+letter_is Letter.W = (refl, refl, omega arith)
+letter_is Letter.X = (refl, refl, omega arith)
+letter_is Letter.Y = (refl, refl, omega arith)
+letter_is Letter.Z = (refl, refl, omega arith)
 
 digit_by : (n : ℕ) → n < 10 → is_digit (48 + n) ≡ true
 digit_by n h = rw (le-leb 48 (48 + n) (omega arith), le-leb (48 + n) 57 (omega (arith, h))) refl
@@ -176,42 +168,42 @@ begins_so : (c d : ℕ) (cs ds : List ℕ) → leb 58 c ≡ true → is_digit d 
 begins_so c d cs ds h k = rw (unlike_digit c d h k) refl
 
 no_keyword : (k : Keyword) (d : ℕ) (ds : List ℕ) → is_digit d ≡ true → bytes_eq (spelling k) (d ∷ ds) ≡ false
-no_keyword key.Begin d ds h = begins_so 98 d (codes "egin") ds refl h
-no_keyword key.Commit d ds h = begins_so 99 d (codes "ommit") ds refl h
-no_keyword key.Abort d ds h = begins_so 97 d (codes "bort") ds refl h
-no_keyword key.Need d ds h = begins_so 110 d (codes "eed") ds refl h
-no_keyword key.Let d ds h = begins_so 108 d (codes "et") ds refl h
-no_keyword key.If d ds h = begins_so 105 d (codes "f") ds refl h
-no_keyword key.Else d ds h = begins_so 101 d (codes "lse") ds refl h
-no_keyword key.End d ds h = begins_so 101 d (codes "nd") ds refl h
-no_keyword key.Is d ds h = begins_so 105 d (codes "s") ds refl h
-no_keyword key.Equals d ds h = begins_so 61 d [] ds refl h
-no_keyword key.Open d ds h = begins_so 111 d (codes "pen") ds refl h
-no_keyword key.Close d ds h = begins_so 99 d (codes "lose") ds refl h
-no_keyword key.Deposit d ds h = begins_so 100 d (codes "eposit") ds refl h
-no_keyword key.Withdraw d ds h = begins_so 119 d (codes "ithdraw") ds refl h
-no_keyword key.Balance d ds h = begins_so 98 d (codes "alance") ds refl h
-no_keyword key.Add d ds h = begins_so 97 d (codes "dd") ds refl h
-no_keyword key.Remove d ds h = begins_so 114 d (codes "emove") ds refl h
-no_keyword key.Has d ds h = begins_so 104 d (codes "as") ds refl h
-no_keyword key.Up d ds h = begins_so 117 d (codes "p") ds refl h
-no_keyword key.Down d ds h = begins_so 100 d (codes "own") ds refl h
-no_keyword key.Read d ds h = begins_so 114 d (codes "ead") ds refl h
-no_keyword key.Size d ds h = begins_so 115 d (codes "ize") ds refl h
-no_keyword key.Opened d ds h = begins_so 111 d (codes "pened") ds refl h
-no_keyword key.Exists d ds h = begins_so 101 d (codes "xists") ds refl h
-no_keyword key.Closed d ds h = begins_so 99 d (codes "losed") ds refl h
-no_keyword key.NotEmpty d ds h = begins_so 110 d (codes "otempty") ds refl h
-no_keyword key.Done d ds h = begins_so 100 d (codes "one") ds refl h
-no_keyword key.Over d ds h = begins_so 111 d (codes "ver") ds refl h
-no_keyword key.Short d ds h = begins_so 115 d (codes "hort") ds refl h
-no_keyword key.Missing d ds h = begins_so 109 d (codes "issing") ds refl h
-no_keyword key.Added d ds h = begins_so 97 d (codes "dded") ds refl h
-no_keyword key.Present d ds h = begins_so 112 d (codes "resent") ds refl h
-no_keyword key.Removed d ds h = begins_so 114 d (codes "emoved") ds refl h
-no_keyword key.Absent d ds h = begins_so 97 d (codes "bsent") ds refl h
-no_keyword key.Yes d ds h = begins_so 121 d (codes "es") ds refl h
-no_keyword key.No d ds h = begins_so 110 d (codes "o") ds refl h
+no_keyword Keyword.Begin d ds h = begins_so 98 d (codes "egin") ds refl h
+no_keyword Keyword.Commit d ds h = begins_so 99 d (codes "ommit") ds refl h
+no_keyword Keyword.Abort d ds h = begins_so 97 d (codes "bort") ds refl h
+no_keyword Keyword.Need d ds h = begins_so 110 d (codes "eed") ds refl h
+no_keyword Keyword.Let d ds h = begins_so 108 d (codes "et") ds refl h
+no_keyword Keyword.If d ds h = begins_so 105 d (codes "f") ds refl h
+no_keyword Keyword.Else d ds h = begins_so 101 d (codes "lse") ds refl h
+no_keyword Keyword.End d ds h = begins_so 101 d (codes "nd") ds refl h
+no_keyword Keyword.Is d ds h = begins_so 105 d (codes "s") ds refl h
+no_keyword Keyword.Equals d ds h = begins_so 61 d [] ds refl h
+no_keyword Keyword.Open d ds h = begins_so 111 d (codes "pen") ds refl h
+no_keyword Keyword.Close d ds h = begins_so 99 d (codes "lose") ds refl h
+no_keyword Keyword.Deposit d ds h = begins_so 100 d (codes "eposit") ds refl h
+no_keyword Keyword.Withdraw d ds h = begins_so 119 d (codes "ithdraw") ds refl h
+no_keyword Keyword.Balance d ds h = begins_so 98 d (codes "alance") ds refl h
+no_keyword Keyword.Add d ds h = begins_so 97 d (codes "dd") ds refl h
+no_keyword Keyword.Remove d ds h = begins_so 114 d (codes "emove") ds refl h
+no_keyword Keyword.Has d ds h = begins_so 104 d (codes "as") ds refl h
+no_keyword Keyword.Up d ds h = begins_so 117 d (codes "p") ds refl h
+no_keyword Keyword.Down d ds h = begins_so 100 d (codes "own") ds refl h
+no_keyword Keyword.Read d ds h = begins_so 114 d (codes "ead") ds refl h
+no_keyword Keyword.Size d ds h = begins_so 115 d (codes "ize") ds refl h
+no_keyword Keyword.Opened d ds h = begins_so 111 d (codes "pened") ds refl h
+no_keyword Keyword.Exists d ds h = begins_so 101 d (codes "xists") ds refl h
+no_keyword Keyword.Closed d ds h = begins_so 99 d (codes "losed") ds refl h
+no_keyword Keyword.NotEmpty d ds h = begins_so 110 d (codes "otempty") ds refl h
+no_keyword Keyword.Done d ds h = begins_so 100 d (codes "one") ds refl h
+no_keyword Keyword.Over d ds h = begins_so 111 d (codes "ver") ds refl h
+no_keyword Keyword.Short d ds h = begins_so 115 d (codes "hort") ds refl h
+no_keyword Keyword.Missing d ds h = begins_so 109 d (codes "issing") ds refl h
+no_keyword Keyword.Added d ds h = begins_so 97 d (codes "dded") ds refl h
+no_keyword Keyword.Present d ds h = begins_so 112 d (codes "resent") ds refl h
+no_keyword Keyword.Removed d ds h = begins_so 114 d (codes "emoved") ds refl h
+no_keyword Keyword.Absent d ds h = begins_so 97 d (codes "bsent") ds refl h
+no_keyword Keyword.Yes d ds h = begins_so 121 d (codes "es") ds refl h
+no_keyword Keyword.No d ds h = begins_so 110 d (codes "o") ds refl h
 
 none_among : (keys : List Keyword) (d : ℕ) (ds : List ℕ) → is_digit d ≡ true → spelled_among keys (d ∷ ds) ≡ None
 none_among [] d ds h = refl

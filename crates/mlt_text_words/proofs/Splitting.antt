@@ -1,11 +1,7 @@
 -- The first word of a text.
-use Rattle.std.proofs.Common.{◌≡◌, ℕ, suc, zero, ◌+◌, ◌-◌, ◌<◌, ◌≤◌, List, [], ◌∷◌, ◌++◌, length, take, drop, get_or, map, option_map, is_some, not, Bool, true, false, cond, ltb, Option, Some, None, refl, sym, ap, subst, ◌∙◌, append_assoc, arith}
-use Rattle.std.specs.List.{position, position_or_len}
-use Rattle.std.proofs.lemmas.List.{append-nil, get_or-drop, length-drop, take_all}
-use Rattle.std.proofs.lemmas.List.Sums.{fails_before_first}
-use Rattle.std.proofs.lemmas.List.Quantifiers.{position-Some}
-use Rattle.std.proofs.lemmas.Bool.{ltb-false}
-use Rattle.mlt_text_words.specs.Words.{words_from, word_if, word_at, word_of, words_of, raw_words, first_word, is_blank, is_black}
+use Rattle.std.proofs.Common.{◌≡◌, ℕ, suc, zero, ◌+◌, ◌-◌, ◌<◌, ◌≤◌, List, [], ◌∷◌, ◌++◌, length, take, drop, get_or, map, option_map, is_some, not, Bool, true, false, cond, ltb, Option, Some, None, refl, sym, ap, subst, ◌∙◌, append_assoc, arith, position, append-nil, get_or-drop, length-drop, take_all, ltb-false}
+use Rattle.mlt_text_words.proofs.Names.{position_or_len, fails_before_first, position-Some, word_if, word_at, raw_words, first_word, is_blank, is_black}
+use Rattle.mlt_text_words.specs.Words.{words_from, word_of, words_of}
 
 blank_of : (b : Bool) → not b ≡ false → b ≡ true
 blank_of true h = refl

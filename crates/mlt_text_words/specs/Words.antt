@@ -1,60 +1,57 @@
 -- The words of a line.
-use Rattle.std.specs.Prelude.{ℕ, ◌-◌, List, [], ◌∷◌, ◌++◌, map, Option, Some, None, option_and_then, ◌==◌, Bool, true, ◌&&◌, ◌||◌, not, length, slice_index, if◌then◌else◌, codes}
-use Rattle.std.specs.Str.{bytes_eq}
+use Rattle.std.specs.Prelude.{ℕ, ◌-◌, List, [], ◌∷◌, ◌++◌, map, Option, Some, None, option_and_then, ◌==◌, Bool, true, ◌&&◌, ◌||◌, not, length, slice_index, if◌then◌else◌, codes, bytes_eq}
 use Rattle.mlt_text_words.specs.declared.keyword.Keyword.{Keyword}
-use Rattle.mlt_text_words.specs.declared.keyword.Keyword.TheVariants as key
 use Rattle.mlt_text_words.specs.declared.keyword.Word.{Word}
-use Rattle.mlt_text_words.specs.declared.keyword.Word.TheVariants as word
 use Rattle.mlt_text_words.specs.declared.letter.Letter.{Letter}
 use Rattle.mlt_text_words.specs.Letters.{letter_of}
 use Rattle.mlt_text_words.specs.Numbers.{number_of}
 
 -- how a keyword is written
 abbrev pub spelling : Keyword → List ℕ
-spelling key.Begin = codes "begin"
-spelling key.Commit = codes "commit"
-spelling key.Abort = codes "abort"
-spelling key.Need = codes "need"
-spelling key.Let = codes "let"
-spelling key.If = codes "if"
-spelling key.Else = codes "else"
-spelling key.End = codes "end"
-spelling key.Is = codes "is"
-spelling key.Equals = codes "="
-spelling key.Open = codes "open"
-spelling key.Close = codes "close"
-spelling key.Deposit = codes "deposit"
-spelling key.Withdraw = codes "withdraw"
-spelling key.Balance = codes "balance"
-spelling key.Add = codes "add"
-spelling key.Remove = codes "remove"
-spelling key.Has = codes "has"
-spelling key.Up = codes "up"
-spelling key.Down = codes "down"
-spelling key.Read = codes "read"
-spelling key.Size = codes "size"
-spelling key.Opened = codes "opened"
-spelling key.Exists = codes "exists"
-spelling key.Closed = codes "closed"
-spelling key.NotEmpty = codes "notempty"
-spelling key.Done = codes "done"
-spelling key.Over = codes "over"
-spelling key.Short = codes "short"
-spelling key.Missing = codes "missing"
-spelling key.Added = codes "added"
-spelling key.Present = codes "present"
-spelling key.Removed = codes "removed"
-spelling key.Absent = codes "absent"
-spelling key.Yes = codes "yes"
-spelling key.No = codes "no"
+spelling Keyword.Begin = codes "begin"
+spelling Keyword.Commit = codes "commit"
+spelling Keyword.Abort = codes "abort"
+spelling Keyword.Need = codes "need"
+spelling Keyword.Let = codes "let"
+spelling Keyword.If = codes "if"
+spelling Keyword.Else = codes "else"
+spelling Keyword.End = codes "end"
+spelling Keyword.Is = codes "is"
+spelling Keyword.Equals = codes "="
+spelling Keyword.Open = codes "open"
+spelling Keyword.Close = codes "close"
+spelling Keyword.Deposit = codes "deposit"
+spelling Keyword.Withdraw = codes "withdraw"
+spelling Keyword.Balance = codes "balance"
+spelling Keyword.Add = codes "add"
+spelling Keyword.Remove = codes "remove"
+spelling Keyword.Has = codes "has"
+spelling Keyword.Up = codes "up"
+spelling Keyword.Down = codes "down"
+spelling Keyword.Read = codes "read"
+spelling Keyword.Size = codes "size"
+spelling Keyword.Opened = codes "opened"
+spelling Keyword.Exists = codes "exists"
+spelling Keyword.Closed = codes "closed"
+spelling Keyword.NotEmpty = codes "notempty"
+spelling Keyword.Done = codes "done"
+spelling Keyword.Over = codes "over"
+spelling Keyword.Short = codes "short"
+spelling Keyword.Missing = codes "missing"
+spelling Keyword.Added = codes "added"
+spelling Keyword.Present = codes "present"
+spelling Keyword.Removed = codes "removed"
+spelling Keyword.Absent = codes "absent"
+spelling Keyword.Yes = codes "yes"
+spelling Keyword.No = codes "no"
 
 abbrev pub all_keywords : List Keyword
 all_keywords =
-    key.Begin ∷ key.Commit ∷ key.Abort ∷ key.Need ∷ key.Let ∷ key.If ∷ key.Else ∷ key.End ∷ key.Is ∷
-    key.Equals ∷ key.Open ∷ key.Close ∷ key.Deposit ∷ key.Withdraw ∷ key.Balance ∷ key.Add ∷
-    key.Remove ∷ key.Has ∷ key.Up ∷ key.Down ∷ key.Read ∷ key.Size ∷ key.Opened ∷ key.Exists ∷
-    key.Closed ∷ key.NotEmpty ∷ key.Done ∷ key.Over ∷ key.Short ∷ key.Missing ∷ key.Added ∷
-    key.Present ∷ key.Removed ∷ key.Absent ∷ key.Yes ∷ key.No ∷ []
+    Keyword.Begin ∷ Keyword.Commit ∷ Keyword.Abort ∷ Keyword.Need ∷ Keyword.Let ∷ Keyword.If ∷ Keyword.Else ∷ Keyword.End ∷ Keyword.Is ∷
+    Keyword.Equals ∷ Keyword.Open ∷ Keyword.Close ∷ Keyword.Deposit ∷ Keyword.Withdraw ∷ Keyword.Balance ∷ Keyword.Add ∷
+    Keyword.Remove ∷ Keyword.Has ∷ Keyword.Up ∷ Keyword.Down ∷ Keyword.Read ∷ Keyword.Size ∷ Keyword.Opened ∷ Keyword.Exists ∷
+    Keyword.Closed ∷ Keyword.NotEmpty ∷ Keyword.Done ∷ Keyword.Over ∷ Keyword.Short ∷ Keyword.Missing ∷ Keyword.Added ∷
+    Keyword.Present ∷ Keyword.Removed ∷ Keyword.Absent ∷ Keyword.Yes ∷ Keyword.No ∷ []
 
 -- whether the keyword has this first byte, this length and this last byte
 abbrev pub has_ends : ℕ → ℕ → ℕ → Keyword → Bool
@@ -71,11 +68,11 @@ unfoldable pub keyword_of : List ℕ → Option Keyword
 keyword_of bytes = spelled_among all_keywords bytes
 
 abbrev pub number_or_other : Option ℕ → Word
-number_or_other (Some n) = word.Number n
-number_or_other None = word.Other
+number_or_other (Some n) = Word.Number n
+number_or_other None = Word.Other
 
 abbrev pub keyword_or : Option Keyword → Word → Word
-keyword_or (Some k) otherwise = word.Key k
+keyword_or (Some k) otherwise = Word.Key k
 keyword_or None otherwise = otherwise
 
 -- a word of one letter
@@ -85,7 +82,7 @@ letter_word (b ∷ []) = letter_of b
 letter_word (b ∷ c ∷ bs) = None
 
 abbrev pub letter_or : Option Letter → Word → Word
-letter_or (Some l) otherwise = word.Variable l
+letter_or (Some l) otherwise = Word.Variable l
 letter_or None otherwise = otherwise
 
 -- a keyword, or else a letter, or else a number, or else none of these
@@ -129,7 +126,7 @@ word_at [] = None
 word_at (w ∷ ws) = Some (w, ws)
 
 abbrev pub number_word : Word → List Word → Option (ℕ × List Word)
-number_word (word.Number n) rest = Some (n, rest)
+number_word (Word.Number n) rest = Some (n, rest)
 number_word w rest = None
 
 -- the first word, where it is a number, and those after it

@@ -1,13 +1,8 @@
 -- Which numbers were begun, where transactions begin in order.
 use Prim.Native.Nat.{zero}
 use Rattle.std.proofs.Common.{◌≡◌, ◌⊎◌, ℕ, suc, ◌+◌, ◌<◌, ◌≤◌, List, [], ◌∷◌, Contains, length, slice_index_or, subst, ◌∙◌, inl, inr, arith}
-use Rattle.std.proofs.lemmas.Bool.{cases_eq}
-use Rattle.mlt_order.specs.Histories.{Entry}
-use Rattle.mlt_order.proofs.RunLemmas.{contains-first, contains-later, contains-nothing}
-use Rattle.mlt_trace.specs.declared.item.TraceItem.{TraceItem}
-use Rattle.mlt_trace.specs.declared.item.TraceItem.TheVariants.{Begin, Op, Back, Commit, Abort}
-use Rattle.mlt_trace.specs.Entries.{entries_of}
-use Rattle.mlt_trace.specs.Numbers.{CountsFrom, begun_txs}
+use Rattle.mlt_trace.proofs.Names.{cases_eq, Entry, contains-nothing, TraceItem, Begin, Op, Back, Commit, Abort, entries_of, CountsFrom, begun_txs}
+use Rattle.mlt_order.proofs.RunLemmas.{contains-first, contains-later}
 
 at_place : {X : Type 0} (x : X) (xs : List X) (y : X) (k : ℕ) → k < length (x ∷ xs) → slice_index_or (x ∷ xs) k y ≡ y → (x ≡ y) ⊎ Contains xs y
 at_place x xs y zero within is = inl is

@@ -1,10 +1,9 @@
 -- Items whose numbers are those of their types.
 use Rattle.std.proofs.Common.{◌≡◌, ◌∙◌, List, [], ◌∷◌, ◌++◌, ap, append_assoc, inl, inr, subst, sym}
 use Rattle.std.proofs.lemmas.List.Elements.{Contains-append_cases}
-use Rattle.mlt_order.proofs.RunLemmas.{contains-nothing}
+use Rattle.mlt_trace.proofs.Names.{contains-nothing, TraceItem, FitsItem}
 use Rattle.mlt_order.proofs.Stages.{contains-one}
-use Rattle.mlt_trace.specs.declared.item.TraceItem.{TraceItem}
-use Rattle.mlt_trace.specs.Ranges.{AllFit, FitsItem}
+use Rattle.mlt_trace.specs.Ranges.{AllFit}
 
 pub none_misfits : AllFit []
 none_misfits item h = absurd (contains-nothing item h)

@@ -1,6 +1,5 @@
 -- The rooms that the entries of a table have, added up.
-use Rattle.std.specs.Prelude.{ℕ}
-use Rattle.std.specs.List.{sum_by}
+use Rattle.std.specs.Prelude.{ℕ, sum_by}
 use Rattle.std.specs.Ordering.{nat_cmp}
 use Rattle.std.specs.FinMap as map
 

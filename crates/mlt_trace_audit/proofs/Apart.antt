@@ -1,13 +1,6 @@
 -- Items that make no difference to what a list has of a transaction.
 use Rattle.std.proofs.Common.{◌≡◌, ◌≢◌, ℕ, List, [], ◌∷◌, ◌++◌, true, refl, sym, ap, ◌∙◌, subst}
-use Rattle.mlt_object_kinds.specs.declared.operation.ObjOp.{ObjOp}
-use Rattle.mlt_object_kinds.specs.declared.operation.ObjReply.{ObjReply}
-use Rattle.mlt_trace.specs.declared.item.TraceItem.{TraceItem}
-use Rattle.mlt_trace.specs.declared.item.TraceItem.TheVariants.{Begin, Op, Back, Commit, Abort}
-use Rattle.mlt_script_serial.specs.declared.outcome.End.{End}
-use Rattle.mlt_trace_audit.specs.Ordered.{is_told, tx_of}
-use Rattle.mlt_trace_audit.specs.Outcomes.{HasNothing, IsClosedBefore, IsClosedSo, closing_by, closings_of, ops_of}
-use Rattle.mlt_trace_audit.specs.Outcomes.Closing.{ByAbort, ByCommit}
+use Rattle.mlt_trace_audit.proofs.Names.{ObjOp, ObjReply, TraceItem, Begin, Op, Back, Commit, Abort, End, is_told, tx_of, HasNothing, IsClosedBefore, IsClosedSo, closing_by, closings_of, ops_of, ByAbort, ByCommit}
 use Rattle.mlt_trace_audit.proofs.Placed.{closings_abort, closings_commit, closings_of-append, closings_other, ops_of-append, ops_other, ops_own}
 
 abbrev pub Dones : Type 0

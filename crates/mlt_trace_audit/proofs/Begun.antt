@@ -1,13 +1,7 @@
 -- The numbers begun, item by item.
-use Rattle.std.proofs.Common.{◌≡◌, ℕ, ◌+◌, ◌<◌, ◌≤◌, List, [], ◌∷◌, ◌++◌, length, get_or, take, drop, Contains, refl, sym, ap, subst, ◌∙◌, inl, inr}
-use Rattle.std.proofs.lemmas.List.{take-append-drop, take_all, take_more}
+use Rattle.std.proofs.Common.{◌≡◌, ℕ, ◌+◌, ◌<◌, ◌≤◌, List, [], ◌∷◌, ◌++◌, length, get_or, take, drop, Contains, refl, sym, ap, subst, ◌∙◌, inl, inr, take-append-drop, take_all}
+use Rattle.mlt_trace_audit.proofs.Names.{take_more, contains-first, TraceItem, Begin, Op, Back, Commit, Abort, begin_count, begun_txs, begins_counted, begun_txs-append, no_begin, earlier_or_last}
 use Rattle.std.proofs.lemmas.List.Elements.{Contains-append_right}
-use Rattle.mlt_order.proofs.RunLemmas.{contains-first}
-use Rattle.mlt_trace.specs.declared.item.TraceItem.{TraceItem}
-use Rattle.mlt_trace.specs.declared.item.TraceItem.TheVariants.{Begin, Op, Back, Commit, Abort}
-use Rattle.mlt_trace.specs.Numbers.{begin_count, begun_txs}
-use Rattle.mlt_trace.proofs.ItemLaws.{begins_counted, begun_txs-append, no_begin}
-use Rattle.mlt_trace_check.proofs.Growing.{earlier_or_last}
 use Rattle.mlt_trace_audit.proofs.Placed.{begun_in}
 
 begins_nothing : (x : TraceItem) → ((tx : ℕ) → x ≡ Begin tx → ⊥) → begun_txs (x ∷ []) ≡ []

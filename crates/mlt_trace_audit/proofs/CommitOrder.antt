@@ -1,12 +1,9 @@
 -- Commits of outcomes that stand in order.
 use Rattle.std.proofs.Common.{◌≡◌, ℕ, ◌+◌, ◌-◌, ◌<◌, ◌≤◌, List, length, get_or, Some, slice_get, sym, ap, subst, ◌∙◌, inl, inr, arith}
-use Rattle.std.proofs.lemmas.Bool.{cases_lt, cases_order}
-use Rattle.std.proofs.lemmas.Option.{get_or_from_slice_get, slice_get-get_or, slice_get_within}
-use Rattle.mlt_script_serial.specs.declared.outcome.End.TheVariants.{Committed}
-use Rattle.mlt_script_serial.specs.declared.outcome.Outcome.{Outcome}
+use Rattle.mlt_trace_audit.proofs.Names.{cases_lt, get_or_from_slice_get, slice_get-get_or, slice_get_within, Committed, Outcome, RisesTo}
+use Rattle.std.proofs.lemmas.Bool.{cases_order}
 use Rattle.mlt_trace_audit.specs.Agreement.{CommitsRise}
 use Rattle.mlt_trace_audit.specs.Orders.{AreInOrder, IsCommitted, Precedes}
-use Rattle.mlt_trace_audit.specs.Outcomes.{RisesTo}
 
 abbrev pub IsAt : List Outcome → ℕ → Outcome → Type 0
 IsAt outcomes k o = slice_get outcomes k ≡ Some o

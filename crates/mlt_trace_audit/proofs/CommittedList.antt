@@ -1,34 +1,20 @@
 -- The committed list of a history, and the committed outcomes.
-use Rattle.std.proofs.Common.{◌≡◌, ◌≢◌, ◌⊎◌, ℕ, zero, suc, ◌+◌, ◌<◌, ◌≤◌, List, [], ◌∷◌, ◌++◌, length, cond, nat_eq, Contains, slice_index_or, refl, sym, ap, subst, ◌∙◌, inl, inr, append_assoc, arith}
-use Rattle.std.specs.Prelude.{◌==◌}
-use Rattle.std.proofs.lemmas.Bool.{cases_eq, eq-eqb, ne_eqb}
-use Rattle.std.proofs.lemmas.List.{length-append, map-append}
-use Rattle.std.proofs.lemmas.List.Elements.{All-contains, Contains-append_left}
-use Rattle.std.proofs.lemmas.List.Sums.{sum_by-cons}
-use Rattle.mlt_object_kinds.specs.declared.operation.ObjOp.{ObjOp}
-use Rattle.mlt_object_kinds.specs.declared.operation.ObjReply.{ObjReply}
+use Rattle.std.proofs.Common.{◌≡◌, ◌≢◌, ◌⊎◌, ℕ, zero, suc, ◌+◌, ◌<◌, ◌≤◌, List, [], ◌∷◌, ◌++◌, length, cond, nat_eq, Contains, slice_index_or, refl, sym, ap, subst, ◌∙◌, inl, inr, append_assoc, arith, ◌==◌, eq-eqb, ne_eqb, length-append}
+use Rattle.mlt_trace_audit.proofs.Names.{cases_eq, All-contains, Contains-append_left, sum_by-cons, ObjOp, ObjReply, Lists, Stage, Running, Ended, contains-first, contains-later, contains-nothing, changed, TraceItem, Begin, Op, Back, Commit, Abort, AreBegunInOrder, begun_txs, ArePlaced, HasPlace, IsRunning, told, begun_stays, earlier_or_last, number_in, stage-other, told-push, runs_begun, End, Committed, Outcome, count_of, Closing, IsClosedSo, IsOfHistory, IsWithoutTx, closing_by, closings_of, ops_of, ByAbort, ByCommit}
+use Rattle.std.proofs.lemmas.List.{map-append}
 use Rattle.mlt_object_kinds.specs.Bases.{Base, Step, empty_base}
-use Rattle.mlt_order.specs.Histories.{Lists, Stage}
-use Rattle.mlt_order.specs.Histories.Stage.{Fresh, Running, Ended}
+use Rattle.mlt_order.specs.Histories.Stage.{Fresh}
 use Rattle.mlt_order.specs.Runs.{IsSerialBase}
 use Rattle.mlt_order.proofs.Growing.{one_last}
-use Rattle.mlt_order.proofs.RunLemmas.{contains-first, contains-later, contains-nothing}
-use Rattle.mlt_order.proofs.Tables.{changed}
-use Rattle.mlt_trace.specs.declared.item.TraceItem.{TraceItem}
-use Rattle.mlt_trace.specs.declared.item.TraceItem.TheVariants.{Begin, Op, Back, Commit, Abort}
-use Rattle.mlt_trace.specs.Numbers.{AreBegunInOrder, begun_txs, commit_count, commit_numbers}
+use Rattle.mlt_trace.specs.Numbers.{commit_count, commit_numbers}
 use Rattle.mlt_trace.proofs.ItemLaws.{commits_counted, no_commit}
-use Rattle.mlt_trace_check.specs.Traces.{ArePlaced, HasPlace, IsRunning, IsWhole, told}
-use Rattle.mlt_trace_check.proofs.Growing.{append_nil, begun_stays, earlier_or_last, last_one, number_in, stage-other, told-push, transcript-other}
-use Rattle.mlt_trace_check.proofs.Lasting.{one_more, runs_begun}
+use Rattle.mlt_trace_check.specs.Traces.{IsWhole}
+use Rattle.mlt_trace_check.proofs.Growing.{append_nil, last_one, transcript-other}
+use Rattle.mlt_trace_check.proofs.Lasting.{one_more}
 use Rattle.mlt_trace_check.proofs.Standing.{was_whole}
-use Rattle.mlt_script_serial.specs.declared.outcome.End.{End}
-use Rattle.mlt_script_serial.specs.declared.outcome.End.TheVariants.{Committed, Aborted, Refused}
-use Rattle.mlt_script_serial.specs.declared.outcome.Outcome.{Outcome}
-use Rattle.mlt_trace_audit.specs.Agreement.{Agrees, count_of}
+use Rattle.mlt_script_serial.specs.declared.outcome.End.TheVariants.{Aborted, Refused}
+use Rattle.mlt_trace_audit.specs.Agreement.{Agrees}
 use Rattle.mlt_trace_audit.specs.Committed.{AreCommittedOf, CommitFrom, IsBaseOfOutcomes, transcripts_of}
-use Rattle.mlt_trace_audit.specs.Outcomes.{Closing, IsClosedSo, IsOfHistory, IsWithoutTx, closing_by, closings_of, ops_of}
-use Rattle.mlt_trace_audit.specs.Outcomes.Closing.{ByAbort, ByCommit}
 use Rattle.mlt_trace_audit.proofs.Placed.{behind_commit, begun_in, closings_abort, closings_commit, closings_of-append, closings_other, ops_of-append, ops_other, ops_own, stage_at}
 
 -- ---- one more item

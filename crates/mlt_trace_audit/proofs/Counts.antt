@@ -1,12 +1,7 @@
 -- Numbers of outcomes, where transactions begin in order.
 use Rattle.std.proofs.Common.{◌≡◌, ◌⊎◌, ℕ, zero, suc, ◌+◌, ◌<◌, ◌≤◌, List, [], ◌∷◌, length, All, Contains, slice_index_or, subst, ◌∙◌, inl, inr, arith}
-use Rattle.std.proofs.lemmas.Bool.{cases_eq}
+use Rattle.mlt_trace_audit.proofs.Names.{cases_eq, contains-first, contains-later, contains-nothing, TraceItem, AreBegunInOrder, CountsFrom, begin_count, begun_txs, Outcome, IsOfBegunTx, NumbersAgree, count_of}
 use Rattle.std.proofs.lemmas.List.Elements.{All-weaker}
-use Rattle.mlt_order.proofs.RunLemmas.{contains-first, contains-later, contains-nothing}
-use Rattle.mlt_trace.specs.declared.item.TraceItem.{TraceItem}
-use Rattle.mlt_trace.specs.Numbers.{AreBegunInOrder, CountsFrom, begin_count, begun_txs}
-use Rattle.mlt_script_serial.specs.declared.outcome.Outcome.{Outcome}
-use Rattle.mlt_trace_audit.specs.Agreement.{IsOfBegunTx, NumbersAgree, count_of}
 
 -- ---- numbers that count
 

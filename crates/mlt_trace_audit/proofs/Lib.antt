@@ -1,3 +1,4 @@
+mod Names
 pub mod Loops
 mod Parts
 pub mod Placed

@@ -1,6 +1,5 @@
 -- Loops over a list that end at the first element of which a fact does not hold.
-use Rattle.std.proofs.Common.{◌≡◌, ℕ, ◌+◌, ◌<◌, ◌≤◌, List, length, get_or, take, All, sym, subst}
-use Rattle.std.proofs.lemmas.List.{take_all}
+use Rattle.std.proofs.Common.{◌≡◌, ℕ, ◌+◌, ◌<◌, ◌≤◌, List, length, get_or, take, All, sym, subst, take_all}
 use Rattle.std.proofs.lemmas.List.Elements.{All-more, All-same, All-get_or}
 
 module _ {X : Type 0} (P : X → Type 0) (xs : List X) (i : ℕ) where

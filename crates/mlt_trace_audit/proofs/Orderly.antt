@@ -1,14 +1,7 @@
 -- Histories in order: the numbers begun count, and no item stands before its begin.
-use Rattle.std.proofs.Common.{◌≡◌, ◌⊎◌, ℕ, zero, suc, ◌+◌, ◌<◌, ◌≤◌, List, [], ◌∷◌, ◌++◌, true, length, get_or, take, Some, slice_get, refl, sym, ap, subst, ◌∙◌, inl, inr, arith}
-use Rattle.std.proofs.lemmas.Bool.{cases_lt}
-use Rattle.std.proofs.lemmas.List.{length-append, take_all, take_more}
-use Rattle.std.proofs.lemmas.Option.{get_or_from_slice_get, slice_get-get_or, slice_get_within}
-use Rattle.mlt_trace.specs.declared.item.TraceItem.{TraceItem}
-use Rattle.mlt_trace.specs.declared.item.TraceItem.TheVariants.{Begin, Op, Back, Commit, Abort}
-use Rattle.mlt_trace.specs.Numbers.{AreBegunInOrder, CountsFrom, begin_count, begun_txs}
-use Rattle.mlt_trace.proofs.ItemLaws.{begin_keeps_order, begins_counted, begun_txs-append, no_begin}
-use Rattle.mlt_trace_audit.specs.Ordered.{AreOrdered, StandsBehind, is_told, tx_of}
-use Rattle.mlt_trace_audit.specs.Outcomes.{HasNothing}
+use Rattle.std.proofs.Common.{◌≡◌, ◌⊎◌, ℕ, zero, suc, ◌+◌, ◌<◌, ◌≤◌, List, [], ◌∷◌, ◌++◌, true, length, get_or, take, Some, slice_get, refl, sym, ap, subst, ◌∙◌, inl, inr, arith, length-append, take_all}
+use Rattle.mlt_trace_audit.proofs.Names.{cases_lt, take_more, get_or_from_slice_get, slice_get-get_or, slice_get_within, TraceItem, Begin, Op, Back, Commit, Abort, AreBegunInOrder, CountsFrom, begin_count, begun_txs, begins_counted, begun_txs-append, no_begin, AreOrdered, StandsBehind, is_told, tx_of, HasNothing}
+use Rattle.mlt_trace.proofs.ItemLaws.{begin_keeps_order}
 use Rattle.mlt_trace_audit.proofs.Apart.{IsApart, nothing_none, nothing_push}
 
 -- the items before a place are in order

@@ -3,11 +3,10 @@ use Rattle.std.proofs.Common.{◌≡◌, refl, sym, ap, ◌∙◌}
 use Rattle.mlt_object_kinds.specs.declared.account.AccountOp.TheVariants.{Open, Close, Deposit, Withdraw, Balance}
 use Rattle.mlt_object_kinds.specs.declared.counter.CounterOp.TheVariants.{Up, Down, Read}
 use Rattle.mlt_object_kinds.specs.declared.element.ElementOp.TheVariants.{Add, Remove, Has}
-use Rattle.mlt_object_kinds.specs.declared.operation.ObjOp.{ObjOp}
+use Rattle.mlt_trace_audit.proofs.Names.{ObjOp, ObjReply, parts_of}
 use Rattle.mlt_object_kinds.specs.declared.operation.ObjOp.TheVariants.{Account, Element, Counter, Size}
-use Rattle.mlt_object_kinds.specs.declared.operation.ObjReply.{ObjReply}
 use Rattle.mlt_object_kinds.specs.declared.operation.ObjReply.TheVariants.{Opened}
-use Rattle.mlt_object_kinds.specs.Packing.{op_in, parts_of, reply_in}
+use Rattle.mlt_object_kinds.specs.Packing.{op_in, reply_in}
 
 op_of_parts : (op : ObjOp) (reply : ObjReply) → op_in (parts_of op reply) ≡ op
 op_of_parts (Account number Open) reply = refl

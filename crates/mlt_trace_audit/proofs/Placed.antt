@@ -1,26 +1,13 @@
 -- What items have of a transaction, and that placed ones have nothing of it behind its close.
-use Rattle.std.proofs.Common.{◌≡◌, ◌≢◌, ℕ, List, [], ◌∷◌, ◌++◌, true, false, cond, nat_eq, Contains, refl, sym, ap, subst, ◌∙◌, inl, inr, append_assoc, arith}
-use Rattle.std.proofs.lemmas.Bool.{cases_eq, eq-eqb, ne_eqb}
-use Rattle.std.proofs.lemmas.List.Elements.{Contains-append_left}
-use Rattle.mlt_object_kinds.specs.declared.operation.ObjOp.{ObjOp}
-use Rattle.mlt_object_kinds.specs.declared.operation.ObjReply.{ObjReply}
-use Rattle.mlt_order.specs.Histories.{Entry, Lists, Stage, after_entry, items_done}
+use Rattle.std.proofs.Common.{◌≡◌, ◌≢◌, ℕ, List, [], ◌∷◌, ◌++◌, true, false, cond, nat_eq, Contains, refl, sym, ap, subst, ◌∙◌, inl, inr, append_assoc, arith, eq-eqb, ne_eqb}
+use Rattle.mlt_trace_audit.proofs.Names.{cases_eq, Contains-append_left, ObjOp, ObjReply, Lists, Stage, Running, Ended, changed, TraceItem, Begin, Op, Back, Commit, Abort, begun_txs, begun_txs-append, ArePlaced, HasPlace, IsRunning, told, begun_stays, number_in, stage-other, told-push, runs_begun, HasNothing, closings_of, ops_of, ByAbort, ByCommit}
+use Rattle.mlt_order.specs.Histories.{Entry, after_entry, items_done}
 use Rattle.mlt_order.specs.Histories.Entry.{Begun, Closed, Did, TookBack}
 use Rattle.mlt_order.specs.Histories.Entry.{Committed as CommittedEntry}
-use Rattle.mlt_order.specs.Histories.Stage.{Running, Ended}
 use Rattle.mlt_order.specs.Interleavings.{items_of}
 use Rattle.mlt_order.proofs.Parts.{items_of-append, items_of-other, items_of-same}
-use Rattle.mlt_order.proofs.Tables.{changed}
-use Rattle.mlt_trace.specs.declared.item.TraceItem.{TraceItem}
-use Rattle.mlt_trace.specs.declared.item.TraceItem.TheVariants.{Begin, Op, Back, Commit, Abort}
 use Rattle.mlt_trace.specs.Entries.{entries_of, entry_of}
-use Rattle.mlt_trace.specs.Numbers.{begun_txs}
-use Rattle.mlt_trace.proofs.ItemLaws.{begun_txs-append, entries_of-append}
-use Rattle.mlt_trace_check.specs.Traces.{ArePlaced, HasPlace, IsRunning, told}
-use Rattle.mlt_trace_check.proofs.Growing.{begun_stays, number_in, stage-other, told-push}
-use Rattle.mlt_trace_check.proofs.Lasting.{runs_begun}
-use Rattle.mlt_trace_audit.specs.Outcomes.{HasNothing, closings_of, ops_of}
-use Rattle.mlt_trace_audit.specs.Outcomes.Closing.{ByAbort, ByCommit}
+use Rattle.mlt_trace.proofs.ItemLaws.{entries_of-append}
 
 -- ---- one item in front
 

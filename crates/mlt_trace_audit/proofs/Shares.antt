@@ -1,18 +1,7 @@
 -- How many operations and closes of a history each outcome has to tell.
-use Rattle.std.proofs.Common.{◌≡◌, ◌≢◌, ℕ, zero, suc, ◌+◌, ◌<◌, ◌≤◌, List, [], ◌∷◌, ◌++◌, Bool, true, false, cond, length, get_or, take, drop, All, Contains, refl, sym, ap, subst, ◌∙◌, inl, inr, arith}
-use Rattle.std.specs.Prelude.{◌==◌, sum_by}
-use Rattle.std.proofs.lemmas.Bool.{cases_eq, eq-eqb, ne_eqb}
-use Rattle.std.proofs.lemmas.List.{length-append, take-append-drop, take_all, take_more}
-use Rattle.std.proofs.lemmas.List.Elements.{All-contains}
-use Rattle.std.proofs.lemmas.List.Sums.{sum_by-cons, sum_by_push}
-use Rattle.mlt_order.proofs.RunLemmas.{contains-first, contains-later}
-use Rattle.mlt_trace.specs.declared.item.TraceItem.{TraceItem}
-use Rattle.mlt_trace.specs.declared.item.TraceItem.TheVariants.{Begin, Op, Back, Commit, Abort}
-use Rattle.mlt_trace.specs.Numbers.{begin_count}
-use Rattle.mlt_script_serial.specs.declared.outcome.Outcome.{Outcome}
-use Rattle.mlt_trace_audit.specs.Agreement.{NumbersAgree, count_of}
-use Rattle.mlt_trace_audit.specs.Ordered.{AreOrdered, is_told, told_count, tx_of}
-use Rattle.mlt_trace_audit.specs.Outcomes.{HasNothing, IsClosedBefore, IsOfHistory, closings_of, ops_of}
+use Rattle.std.proofs.Common.{◌≡◌, ◌≢◌, ℕ, zero, suc, ◌+◌, ◌<◌, ◌≤◌, List, [], ◌∷◌, ◌++◌, Bool, true, false, cond, length, get_or, take, drop, All, Contains, refl, sym, ap, subst, ◌∙◌, inl, inr, arith, ◌==◌, sum_by, eq-eqb, ne_eqb, length-append, take-append-drop, take_all}
+use Rattle.mlt_trace_audit.proofs.Names.{cases_eq, take_more, All-contains, sum_by-cons, contains-first, contains-later, TraceItem, Begin, Op, Back, Commit, Abort, begin_count, Outcome, NumbersAgree, count_of, AreOrdered, is_told, told_count, tx_of, HasNothing, IsClosedBefore, IsOfHistory, closings_of, ops_of}
+use Rattle.std.proofs.lemmas.List.Sums.{sum_by_push}
 use Rattle.mlt_trace_audit.proofs.Apart.{closed_whole, same_past}
 use Rattle.mlt_trace_audit.proofs.Counts.{is_begun}
 use Rattle.mlt_trace_audit.proofs.Orderly.{begun_in_order_to, front_more, item_at, nothing_of_zero, told_of_begun}

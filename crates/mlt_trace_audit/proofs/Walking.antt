@@ -1,13 +1,7 @@
 -- A walk over items, up to where they have a transaction's operations and its close.
-use Rattle.std.proofs.Common.{◌≡◌, ℕ, ◌+◌, ◌<◌, ◌≤◌, List, [], ◌∷◌, ◌++◌, Bool, true, false, cond, length, get_or, take, drop, refl, sym, ap, ◌∙◌, append_assoc, arith}
-use Rattle.std.proofs.lemmas.List.{append_cancel_left, drop_more, get_or-drop, length-append, length-drop, length-take, take-append-drop, take_all, take_more}
-use Rattle.mlt_object_kinds.specs.declared.operation.ObjOp.{ObjOp}
-use Rattle.mlt_object_kinds.specs.declared.operation.ObjReply.{ObjReply}
-use Rattle.mlt_trace.specs.declared.item.TraceItem.{TraceItem}
-use Rattle.mlt_trace.specs.declared.item.TraceItem.TheVariants.{Op, Commit, Abort}
-use Rattle.mlt_script_serial.specs.declared.outcome.End.{End}
-use Rattle.mlt_trace_audit.specs.Outcomes.{Closing, IsClosedBefore, IsClosedSo, closing_by, closings_of, ops_of}
-use Rattle.mlt_trace_audit.specs.Outcomes.Closing.{ByAbort, ByCommit}
+use Rattle.std.proofs.Common.{◌≡◌, ℕ, ◌+◌, ◌<◌, ◌≤◌, List, [], ◌∷◌, ◌++◌, Bool, true, false, cond, length, get_or, take, drop, refl, sym, ap, ◌∙◌, append_assoc, arith, get_or-drop, length-append, length-drop, length-take, take-append-drop, take_all}
+use Rattle.mlt_trace_audit.proofs.Names.{take_more, ObjOp, ObjReply, TraceItem, Op, Commit, Abort, End, Closing, IsClosedBefore, IsClosedSo, closing_by, closings_of, ops_of, ByAbort, ByCommit}
+use Rattle.std.proofs.lemmas.List.{append_cancel_left, drop_more}
 use Rattle.mlt_trace_audit.proofs.Apart.{Dones, IsApart, same_past}
 use Rattle.mlt_trace_audit.proofs.Placed.{closings_abort, closings_commit, ops_own}
 

@@ -1,17 +1,8 @@
 -- A text that is an accepted trace has one answer, and no fault.
 use Rattle.std.proofs.Common.{◌≡◌, ℕ, List, ◌∷◌, ◌++◌, sym, subst, ◌∙◌}
-use Rattle.mlt_types.specs.declared.refusal.TraceCause.{TraceCause}
-use Rattle.mlt_types.specs.declared.refusal.TraceCause.TheVariants as cause
-use Rattle.mlt_object_kinds.specs.declared.operation.ObjOp.{ObjOp}
-use Rattle.mlt_object_kinds.specs.declared.operation.ObjReply.{ObjReply}
-use Rattle.mlt_object_kinds.specs.Bases.{Base, Step}
-use Rattle.mlt_order.specs.Runs.{Runs}
+use Rattle.mlt_trace_check.proofs.Names.{TraceCause, ObjOp, ObjReply, Base, Step, Runs, Raw, TraceItem, Bad, Says, HasFalseReply, HasPlace, IsFirstFaultOf, IsItemFault, IsLineFault, IsTrace, told}
 use Rattle.mlt_order.proofs.RunLemmas.{runs_split, runs_to_one}
-use Rattle.mlt_text_words.specs.Lines.{Raw}
-use Rattle.mlt_trace.specs.declared.item.TraceItem.{TraceItem}
-use Rattle.mlt_trace_check.specs.declared.reading.TraceReading.TheVariants.{Bad, Says}
 use Rattle.mlt_trace_check.specs.Readings.{reading}
-use Rattle.mlt_trace_check.specs.Traces.{HasFalseReply, HasPlace, IsFirstFaultOf, IsItemFault, IsLineFault, IsTrace, told}
 use Rattle.mlt_trace_check.proofs.Fronts.{RunsOn, base_functional, one_trace, trace_up_to}
 
 -- no run goes past an operation that is false where it stands
@@ -32,19 +23,19 @@ pub same_said : (raw : Raw) (one other : TraceItem) → reading raw ≡ Says one
 same_said raw one other e f = let g : Says one ≡ Says other = sym e ∙ f in cc g
 
 pub item_fault : (items : List TraceItem) (base : Base) (raw : Raw) (item : TraceItem) (line : ℕ) (fault : TraceCause) → reading raw ≡ Says item → IsLineFault items base raw line fault → IsItemFault items base item line fault
-item_fault items base raw item line cause.Line is h = absurd (let g : Says item ≡ Bad cause.Line = sym is ∙ h.0 in cc g)
-item_fault items base raw item line cause.Cut is h = absurd (let g : Says item ≡ Bad cause.Cut = sym is ∙ h.0 in cc g)
-item_fault items base raw item line cause.Words is h = absurd (let g : Says item ≡ Bad cause.Words = sym is ∙ h.0 in cc g)
-item_fault items base raw item line cause.Place is h = subst (λ one. IsItemFault items base one line cause.Place) (same_said raw h.0 item h.1 is) h.2
-item_fault items base raw item line cause.Reply is h = subst (λ one. IsItemFault items base one line cause.Reply) (same_said raw h.0 item h.1 is) h.2
+item_fault items base raw item line TraceCause.Line is h = absurd (let g : Says item ≡ Bad TraceCause.Line = sym is ∙ h.0 in cc g)
+item_fault items base raw item line TraceCause.Cut is h = absurd (let g : Says item ≡ Bad TraceCause.Cut = sym is ∙ h.0 in cc g)
+item_fault items base raw item line TraceCause.Words is h = absurd (let g : Says item ≡ Bad TraceCause.Words = sym is ∙ h.0 in cc g)
+item_fault items base raw item line TraceCause.Place is h = subst (λ one. IsItemFault items base one line TraceCause.Place) (same_said raw h.0 item h.1 is) h.2
+item_fault items base raw item line TraceCause.Reply is h = subst (λ one. IsItemFault items base one line TraceCause.Reply) (same_said raw h.0 item h.1 is) h.2
 
 -- what has its place and runs on is no fault
 pub no_item_fault : (items : List TraceItem) (base : Base) (item : TraceItem) (line : ℕ) (fault : TraceCause) → HasPlace items item → RunsOn items base item → IsItemFault items base item line fault → ⊥
-no_item_fault items base item line cause.Line place runs h = h
-no_item_fault items base item line cause.Cut place runs h = h
-no_item_fault items base item line cause.Words place runs h = h
-no_item_fault items base item line cause.Place place runs h = h.0 place
-no_item_fault items base item line cause.Reply place runs h = let run = runs h.0 h.1 h.2 in not_false items base h.0 line run.0 run.1 h.4
+no_item_fault items base item line TraceCause.Line place runs h = h
+no_item_fault items base item line TraceCause.Cut place runs h = h
+no_item_fault items base item line TraceCause.Words place runs h = h
+no_item_fault items base item line TraceCause.Place place runs h = h.0 place
+no_item_fault items base item line TraceCause.Reply place runs h = let run = runs h.0 h.1 h.2 in not_false items base h.0 line run.0 run.1 h.4
 
 -- what goes on as a trace has no fault there
 pub no_fault_inside : (before after : List Raw) (raw : Raw) (items all : List TraceItem) (base end : Base) (line : ℕ) (fault : TraceCause)

@@ -1,17 +1,8 @@
 -- That an answer which is right is the only one.
-use Rattle.std.proofs.Common.{◌≡◌, ◌⊎◌, ℕ, List, ◌++◌, Ok, Err, Result, Option, Some, None, refl, sym, ap, ◌∙◌, inl, inr}
-use Rattle.std.specs.Prelude.{IsErrAnd, MatchResult}
+use Rattle.std.proofs.Common.{◌≡◌, ◌⊎◌, ℕ, List, ◌++◌, Ok, Err, Result, Option, Some, None, refl, sym, ap, ◌∙◌, inl, inr, IsErrAnd, MatchResult}
 use Rattle.std.specs.Io.KnownBytes.{Consumes, IsAtEnd}
-use Rattle.mlt_types.specs.declared.refusal.Refusal.{Refusal}
-use Rattle.mlt_types.specs.declared.refusal.Refusal.TheVariants.{OutOfMemory, TraceFault}
-use Rattle.mlt_types.specs.declared.refusal.TraceCause.{TraceCause}
-use Rattle.mlt_text.specs.Failures.{IsWant}
-use Rattle.mlt_object_kinds.specs.Bases.{Base}
-use Rattle.mlt_text_words.specs.Lines.{lines}
-use Rattle.mlt_trace.specs.Numbers.{committed_txs}
+use Rattle.mlt_trace_check.proofs.Names.{Refusal, OutOfMemory, TraceFault, TraceCause, IsWant, Base, lines, committed_txs, Answers, IsAcceptedTrace, IsFirstFault}
 use Rattle.mlt_trace_check.specs.declared.trace_check.Order.{Order}
-use Rattle.mlt_trace_check.specs.Answering.{Answers}
-use Rattle.mlt_trace_check.specs.Traces.{IsAcceptedTrace, IsFirstFault}
 use Rattle.mlt_trace_check.proofs.Deciding.{accepted_no_fault}
 use Rattle.mlt_trace_check.proofs.Faults.{one_first_fault}
 use Rattle.mlt_trace_check.proofs.Fronts.{one_trace}

@@ -1,20 +1,7 @@
 -- A text has one first fault.
 use Rattle.std.proofs.Common.{◌≡◌, ◌⊎◌, ℕ, ◌+◌, List, [], ◌∷◌, ◌++◌, length, refl, sym, ap, subst, ◌∙◌, inl, inr, append_assoc}
-use Rattle.mlt_types.specs.declared.refusal.TraceCause.{TraceCause}
-use Rattle.mlt_types.specs.declared.refusal.TraceCause.TheVariants as cause
-use Rattle.mlt_object_kinds.specs.declared.operation.ObjOp.{ObjOp}
-use Rattle.mlt_object_kinds.specs.declared.operation.ObjReply.{ObjReply}
-use Rattle.mlt_object_kinds.specs.Bases.{Base, Step}
-use Rattle.mlt_order.specs.Histories.{Lists}
-use Rattle.mlt_order.specs.Runs.{Runs}
-use Rattle.mlt_order.proofs.Tables.{changed}
-use Rattle.mlt_text_words.specs.Lines.{Raw}
-use Rattle.mlt_trace.specs.declared.item.TraceItem.{TraceItem}
-use Rattle.mlt_trace.specs.declared.item.TraceItem.TheVariants.{Op, Commit}
-use Rattle.mlt_trace_check.specs.declared.reading.TraceReading.{TraceReading}
-use Rattle.mlt_trace_check.specs.declared.reading.TraceReading.TheVariants.{Bad, Says}
+use Rattle.mlt_trace_check.proofs.Names.{TraceCause, ObjOp, ObjReply, Base, Step, Lists, Runs, changed, Raw, TraceItem, Op, Commit, TraceReading, Bad, Says, ArePlaced, HasFalseReply, IsFirstFaultOf, IsItemFault, IsLineFault, IsTrace, told}
 use Rattle.mlt_trace_check.specs.Readings.{reading}
-use Rattle.mlt_trace_check.specs.Traces.{ArePlaced, HasFalseReply, IsFirstFaultOf, IsItemFault, IsLineFault, IsTrace, told}
 use Rattle.mlt_trace_check.proofs.Deciding.{item_fault, no_fault_inside, no_run_past}
 use Rattle.mlt_trace_check.proofs.Fronts.{one_trace}
 use Rattle.mlt_trace_check.proofs.Growing.{begun_stays, told-push}
@@ -73,22 +60,22 @@ SameFault line other fault another = (line ≡ other) × (fault ≡ another)
 
 pub one_item_fault : (items : List TraceItem) (base : Base) (item : TraceItem) (line other : ℕ) (fault another : TraceCause) → ArePlaced items
     → IsItemFault items base item line fault → IsItemFault items base item other another → SameFault line other fault another
-one_item_fault items base item line other cause.Place cause.Place placed h k = (h.1 ∙ sym k.1, refl)
-one_item_fault items base item line other cause.Place cause.Reply placed h k = absurd (h.0 k.3)
-one_item_fault items base item line other cause.Reply cause.Place placed h k = absurd (k.0 h.3)
-one_item_fault items base item line other cause.Reply cause.Reply placed h k =
+one_item_fault items base item line other TraceCause.Place TraceCause.Place placed h k = (h.1 ∙ sym k.1, refl)
+one_item_fault items base item line other TraceCause.Place TraceCause.Reply placed h k = absurd (h.0 k.3)
+one_item_fault items base item line other TraceCause.Reply TraceCause.Place placed h k = absurd (k.0 h.3)
+one_item_fault items base item line other TraceCause.Reply TraceCause.Reply placed h k =
     let same : Commit k.0 k.1 ≡ Commit h.0 h.1 = sym k.2 ∙ h.2 in
     let one : k.0 ≡ h.0 = cc same in
     (one_false_reply items base h.0 line other placed h.4 (subst (λ tx. HasFalseReply items base tx other) one k.4), refl)
-one_item_fault items base item line other cause.Line another placed h k = absurd h
-one_item_fault items base item line other cause.Cut another placed h k = absurd h
-one_item_fault items base item line other cause.Words another placed h k = absurd h
-one_item_fault items base item line other cause.Place cause.Line placed h k = absurd k
-one_item_fault items base item line other cause.Place cause.Cut placed h k = absurd k
-one_item_fault items base item line other cause.Place cause.Words placed h k = absurd k
-one_item_fault items base item line other cause.Reply cause.Line placed h k = absurd k
-one_item_fault items base item line other cause.Reply cause.Cut placed h k = absurd k
-one_item_fault items base item line other cause.Reply cause.Words placed h k = absurd k
+one_item_fault items base item line other TraceCause.Line another placed h k = absurd h
+one_item_fault items base item line other TraceCause.Cut another placed h k = absurd h
+one_item_fault items base item line other TraceCause.Words another placed h k = absurd h
+one_item_fault items base item line other TraceCause.Place TraceCause.Line placed h k = absurd k
+one_item_fault items base item line other TraceCause.Place TraceCause.Cut placed h k = absurd k
+one_item_fault items base item line other TraceCause.Place TraceCause.Words placed h k = absurd k
+one_item_fault items base item line other TraceCause.Reply TraceCause.Line placed h k = absurd k
+one_item_fault items base item line other TraceCause.Reply TraceCause.Cut placed h k = absurd k
+one_item_fault items base item line other TraceCause.Reply TraceCause.Words placed h k = absurd k
 
 same_bad : (raw : Raw) (one other : TraceCause) → reading raw ≡ Bad one → reading raw ≡ Bad other → one ≡ other
 same_bad raw one other e f = let g : Bad one ≡ Bad other = sym e ∙ f in cc g
@@ -98,11 +85,11 @@ not_both raw item fault e f = let g : Says item ≡ Bad fault = sym e ∙ f in c
 
 -- the fault of a line that is bad by itself
 bad_fault : (items : List TraceItem) (base : Base) (raw : Raw) (found : TraceCause) (line : ℕ) (fault : TraceCause) → reading raw ≡ Bad found → IsLineFault items base raw line fault → (line ≡ length items + 1) × (fault ≡ found)
-bad_fault items base raw found line cause.Line is h = (h.1, same_bad raw cause.Line found h.0 is)
-bad_fault items base raw found line cause.Cut is h = (h.1, same_bad raw cause.Cut found h.0 is)
-bad_fault items base raw found line cause.Words is h = (h.1, same_bad raw cause.Words found h.0 is)
-bad_fault items base raw found line cause.Place is h = absurd (not_both raw h.0 found h.1 is)
-bad_fault items base raw found line cause.Reply is h = absurd (not_both raw h.0 found h.1 is)
+bad_fault items base raw found line TraceCause.Line is h = (h.1, same_bad raw TraceCause.Line found h.0 is)
+bad_fault items base raw found line TraceCause.Cut is h = (h.1, same_bad raw TraceCause.Cut found h.0 is)
+bad_fault items base raw found line TraceCause.Words is h = (h.1, same_bad raw TraceCause.Words found h.0 is)
+bad_fault items base raw found line TraceCause.Place is h = absurd (not_both raw h.0 found h.1 is)
+bad_fault items base raw found line TraceCause.Reply is h = absurd (not_both raw h.0 found h.1 is)
 
 one_line_fault : (items : List TraceItem) (base : Base) (raw : Raw) (found : TraceReading) (line other : ℕ) (fault another : TraceCause) → reading raw ≡ found → ArePlaced items
     → IsLineFault items base raw line fault → IsLineFault items base raw other another → SameFault line other fault another

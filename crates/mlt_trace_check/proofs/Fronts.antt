@@ -1,20 +1,10 @@
 -- The front of a trace up to one of its lines.
 use Rattle.std.proofs.Common.{◌≡◌, ℕ, List, [], ◌∷◌, ◌++◌, map, refl, sym, ap, subst, ◌∙◌, append_assoc}
-use Rattle.mlt_object_kinds.specs.declared.operation.ObjOp.{ObjOp}
-use Rattle.mlt_object_kinds.specs.declared.operation.ObjReply.{ObjReply}
-use Rattle.mlt_object_kinds.specs.Bases.{Base, Step, empty_base}
-use Rattle.mlt_object_kinds.proofs.BaseLaws.{base_one_answer}
-use Rattle.mlt_order.specs.Histories.{Entry, Lists, after_entries, after_entry, no_lists}
-use Rattle.mlt_order.specs.Runs.{IsFunctional, IsSerialBase, Runs}
+use Rattle.mlt_trace_check.proofs.Names.{ObjOp, ObjReply, Base, Step, empty_base, base_one_answer, Lists, after_entry, no_lists, IsSerialBase, Runs, Raw, TraceItem, Begin, Op, Back, Commit, Abort, entries_of, entries_of-append, Says, HasPlace, IsTrace, told}
+use Rattle.mlt_order.specs.Histories.{Entry, after_entries}
+use Rattle.mlt_order.specs.Runs.{IsFunctional}
 use Rattle.mlt_order.proofs.RunLemmas.{serial_to_one}
-use Rattle.mlt_text_words.specs.Lines.{Raw}
-use Rattle.mlt_trace.specs.declared.item.TraceItem.{TraceItem}
-use Rattle.mlt_trace.specs.declared.item.TraceItem.TheVariants.{Begin, Op, Back, Commit, Abort}
-use Rattle.mlt_trace.specs.Entries.{entries_of}
-use Rattle.mlt_trace.proofs.ItemLaws.{entries_of-append}
-use Rattle.mlt_trace_check.specs.declared.reading.TraceReading.TheVariants.{Says}
 use Rattle.mlt_trace_check.specs.Readings.{reading}
-use Rattle.mlt_trace_check.specs.Traces.{HasPlace, IsTrace, told}
 use Rattle.mlt_trace_check.proofs.Growing.{append_nil}
 
 pub base_functional : IsFunctional Step

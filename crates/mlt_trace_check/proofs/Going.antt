@@ -1,33 +1,19 @@
 -- A text that a checker goes over, line by line.
 use Rattle.std.proofs.Common.{◌≡◌, ℕ, ◌+◌, Bool, true, false, cond, List, [], ◌∷◌, ◌++◌, length, map, Ok, Err, Option, Some, None, nat_lt, refl, sym, ap, subst, ◌∙◌, inl, inr, append_assoc, length-append}
-use Rattle.std.proofs.lemmas.List.{map-append}
-use Rattle.std.specs.List.{list_all}
-use Rattle.mlt_types.specs.declared.refusal.Refusal.{Refusal}
-use Rattle.mlt_types.specs.declared.refusal.Refusal.TheVariants.{OutOfMemory, TraceFault}
-use Rattle.mlt_types.specs.declared.refusal.TraceCause.{TraceCause}
-use Rattle.mlt_types.specs.declared.refusal.TraceCause.TheVariants as cause
-use Rattle.mlt_object_kinds.specs.Bases.{Base}
-use Rattle.mlt_text_words.specs.Lines.{Raw, lines, content, is_allowed}
-use Rattle.mlt_text_words.specs.Words.{raw_words}
+use Rattle.mlt_trace_check.proofs.Names.{map-append, list_all, Refusal, OutOfMemory, TraceFault, TraceCause, Base, Raw, lines, is_allowed, raw_words, TraceItem, committed_txs, Checker, TraceReading, Bad, Says, Answers, WentOver, Knows, Takes, item_or_fault, ArePlaced, HasPlace, IsAcceptedTrace, IsItemFault, IsLineFault}
+use Rattle.mlt_text_words.specs.Lines.{content}
 use Rattle.mlt_text_words.proofs.Cutting.{no_lines}
-use Rattle.mlt_trace.specs.declared.item.TraceItem.{TraceItem}
-use Rattle.mlt_trace.specs.Numbers.{committed_txs}
-use Rattle.mlt_trace_check.specs.declared.checker.Checker.{Checker}
-use Rattle.mlt_trace_check.specs.declared.reading.TraceReading.{TraceReading}
-use Rattle.mlt_trace_check.specs.declared.reading.TraceReading.TheVariants.{Bad, Says}
-use Rattle.mlt_trace_check.specs.Answering.{Answers, TakesLine, WentOver}
-use Rattle.mlt_trace_check.specs.Checkers.{Knows, Takes}
-use Rattle.mlt_trace_check.specs.Readings.{item_of, item_or_fault, reading}
-use Rattle.mlt_trace_check.specs.Traces.{ArePlaced, HasPlace, IsAcceptedTrace, IsItemFault, IsLineFault}
+use Rattle.mlt_trace_check.specs.Answering.{TakesLine}
+use Rattle.mlt_trace_check.specs.Readings.{item_of, reading}
 use Rattle.mlt_trace_check.proofs.Growing.{append_nil, committed_txs-append, no_cut, split_last}
 
 -- ---- a line that is faulty by itself
 
 -- a cause that a line has by itself
 abbrev IsOwn : TraceCause → Type 0
-IsOwn cause.Line = Unit {0}
-IsOwn cause.Cut = Unit {0}
-IsOwn cause.Words = Unit {0}
+IsOwn TraceCause.Line = Unit {0}
+IsOwn TraceCause.Cut = Unit {0}
+IsOwn TraceCause.Words = Unit {0}
 IsOwn other = ⊥
 
 abbrev IsOwnReading : TraceReading → Type 0
@@ -49,9 +35,9 @@ own_reading raw =
     (own_either (list_all is_allowed (content raw)) _ _ (own_either raw.ended _ _ (own_item (item_of (raw_words (content raw)))) tt) tt)
 
 own_fault : (fault : TraceCause) → IsOwn fault → (items : List TraceItem) (base : Base) (raw : Raw) (line : ℕ) → reading raw ≡ Bad fault → line ≡ length items + 1 → IsLineFault items base raw line fault
-own_fault cause.Line own items base raw line is at = (is, at)
-own_fault cause.Cut own items base raw line is at = (is, at)
-own_fault cause.Words own items base raw line is at = (is, at)
+own_fault TraceCause.Line own items base raw line is at = (is, at)
+own_fault TraceCause.Cut own items base raw line is at = (is, at)
+own_fault TraceCause.Words own items base raw line is at = (is, at)
 own_fault other own items base raw line is at = absurd own
 
 pub bad_line : (raw : Raw) (fault : TraceCause) (items : List TraceItem) (base : Base) (line : ℕ) → reading raw ≡ Bad fault → line ≡ length items + 1 → IsLineFault items base raw line fault
@@ -60,11 +46,11 @@ bad_line raw fault items base line is at = own_fault fault (subst IsOwnReading i
 -- a line that says an item has the item's faults
 fault_line : (fault : TraceCause) (items : List TraceItem) (base : Base) (raw : Raw) (item : TraceItem) (line : ℕ) → reading raw ≡ Says item
     → IsItemFault items base item line fault → IsLineFault items base raw line fault
-fault_line cause.Line items base raw item line is found = absurd found
-fault_line cause.Cut items base raw item line is found = absurd found
-fault_line cause.Words items base raw item line is found = absurd found
-fault_line cause.Place items base raw item line is found = (item, is, found)
-fault_line cause.Reply items base raw item line is found = (item, is, found)
+fault_line TraceCause.Line items base raw item line is found = absurd found
+fault_line TraceCause.Cut items base raw item line is found = absurd found
+fault_line TraceCause.Words items base raw item line is found = absurd found
+fault_line TraceCause.Place items base raw item line is found = (item, is, found)
+fault_line TraceCause.Reply items base raw item line is found = (item, is, found)
 
 -- a line of which the item is refused
 pub item_line : (refusal : Refusal) (old new : Checker) (line : ℕ) (raw : Raw) (item : TraceItem) → reading raw ≡ Says item

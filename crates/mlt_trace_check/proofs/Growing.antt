@@ -1,20 +1,10 @@
 -- What one more item makes of what the items tell.
 use Rattle.std.proofs.Common.{◌≡◌, ◌≢◌, ◌⊎◌, ℕ, List, [], ◌∷◌, ◌++◌, Contains, refl, sym, ap, subst, ◌∙◌, inl, inr}
-use Rattle.std.proofs.lemmas.List.Elements.{Contains-append_cases, Contains-append_left, Contains-append_right}
-use Rattle.mlt_object_kinds.specs.declared.operation.ObjOp.{ObjOp}
-use Rattle.mlt_object_kinds.specs.declared.operation.ObjReply.{ObjReply}
-use Rattle.mlt_order.specs.Histories.{Lists, after_entry, lists_of, no_lists}
-use Rattle.mlt_order.specs.Histories.Stage.{Running, Ended}
+use Rattle.mlt_trace_check.proofs.Names.{Contains-append_left, ObjOp, ObjReply, Lists, after_entry, no_lists, Running, Ended, contains-first, changed, TraceItem, Begin, Op, Back, Commit, Abort, entry_of, entries_of, begun_txs, committed_txs, begun_txs-append, entries_of-append, told}
+use Rattle.std.proofs.lemmas.List.Elements.{Contains-append_cases, Contains-append_right}
+use Rattle.mlt_order.specs.Histories.{lists_of}
 use Rattle.mlt_order.proofs.Growing.{after_entries-push}
-use Rattle.mlt_order.proofs.RunLemmas.{contains-first}
-use Rattle.mlt_order.proofs.Tables.{changed}
 use Rattle.mlt_order.proofs.Stages.{contains-one}
-use Rattle.mlt_trace.specs.declared.item.TraceItem.{TraceItem}
-use Rattle.mlt_trace.specs.declared.item.TraceItem.TheVariants.{Begin, Op, Back, Commit, Abort}
-use Rattle.mlt_trace.specs.Entries.{entry_of, entries_of}
-use Rattle.mlt_trace.specs.Numbers.{begun_txs, committed_txs}
-use Rattle.mlt_trace.proofs.ItemLaws.{begun_txs-append, entries_of-append}
-use Rattle.mlt_trace_check.specs.Traces.{told}
 
 -- the number of the item's transaction
 abbrev pub number_in : TraceItem → ℕ

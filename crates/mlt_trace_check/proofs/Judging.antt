@@ -1,24 +1,9 @@
 -- Each text is an accepted trace or has a first fault.
 use Rattle.std.proofs.Common.{◌≡◌, ◌≢◌, ◌⊎◌, inl, inr, ℕ, ◌+◌, ◌<◌, List, [], ◌∷◌, ◌++◌, length, map, Contains, refl, sym, ap, subst, ◌∙◌, append_assoc}
-use Rattle.std.proofs.lemmas.Bool.{cases_eq}
-use Rattle.mlt_types.specs.declared.refusal.TraceCause.{TraceCause}
-use Rattle.mlt_types.specs.declared.refusal.TraceCause.TheVariants as cause
-use Rattle.mlt_object_kinds.specs.declared.operation.ObjOp.{ObjOp}
-use Rattle.mlt_object_kinds.specs.declared.operation.ObjReply.{ObjReply}
-use Rattle.mlt_object_kinds.specs.Bases.{Base, Step, empty_base}
-use Rattle.mlt_order.specs.Histories.{Lists, Stage}
-use Rattle.mlt_order.specs.Histories.Stage.{Fresh, Running, Ended}
-use Rattle.mlt_order.specs.Runs.{IsSerialBase, Runs}
-use Rattle.mlt_order.proofs.RunLemmas.{contains-first, contains-later, contains-nothing, serial_push}
-use Rattle.mlt_text_words.specs.Lines.{Raw, lines}
-use Rattle.mlt_trace.specs.declared.item.TraceItem.{TraceItem}
-use Rattle.mlt_trace.specs.declared.item.TraceItem.TheVariants.{Begin, Op, Back, Commit, Abort}
-use Rattle.mlt_trace.specs.Numbers.{begun_txs, commit_count, committed_txs}
+use Rattle.mlt_trace_check.proofs.Names.{cases_eq, TraceCause, ObjOp, ObjReply, Base, Step, empty_base, Lists, Stage, Fresh, Running, Ended, IsSerialBase, Runs, contains-first, serial_push, Raw, lines, TraceItem, Begin, Op, Back, Commit, Abort, begun_txs, commit_count, committed_txs, TraceReading, Bad, Says, ArePlaced, HasPlace, IsAcceptedTrace, IsFirstFault, IsFirstFaultOf, IsItemFault, IsLineFault, IsRunning, IsTrace, IsWhole, told}
+use Rattle.mlt_order.proofs.RunLemmas.{contains-later, contains-nothing}
 use Rattle.mlt_trace.proofs.BegunLaws.{first_or_later}
-use Rattle.mlt_trace_check.specs.declared.reading.TraceReading.{TraceReading}
-use Rattle.mlt_trace_check.specs.declared.reading.TraceReading.TheVariants.{Bad, Says}
 use Rattle.mlt_trace_check.specs.Readings.{reading}
-use Rattle.mlt_trace_check.specs.Traces.{ArePlaced, HasPlace, IsAcceptedTrace, IsFirstFault, IsFirstFaultOf, IsItemFault, IsLineFault, IsRunning, IsTrace, IsWhole, told}
 use Rattle.mlt_trace_check.proofs.Going.{bad_line, placed_more, said_more}
 use Rattle.mlt_trace_check.proofs.Growing.{append_nil, no_cut, told-push}
 use Rattle.mlt_trace_check.proofs.Lasting.{one_more}
@@ -108,7 +93,7 @@ module _ (items : List TraceItem) (base : Base) (h : LeadTo items base) where
   false_commit tx number place f (inl running) =
       let there = running.1 place.1 f.front f.rest f.done f.cut in (
         length there.upto + 1,
-        cause.Reply,
+        TraceCause.Reply,
         (
           tx,
           number,
@@ -148,15 +133,15 @@ module _ (items : List TraceItem) (base : Base) (h : LeadTo items base) where
   goes_on_or_not : (item : TraceItem) → GoesOnOrNot items base item
   goes_on_or_not item = elim (place_or_not items item) [
     | inl place ↦ placed_goes_on item place
-    | inr none ↦ inr (length items + 1, cause.Place, (none, refl))
+    | inr none ↦ inr (length items + 1, TraceCause.Place, (none, refl))
   ]
 
 -- ---- lines
 
 line_of_item : (items : List TraceItem) (base : Base) (raw : Raw) (item : TraceItem) (line : ℕ) (fault : TraceCause) → reading raw ≡ Says item
     → IsItemFault items base item line fault → IsLineFault items base raw line fault
-line_of_item items base raw item line cause.Place is h = (item, is, h)
-line_of_item items base raw item line cause.Reply is h = (item, is, h)
+line_of_item items base raw item line TraceCause.Place is h = (item, is, h)
+line_of_item items base raw item line TraceCause.Reply is h = (item, is, h)
 line_of_item items base raw item line other is h = absurd h
 
 -- the line says an item that goes on from there, or has a fault

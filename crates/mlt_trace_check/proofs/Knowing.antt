@@ -1,33 +1,13 @@
 -- What a checker knows, item by item.
-use Rattle.std.proofs.Common.{◌≡◌, ◌≢◌, ℕ, suc, zero, get_or, take, drop, Err, ◌+◌, ◌<◌, ◌≤◌, List, [], ◌∷◌, ◌++◌, Contains, length, true, false, Option, Some, None, refl, sym, ap, subst, ◌∙◌, inl, inr, append_assoc, arith}
-use Rattle.std.proofs.lemmas.List.{map-append}
-use Rattle.std.proofs.lemmas.List.Elements.{Contains-append_left}
+use Rattle.std.proofs.Common.{◌≡◌, ◌≢◌, ℕ, suc, zero, get_or, take, drop, Err, ◌+◌, ◌<◌, ◌≤◌, List, [], ◌∷◌, ◌++◌, Contains, length, true, false, Option, Some, None, refl, sym, ap, subst, ◌∙◌, inl, inr, append_assoc, arith, is_some, option_to_list, nat_cmp}
+use Rattle.mlt_trace_check.proofs.Names.{map-append, Contains-append_left, Refusal, OutOfMemory, TraceFault, TraceCause, ObjOp, ObjReply, Base, Step, empty_base, base_one_answer, Lists, Stage, Running, Ended, IsSerialBase, Runs, serial_push, at_each, changed, TraceItem, Begin, Op, Back, Commit, Abort, begun_txs, commit_count, begun_txs-append, OpenTx, Checker, dones, IsFalseAt, Replays, Knows, Takes, HasFalseReply, HasPlace, IsRunning, IsWhole, told}
 use Rattle.std.specs.BTreeMap as tree
-use Rattle.std.specs.Option.{is_some, option_to_list}
-use Rattle.std.specs.Ordering.{nat_cmp}
-use Rattle.mlt_types.specs.declared.refusal.Refusal.{Refusal}
-use Rattle.mlt_types.specs.declared.refusal.Refusal.TheVariants.{OutOfMemory, TraceFault}
-use Rattle.mlt_types.specs.declared.refusal.TraceCause.TheVariants as cause
-use Rattle.mlt_object_kinds.specs.declared.operation.ObjOp.{ObjOp}
-use Rattle.mlt_object_kinds.specs.declared.operation.ObjReply.{ObjReply}
-use Rattle.mlt_object_kinds.specs.Bases.{Base, Step, empty_base}
-use Rattle.mlt_object_kinds.proofs.BaseLaws.{base_one_answer}
-use Rattle.mlt_order.specs.Histories.{Lists, but_last}
-use Rattle.mlt_order.specs.Histories.{Stage}
-use Rattle.mlt_order.specs.Histories.Stage.{Running, Ended}
-use Rattle.mlt_order.specs.Runs.{IsSerialBase, Runs}
+use Rattle.mlt_order.specs.Histories.{but_last}
 use Rattle.mlt_order.proofs.Growing.{but_last-push}
-use Rattle.mlt_order.proofs.RunLemmas.{runs_append, serial_push}
-use Rattle.mlt_order.proofs.Tables.{at_each, changed}
-use Rattle.mlt_trace.specs.declared.item.TraceItem.{TraceItem}
-use Rattle.mlt_trace.specs.declared.item.TraceItem.TheVariants.{Begin, Op, Back, Commit, Abort}
-use Rattle.mlt_trace.specs.Numbers.{begun_txs, commit_count}
-use Rattle.mlt_trace.proofs.ItemLaws.{begun_txs-append, commits_counted, no_begin, no_commit}
-use Rattle.mlt_trace_check.specs.declared.open_tx.OpenTx.{OpenTx}
-use Rattle.mlt_trace_check.specs.declared.checker.Checker.{Checker}
-use Rattle.mlt_trace_check.specs.Replaying.{DoneAt, dones, IsFalseAt, Replays, ReplaysOne}
-use Rattle.mlt_trace_check.specs.Checkers.{AreInLines, Knows, KnowsBegun, KnowsRunning, KnowsTx, Takes}
-use Rattle.mlt_trace_check.specs.Traces.{HasFalseReply, HasPlace, IsRunning, IsWhole, told}
+use Rattle.mlt_order.proofs.RunLemmas.{runs_append}
+use Rattle.mlt_trace.proofs.ItemLaws.{commits_counted, no_begin, no_commit}
+use Rattle.mlt_trace_check.specs.Replaying.{DoneAt, ReplaysOne}
+use Rattle.mlt_trace_check.specs.Checkers.{AreInLines, KnowsBegun, KnowsRunning, KnowsTx}
 use Rattle.mlt_trace_check.proofs.Growing.{number_in, told-push, stage-other, transcript-other, last_one, earlier_or_last, begun_stays, split_last, no_cut}
 
 in_lines_more : (tx : ℕ) (items : List TraceItem) (item : TraceItem) (ops : List DoneAt) → AreInLines tx items ops → AreInLines tx (items ++ item ∷ []) ops
@@ -305,14 +285,14 @@ replays_more start base next ops i item within is runs step =
 pub replay_fails : (e : Refusal) (start base next last : Base) (ops : List DoneAt) (i : ℕ) (item : DoneAt) → i < length ops → item ≡ get_or ops i item
     → Runs Step start (dones (take i ops)) base → ReplaysOne (Err e) item.0 item.1 base next → Replays (Err e) ops start last
 replay_fails OutOfMemory start base next last ops i item within is runs h = tt
-replay_fails (TraceFault line cause.Reply) start base next last ops i item within is runs h =
+replay_fails (TraceFault line TraceCause.Reply) start base next last ops i item within is runs h =
     (take i ops, drop (suc i) ops, item.1, base, cut_at ops i item within is ∙ ap (λ n. take i ops ++ (n, item.1) ∷ drop (suc i) ops) (sym h.0), runs, h.1)
 replay_fails e start base next last ops i item within is runs h = absurd h
 
 pub commit_fails : (e : Refusal) (old new : Checker) (tx number line : ℕ) (one : OpenTx) (last : Base)
     → at_tx old tx ≡ Some one → one.undoing ≡ false → number ≡ old.commits + 1 → Replays (Err e) one.ops.items old.base last → Takes (Err e) old new line (Commit tx number)
 commit_fails OutOfMemory old new tx number line one last was whole counted h = tt
-commit_fails (TraceFault n cause.Reply) old new tx number line one last was whole counted h = λ items known at.
+commit_fails (TraceFault n TraceCause.Reply) old new tx number line one last was whole counted h = λ items known at.
     let had : KnowsRunning one tx items = subst (λ o. KnowsTx o tx items) was (known.open_txs tx) in (
       tx,
       number,

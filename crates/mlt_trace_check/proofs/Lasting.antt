@@ -1,18 +1,6 @@
 -- A transaction that runs to the end of placed items, with nothing taken back: its transcript only grows.
 use Rattle.std.proofs.Common.{◌≡◌, ◌≢◌, ℕ, List, [], ◌∷◌, ◌++◌, Contains, refl, sym, ap, subst, ◌∙◌, inl, inr, append_assoc, arith}
-use Rattle.std.proofs.lemmas.Bool.{cases_eq}
-use Rattle.std.proofs.lemmas.List.Elements.{Contains-append_left}
-use Rattle.mlt_object_kinds.specs.declared.operation.ObjOp.{ObjOp}
-use Rattle.mlt_object_kinds.specs.declared.operation.ObjReply.{ObjReply}
-use Rattle.mlt_order.specs.Histories.{Lists, Stage, after_entry}
-use Rattle.mlt_order.specs.Histories.Stage.{Fresh, Running, Ended}
-use Rattle.mlt_order.proofs.Tables.{changed}
-use Rattle.mlt_trace.specs.declared.item.TraceItem.{TraceItem}
-use Rattle.mlt_trace.specs.declared.item.TraceItem.TheVariants.{Begin, Op, Back, Commit, Abort}
-use Rattle.mlt_trace.specs.Entries.{entry_of}
-use Rattle.mlt_trace.specs.Numbers.{begun_txs}
-use Rattle.mlt_trace.proofs.ItemLaws.{begun_txs-append}
-use Rattle.mlt_trace_check.specs.Traces.{ArePlaced, HasPlace, IsRunning, IsWhole, told}
+use Rattle.mlt_trace_check.proofs.Names.{cases_eq, Contains-append_left, ObjOp, ObjReply, Lists, Stage, after_entry, Fresh, Running, Ended, changed, TraceItem, Begin, Op, Back, Commit, Abort, entry_of, begun_txs, begun_txs-append, ArePlaced, HasPlace, IsRunning, IsWhole, told}
 use Rattle.mlt_trace_check.proofs.Growing.{append_nil, begun_stays, last_one, number_in, stage-other, told-push, transcript-other}
 
 abbrev pub one_more : List TraceItem → TraceItem → List TraceItem

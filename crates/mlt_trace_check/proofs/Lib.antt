@@ -1,3 +1,4 @@
+mod Names
 pub mod Growing
 pub mod Knowing
 pub mod Going

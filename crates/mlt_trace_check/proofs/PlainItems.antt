@@ -1,21 +1,14 @@
 -- Lines of a trace of a plain form, as they are read in the general way.
-use Rattle.std.proofs.Common.{◌≡◌, ◌≢◌, ℕ, ◌+◌, ◌<◌, ◌≤◌, List, [], ◌∷◌, ◌++◌, length, map, true, Some, codes, refl, sym, ap, ◌∙◌, append_assoc, length-append, arith}
-use Rattle.std.specs.List.{list_all}
-use Rattle.std.proofs.lemmas.Bool.{le-ltb, ne_eqb}
-use Rattle.std.proofs.lemmas.List.{append-nil, map-append}
-use Rattle.mlt_object_kinds.specs.declared.operation.ObjOp.{ObjOp}
-use Rattle.mlt_object_kinds.specs.declared.operation.ObjReply.{ObjReply}
+use Rattle.std.proofs.Common.{◌≡◌, ◌≢◌, ℕ, ◌+◌, ◌<◌, ◌≤◌, List, [], ◌∷◌, ◌++◌, length, map, true, Some, codes, refl, sym, ap, ◌∙◌, append_assoc, length-append, arith, le-ltb, ne_eqb, append-nil}
+use Rattle.mlt_trace_check.proofs.Names.{list_all, map-append, ObjOp, ObjReply, lines, raw_words, TraceItem, Abort, Back, Begin, Commit, Op}
 use Rattle.mlt_text_words.specs.declared.keyword.Word.{Word}
-use Rattle.mlt_text_words.specs.Lines.{lines}
 use Rattle.mlt_text_words.specs.Numbers.{is_digit, number_of}
-use Rattle.mlt_text_words.specs.Words.{raw_words, words_of, words_from, word_of}
+use Rattle.mlt_text_words.specs.Words.{words_of, words_from, word_of}
 use Rattle.mlt_text_words.proofs.Cutting.{line_cut}
 use Rattle.mlt_text_words.proofs.Pieces.{all_append, digits_printable, digits_word, word_alone, words_apart}
 use Rattle.mlt_script.specs.Forms.{reply_at}
 use Rattle.mlt_script.specs.Plain.{BeginsWithOp, BeginsWithReply}
 use Rattle.mlt_text_words.proofs.Allowed.{all_allowed}
-use Rattle.mlt_trace.specs.declared.item.TraceItem.{TraceItem}
-use Rattle.mlt_trace.specs.declared.item.TraceItem.TheVariants.{Abort, Back, Begin, Commit, Op}
 use Rattle.mlt_trace_check.specs.Plain.{BeginsWithDone, BeginsWithItem, BeginsWithNumbered, PieceIs}
 use Rattle.mlt_trace_check.specs.Readings.{item_of, item_with}
 use Rattle.mlt_trace_check.specs.Words.{done_at, positive_at}

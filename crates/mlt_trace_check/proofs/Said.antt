@@ -1,16 +1,13 @@
 -- What the steps of `check_trace` give together.
-use Rattle.std.proofs.Common.{◌≡◌, ◌∙◌, ℕ, List, Option, Result, Ok, Err, OnOk, OnErr, ap₂, inr, subst, sym}
-use Rattle.std.specs.Prelude.{IfErr, MatchResult}
+use Rattle.std.proofs.Common.{◌≡◌, ◌∙◌, ℕ, List, Option, Result, Ok, Err, OnOk, OnErr, ap₂, inr, subst, sym, IfErr, MatchResult}
 use Rattle.std.specs.Io.KnownBytes.{Appends}
-use Rattle.mlt_types.specs.declared.refusal.Refusal.{Refusal}
-use Rattle.mlt_types.specs.declared.refusal.Refusal.TheVariants.{Io, OutOfMemory}
-use Rattle.mlt_text.specs.Failures.{FailsCleanly, IsWant}
+use Rattle.mlt_trace_check.proofs.Names.{Refusal, OutOfMemory, IsWant, Base, IsAcceptedTrace, order_text}
+use Rattle.mlt_types.specs.declared.refusal.Refusal.TheVariants.{Io}
+use Rattle.mlt_text.specs.Failures.{FailsCleanly}
 use Rattle.mlt_text.specs.Inputs.{GivesWhole}
 use Rattle.mlt_text.specs.Texts.{AppendsFront}
 use Rattle.mlt_text.proofs.Failing.{finished, unfinished}
-use Rattle.mlt_object_kinds.specs.Bases.{Base}
-use Rattle.mlt_trace_check.specs.Traces.{IsAcceptedTrace}
-use Rattle.mlt_trace_check.specs.OrderTexts.{IsCheckOf, IsCheckText, order_text}
+use Rattle.mlt_trace_check.specs.OrderTexts.{IsCheckOf, IsCheckText}
 
 -- the reader gave a trace, of which this is said
 abbrev pub IsSaid : Option (List ℕ) → Option (List ℕ) → List ℕ → Type 0

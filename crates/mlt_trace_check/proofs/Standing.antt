@@ -1,14 +1,6 @@
 -- Where the operations of a running transaction stand in placed items.
 use Rattle.std.proofs.Common.{◌≡◌, ◌≢◌, ◌⊎◌, inl, inr, ℕ, List, [], ◌∷◌, ◌++◌, refl, sym, ap, ◌∙◌, append_assoc, arith}
-use Rattle.std.proofs.lemmas.List.Elements.{Contains-append_left}
-use Rattle.mlt_object_kinds.specs.declared.operation.ObjOp.{ObjOp}
-use Rattle.mlt_object_kinds.specs.declared.operation.ObjReply.{ObjReply}
-use Rattle.mlt_order.specs.Histories.{Lists}
-use Rattle.mlt_order.specs.Histories.Stage.{Fresh, Running, Ended}
-use Rattle.mlt_order.proofs.Tables.{at_each, changed}
-use Rattle.mlt_trace.specs.declared.item.TraceItem.{TraceItem}
-use Rattle.mlt_trace.specs.declared.item.TraceItem.TheVariants.{Begin, Op, Back, Commit, Abort}
-use Rattle.mlt_trace_check.specs.Traces.{HasPlace, IsRunning, IsWhole, told}
+use Rattle.mlt_trace_check.proofs.Names.{Contains-append_left, ObjOp, ObjReply, Lists, Fresh, Running, Ended, at_each, changed, TraceItem, Begin, Op, Back, Commit, Abort, HasPlace, IsRunning, IsWhole, told}
 use Rattle.mlt_trace_check.proofs.Growing.{last_one, no_cut, number_in, split_last, stage-other, told-push, transcript-other}
 use Rattle.mlt_trace_check.proofs.Lasting.{one_more, runs_begun}
 

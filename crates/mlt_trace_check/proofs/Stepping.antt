@@ -1,26 +1,22 @@
 -- Whether an operation with its reply is a step of a base, and whether a list of them runs.
 use Rattle.std.proofs.Common.{◌≡◌, ◌⊎◌, inl, inr, ℕ, ◌+◌, ◌≤◌, ◌<◌, ◌^◌, Bool, true, false, List, [], ◌∷◌, ◌++◌, Option, Some, None, refl, ap, arith}
-use Rattle.std.proofs.lemmas.Bool.{cases_eq, cases_lt}
+use Rattle.mlt_trace_check.proofs.Names.{cases_eq, ObjOp, ObjReply, Base, Step, Runs, IsFalseAt}
+use Rattle.std.proofs.lemmas.Bool.{cases_lt}
 use Rattle.mlt_object_kinds.specs.declared.account.AccountOp.{AccountOp}
 use Rattle.mlt_object_kinds.specs.declared.account.AccountOp.TheVariants.{Open, Close, Deposit, Withdraw, Balance}
 use Rattle.mlt_object_kinds.specs.declared.counter.CounterOp.{CounterOp}
 use Rattle.mlt_object_kinds.specs.declared.counter.CounterOp.TheVariants.{Up, Down, Read}
 use Rattle.mlt_object_kinds.specs.declared.element.ElementOp.{ElementOp}
 use Rattle.mlt_object_kinds.specs.declared.element.ElementOp.TheVariants.{Add, Remove, Has}
-use Rattle.mlt_object_kinds.specs.declared.operation.ObjOp.{ObjOp}
-use Rattle.mlt_object_kinds.specs.declared.operation.ObjOp.TheVariants as op
-use Rattle.mlt_object_kinds.specs.declared.operation.ObjReply.{ObjReply}
 use Rattle.mlt_object_kinds.specs.declared.operation.ObjReply.TheVariants.{Opened, Exists, Closed, NotEmpty, Done, Over, Short, Missing, Added, Present, Removed, Absent, Yes, No, Is}
 use Rattle.mlt_object_kinds.specs.Accounts as account
 use Rattle.mlt_object_kinds.specs.Counters as counter
 use Rattle.mlt_object_kinds.specs.Elements as element
-use Rattle.mlt_object_kinds.specs.Bases.{Base, Step, TellsSize, size_at, state_at, with_state}
+use Rattle.mlt_object_kinds.specs.Bases.{TellsSize, size_at, state_at, with_state}
 use Rattle.mlt_object_kinds.proofs.BaseLaws.{step_to}
 use Rattle.mlt_object_kinds.specs.Cells.{CellState, CellStep}
 use Rattle.mlt_object_kinds.specs.Cells.CellState.{AccountState, ElementState, CounterState, NoState}
 use Rattle.mlt_object_kinds.specs.Operations.{cell_of}
-use Rattle.mlt_order.specs.Runs.{Runs}
-use Rattle.mlt_trace_check.specs.Replaying.{IsFalseAt}
 
 -- the fact holds or it does not
 abbrev pub Decided : Type 0 → Type 0
@@ -78,15 +74,15 @@ counter_legal _ _ s = inr (λ h. h)
 abbrev CellStepsOrNot : CellState → ObjOp × ObjReply → Type 0
 CellStepsOrNot s x = ((t : CellState) × CellStep s x t) ⊎ ((t : CellState) → CellStep s x t → ⊥)
 
-no_account_step : (s : Option ℕ) (a : ℕ) (o : AccountOp) (r : ObjReply) → (account.IsLegalOnAccount o r s → ⊥) → (t : CellState) → CellStep (AccountState s) (op.Account a o, r) t → ⊥
+no_account_step : (s : Option ℕ) (a : ℕ) (o : AccountOp) (r : ObjReply) → (account.IsLegalOnAccount o r s → ⊥) → (t : CellState) → CellStep (AccountState s) (ObjOp.Account a o, r) t → ⊥
 no_account_step s a o r n (AccountState t) h = n h.0
 no_account_step s a o r n _ h = h
 
-no_element_step : (s : Bool) (set e : ℕ) (o : ElementOp) (r : ObjReply) → (element.IsLegalOnElement o r s → ⊥) → (t : CellState) → CellStep (ElementState s) (op.Element set e o, r) t → ⊥
+no_element_step : (s : Bool) (set e : ℕ) (o : ElementOp) (r : ObjReply) → (element.IsLegalOnElement o r s → ⊥) → (t : CellState) → CellStep (ElementState s) (ObjOp.Element set e o, r) t → ⊥
 no_element_step s set e o r n (ElementState t) h = n h.0
 no_element_step s set e o r n _ h = h
 
-no_counter_step : (s c : ℕ) (o : CounterOp) (r : ObjReply) → (counter.IsLegalOnCounter o r s → ⊥) → (t : CellState) → CellStep (CounterState s) (op.Counter c o, r) t → ⊥
+no_counter_step : (s c : ℕ) (o : CounterOp) (r : ObjReply) → (counter.IsLegalOnCounter o r s → ⊥) → (t : CellState) → CellStep (CounterState s) (ObjOp.Counter c o, r) t → ⊥
 no_counter_step s c o r n (CounterState t) h = n h.0
 no_counter_step s c o r n _ h = h
 
@@ -95,23 +91,23 @@ abbrev IsNumber : ObjReply → Type 0
 IsNumber (Is v) = Unit {0}
 IsNumber _ = ⊥
 
-size_is_number : (set : ℕ) (r : ObjReply) (t : CellState) → CellStep NoState (op.Size set, r) t → IsNumber r
+size_is_number : (set : ℕ) (r : ObjReply) (t : CellState) → CellStep NoState (ObjOp.Size set, r) t → IsNumber r
 size_is_number set (Is v) NoState h = tt
 size_is_number set _ NoState h = h
 size_is_number set _ _ h = absurd h
 
-size_legal : (set : ℕ) (r : ObjReply) → CellStepsOrNot NoState (op.Size set, r)
+size_legal : (set : ℕ) (r : ObjReply) → CellStepsOrNot NoState (ObjOp.Size set, r)
 size_legal set (Is v) = inl (NoState, tt)
 size_legal set r = inr (λ t h. size_is_number set r t h)
 
 cell_steps_or_not : (s : CellState) (x : ObjOp × ObjReply) → CellStepsOrNot s x
-cell_steps_or_not (AccountState s) (op.Account a o, r) =
+cell_steps_or_not (AccountState s) (ObjOp.Account a o, r) =
     elim (account_legal o r s) [ inl h ↦ inl (AccountState (account.account_after o r s), (h, refl)) | inr n ↦ inr (no_account_step s a o r n) ]
-cell_steps_or_not (ElementState s) (op.Element set e o, r) =
+cell_steps_or_not (ElementState s) (ObjOp.Element set e o, r) =
     elim (element_legal o r s) [ inl h ↦ inl (ElementState (element.element_after o r s), (h, refl)) | inr n ↦ inr (no_element_step s set e o r n) ]
-cell_steps_or_not (CounterState s) (op.Counter c o, r) =
+cell_steps_or_not (CounterState s) (ObjOp.Counter c o, r) =
     elim (counter_legal o r s) [ inl h ↦ inl (CounterState (counter.counter_after o r s), (h, refl)) | inr n ↦ inr (no_counter_step s c o r n) ]
-cell_steps_or_not NoState (op.Size set, r) = size_legal set r
+cell_steps_or_not NoState (ObjOp.Size set, r) = size_legal set r
 cell_steps_or_not _ _ = inr (λ t h. h)
 
 -- a size is told as it is, or not
@@ -119,11 +115,11 @@ same_number : (m n : ℕ) → Is m ≡ Is n → m ≡ n
 same_number m n e = cc
 
 tells_or_not : (b : Base) (x : ObjOp × ObjReply) → Decided (TellsSize b x)
-tells_or_not b (op.Size set, Is v) = elim (cases_eq v (size_at b set)) [ inl e ↦ inl (ap Is e) | inr n ↦ inr (λ h. n (same_number v (size_at b set) h)) ]
-tells_or_not b (op.Size set, r) = inr (λ h. cc)
-tells_or_not b (op.Account a o, r) = inl tt
-tells_or_not b (op.Element set e o, r) = inl tt
-tells_or_not b (op.Counter c o, r) = inl tt
+tells_or_not b (ObjOp.Size set, Is v) = elim (cases_eq v (size_at b set)) [ inl e ↦ inl (ap Is e) | inr n ↦ inr (λ h. n (same_number v (size_at b set) h)) ]
+tells_or_not b (ObjOp.Size set, r) = inr (λ h. cc)
+tells_or_not b (ObjOp.Account a o, r) = inl tt
+tells_or_not b (ObjOp.Element set e o, r) = inl tt
+tells_or_not b (ObjOp.Counter c o, r) = inl tt
 
 -- the operation with its reply leads the base somewhere, or nowhere
 steps_or_not : (b : Base) (x : ObjOp × ObjReply) → ((next : Base) × Step b x next) ⊎ IsFalseAt b x

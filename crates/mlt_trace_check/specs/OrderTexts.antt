@@ -1,6 +1,5 @@
 -- What is said of an accepted trace.
-use Rattle.std.specs.Prelude.{◌≡◌, ℕ, List, [], ◌∷◌, ◌++◌, Option, codes}
-use Rattle.std.specs.List.{flat_map}
+use Rattle.std.specs.Prelude.{◌≡◌, ℕ, List, [], ◌∷◌, ◌++◌, Option, codes, flat_map}
 use Rattle.mlt_text.specs.Inputs.{GivesWhole}
 use Rattle.mlt_object_kinds.specs.Bases.{Base}
 use Rattle.mlt_object_kinds.specs.Texts.{with_number}

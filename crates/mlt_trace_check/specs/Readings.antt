@@ -1,8 +1,7 @@
 -- What a line of a trace is by itself, wherever it stands.
-use Rattle.std.specs.Prelude.{ℕ, List, map, length, nat_lt, Option, Some, None, if◌then◌else◌, codes}
+use Rattle.std.specs.Prelude.{ℕ, List, map, length, nat_lt, Option, Some, None, if◌then◌else◌, codes, bytes_eq}
 use Rattle.std.specs.List.{list_all}
-use Rattle.std.specs.Str.{bytes_eq}
-use Rattle.mlt_types.specs.declared.refusal.TraceCause.TheVariants as cause
+use Rattle.mlt_types.specs.declared.refusal.TraceCause.{TraceCause}
 use Rattle.mlt_script.specs.Forms.{◌>>=◌}
 use Rattle.mlt_text_words.specs.Lines.{Raw, content, is_allowed}
 use Rattle.mlt_text_words.specs.Words.{first_word, raw_words, word_of}
@@ -43,13 +42,13 @@ item_of words = do
 
 abbrev pub item_or_fault : Option TraceItem → TraceReading
 item_or_fault (Some item) = Says item
-item_or_fault None = Bad cause.Words
+item_or_fault None = Bad TraceCause.Words
 
 -- a line that ends in LF
 abbrev pub in_words : Raw → TraceReading
-in_words raw = if raw.ended then item_or_fault (item_of (raw_words (content raw))) else Bad cause.Cut
+in_words raw = if raw.ended then item_or_fault (item_of (raw_words (content raw))) else Bad TraceCause.Cut
 
 -- what a line of a trace says, or its fault: more than 200 bytes, a CR counted, or a byte that is
 -- not allowed, or words that are none of the five forms
 unfoldable pub reading : Raw → TraceReading
-reading raw = if nat_lt 200 (length raw.bytes) then Bad cause.Line else (if list_all is_allowed (content raw) then in_words raw else Bad cause.Line)
+reading raw = if nat_lt 200 (length raw.bytes) then Bad TraceCause.Line else (if list_all is_allowed (content raw) then in_words raw else Bad TraceCause.Line)

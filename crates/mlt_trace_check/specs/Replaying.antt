@@ -2,7 +2,7 @@
 use Rattle.std.specs.Prelude.{◌≡◌, ℕ, List, ◌∷◌, ◌++◌, map, Result, Ok, Err}
 use Rattle.mlt_types.specs.declared.refusal.Refusal.{Refusal}
 use Rattle.mlt_types.specs.declared.refusal.Refusal.TheVariants.{OutOfMemory, TraceFault}
-use Rattle.mlt_types.specs.declared.refusal.TraceCause.TheVariants as cause
+use Rattle.mlt_types.specs.declared.refusal.TraceCause.{TraceCause}
 use Rattle.mlt_object_kinds.specs.declared.operation.ObjOp.{ObjOp}
 use Rattle.mlt_object_kinds.specs.declared.operation.ObjReply.{ObjReply}
 use Rattle.mlt_object_kinds.specs.Bases.{Base, Step}
@@ -24,14 +24,14 @@ IsFalseAt base done = (next : Base) → Step base done next → ⊥
 abbrev pub ReplaysOne : Result (Unit {0}) Refusal → ℕ → ObjOp × ObjReply → Base → Base → Type 0
 ReplaysOne (Ok it) line done before after = Step before done after
 ReplaysOne (Err OutOfMemory) line done before after = Unit {0}
-ReplaysOne (Err (TraceFault n cause.Reply)) line done before after = (n ≡ line) × IsFalseAt before done
+ReplaysOne (Err (TraceFault n TraceCause.Reply)) line done before after = (n ≡ line) × IsFalseAt before done
 ReplaysOne (Err refusal) line done before after = ⊥
 
 -- the operations run from a base to a base, or the one in the line is the first that is false
 abbrev pub Replays : Result (Unit {0}) Refusal → List DoneAt → Base → Base → Type 0
 Replays (Ok done_all) ops before after = Runs Step before (dones ops) after
 Replays (Err OutOfMemory) ops before after = Unit {0}
-Replays (Err (TraceFault line cause.Reply)) ops before after =
+Replays (Err (TraceFault line TraceCause.Reply)) ops before after =
     (front : List DoneAt) × (rest : List DoneAt) × (done : ObjOp × ObjReply) × (middle : Base)
     × (ops ≡ front ++ (line, done) ∷ rest) × Runs Step before (dones front) middle × IsFalseAt middle done
 Replays (Err refusal) ops before after = ⊥

@@ -1,7 +1,6 @@
 -- Which traces are accepted, and where the first fault of any other text stands.
 use Rattle.std.specs.Prelude.{◌≡◌, ◌≢◌, ℕ, ◌+◌, ◌<◌, List, [], ◌∷◌, ◌++◌, length, map, Contains}
 use Rattle.mlt_types.specs.declared.refusal.TraceCause.{TraceCause}
-use Rattle.mlt_types.specs.declared.refusal.TraceCause.TheVariants as cause
 use Rattle.mlt_object_kinds.specs.declared.operation.ObjOp.{ObjOp}
 use Rattle.mlt_object_kinds.specs.declared.operation.ObjReply.{ObjReply}
 use Rattle.mlt_object_kinds.specs.Bases.{Base, Step, empty_base}
@@ -65,16 +64,16 @@ HasFalseReply items base tx line =
 
 -- behind these items, of which the commits lead to the base, the item has this fault, which names this line
 abbrev pub IsItemFault : List TraceItem → Base → TraceItem → ℕ → TraceCause → Type 0
-IsItemFault items base item line cause.Place = (HasPlace items item → ⊥) × (line ≡ length items + 1)
-IsItemFault items base item line cause.Reply =
+IsItemFault items base item line TraceCause.Place = (HasPlace items item → ⊥) × (line ≡ length items + 1)
+IsItemFault items base item line TraceCause.Reply =
     (tx : ℕ) × (number : ℕ) × (item ≡ Commit tx number) × HasPlace items item × HasFalseReply items base tx line
 IsItemFault items base item line other = ⊥
 
 -- the line has this fault behind these items
 abbrev pub IsLineFault : List TraceItem → Base → Raw → ℕ → TraceCause → Type 0
-IsLineFault items base raw line cause.Line = (reading raw ≡ Bad cause.Line) × (line ≡ length items + 1)
-IsLineFault items base raw line cause.Cut = (reading raw ≡ Bad cause.Cut) × (line ≡ length items + 1)
-IsLineFault items base raw line cause.Words = (reading raw ≡ Bad cause.Words) × (line ≡ length items + 1)
+IsLineFault items base raw line TraceCause.Line = (reading raw ≡ Bad TraceCause.Line) × (line ≡ length items + 1)
+IsLineFault items base raw line TraceCause.Cut = (reading raw ≡ Bad TraceCause.Cut) × (line ≡ length items + 1)
+IsLineFault items base raw line TraceCause.Words = (reading raw ≡ Bad TraceCause.Words) × (line ≡ length items + 1)
 IsLineFault items base raw line fault = (item : TraceItem) × (reading raw ≡ Says item) × IsItemFault items base item line fault
 
 -- the lines before the faulty one are a trace

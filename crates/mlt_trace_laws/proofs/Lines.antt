@@ -1,14 +1,11 @@
 -- The lines of a written trace say its items.
-use Rattle.std.proofs.Common.{◌≡◌, ◌≢◌, ℕ, ◌+◌, ◌^◌, ◌<◌, ◌≤◌, List, [], ◌∷◌, ◌++◌, length, map, true, Some, codes, refl, ap, ◌∙◌, append_assoc, arith}
-use Rattle.std.specs.Fmt.{decimal}
+use Rattle.std.proofs.Common.{◌≡◌, ◌≢◌, ℕ, ◌+◌, ◌^◌, ◌<◌, ◌≤◌, List, [], ◌∷◌, ◌++◌, length, map, true, Some, codes, refl, ap, ◌∙◌, append_assoc, arith, decimal, le-ltb, lt-ltb, ne_eqb}
 use Rattle.std.specs.List.{list_all}
-use Rattle.std.proofs.lemmas.Bool.{le-ltb, lt-ltb, ne_eqb}
 use Rattle.mlt_object_kinds.specs.declared.operation.ObjOp.{ObjOp}
 use Rattle.mlt_object_kinds.specs.declared.operation.ObjReply.{ObjReply}
-use Rattle.mlt_object_kinds.specs.declared.operation.ObjReply.TheVariants as reply
 use Rattle.mlt_object_kinds.specs.Texts.{with_number, op_text, reply_text, done_text}
 use Rattle.mlt_order.proofs.RunLemmas.{contains-first, contains-later}
-use Rattle.mlt_text_words.specs.declared.keyword.Keyword.TheVariants as key
+use Rattle.mlt_text_words.specs.declared.keyword.Keyword.{Keyword}
 use Rattle.mlt_text_words.specs.declared.keyword.Word.{Word}
 use Rattle.mlt_text_words.specs.declared.keyword.Word.TheVariants.{Key, Number}
 use Rattle.mlt_text_words.specs.Lines.{lines}
@@ -62,56 +59,56 @@ numbered t ws n number h k =
 -- ---- an operation and its reply
 
 abbrev reply_words : ObjReply → List Word
-reply_words (reply.Is v) = Key key.Is ∷ Number v ∷ []
-reply_words reply.Opened = Key key.Opened ∷ []
-reply_words reply.Exists = Key key.Exists ∷ []
-reply_words reply.Closed = Key key.Closed ∷ []
-reply_words reply.NotEmpty = Key key.NotEmpty ∷ []
-reply_words reply.Done = Key key.Done ∷ []
-reply_words reply.Over = Key key.Over ∷ []
-reply_words reply.Short = Key key.Short ∷ []
-reply_words reply.Missing = Key key.Missing ∷ []
-reply_words reply.Added = Key key.Added ∷ []
-reply_words reply.Present = Key key.Present ∷ []
-reply_words reply.Removed = Key key.Removed ∷ []
-reply_words reply.Absent = Key key.Absent ∷ []
-reply_words reply.Yes = Key key.Yes ∷ []
-reply_words reply.No = Key key.No ∷ []
+reply_words (ObjReply.Is v) = Key Keyword.Is ∷ Number v ∷ []
+reply_words ObjReply.Opened = Key Keyword.Opened ∷ []
+reply_words ObjReply.Exists = Key Keyword.Exists ∷ []
+reply_words ObjReply.Closed = Key Keyword.Closed ∷ []
+reply_words ObjReply.NotEmpty = Key Keyword.NotEmpty ∷ []
+reply_words ObjReply.Done = Key Keyword.Done ∷ []
+reply_words ObjReply.Over = Key Keyword.Over ∷ []
+reply_words ObjReply.Short = Key Keyword.Short ∷ []
+reply_words ObjReply.Missing = Key Keyword.Missing ∷ []
+reply_words ObjReply.Added = Key Keyword.Added ∷ []
+reply_words ObjReply.Present = Key Keyword.Present ∷ []
+reply_words ObjReply.Removed = Key Keyword.Removed ∷ []
+reply_words ObjReply.Absent = Key Keyword.Absent ∷ []
+reply_words ObjReply.Yes = Key Keyword.Yes ∷ []
+reply_words ObjReply.No = Key Keyword.No ∷ []
 
 reply_is : (r : ObjReply) → FitsReply r → TextIs (reply_text r) (reply_words r) 29
-reply_is (reply.Is v) h = beside (spelling key.Is) (decimal v) (Key key.Is ∷ []) (Number v ∷ []) 8 20 (key_text key.Is) (number_is v h)
-reply_is reply.Opened h = at_most (spelling key.Opened) (Key key.Opened ∷ []) 8 29 (omega arith) (key_text key.Opened)
-reply_is reply.Exists h = at_most (spelling key.Exists) (Key key.Exists ∷ []) 8 29 (omega arith) (key_text key.Exists)
-reply_is reply.Closed h = at_most (spelling key.Closed) (Key key.Closed ∷ []) 8 29 (omega arith) (key_text key.Closed)
-reply_is reply.NotEmpty h = at_most (spelling key.NotEmpty) (Key key.NotEmpty ∷ []) 8 29 (omega arith) (key_text key.NotEmpty)
-reply_is reply.Done h = at_most (spelling key.Done) (Key key.Done ∷ []) 8 29 (omega arith) (key_text key.Done)
-reply_is reply.Over h = at_most (spelling key.Over) (Key key.Over ∷ []) 8 29 (omega arith) (key_text key.Over)
-reply_is reply.Short h = at_most (spelling key.Short) (Key key.Short ∷ []) 8 29 (omega arith) (key_text key.Short)
-reply_is reply.Missing h = at_most (spelling key.Missing) (Key key.Missing ∷ []) 8 29 (omega arith) (key_text key.Missing)
-reply_is reply.Added h = at_most (spelling key.Added) (Key key.Added ∷ []) 8 29 (omega arith) (key_text key.Added)
-reply_is reply.Present h = at_most (spelling key.Present) (Key key.Present ∷ []) 8 29 (omega arith) (key_text key.Present)
-reply_is reply.Removed h = at_most (spelling key.Removed) (Key key.Removed ∷ []) 8 29 (omega arith) (key_text key.Removed)
-reply_is reply.Absent h = at_most (spelling key.Absent) (Key key.Absent ∷ []) 8 29 (omega arith) (key_text key.Absent)
-reply_is reply.Yes h = at_most (spelling key.Yes) (Key key.Yes ∷ []) 8 29 (omega arith) (key_text key.Yes)
-reply_is reply.No h = at_most (spelling key.No) (Key key.No ∷ []) 8 29 (omega arith) (key_text key.No)
+reply_is (ObjReply.Is v) h = beside (spelling Keyword.Is) (decimal v) (Key Keyword.Is ∷ []) (Number v ∷ []) 8 20 (key_text Keyword.Is) (number_is v h)
+reply_is ObjReply.Opened h = at_most (spelling Keyword.Opened) (Key Keyword.Opened ∷ []) 8 29 (omega arith) (key_text Keyword.Opened)
+reply_is ObjReply.Exists h = at_most (spelling Keyword.Exists) (Key Keyword.Exists ∷ []) 8 29 (omega arith) (key_text Keyword.Exists)
+reply_is ObjReply.Closed h = at_most (spelling Keyword.Closed) (Key Keyword.Closed ∷ []) 8 29 (omega arith) (key_text Keyword.Closed)
+reply_is ObjReply.NotEmpty h = at_most (spelling Keyword.NotEmpty) (Key Keyword.NotEmpty ∷ []) 8 29 (omega arith) (key_text Keyword.NotEmpty)
+reply_is ObjReply.Done h = at_most (spelling Keyword.Done) (Key Keyword.Done ∷ []) 8 29 (omega arith) (key_text Keyword.Done)
+reply_is ObjReply.Over h = at_most (spelling Keyword.Over) (Key Keyword.Over ∷ []) 8 29 (omega arith) (key_text Keyword.Over)
+reply_is ObjReply.Short h = at_most (spelling Keyword.Short) (Key Keyword.Short ∷ []) 8 29 (omega arith) (key_text Keyword.Short)
+reply_is ObjReply.Missing h = at_most (spelling Keyword.Missing) (Key Keyword.Missing ∷ []) 8 29 (omega arith) (key_text Keyword.Missing)
+reply_is ObjReply.Added h = at_most (spelling Keyword.Added) (Key Keyword.Added ∷ []) 8 29 (omega arith) (key_text Keyword.Added)
+reply_is ObjReply.Present h = at_most (spelling Keyword.Present) (Key Keyword.Present ∷ []) 8 29 (omega arith) (key_text Keyword.Present)
+reply_is ObjReply.Removed h = at_most (spelling Keyword.Removed) (Key Keyword.Removed ∷ []) 8 29 (omega arith) (key_text Keyword.Removed)
+reply_is ObjReply.Absent h = at_most (spelling Keyword.Absent) (Key Keyword.Absent ∷ []) 8 29 (omega arith) (key_text Keyword.Absent)
+reply_is ObjReply.Yes h = at_most (spelling Keyword.Yes) (Key Keyword.Yes ∷ []) 8 29 (omega arith) (key_text Keyword.Yes)
+reply_is ObjReply.No h = at_most (spelling Keyword.No) (Key Keyword.No ∷ []) 8 29 (omega arith) (key_text Keyword.No)
 
 reply_again : (r : ObjReply) → FitsReply r → reply_at (reply_words r) ≡ Some (r, [])
 unfolding reply_at reply_after reply_word key_at number_below
-reply_again (reply.Is v) h = rw (lt-ltb v (2 ^ 64) h) refl
-reply_again reply.Opened h = refl
-reply_again reply.Exists h = refl
-reply_again reply.Closed h = refl
-reply_again reply.NotEmpty h = refl
-reply_again reply.Done h = refl
-reply_again reply.Over h = refl
-reply_again reply.Short h = refl
-reply_again reply.Missing h = refl
-reply_again reply.Added h = refl
-reply_again reply.Present h = refl
-reply_again reply.Removed h = refl
-reply_again reply.Absent h = refl
-reply_again reply.Yes h = refl
-reply_again reply.No h = refl
+reply_again (ObjReply.Is v) h = rw (lt-ltb v (2 ^ 64) h) refl
+reply_again ObjReply.Opened h = refl
+reply_again ObjReply.Exists h = refl
+reply_again ObjReply.Closed h = refl
+reply_again ObjReply.NotEmpty h = refl
+reply_again ObjReply.Done h = refl
+reply_again ObjReply.Over h = refl
+reply_again ObjReply.Short h = refl
+reply_again ObjReply.Missing h = refl
+reply_again ObjReply.Added h = refl
+reply_again ObjReply.Present h = refl
+reply_again ObjReply.Removed h = refl
+reply_again ObjReply.Absent h = refl
+reply_again ObjReply.Yes h = refl
+reply_again ObjReply.No h = refl
 
 done_is : (done : ObjOp × ObjReply) → FitsDone done → TextIs (done_text done) (op_words done.0 ++ reply_words done.1) 90
 done_is done h = beside (op_text done.0) (reply_text done.1) (op_words done.0) (reply_words done.1) 60 29 (op_is done.0 h.op) (reply_is done.1 h.reply)

@@ -1,24 +1,14 @@
 -- A check that goes on from piece to piece, and how it stops.
-use Rattle.std.proofs.Common.{◌≡◌, ℕ, ◌≤◌, ◌+◌, Bool, true, List, [], ◌++◌, map, Option, Some, None, IfSome, Result, Ok, Err, length, length-append, arith, refl, sym, ap, subst, ◌∙◌, append_assoc, append-nil}
-use Rattle.std.specs.Prelude.{IfOk, OnErr}
-use Rattle.std.specs.Io.KnownBytes.{Appends, Consumes, IsAtEnd}
-use Rattle.std.proofs.KnownBytes.{Appends-nil, Appends-trans, Consumes-nil, Consumes-trans}
-use Rattle.mlt_types.specs.declared.refusal.Refusal.{Refusal}
-use Rattle.mlt_types.specs.declared.refusal.Refusal.TheVariants.{Io, OutOfMemory, TraceFault}
-use Rattle.mlt_text.specs.Texts.{AppendsFront}
+use Rattle.std.proofs.Common.{◌≡◌, ℕ, ◌≤◌, ◌+◌, Bool, true, List, [], ◌++◌, map, Option, Some, None, IfSome, Result, Ok, Err, length, length-append, arith, refl, sym, ap, subst, ◌∙◌, append_assoc, append-nil, IfOk, OnErr}
+use Rattle.mlt_trace_long.proofs.Names.{Appends, Consumes, IsAtEnd, Appends-nil, Appends-trans, Consumes-nil, Refusal, Io, OutOfMemory, TraceFault, AppendsFront, WentOver, reached, serial_lines, IsAcceptedTrace, IsFirstFault, Going, GoesOver, Refuses, GoesOn, IsDone, IsToldOf, WritesOfFront, StopsIn}
+use Rattle.std.proofs.KnownBytes.{Consumes-trans}
 use Rattle.mlt_text_words.specs.Lines.{lines}
 use Rattle.mlt_trace_check.specs.declared.checker.Checker.{Checker}
-use Rattle.mlt_trace_check.specs.Answering.{WentOver}
-use Rattle.mlt_trace_check.specs.Checkers.{Knows, reached}
-use Rattle.mlt_trace_check.specs.OrderTexts.{serial_lines}
+use Rattle.mlt_trace_check.specs.Checkers.{Knows}
 use Rattle.mlt_trace_check.specs.Readings.{reading}
-use Rattle.mlt_trace_check.specs.Traces.{IsAcceptedTrace, IsFirstFault}
 use Rattle.mlt_trace_check.proofs.Going.{went_nowhere, went_to_end}
-use Rattle.mlt_trace_long.specs.declared.going.Going.{Going}
-use Rattle.mlt_trace_long.specs.Goings.{GoesOver, Refuses}
-use Rattle.mlt_trace_long.specs.LongChecks.{GoesOn, IsDone, IsToldOf}
-use Rattle.mlt_trace_long.specs.LongTexts.{GivesAll, WritesOfFront}
-use Rattle.mlt_trace_long.specs.Pieces.{StopsIn, StopsWriting, TakesLines, WritesLines}
+use Rattle.mlt_trace_long.specs.LongTexts.{GivesAll}
+use Rattle.mlt_trace_long.specs.Pieces.{StopsWriting, TakesLines, WritesLines}
 use Rattle.mlt_trace_long.proofs.Behind.{has_front, lines_behind}
 use Rattle.mlt_trace_long.proofs.Settling.{all_end}
 use Rattle.mlt_trace_long.proofs.Stepping.{serial_join}

@@ -1,25 +1,17 @@
 -- What the check of a long trace answers, and that it is the only answer.
-use Rattle.std.proofs.Common.{◌≡◌, ◌⊎◌, inl, inr, ℕ, List, [], ◌++◌, Option, Some, None, Result, Ok, Err, refl, sym, ap, ap₂, subst, ◌∙◌, append_assoc}
-use Rattle.std.specs.Prelude.{IfErr, IsErrAnd, IsErrOf, MatchResult, OnErr, OnOk}
-use Rattle.std.specs.Io.KnownBytes.{Appends, Keeps}
-use Rattle.std.proofs.KnownBytes.{Appends-kept, Appends-nil, Appends-trans, Consumes-nil}
-use Rattle.mlt_types.specs.declared.refusal.Refusal.{Refusal}
-use Rattle.mlt_types.specs.declared.refusal.Refusal.TheVariants.{Io, OutOfMemory, TraceFault}
-use Rattle.mlt_types.specs.declared.refusal.TraceCause.{TraceCause}
-use Rattle.mlt_text.specs.Failures.{IsWant}
-use Rattle.mlt_text.specs.Texts.{AppendsFront}
+use Rattle.std.proofs.Common.{◌≡◌, ◌⊎◌, inl, inr, ℕ, List, [], ◌++◌, Option, Some, None, Result, Ok, Err, refl, sym, ap, ap₂, subst, ◌∙◌, append_assoc, IfErr, IsErrAnd, IsErrOf, MatchResult, OnErr, OnOk}
+use Rattle.mlt_trace_long.proofs.Names.{Appends, Appends-nil, Appends-trans, Consumes-nil, Refusal, Io, OutOfMemory, TraceFault, TraceCause, IsWant, AppendsFront, reached, serial_lines, IsAcceptedTrace, IsFirstFault, Going, IsDone, IsToldOf, WritesOfFront}
+use Rattle.std.specs.Io.KnownBytes.{Keeps}
+use Rattle.std.proofs.KnownBytes.{Appends-kept}
 use Rattle.mlt_object_base.specs.BaseText.{base_text}
 use Rattle.mlt_object_kinds.specs.Bases.{Base, empty_base}
 use Rattle.mlt_text_words.specs.Lines.{lines}
-use Rattle.mlt_trace_check.specs.Checkers.{reached}
-use Rattle.mlt_trace_check.specs.OrderTexts.{order_text, serial_lines}
-use Rattle.mlt_trace_check.specs.Traces.{IsAcceptedTrace, IsFirstFault}
+use Rattle.mlt_trace_check.specs.OrderTexts.{order_text}
 use Rattle.mlt_trace_check.proofs.Exactness.{accepted_once, accepted_or_faulty, all_given}
 use Rattle.mlt_trace_check.proofs.Faults.{one_first_fault}
 use Rattle.mlt_trace_check.proofs.Growing.{no_cut}
-use Rattle.mlt_trace_long.specs.declared.going.Going.{Going}
-use Rattle.mlt_trace_long.specs.LongChecks.{IsAnswer, IsDone, IsToldOf}
-use Rattle.mlt_trace_long.specs.LongTexts.{IsFirstFaultRead, IsLongCheckOf, StopsEarly, WritesOfFront}
+use Rattle.mlt_trace_long.specs.LongChecks.{IsAnswer}
+use Rattle.mlt_trace_long.specs.LongTexts.{IsFirstFaultRead, IsLongCheckOf, StopsEarly}
 use Rattle.mlt_trace_long.proofs.Pieces.{accepted}
 
 -- no text is a trace

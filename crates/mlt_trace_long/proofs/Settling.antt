@@ -1,22 +1,19 @@
 -- What a settled line says, whatever comes behind it.
-use Rattle.std.proofs.Common.{◌≡◌, inl, inr, ℕ, ◌<◌, Bool, true, false, cond, List, [], ◌∷◌, ◌++◌, length, map, take, Option, Some, None, nat_lt, refl, sym, ap, subst, ◌∙◌, arith, lt-ltb}
-use Rattle.std.specs.List.{list_all, position}
-use Rattle.mlt_types.specs.declared.refusal.TraceCause.TheVariants as cause
-use Rattle.mlt_text_words.specs.Lines.{Raw, lines, content, is_allowed, is_lf}
+use Rattle.std.proofs.Common.{◌≡◌, inl, inr, ℕ, ◌<◌, Bool, true, false, cond, List, [], ◌∷◌, ◌++◌, length, map, take, Option, Some, None, nat_lt, refl, sym, ap, subst, ◌∙◌, arith, lt-ltb, position}
+use Rattle.std.specs.List.{list_all}
+use Rattle.mlt_trace_long.proofs.Names.{TraceCause, Raw, is_lf, TraceItem, TraceReading, IsSettled}
+use Rattle.mlt_text_words.specs.Lines.{lines, content, is_allowed}
 use Rattle.mlt_text_words.specs.Words.{raw_words}
 use Rattle.mlt_text_words.proofs.Cutting.{found, not_found}
-use Rattle.mlt_trace.specs.declared.item.TraceItem.{TraceItem}
-use Rattle.mlt_trace_check.specs.declared.reading.TraceReading.{TraceReading}
 use Rattle.mlt_trace_check.specs.declared.reading.TraceReading.TheVariants.{Bad, Says}
 use Rattle.mlt_trace_check.specs.Readings.{item_of, item_or_fault, reading}
-use Rattle.mlt_trace_long.specs.Settled.{IsSettled}
 use Rattle.mlt_trace_long.proofs.Behind.{AllEnd, lines_behind, stays_long}
 
 abbrev IsItem : TraceReading → Type 0
 IsItem (Bad fault) = ⊥
 IsItem (Says item) = Unit {0}
 
-if_ended : (long allowed ended : Bool) (r : TraceReading) → IsItem (cond long (Bad cause.Line) (cond allowed (cond ended r (Bad cause.Cut)) (Bad cause.Line))) → ended ≡ true
+if_ended : (long allowed ended : Bool) (r : TraceReading) → IsItem (cond long (Bad TraceCause.Line) (cond allowed (cond ended r (Bad TraceCause.Cut)) (Bad TraceCause.Line))) → ended ≡ true
 if_ended true allowed ended r h = absurd h
 if_ended false false ended r h = absurd h
 if_ended false true true r h = refl
@@ -36,7 +33,7 @@ all_end (raw ∷ raws) (item ∷ items) e =
     let tail : map reading raws ≡ map Says items = cc e in
     (says_ended raw item head, all_end raws items tail)
 
-long_reading : (raw : Raw) → 200 < length raw.bytes → reading raw ≡ Bad cause.Line
+long_reading : (raw : Raw) → 200 < length raw.bytes → reading raw ≡ Bad TraceCause.Line
 unfolding reading
 long_reading raw long = rw (lt-ltb 200 (length raw.bytes) long) refl
 

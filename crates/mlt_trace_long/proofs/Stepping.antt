@@ -1,20 +1,13 @@
 -- A check that goes over the lines of a text, one after another.
 use Rattle.std.proofs.Common.{◌≡◌, ◌⊎◌, inl, inr, ℕ, Bool, true, false, List, [], ◌∷◌, ◌++◌, Ok, Err, refl, sym, ap, subst, ◌∙◌, append_assoc, append-nil}
 use Rattle.std.proofs.lemmas.Grind.{flat_map-append}
-use Rattle.mlt_types.specs.declared.refusal.Refusal.{Refusal}
-use Rattle.mlt_types.specs.declared.refusal.Refusal.TheVariants.{Io, OutOfMemory, TraceFault}
-use Rattle.mlt_text.specs.Failures.{IsTraceFault, IsWant}
-use Rattle.mlt_text_words.specs.Lines.{Raw, lines}
-use Rattle.mlt_trace.specs.declared.item.TraceItem.{TraceItem}
-use Rattle.mlt_trace.specs.Numbers.{committed_txs}
-use Rattle.mlt_trace_check.specs.declared.reading.TraceReading.{TraceReading}
-use Rattle.mlt_trace_check.specs.Answering.{WentOver}
-use Rattle.mlt_trace_check.specs.OrderTexts.{serial_line, serial_lines}
+use Rattle.mlt_trace_long.proofs.Names.{Refusal, Io, OutOfMemory, TraceFault, IsWant, Raw, TraceItem, committed_txs, TraceReading, WentOver, serial_lines, Going, GoesOver, Refuses, IsSettled}
+use Rattle.mlt_text.specs.Failures.{IsTraceFault}
+use Rattle.mlt_text_words.specs.Lines.{lines}
+use Rattle.mlt_trace_check.specs.OrderTexts.{serial_line}
 use Rattle.mlt_trace_check.specs.Readings.{reading}
 use Rattle.mlt_trace_check.proofs.Going.{went_on, went_wrong}
-use Rattle.mlt_trace_long.specs.declared.going.Going.{Going}
-use Rattle.mlt_trace_long.specs.Goings.{GoesOver, Refuses, TakesOne}
-use Rattle.mlt_trace_long.specs.Settled.{IsSettled}
+use Rattle.mlt_trace_long.specs.Goings.{TakesOne}
 use Rattle.mlt_trace_long.proofs.Behind.{behind_first, lines_behind}
 use Rattle.mlt_trace_long.proofs.Settling.{FirstSays, says_ended, settled_stays}
 

@@ -1,13 +1,8 @@
 -- The ends of inverses
 use Rattle.std.proofs.Common.{◌≡◌, List, [], ◌∷◌, ◌++◌, Option, refl, sym, ap, ◌∙◌}
-use Rattle.mlt_page_subtx.specs.Images.{Running}
+use Rattle.mlt_tx.proofs.Names.{Running, WalkContext, OperationFields, Answer, SharedState}
 use Rattle.mlt_object_undo.specs.Undo.{Undo}
-use Rattle.mlt_hash.specs.Walks.{WalkContext}
-use Rattle.mlt_tx_operation.specs.Operating.{OperationFields}
-use Rattle.mlt_event.specs.declared.answer.Answer.{Answer}
-use Rattle.mlt_event.specs.declared.answer.Answer.TheVariants as answer
 use Rattle.mlt_tx.specs.Endings.{tx_state}
-use Rattle.mlt_tx.specs.declared.shared.SharedState.{SharedState}
 use Rattle.mlt_tx.specs.Steps.{EndsBack, TellsOfBack}
 
 -- a list has one last item
@@ -27,6 +22,6 @@ one_last entries front front' x y one other =
 -- **The end of an inverse is what a step of the abort tells.**
 pub end_tells : (context : WalkContext) (inverting inverting' : Option OperationFields) (running running' : Running) (undo undo' : Undo) (old new : SharedState) (told : Answer)
     → EndsBack inverting inverting' (tx_state running undo old) (tx_state running' undo' new) told → TellsOfBack context inverting inverting' (tx_state running undo old) (tx_state running' undo' new) told
-end_tells context inverting inverting' running running' undo undo' old new answer.Undone ends = ends
-end_tells context inverting inverting' running running' undo undo' old new answer.Aborted ends = ends
+end_tells context inverting inverting' running running' undo undo' old new Answer.Undone ends = ends
+end_tells context inverting inverting' running running' undo undo' old new Answer.Aborted ends = ends
 end_tells context inverting inverting' running running' undo undo' old new other ends = absurd ends.takes

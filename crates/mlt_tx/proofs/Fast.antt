@@ -1,34 +1,24 @@
 -- An operation that takes all of its steps at once
 use Rattle.std.proofs.Common.{◌≡◌, ℕ, ◌+◌, [], ◌∷◌, ◌++◌, refl, sym, ap, subst, ◌∙◌}
-use Rattle.mlt_object_kinds.specs.declared.operation.ObjOp.{ObjOp}
-use Rattle.mlt_object_kinds.specs.declared.operation.ObjReply.{ObjReply}
+use Rattle.mlt_tx.proofs.Names.{ObjOp, ObjReply, HoldsClash, SameReservations, Running, LocalState, local, WalkContext, OperationFields, started_for, TraceItem, Answer, StepsFast, called_with, SharedState, At, Transaction}
 use Rattle.mlt_object_base.specs.declared.request.Request.TheVariants.{Do}
-use Rattle.mlt_object_locks.specs.Locks.{HoldsClash, SameReservations}
 use Rattle.mlt_page_store.specs.Stores.{PageStore}
-use Rattle.mlt_page_subtx.specs.Images.{Running, started}
-use Rattle.mlt_hash_access.specs.LocalStates.{LocalState, local}
-use Rattle.mlt_hash.specs.Walks.{WalkContext}
-use Rattle.mlt_tx_operation.specs.Operating.{OperationFields, started_for}
+use Rattle.mlt_page_subtx.specs.Images.{started}
 use Rattle.mlt_tx_operation.specs.Fast.{GoesOn, PassesFast}
-use Rattle.mlt_trace.specs.declared.item.TraceItem.TheVariants as trace
-use Rattle.mlt_event.specs.declared.answer.Answer.TheVariants as answer
-use Rattle.mlt_tx.specs.Fast.{StepsFast, TakesStep, called_with}
+use Rattle.mlt_tx.specs.Fast.{TakesStep}
 use Rattle.mlt_tx.specs.Endings.{IsDone}
 use Rattle.mlt_tx.specs.Transactions.{tx_state_of}
-use Rattle.mlt_tx.specs.declared.shared.SharedState.{SharedState}
-use Rattle.mlt_tx.specs.declared.transaction.At.TheVariants as at
-use Rattle.mlt_tx.specs.declared.transaction.Transaction.{Transaction}
 
 -- the transaction, and what all share, at a moment of its operation
 abbrev pub at_local : Transaction → LocalState → OperationFields → Transaction
-at_local t m o = record { subtx = m.running; undo = t.undo; at = at.Pending o }
+at_local t m o = record { subtx = m.running; undo = t.undo; at = At.Pending o }
 
 abbrev pub with_local : SharedState → LocalState → SharedState
 with_local shared m = record shared { pages = record { store = m.store; locks = m.locks } }
 
 -- a step of the operation is one of the transaction
 goes_on : (context : WalkContext) (t : Transaction) (shared : SharedState) (old new : LocalState) (o o' : OperationFields) → GoesOn context old new o o'
-    → TakesStep context (at_local t old o) (at_local t new o') (with_local shared old) (with_local shared new) answer.Going
+    → TakesStep context (at_local t old o) (at_local t new o') (with_local shared old) (with_local shared new) Answer.Going
 goes_on context t shared old new o o' step = record {
   tells = record {
     next = o';
@@ -46,13 +36,13 @@ pub record IsAdded (tx : ℕ) (item : ObjOp × ObjReply) (before after : Transac
   pub held : new.objects.held ≡ old.objects.held ++ (tx, item) ∷ []
   pub reserved : SameReservations old.objects.reserved new.objects.reserved tx
   pub entries : after.undo.entries ≡ before.undo.entries ++ item ∷ []
-  pub items : new.history.items ≡ old.history.items ++ trace.Op tx item ∷ []
+  pub items : new.history.items ≡ old.history.items ++ TraceItem.Op tx item ∷ []
   pub room : new.history.room + 1 ≡ old.history.room
 
 -- **The steps up to its end, and its end, are four steps of its transaction.**
 module _ (context : WalkContext) (op : ObjOp) (reply : ObjReply) (before after : Transaction) (old new : SharedState) (store : PageStore)
     (fresh : before.subtx ≡ started before.subtx.tx) (passes : PassesFast context (local before.subtx old.pages) (started_for (Do op)) reply store)
-    (stays : after.subtx ≡ before.subtx) (idle : after.at ≡ at.Idle) (store_is : new.pages.store ≡ store) (locks_are : new.pages.locks ≡ old.pages.locks)
+    (stays : after.subtx ≡ before.subtx) (idle : after.at ≡ At.Idle) (store_is : new.pages.store ≡ store) (locks_are : new.pages.locks ≡ old.pages.locks)
     (adds : IsAdded before.subtx.tx (op, reply) before after old new) where
   abbrev first_after : Transaction
   first_after = at_local before passes.reaches.headed passes.reaches.with_header
@@ -66,7 +56,7 @@ module _ (context : WalkContext) (op : ObjOp) (reply : ObjReply) (before after :
   same_number : passes.at_end.running.tx ≡ before.subtx.tx
   same_number = passes.reaches.third.own ∙ passes.reaches.second.own ∙ passes.reaches.first.own
 
-  first : TakesStep context (called_with op before) first_after old (with_local old passes.reaches.headed) answer.Going
+  first : TakesStep context (called_with op before) first_after old (with_local old passes.reaches.headed) Answer.Going
   first = goes_on context before old (local before.subtx old.pages) passes.reaches.headed (started_for (Do op)) passes.reaches.with_header passes.reaches.first
 
   asked : passes.after.request ≡ Do op
@@ -87,7 +77,7 @@ module _ (context : WalkContext) (op : ObjOp) (reply : ObjReply) (before after :
     room = adds.room;
   })
 
-  ends : TakesStep context third_after after (with_local old passes.at_end) new (answer.Done reply)
+  ends : TakesStep context third_after after (with_local old passes.at_end) new (Answer.Done reply)
   ends = record {
     tells = record {
       next = passes.after;

@@ -3,41 +3,34 @@ use Rattle.std.proofs.Common.{◌≡◌, ℕ, Bool, true, false, None, Option, S
 use Rattle.std.proofs.lemmas.Bool.{false≢true}
 use Rattle.mlt_object_kinds.specs.declared.account.AccountOp.TheVariants.{Open, Close, Deposit, Withdraw}
 use Rattle.mlt_object_kinds.specs.declared.counter.CounterOp.TheVariants.{Up, Down}
-use Rattle.mlt_object_kinds.specs.declared.element.ElementOp.TheVariants as element
-use Rattle.mlt_object_kinds.specs.declared.operation.ObjOp.{ObjOp}
+use Rattle.mlt_object_kinds.specs.declared.element.ElementOp.{ElementOp}
+use Rattle.mlt_tx.proofs.Names.{ObjOp, ObjReply, TakeBack, inverse_of, LocalState, WalkContext, OperationFields, started_for, TellsOfStart}
 use Rattle.mlt_object_kinds.specs.declared.operation.ObjOp.TheVariants.{Account, Element, Counter, Size}
-use Rattle.mlt_object_kinds.specs.declared.operation.ObjReply.{ObjReply}
-use Rattle.mlt_object_kinds.specs.declared.operation.ObjReply.TheVariants as told
 use Rattle.mlt_object_base.specs.declared.record.RecChange.{RecChange}
 use Rattle.mlt_object_base.specs.declared.record.RecChange.TheVariants.{Add}
 use Rattle.mlt_object_base.specs.declared.request.Request.{Request}
-use Rattle.mlt_object_base.specs.declared.request.Request.TheVariants.{TakeBack}
-use Rattle.mlt_object_base.specs.Effects.{inverse_of}
 use Rattle.mlt_object_base.specs.Requests.{decision, size_key_of}
-use Rattle.mlt_hash_access.specs.LocalStates.{LocalState}
-use Rattle.mlt_hash.specs.Walks.{WalkContext}
 use Rattle.mlt_tx_operation.specs.declared.answer.StepAnswer.{StepAnswer}
-use Rattle.mlt_tx_operation.specs.declared.answer.StepAnswer.TheVariants as step
 use Rattle.mlt_tx_operation.specs.Answers.{StepsOn, TellsOfStep, Waits}
-use Rattle.mlt_tx_operation.specs.Operating.{IsInFirst, OperationFields, access_path_for, started_for}
+use Rattle.mlt_tx_operation.specs.Operating.{IsInFirst, access_path_for}
 use Rattle.mlt_tx_two_records.specs.Performing.{AsksToAdd}
-use Rattle.mlt_tx.specs.Steps.{IsInverting, TellsOfStart, answer_of}
+use Rattle.mlt_tx.specs.Steps.{IsInverting, answer_of}
 
 abbrev is_addition : Option RecChange → Bool
 is_addition (Some (Add v)) = true
 is_addition other = false
 
 never_adds : (item : ObjOp × ObjReply) → is_addition (inverse_of item) ≡ false
-never_adds (Account a Open, told.Opened) = refl
-never_adds (Account a Close, told.Closed) = refl
-never_adds (Account a (Deposit n), told.Done) = refl
-never_adds (Account a (Withdraw n), told.Done) = refl
+never_adds (Account a Open, ObjReply.Opened) = refl
+never_adds (Account a Close, ObjReply.Closed) = refl
+never_adds (Account a (Deposit n), ObjReply.Done) = refl
+never_adds (Account a (Withdraw n), ObjReply.Done) = refl
 never_adds (Account a op, other) = refl
-never_adds (Element s e element.Add, told.Added) = refl
-never_adds (Element s e element.Remove, told.Removed) = refl
+never_adds (Element s e ElementOp.Add, ObjReply.Added) = refl
+never_adds (Element s e ElementOp.Remove, ObjReply.Removed) = refl
 never_adds (Element s e op, other) = refl
-never_adds (Counter c (Up n), told.Done) = refl
-never_adds (Counter c (Down n), told.Done) = refl
+never_adds (Counter c (Up n), ObjReply.Done) = refl
+never_adds (Counter c (Down n), ObjReply.Done) = refl
 never_adds (Counter c op, other) = refl
 never_adds (Size s, other) = refl
 
@@ -47,7 +40,7 @@ no_addition item request value is adds =
 
 -- **An inverse that goes on stays in its pass.**
 pub inverse_goes_on : (context : WalkContext) (old new : LocalState) (item : ObjOp × ObjReply) (before after : OperationFields) → IsInverting item before
-    → TellsOfStep context old new before after step.Going → StepsOn context old new before after × IsInverting item after
+    → TellsOfStep context old new before after StepAnswer.Going → StepsOn context old new before after × IsInverting item after
 inverse_goes_on context old new item before after is (inl goes) = (goes, record { asked = goes.request ∙ is.asked; first = goes.in_first is.first })
 inverse_goes_on context old new item before after is (inr (inl splits)) = absurd (splits.later is.first)
 inverse_goes_on context old new item before after is (inr (inr again)) = absurd (no_addition item before.request again.adds.0 is.asked again.adds.1)
@@ -63,13 +56,13 @@ starts_inverting item = record { asked = refl; first = starts_first (size_key_of
 -- **The first step of an inverse.**
 pub start_tells : (context : WalkContext) (old new : LocalState) (item : ObjOp × ObjReply) (before after : OperationFields) (told : StepAnswer) → before ≡ started_for (TakeBack item) → TellsOfStep context old new before after told
     → TellsOfStart context item (Some after) old new (answer_of told)
-start_tells context old new item before after step.Going is tells =
-    let goes = inverse_goes_on context old new item (started_for (TakeBack item)) after (starts_inverting item) (subst (λ (o : OperationFields). TellsOfStep context old new o after step.Going) is tells) in
+start_tells context old new item before after StepAnswer.Going is tells =
+    let goes = inverse_goes_on context old new item (started_for (TakeBack item)) after (starts_inverting item) (subst (λ (o : OperationFields). TellsOfStep context old new o after StepAnswer.Going) is tells) in
     record { after = after; is = refl; inverts = goes.1; tells = goes.0 }
-start_tells context old new item before after (step.Waiting page by) is tells = record {
+start_tells context old new item before after (StepAnswer.Waiting page by) is tells = record {
   after = after;
   is = refl;
   inverts = subst (IsInverting item) (sym (tells.stays ∙ is)) (starts_inverting item);
   tells = subst (λ (o : OperationFields). Waits context old new o after page by) is tells;
 }
-start_tells context old new item before after (step.Refused reason) is tells = absurd (tells.later (subst (λ (o : OperationFields). IsInFirst o.access_path) (sym is) (starts_inverting item).first))
+start_tells context old new item before after (StepAnswer.Refused reason) is tells = absurd (tells.later (subst (λ (o : OperationFields). IsInFirst o.access_path) (sym is) (starts_inverting item).first))

@@ -6,9 +6,8 @@ use Rattle.mlt_page_locks.specs.Requests.{released}
 use Rattle.mlt_page_subtx.specs.Images.{Running, put_back, started}
 use Rattle.mlt_object_undo.specs.Undo.{Undo}
 use Rattle.mlt_object_locks.specs.Locks.{HoldsClash, IsLowestClash, SameReservations}
-use Rattle.mlt_trace.specs.declared.item.TraceItem.TheVariants as trace
+use Rattle.mlt_trace.specs.declared.item.TraceItem.{TraceItem}
 use Rattle.mlt_event.specs.declared.answer.Answer.{Answer}
-use Rattle.mlt_event.specs.declared.answer.Answer.TheVariants as answer
 use Rattle.mlt_tx.specs.declared.shared.SharedState.{SharedState}
 
 -- a subtransaction ends, and what it has written stays
@@ -43,7 +42,7 @@ pub record IsDone (item : ObjOp × ObjReply) (old new : TxState) : Type 0 where
       old.running.tx
   pub entries : new.undo.entries ≡ old.undo.entries ++ item ∷ []
   pub items : new.shared.history.items
-      ≡ old.shared.history.items ++ trace.Op old.running.tx item ∷ []
+      ≡ old.shared.history.items ++ TraceItem.Op old.running.tx item ∷ []
   pub room : new.shared.history.room + 1 ≡ old.shared.history.room
 
 -- The item clashes with what this transaction holds, the lowest, and is rolled back.
@@ -56,6 +55,6 @@ pub record IsBlocked (item : ObjOp × ObjReply) (old new : TxState) (by : ℕ) :
 
 -- what the end of an operation is told: it is done, or blocked
 abbrev pub TellsOfEnd : ObjOp × ObjReply → TxState → TxState → Answer → Type 0
-TellsOfEnd item old new (answer.Done reply) = (reply ≡ item.1) × IsDone item old new
-TellsOfEnd item old new (answer.Blocked by) = IsBlocked item old new by
+TellsOfEnd item old new (Answer.Done reply) = (reply ≡ item.1) × IsDone item old new
+TellsOfEnd item old new (Answer.Blocked by) = IsBlocked item old new by
 TellsOfEnd item old new other = ⊥

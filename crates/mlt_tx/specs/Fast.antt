@@ -11,9 +11,8 @@ use Rattle.mlt_hash.specs.Walks.{WalkContext}
 use Rattle.mlt_tx_operation.specs.Operating.{MayOperate, started_for}
 use Rattle.mlt_tx_operation.specs.Fast.{NobodyHolds}
 use Rattle.mlt_event.specs.declared.answer.Answer.{Answer}
-use Rattle.mlt_event.specs.declared.answer.Answer.TheVariants as answer
 use Rattle.mlt_tx.specs.declared.shared.SharedState.{SharedState}
-use Rattle.mlt_tx.specs.declared.transaction.At.TheVariants as at
+use Rattle.mlt_tx.specs.declared.transaction.At.{At}
 use Rattle.mlt_tx.specs.declared.transaction.Transaction.{Transaction}
 use Rattle.mlt_tx.specs.Transactions.{MakesRoom, TellsOfCall, TellsOfTransaction}
 
@@ -21,7 +20,7 @@ use Rattle.mlt_tx.specs.Transactions.{MakesRoom, TellsOfCall, TellsOfTransaction
 -- take its steps.
 pub record MayCallFast (context : WalkContext) (op : ObjOp) (t : Transaction) (shared : SharedState)
     : Type 0 where
-  pub idle : t.at ≡ at.Idle
+  pub idle : t.at ≡ At.Idle
   pub fresh : t.subtx ≡ started t.subtx.tx
   pub free : NobodyHolds shared.pages.locks
   pub may : MayOperate context (local t.subtx shared.pages) (started_for (Do op))
@@ -36,7 +35,7 @@ pub record HasRoomFor (op : ObjOp) (before after : Transaction) (old new : Share
 
 -- the transaction, called with this operation, which has taken no step
 abbrev pub called_with : ObjOp → Transaction → Transaction
-called_with op t = record { subtx = t.subtx; undo = t.undo; at = at.Pending (started_for (Do op)) }
+called_with op t = record { subtx = t.subtx; undo = t.undo; at = At.Pending (started_for (Do op)) }
 
 -- a step of a transaction, which keeps its number
 pub record TakesStep (context : WalkContext) (before after : Transaction) (old new : SharedState) (told : Answer)
@@ -53,10 +52,10 @@ pub record StepsFast (context : WalkContext) (before after : Transaction) (old n
   pub with_header : SharedState
   pub with_directory : SharedState
   pub with_bucket : SharedState
-  pub first : TakesStep context before headed old with_header answer.Going
-  pub second : TakesStep context headed placed with_header with_directory answer.Going
-  pub third : TakesStep context placed told with_directory with_bucket answer.Going
-  pub ends : TakesStep context told after with_bucket new (answer.Done reply)
+  pub first : TakesStep context before headed old with_header Answer.Going
+  pub second : TakesStep context headed placed with_header with_directory Answer.Going
+  pub third : TakesStep context placed told with_directory with_bucket Answer.Going
+  pub ends : TakesStep context told after with_bucket new (Answer.Done reply)
 
 -- it is called, and takes its four steps at once
 pub record IsDoneFast (context : WalkContext) (op : ObjOp) (before after : Transaction) (old new : SharedState)

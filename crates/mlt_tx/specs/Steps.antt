@@ -1,6 +1,5 @@
 -- What the steps of one transaction ask and tell
-use Rattle.std.specs.Prelude.{ℕ, ◌≡◌, ◌≤◌, ◌+◌, List, [], ◌∷◌, ◌++◌, Option, None, Some, IsSome}
-use Rattle.std.specs.List.{filter}
+use Rattle.std.specs.Prelude.{ℕ, ◌≡◌, ◌≤◌, ◌+◌, List, [], ◌∷◌, ◌++◌, Option, None, Some, IsSome, filter}
 use Rattle.mlt_object_kinds.specs.declared.operation.ObjOp.{ObjOp}
 use Rattle.mlt_object_kinds.specs.declared.operation.ObjReply.{ObjReply}
 use Rattle.mlt_object_kinds.specs.Operations.{cell_of}
@@ -12,20 +11,18 @@ use Rattle.mlt_object_locks.specs.Locks.{SameReservations, is_of_other, reservat
 use Rattle.mlt_hash_access.specs.LocalStates.{LocalState, local}
 use Rattle.mlt_hash.specs.Walks.{WalkContext}
 use Rattle.mlt_tx_operation.specs.declared.answer.StepAnswer.{StepAnswer}
-use Rattle.mlt_tx_operation.specs.declared.answer.StepAnswer.TheVariants as step
 use Rattle.mlt_tx_operation.specs.Answers.{StepsOn, TellsOfStep, Waits}
 use Rattle.mlt_tx_operation.specs.Operating.{IsInFirst, MayOperate, OperationFields, started_for}
-use Rattle.mlt_trace.specs.declared.item.TraceItem.TheVariants as trace
+use Rattle.mlt_trace.specs.declared.item.TraceItem.{TraceItem}
 use Rattle.mlt_event.specs.declared.answer.Answer.{Answer}
-use Rattle.mlt_event.specs.declared.answer.Answer.TheVariants as answer
 use Rattle.mlt_tx.specs.declared.shared.SharedState.{SharedState}
 use Rattle.mlt_tx.specs.Endings.{EndsSubtx, TellsOfEnd, TxState}
 
 -- the answer to a step, as its transaction gives it
 abbrev pub answer_of : StepAnswer → Answer
-answer_of step.Going = answer.Going
-answer_of (step.Waiting page by) = answer.Waiting page by
-answer_of (step.Refused reason) = answer.Refused reason
+answer_of StepAnswer.Going = Answer.Going
+answer_of (StepAnswer.Waiting page by) = Answer.Waiting page by
+answer_of (StepAnswer.Refused reason) = Answer.Refused reason
 
 -- what the end of an operation asks
 pub record MayFinish (item : ObjOp × ObjReply) (running : Running) (undo : Undo) (shared : SharedState)
@@ -69,14 +66,14 @@ pub record Ends (o : OperationFields) (old new : TxState) (told : Answer) : Type
 -- taken no step again.
 abbrev pub TellsOfPending : WalkContext → OperationFields → OperationFields → TxState → TxState
     → Answer → Type 0
-TellsOfPending context o o' old new answer.Going = Walks context o o' old new step.Going
-TellsOfPending context o o' old new (answer.Waiting page by) =
-    Walks context o o' old new (step.Waiting page by)
-TellsOfPending context o o' old new (answer.Refused reason) =
-    Walks context o o' old new (step.Refused reason)
-TellsOfPending context o o' old new (answer.Blocked by) =
-    Ends o old new (answer.Blocked by) × (o' ≡ started_for o.request)
-TellsOfPending context o o' old new (answer.Done reply) = Ends o old new (answer.Done reply)
+TellsOfPending context o o' old new Answer.Going = Walks context o o' old new StepAnswer.Going
+TellsOfPending context o o' old new (Answer.Waiting page by) =
+    Walks context o o' old new (StepAnswer.Waiting page by)
+TellsOfPending context o o' old new (Answer.Refused reason) =
+    Walks context o o' old new (StepAnswer.Refused reason)
+TellsOfPending context o o' old new (Answer.Blocked by) =
+    Ends o old new (Answer.Blocked by) × (o' ≡ started_for o.request)
+TellsOfPending context o o' old new (Answer.Done reply) = Ends o old new (Answer.Done reply)
 TellsOfPending context o o' old new other = ⊥
 
 -- The last operation is taken off, the pages stay, and the history tells it.
@@ -90,7 +87,7 @@ pub record TakesOne (tx : ℕ) (undo undo' : Undo) (old new : SharedState) : Typ
   pub off : TakesOff tx undo undo' old new
   pub left : undo'.entries ≡ [] → ⊥
   pub objects : new.objects ≡ old.objects
-  pub items : new.history.items ≡ old.history.items ++ trace.Back tx ∷ []
+  pub items : new.history.items ≡ old.history.items ++ TraceItem.Back tx ∷ []
   pub room : new.history.room + 1 ≡ old.history.room
 
 -- It was the last; and the transaction is closed, and holds and reserves nothing.
@@ -100,13 +97,13 @@ pub record TakesLast (tx : ℕ) (undo undo' : Undo) (old new : SharedState) : Ty
   pub held : new.objects.held ≡ filter (is_of_other tx) old.objects.held
   pub unreserved : reservation_of new.objects.reserved tx ≡ None
   pub others : SameReservations old.objects.reserved new.objects.reserved tx
-  pub items : new.history.items ≡ old.history.items ++ trace.Back tx ∷ trace.Abort tx ∷ []
+  pub items : new.history.items ≡ old.history.items ++ TraceItem.Back tx ∷ TraceItem.Abort tx ∷ []
   pub room : new.history.room + 2 ≡ old.history.room
 
 -- The last operation is taken back; and where none is left, the transaction is closed.
 abbrev pub TakesBack : ℕ → Undo → Undo → SharedState → SharedState → Answer → Type 0
-TakesBack tx undo undo' old new answer.Undone = TakesOne tx undo undo' old new
-TakesBack tx undo undo' old new answer.Aborted = TakesLast tx undo undo' old new
+TakesBack tx undo undo' old new Answer.Undone = TakesOne tx undo undo' old new
+TakesBack tx undo undo' old new Answer.Aborted = TakesLast tx undo undo' old new
 TakesBack tx undo undo' old new other = ⊥
 
 -- an inverse that runs: it takes the item back, in its first pass
@@ -148,9 +145,9 @@ pub record StartsInverse (item : ObjOp × ObjReply) (inverting' : Option Operati
 
 abbrev pub TellsOfStart : WalkContext → ObjOp × ObjReply → Option OperationFields → LocalState → LocalState
     → Answer → Type 0
-TellsOfStart context item inverting' old new answer.Going =
+TellsOfStart context item inverting' old new Answer.Going =
     StartsInverse item inverting' (λ o o'. StepsOn context old new o o')
-TellsOfStart context item inverting' old new (answer.Waiting page by) =
+TellsOfStart context item inverting' old new (Answer.Waiting page by) =
     StartsInverse item inverting' (λ o o'. Waits context old new o o' page by)
 TellsOfStart context item inverting' old new other = ⊥
 
@@ -183,16 +180,16 @@ pub record EndsBack (inverting inverting' : Option OperationFields) (old new : T
 -- A step of an abort goes on, or waits, or takes the last operation back. It is never refused.
 abbrev pub TellsOfBack : WalkContext → Option OperationFields → Option OperationFields → TxState
     → TxState → Answer → Type 0
-TellsOfBack context inverting inverting' old new answer.Going =
+TellsOfBack context inverting inverting' old new Answer.Going =
     InverseSteps inverting inverting' old.undo new.undo old.shared new.shared (λ o o'.
     StepsOn context (local old.running old.shared.pages) (local new.running new.shared.pages)
     o o')
-TellsOfBack context inverting inverting' old new (answer.Waiting page by) =
+TellsOfBack context inverting inverting' old new (Answer.Waiting page by) =
     InverseSteps inverting inverting' old.undo new.undo old.shared new.shared (λ o o'.
     Waits context (local old.running old.shared.pages) (local new.running new.shared.pages)
     o o' page by)
-TellsOfBack context inverting inverting' old new answer.Undone =
-    EndsBack inverting inverting' old new answer.Undone
-TellsOfBack context inverting inverting' old new answer.Aborted =
-    EndsBack inverting inverting' old new answer.Aborted
+TellsOfBack context inverting inverting' old new Answer.Undone =
+    EndsBack inverting inverting' old new Answer.Undone
+TellsOfBack context inverting inverting' old new Answer.Aborted =
+    EndsBack inverting inverting' old new Answer.Aborted
 TellsOfBack context inverting inverting' old new other = ⊥

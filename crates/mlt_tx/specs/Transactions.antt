@@ -9,10 +9,8 @@ use Rattle.mlt_page_subtx.specs.Images.{Running}
 use Rattle.mlt_hash.specs.Walks.{WalkContext}
 use Rattle.mlt_tx_operation.specs.Operating.{OperationFields, started_for}
 use Rattle.mlt_event.specs.declared.answer.Answer.{Answer}
-use Rattle.mlt_event.specs.declared.answer.Answer.TheVariants as answer
 use Rattle.mlt_tx.specs.declared.shared.SharedState.{SharedState}
 use Rattle.mlt_tx.specs.declared.transaction.At.{At}
-use Rattle.mlt_tx.specs.declared.transaction.At.TheVariants as at
 use Rattle.mlt_tx.specs.declared.transaction.Transaction.{Transaction}
 use Rattle.mlt_tx.specs.Endings.{RollsBackSubtx, TxState}
 use Rattle.mlt_tx.specs.Steps.{MayStepBack, MayStepOn, TellsOfBack, TellsOfPending}
@@ -23,12 +21,12 @@ tx_state_of t shared = record { running = t.subtx; undo = t.undo; shared = share
 
 -- an operation is pending
 abbrev pub IsPending : At → Type 0
-IsPending (at.Pending o) = Unit {0}
+IsPending (At.Pending o) = Unit {0}
 IsPending other = ⊥
 
 -- its abort has begun
 abbrev pub IsUndoing : At → Type 0
-IsUndoing (at.Undoing inverting) = Unit {0}
+IsUndoing (At.Undoing inverting) = Unit {0}
 IsUndoing other = ⊥
 
 -- a transaction of these parts
@@ -44,13 +42,13 @@ pub record GivesUpRoom (count : ℕ) (old new : SharedState) : Type 0 where
 
 -- what is pending after an answer
 abbrev pub pending_after : Answer → OperationFields → At
-pending_after (answer.Done reply) o = at.Idle
-pending_after (answer.Refused reason) o = at.Idle
-pending_after other o = at.Pending o
+pending_after (Answer.Done reply) o = At.Idle
+pending_after (Answer.Refused reason) o = At.Idle
+pending_after other o = At.Pending o
 
 -- who is refused gives up the room that its operation had
 abbrev pub LeavesRoom : Answer → SharedState → SharedState → Type 0
-LeavesRoom (answer.Refused reason) between new = GivesUpRoom 2 between new
+LeavesRoom (Answer.Refused reason) between new = GivesUpRoom 2 between new
 LeavesRoom other between new = new ≡ between
 
 -- the pending operation took a step
@@ -69,14 +67,14 @@ pub record StepsBack (context : WalkContext) (inverting : Option OperationFields
   pub next : Option OperationFields
   pub tells : TellsOfBack context inverting next
       (tx_state_of before old) (tx_state_of after new) told
-  pub now_at : after.at ≡ at.Undoing next
+  pub now_at : after.at ≡ At.Undoing next
 
 -- what a step asks, by what the transaction is at
 abbrev pub MayStepAt : At → WalkContext → Transaction → SharedState → Type 0
-MayStepAt at.Idle context t shared = ⊥
-MayStepAt (at.Pending o) context t shared =
+MayStepAt At.Idle context t shared = ⊥
+MayStepAt (At.Pending o) context t shared =
     MayStepOn context o t.subtx t.undo shared × (2 ≤ shared.history.room)
-MayStepAt (at.Undoing inverting) context t shared =
+MayStepAt (At.Undoing inverting) context t shared =
     MayStepBack context inverting t.subtx t.undo shared
 
 -- What a step asks. Of a pending operation: that it may go on, or end. Of an abort: that something
@@ -87,10 +85,10 @@ MayStepIn context t shared = MayStepAt t.at context t shared
 
 -- what a step tells
 abbrev pub TellsAt : At → WalkContext → Transaction → Transaction → SharedState → SharedState → Answer → Type 0
-TellsAt at.Idle context before after old new told = ⊥
-TellsAt (at.Pending o) context before after old new told =
+TellsAt At.Idle context before after old new told = ⊥
+TellsAt (At.Pending o) context before after old new told =
     StepsPending context o before after old new told
-TellsAt (at.Undoing inverting) context before after old new told =
+TellsAt (At.Undoing inverting) context before after old new told =
     StepsBack context inverting before after old new told
 
 -- what a step tells, by what the transaction is at: a pending operation, or its abort
@@ -111,7 +109,7 @@ pub record MakesRoom (before after : Transaction) (old new : SharedState) : Type
 -- an operation is pending, and has room for all that its end, and its being taken back, add
 pub record TellsOfCall (op : ObjOp) (before after : Transaction) (old new : SharedState) : Type 0 where
   pub makes : MakesRoom before after old new
-  pub pending : after.at ≡ at.Pending (started_for (Do op))
+  pub pending : after.at ≡ At.Pending (started_for (Do op))
   pub spare : 1 ≤ after.undo.spare
   pub reserved : reservation_of new.objects.reserved before.subtx.tx ≡ Some (cell_of op)
   pub room : new.history.room ≡ old.history.room + 2
@@ -129,5 +127,5 @@ pub record TellsOfCancel (before after : Transaction) (old new : SharedState) : 
   pub objects : between.objects ≡ old.objects
   pub history : between.history ≡ old.history
   pub undo_kept : after.undo ≡ before.undo
-  pub idle : after.at ≡ at.Idle
+  pub idle : after.at ≡ At.Idle
   pub room : GivesUpRoom 2 between new

@@ -1,25 +1,7 @@
 -- Each change of one cell's record keeps the file with its ghosts, whatever the records mean.
-use Rattle.std.proofs.Common.{◌≡◌, ℕ, ◌+◌, ◌-◌, ◌%◌, ◌^◌, true, false, Option, Some, None, subst, sym, refl, inl, inr}
+use Rattle.std.proofs.Common.{◌≡◌, ℕ, ◌+◌, ◌-◌, ◌%◌, ◌^◌, true, false, Option, Some, None, subst, sym, refl, inl, inr, nat_cmp}
 use Rattle.std.specs.FinMap as map
-use Rattle.std.specs.Ordering.{nat_cmp}
-use Rattle.mlt_types.specs.Cells.{IsInRange, key_number}
-use Rattle.mlt_types.specs.declared.cell.Cell.{Cell}
-use Rattle.mlt_types.specs.declared.cell.Cell.TheVariants as cells
-use Rattle.mlt_page.specs.declared.page.Page.{Page}
-use Rattle.mlt_object_kinds.specs.declared.operation.ObjOp.{ObjOp}
-use Rattle.mlt_object_kinds.specs.declared.operation.ObjOp.TheVariants.{Account, Element, Counter, Size}
-use Rattle.mlt_object_kinds.specs.Operations.{cell_of}
-use Rattle.mlt_object_base.specs.declared.record.RecChange.{RecChange}
-use Rattle.mlt_object_base.specs.declared.record.RecChange.TheVariants as rec
-use Rattle.mlt_object_base.specs.Effects.{size_change_on}
-use Rattle.mlt_hash.specs.declared.pass.Change.{Change}
-use Rattle.mlt_hash.specs.declared.pass.Change.TheVariants.{Set}
-use Rattle.mlt_hash_ghosts.specs.Ledgers.{last_by}
-use Rattle.mlt_hash_ghosts.specs.Operations.{Added, Presence, Removed, Standing}
-use Rattle.mlt_tx_two_records.specs.Performing.{Performs}
-use Rattle.mlt_tx_meaning.specs.Ends.{ChangesPages, KeepsPages, LeavesChange}
-use Rattle.mlt_tx_meaning.specs.Events.{IsOpenAt}
-use Rattle.mlt_tx_meaning.specs.AbstractStates.{IsFileWithGhosts, AbstractState, ledger_with, record_at}
+use Rattle.mlt_tx_meaning.proofs.Names.{IsInRange, key_number, Cell, Page, ObjOp, Account, Element, Counter, Size, cell_of, RecChange, size_change_on, Change, Set, last_by, Added, Presence, Removed, Standing, Performs, ChangesPages, KeepsPages, LeavesChange, IsOpenAt, IsFileWithGhosts, AbstractState, ledger_with, record_at}
 use Rattle.mlt_tx_meaning.proofs.Matches.{kept_pages}
 use Rattle.mlt_tx_meaning.proofs.Replies.{ForResizes}
 use Rattle.mlt_tx_meaning.proofs.SlotGhosts.{puts, puts_unsaid, removes, revived_was_removed, revives, sets, takes_addition_back, takes_removal_back}
@@ -34,26 +16,26 @@ module _ (state : AbstractState) (tx : ℕ) (cell : Cell) (pages : map.FinMap na
   KeepsGhosts said change = LeavesChange state tx cell change pages → Says said stood standing tx (key_number cell) → IsUnopposed said (ledger_with state stood) tx (key_number cell)
       → IsFileWithGhosts (ledger_with (record state { pages = pages }) standing) state.max_depth
 
-  pub added : (v : ℕ) → KeepsGhosts (Some Added) (rec.Add v)
+  pub added : (v : ℕ) → KeepsGhosts (Some Added) (RecChange.Add v)
   added v e says unopposed =
       let alone = unopposed Removed (λ f. cc f) in
       elim e.performs [
-        | inl put ↦ puts state tx cell (rec.Add v) pages stood h e standing v put is_open alone says
-        | inr revived ↦ revives state tx cell (rec.Add v) pages stood h e standing v revived is_open alone says
+        | inl put ↦ puts state tx cell (RecChange.Add v) pages stood h e standing v put is_open alone says
+        | inr revived ↦ revives state tx cell (RecChange.Add v) pages stood h e standing v revived is_open alone says
       ]
 
-  pub removed : KeepsGhosts (Some Removed) rec.ToGhost
-  removed e says unopposed = removes state tx cell rec.ToGhost pages stood h e standing e.performs is_open forward (unopposed Added (λ f. cc f)) says
+  pub removed : KeepsGhosts (Some Removed) RecChange.ToGhost
+  removed e says unopposed = removes state tx cell RecChange.ToGhost pages stood h e standing e.performs is_open forward (unopposed Added (λ f. cc f)) says
 
-  pub updated : (v : ℕ) → KeepsGhosts None (rec.Set v)
-  updated v e says unopposed = sets state tx cell (rec.Set v) pages stood h e standing v e.performs says
+  pub updated : (v : ℕ) → KeepsGhosts None (RecChange.Set v)
+  updated v e says unopposed = sets state tx cell (RecChange.Set v) pages stood h e standing v e.performs says
 
   -- where no removal stands of the key, there is no ghost to revive
-  pub counted : ((owner : ℕ) → last_by (ledger_with state stood) owner (key_number cell) ≡ Some Removed → ⊥) → (v : ℕ) → KeepsGhosts None (rec.Add v)
+  pub counted : ((owner : ℕ) → last_by (ledger_with state stood) owner (key_number cell) ≡ Some Removed → ⊥) → (v : ℕ) → KeepsGhosts None (RecChange.Add v)
   counted none v e says unopposed =
       elim e.performs [
-        | inl put ↦ puts_unsaid state tx cell (rec.Add v) pages stood h e standing v put none says
-        | inr revived ↦ absurd (none tx (revived_was_removed state tx cell (rec.Add v) pages stood h e v revived is_open forward))
+        | inl put ↦ puts_unsaid state tx cell (RecChange.Add v) pages stood h e standing v put none says
+        | inr revived ↦ absurd (none tx (revived_was_removed state tx cell (RecChange.Add v) pages stood h e v revived is_open forward))
       ]
 
 -- pages that stay keep it
@@ -64,11 +46,11 @@ file_stays state pages stood standing h same says =
     subst (λ (p : map.FinMap nat_cmp Page). IsFileWithGhosts (ledger_with (record state { pages = p }) standing) state.max_depth) (sym (kept_pages state pages same)) kept
 
 -- to add or to take away an amount gives the record some value
-sets_more : (n : ℕ) (live : Option ℕ) (done : Change) → Performs (rec.Plus n) live done → (v : ℕ) × (done ≡ Set v)
+sets_more : (n : ℕ) (live : Option ℕ) (done : Change) → Performs (RecChange.Plus n) live done → (v : ℕ) × (done ≡ Set v)
 sets_more n (Some v) done is = ((v + n) % 2 ^ 64, is)
 sets_more n None done is = absurd is
 
-sets_less : (n : ℕ) (live : Option ℕ) (done : Change) → Performs (rec.Minus n) live done → (v : ℕ) × (done ≡ Set v)
+sets_less : (n : ℕ) (live : Option ℕ) (done : Change) → Performs (RecChange.Minus n) live done → (v : ℕ) × (done ≡ Set v)
 sets_less n (Some v) done is = ((v + (2 ^ 64 - n)) % 2 ^ 64, is)
 sets_less n None done is = absurd is
 
@@ -81,17 +63,17 @@ module _ (state : AbstractState) (tx : ℕ) (cell : Cell) (pages : map.FinMap na
   KeepsGhostsBack said change = LeavesChange state tx cell change pages → Says said standing stood tx (key_number cell)
       → IsFileWithGhosts (ledger_with (record state { pages = pages }) standing) state.max_depth
 
-  pub added_back : state.undoing tx ≡ true → KeepsGhostsBack (Some Added) rec.ToGhost
-  added_back backward e says = takes_addition_back state tx cell rec.ToGhost pages stood h e standing e.performs is_open backward says
+  pub added_back : state.undoing tx ≡ true → KeepsGhostsBack (Some Added) RecChange.ToGhost
+  added_back backward e says = takes_addition_back state tx cell RecChange.ToGhost pages stood h e standing e.performs is_open backward says
 
-  pub removed_back : KeepsGhostsBack (Some Removed) rec.Revive
-  removed_back e says = takes_removal_back state tx cell rec.Revive pages stood h e standing 0 e.performs is_open says
+  pub removed_back : KeepsGhostsBack (Some Removed) RecChange.Revive
+  removed_back e says = takes_removal_back state tx cell RecChange.Revive pages stood h e standing 0 e.performs is_open says
 
-  pub lowered : (n : ℕ) → KeepsGhostsBack None (rec.Minus n)
-  lowered n e says = let v = sets_less n (record_at state cell) e.done e.performs in sets state tx cell (rec.Minus n) pages stood h e standing v.0 v.1 (sym says)
+  pub lowered : (n : ℕ) → KeepsGhostsBack None (RecChange.Minus n)
+  lowered n e says = let v = sets_less n (record_at state cell) e.done e.performs in sets state tx cell (RecChange.Minus n) pages stood h e standing v.0 v.1 (sym says)
 
-  pub raised : (n : ℕ) → KeepsGhostsBack None (rec.Plus n)
-  raised n e says = let v = sets_more n (record_at state cell) e.done e.performs in sets state tx cell (rec.Plus n) pages stood h e standing v.0 v.1 (sym says)
+  pub raised : (n : ℕ) → KeepsGhostsBack None (RecChange.Plus n)
+  raised n e says = let v = sets_more n (record_at state cell) e.done e.performs in sets state tx cell (RecChange.Plus n) pages stood h e standing v.0 v.1 (sym says)
 
 -- ---- a size, which is no key's presence
 
@@ -101,7 +83,7 @@ module _ (state : AbstractState) (tx : ℕ) (op : ObjOp) (pages : map.FinMap nat
   abbrev pub KeepsResized : Option RecChange → Type 0
   KeepsResized change = ChangesPages state tx (size_change_on op change) pages → IsFileWithGhosts (ledger_with (record state { pages = pages }) standing) state.max_depth
 
-  on_its_set : (change : RecChange) → ((s : ℕ) → IsInRange (cells.Size s) → LeavesChange state tx (cells.Size s) change pages → IsFileWithGhosts (ledger_with (record state { pages = pages }) standing) state.max_depth)
+  on_its_set : (change : RecChange) → ((s : ℕ) → IsInRange (Cell.Size s) → LeavesChange state tx (Cell.Size s) change pages → IsFileWithGhosts (ledger_with (record state { pages = pages }) standing) state.max_depth)
       → KeepsResized (Some change)
   on_its_set change each = of_op op range
     where
@@ -119,12 +101,12 @@ module _ (state : AbstractState) (tx : ℕ) (op : ObjOp) (pages : map.FinMap nat
 
   pub resized : ForResizes KeepsResized
   resized = record {
-    raised = on_its_set (rec.Plus 1) (λ s is e. raised state tx (cells.Size s) pages standing standing h is_open 1 e refl);
-    lowered = on_its_set (rec.Minus 1) (λ s is e. lowered state tx (cells.Size s) pages standing standing h is_open 1 e refl);
+    raised = on_its_set (RecChange.Plus 1) (λ s is e. raised state tx (Cell.Size s) pages standing standing h is_open 1 e refl);
+    lowered = on_its_set (RecChange.Minus 1) (λ s is e. lowered state tx (Cell.Size s) pages standing standing h is_open 1 e refl);
     stays = λ e. file_stays state pages standing standing h (of_none op e) refl;
   }
 
   -- where no removal stands of its key, there is no ghost to revive
-  pub size_made : state.undoing tx ≡ false → ((s : ℕ) → IsInRange (cells.Size s) → (owner : ℕ) → last_by (ledger_with state standing) owner (key_number (cells.Size s)) ≡ Some Removed → ⊥) → KeepsResized (Some (rec.Add 1))
+  pub size_made : state.undoing tx ≡ false → ((s : ℕ) → IsInRange (Cell.Size s) → (owner : ℕ) → last_by (ledger_with state standing) owner (key_number (Cell.Size s)) ≡ Some Removed → ⊥) → KeepsResized (Some (RecChange.Add 1))
   size_made forward none =
-      on_its_set (rec.Add 1) (λ s is e. counted state tx (cells.Size s) pages standing standing h is_open forward (none s is) 1 e refl tt)
+      on_its_set (RecChange.Add 1) (λ s is e. counted state tx (Cell.Size s) pages standing standing h is_open forward (none s is) 1 e refl tt)

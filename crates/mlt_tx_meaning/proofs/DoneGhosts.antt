@@ -1,23 +1,7 @@
 -- All that an operation changes keeps the file with its ghosts.
-use Rattle.std.proofs.Common.{◌≡◌, ℕ, false, Contains, Option}
+use Rattle.std.proofs.Common.{◌≡◌, ℕ, false, Contains, Option, nat_cmp}
 use Rattle.std.specs.FinMap as map
-use Rattle.std.specs.Ordering.{nat_cmp}
-use Rattle.mlt_types.specs.Cells.{IsInRange}
-use Rattle.mlt_types.specs.declared.cell.Cell.TheVariants as cell
-use Rattle.mlt_page.specs.declared.page.Page.{Page}
-use Rattle.mlt_object_kinds.specs.Bases.{Transcript}
-use Rattle.mlt_object_kinds.specs.declared.operation.ObjOp.{ObjOp}
-use Rattle.mlt_object_kinds.specs.declared.operation.ObjReply.{ObjReply}
-use Rattle.mlt_object_kinds.specs.Operations.{cell_of}
-use Rattle.mlt_object_base.specs.declared.record.RecChange.{RecChange}
-use Rattle.mlt_object_base.specs.Effects.{changes_on, own_change_on, size_change_on}
-use Rattle.mlt_object_base.specs.Meaning.{changes_of, told_by}
-use Rattle.mlt_hash_form.specs.Records.{live_records}
-use Rattle.mlt_hash_ghosts.specs.Operations.{Presence, Removed, Standing}
-use Rattle.mlt_tx_meaning.specs.Ends.{ChangesPages}
-use Rattle.mlt_tx_meaning.specs.Presences.{op_key, presence_of, standing_of}
-use Rattle.mlt_tx_meaning.specs.Events.{IsOpenAt}
-use Rattle.mlt_tx_meaning.specs.AbstractStates.{IsFileWithGhosts, PagesMeanHistory, AbstractState, ledger_with, ledger_of, lists_in, record_of, size_record_of, stood_in}
+use Rattle.mlt_tx_meaning.proofs.Names.{IsInRange, Cell, Page, Transcript, ObjOp, ObjReply, cell_of, RecChange, changes_on, own_change_on, size_change_on, changes_of, told_by, live_records, Presence, Removed, Standing, ChangesPages, op_key, presence_of, standing_of, IsOpenAt, IsFileWithGhosts, PagesMeanHistory, AbstractState, ledger_with, ledger_of, lists_in, record_of, size_record_of, stood_in}
 use Rattle.mlt_tx_meaning.proofs.ChangeGhosts.{KeepsResized, added, counted, file_stays, removed, resized, size_made, updated}
 use Rattle.mlt_tx_meaning.proofs.Matches.{in_range_there}
 use Rattle.mlt_tx_meaning.proofs.RecordChanges.{changes_split}
@@ -51,5 +35,5 @@ module _ (state : AbstractState) (tx : ℕ) (op : ObjOp) (pages : map.FinMap nat
       let own = own_keeps_file split.0 split.1 says unopposed in
       let between : AbstractState = record state { pages = split.0 } in
       by_size_change (op, told_by (live_records state.pages) op) (size_record_of state op) (KeepsResized between tx op pages standing own is_open is)
-      (size_made between tx op pages standing own is_open is forward (λ s is owner. nothing_on_counts transcripts in_range (cell.Size s) tt is owner Removed))
+      (size_made between tx op pages standing own is_open is forward (λ s is owner. nothing_on_counts transcripts in_range (Cell.Size s) tt is owner Removed))
       (resized between tx op pages standing own is_open is) split.2

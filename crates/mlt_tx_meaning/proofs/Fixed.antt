@@ -1,32 +1,12 @@
 -- What the clean pages, and the history, fix: the base, and the reply to each operation.
 use Rattle.std.proofs.Common.{◌≡◌, ℕ, ◌<◌, ◌^◌, Option, Some, None, sym, subst, arith}
-use Rattle.mlt_types.specs.Cells.{IsInRange}
-use Rattle.mlt_object_kinds.specs.declared.account.AccountOp.{AccountOp}
-use Rattle.mlt_object_kinds.specs.declared.account.AccountOp.TheVariants.{Open, Close, Deposit, Withdraw, Balance}
-use Rattle.mlt_object_kinds.specs.declared.counter.CounterOp.{CounterOp}
-use Rattle.mlt_object_kinds.specs.declared.counter.CounterOp.TheVariants.{Up, Down, Read}
-use Rattle.mlt_object_kinds.specs.declared.operation.ObjOp.{ObjOp}
-use Rattle.mlt_object_kinds.specs.declared.operation.ObjOp.TheVariants.{Account, Element, Counter, Size}
-use Rattle.mlt_object_kinds.specs.declared.operation.ObjReply.{ObjReply}
-use Rattle.mlt_object_kinds.specs.declared.operation.ObjReply.TheVariants as told
-use Rattle.mlt_object_kinds.specs.Accounts.{AccountStep}
+use Rattle.mlt_tx_meaning.proofs.Names.{IsInRange, AccountOp, Open, Close, Deposit, Withdraw, Balance, CounterOp, Up, Down, Read, ObjOp, Account, Element, Counter, Size, ObjReply, AccountStep, Base, Step, empty_base, CellState, CellStep, AccountState, ElementState, CounterState, NoState, CounterStep, cell_of, Means, reply_of, record_after, state_of_record, base_functional, base_injective, IsHistory, no_lists, live_records, account_amount, amount_of, counter_amount, PagesMeanHistory, AbstractState, record_of}
 use Rattle.mlt_object_kinds.proofs.BaseLaws.{base_one_answer, step_to}
-use Rattle.mlt_object_kinds.specs.Bases.{Base, Step, empty_base, with_state}
-use Rattle.mlt_object_kinds.specs.Cells.{CellState, CellStep}
-use Rattle.mlt_object_kinds.specs.Cells.CellState.{AccountState, ElementState, CounterState, NoState}
-use Rattle.mlt_object_kinds.specs.Counters.{CounterStep}
-use Rattle.mlt_object_kinds.specs.Operations.{cell_of}
-use Rattle.mlt_object_base.specs.Meaning.{Means}
-use Rattle.mlt_object_base.specs.Effects.{reply_of}
-use Rattle.mlt_object_base.specs.Records.{record_after, state_of_record}
+use Rattle.mlt_object_kinds.specs.Bases.{with_state}
 use Rattle.mlt_object_base.proofs.Meanings.{one_meaning}
 use Rattle.mlt_object_base.proofs.OperationChanges.{tells_size}
-use Rattle.mlt_object_conflicts.proofs.BaseOrder.{base_functional, base_injective}
-use Rattle.mlt_order.specs.Histories.{IsHistory, no_lists}
 use Rattle.mlt_order.proofs.Growing.{follow_to_one}
-use Rattle.mlt_hash_form.specs.Records.{live_records}
-use Rattle.mlt_tx_meaning.specs.Presences.{IsOpInRange, account_amount, amount_of, counter_amount}
-use Rattle.mlt_tx_meaning.specs.AbstractStates.{PagesMeanHistory, AbstractState, record_of}
+use Rattle.mlt_tx_meaning.specs.Presences.{IsOpInRange}
 use Rattle.mlt_tx_meaning.proofs.Replies.{reply_steps}
 
 -- an operation that is a step has an amount in range
@@ -34,19 +14,19 @@ account_small : (op : AccountOp) (reply : ObjReply) (s t : Option ℕ) → Accou
 account_small Open reply s t step = omega arith
 account_small Close reply s t step = omega arith
 account_small Balance reply s t step = omega arith
-account_small (Deposit n) told.Done (Some b) t step = step.0.0
-account_small (Deposit n) told.Over (Some b) t step = step.0.0
-account_small (Deposit n) told.Missing None t step = step.0
+account_small (Deposit n) ObjReply.Done (Some b) t step = step.0.0
+account_small (Deposit n) ObjReply.Over (Some b) t step = step.0.0
+account_small (Deposit n) ObjReply.Missing None t step = step.0
 account_small (Deposit n) _ _ t step = absurd step.0
-account_small (Withdraw n) told.Done (Some b) t step = step.0.0
-account_small (Withdraw n) told.Short (Some b) t step = step.0.0
-account_small (Withdraw n) told.Missing None t step = step.0
+account_small (Withdraw n) ObjReply.Done (Some b) t step = step.0.0
+account_small (Withdraw n) ObjReply.Short (Some b) t step = step.0.0
+account_small (Withdraw n) ObjReply.Missing None t step = step.0
 account_small (Withdraw n) _ _ t step = absurd step.0
 
 counter_small : (op : CounterOp) (reply : ObjReply) (s t : ℕ) → CounterStep s op reply t → counter_amount op < 2 ^ 64
-counter_small (Up n) told.Done s t step = step.0.0
+counter_small (Up n) ObjReply.Done s t step = step.0.0
 counter_small (Up n) _ s t step = absurd step.0
-counter_small (Down n) told.Done s t step = step.0.0
+counter_small (Down n) ObjReply.Done s t step = step.0.0
 counter_small (Down n) _ s t step = absurd step.0
 counter_small Read reply s t step = omega arith
 

@@ -1,27 +1,8 @@
 -- The inverse of an operation takes the step of its cell back, by one of four kinds of change.
 use Rattle.std.proofs.Common.{◌≡◌, ℕ, ◌+◌, ◌-◌, ◌%◌, ◌^◌, ◌<◌, ◌≤◌, Bool, true, false, Option, Some, None, is_some, refl, sym, subst, ap, arith}
-use Rattle.mlt_object_kinds.specs.declared.account.AccountOp.{AccountOp}
-use Rattle.mlt_object_kinds.specs.declared.account.AccountOp.TheVariants.{Open, Close, Deposit, Withdraw}
-use Rattle.mlt_object_kinds.specs.declared.counter.CounterOp.{CounterOp}
-use Rattle.mlt_object_kinds.specs.declared.counter.CounterOp.TheVariants.{Up, Down, Read}
-use Rattle.mlt_object_kinds.specs.declared.element.ElementOp.{ElementOp}
-use Rattle.mlt_object_kinds.specs.declared.element.ElementOp.TheVariants as element
-use Rattle.mlt_object_kinds.specs.declared.operation.ObjOp.{ObjOp}
-use Rattle.mlt_object_kinds.specs.declared.operation.ObjOp.TheVariants.{Account, Element, Counter, Size}
-use Rattle.mlt_object_kinds.specs.declared.operation.ObjReply.{ObjReply}
-use Rattle.mlt_object_kinds.specs.declared.operation.ObjReply.TheVariants as told
-use Rattle.mlt_object_kinds.specs.Accounts.{AccountStep, IsAccount, max_balance}
-use Rattle.mlt_object_kinds.specs.Cells.{CellState, CellStep}
-use Rattle.mlt_object_kinds.specs.Cells.CellState.{AccountState, ElementState, CounterState, NoState}
-use Rattle.mlt_object_kinds.specs.Counters.{CounterStep}
-use Rattle.mlt_object_kinds.specs.Elements.{ElementStep}
-use Rattle.mlt_object_kinds.specs.Operations.{cell_of}
-use Rattle.mlt_object_base.specs.declared.record.RecChange.{RecChange}
-use Rattle.mlt_object_base.specs.declared.record.RecChange.TheVariants.{ToGhost, Revive, Plus, Minus}
-use Rattle.mlt_object_base.specs.Effects.{account_inverse_of, counter_inverse_of, element_inverse_of, inverse_of, size_inverse_of}
-use Rattle.mlt_object_base.specs.Records.{CanChange, HasWhatIsUndone, IsElementRecord, IsRecord, counter_of_record, record_after, state_of_record}
-use Rattle.mlt_hash_ghosts.specs.Operations.{Presence, Added, Removed}
-use Rattle.mlt_tx_meaning.specs.Presences.{account_presence, element_presence, presence_of}
+use Rattle.mlt_tx_meaning.proofs.Names.{AccountOp, Open, Close, Deposit, Withdraw, CounterOp, Up, Down, Read, ElementOp, ObjOp, Account, Element, Counter, Size, ObjReply, AccountStep, IsAccount, max_balance, CellState, CellStep, AccountState, ElementState, CounterState, NoState, CounterStep, ElementStep, cell_of, RecChange, ToGhost, Plus, Minus, inverse_of, size_inverse_of, CanChange, HasWhatIsUndone, IsElementRecord, IsRecord, counter_of_record, record_after, state_of_record, Presence, Added, Removed, account_presence, element_presence, presence_of}
+use Rattle.mlt_object_base.specs.declared.record.RecChange.TheVariants.{Revive}
+use Rattle.mlt_object_base.specs.Effects.{account_inverse_of, counter_inverse_of, element_inverse_of}
 use Rattle.mlt_tx_meaning.proofs.Replies.{ForResizes}
 
 -- ---- the step that is taken back
@@ -32,47 +13,47 @@ GoesBack state can before change live = (state (record_after change live) ≡ be
 
 account_back : (op : AccountOp) (reply : ObjReply) (before live : Option ℕ) → IsAccount live → AccountStep before op reply live
     → GoesBack (λ live. live) IsAccount before (account_inverse_of op reply) live
-account_back Open told.Opened None live can step = (refl, tt, ap is_some (sym step.1))
-account_back Open told.Opened (Some b) live can step = absurd step.0
-account_back Close told.Closed (Some b) live can step = (ap Some (sym step.0), omega arith, sym step.1)
-account_back Close told.Closed None live can step = absurd step.0
-account_back (Deposit n) told.Done (Some b) live can step =
+account_back Open ObjReply.Opened None live can step = (refl, tt, ap is_some (sym step.1))
+account_back Open ObjReply.Opened (Some b) live can step = absurd step.0
+account_back Close ObjReply.Closed (Some b) live can step = (ap Some (sym step.0), omega arith, sym step.1)
+account_back Close ObjReply.Closed None live can step = absurd step.0
+account_back (Deposit n) ObjReply.Done (Some b) live can step =
     let legal = step.0 in
     let back : (b + n + (2 ^ 64 - n)) % 2 ^ 64 ≡ b = omega (arith, legal.0, legal.1) in
     let low : b ≤ max_balance = omega (arith, legal.1) in
     subst (λ (live : Option ℕ). GoesBack (λ live. live) IsAccount (Some b) (Some (Minus n)) live) step.1 (ap Some back, omega (arith, back, low), refl)
-account_back (Deposit n) told.Done None live can step = absurd step.0
-account_back (Withdraw n) told.Done (Some b) live can step =
+account_back (Deposit n) ObjReply.Done None live can step = absurd step.0
+account_back (Withdraw n) ObjReply.Done (Some b) live can step =
     let legal = step.0 in
     let back : (b - n + n) % 2 ^ 64 ≡ b = omega (arith, legal.0, legal.1, legal.2) in
     subst (λ (live : Option ℕ). GoesBack (λ live. live) IsAccount (Some b) (Some (Plus n)) live) step.1 (ap Some back, omega (arith, back, legal.1), refl)
-account_back (Withdraw n) told.Done None live can step = absurd step.0
+account_back (Withdraw n) ObjReply.Done None live can step = absurd step.0
 account_back _ _ before live can step = (sym step.1, can, tt)
 
 element_back : (op : ElementOp) (reply : ObjReply) (before : Bool) (live : Option ℕ) → IsElementRecord live → ElementStep before op reply (is_some live)
     → GoesBack is_some IsElementRecord before (element_inverse_of op reply) live
-element_back element.Add told.Added false live can step = (refl, tt, sym step.1)
-element_back element.Add told.Added true live can step = absurd step.0
-element_back element.Remove told.Removed true None can step = (refl, refl, refl)
-element_back element.Remove told.Removed true (Some v) can step = absurd (cc step.1)
-element_back element.Remove told.Removed false live can step = absurd step.0
+element_back ElementOp.Add ObjReply.Added false live can step = (refl, tt, sym step.1)
+element_back ElementOp.Add ObjReply.Added true live can step = absurd step.0
+element_back ElementOp.Remove ObjReply.Removed true None can step = (refl, refl, refl)
+element_back ElementOp.Remove ObjReply.Removed true (Some v) can step = absurd (cc step.1)
+element_back ElementOp.Remove ObjReply.Removed false live can step = absurd step.0
 element_back _ _ before live can step = (sym step.1, can, tt)
 
 counter_back : (op : CounterOp) (reply : ObjReply) (before : ℕ) (live : Option ℕ) (c : ℕ) → counter_of_record live < 2 ^ 64 → HasWhatIsUndone (Counter c op, reply) live → CounterStep before op reply (counter_of_record live)
     → GoesBack counter_of_record (λ live. counter_of_record live < 2 ^ 64) before (counter_inverse_of op reply) live
-counter_back (Up n) told.Done before None c can has step = absurd (cc has)
-counter_back (Up n) told.Done before (Some v) c can has step =
+counter_back (Up n) ObjReply.Done before None c can has step = absurd (cc has)
+counter_back (Up n) ObjReply.Done before (Some v) c can has step =
     let legal = step.0 in
     let now : (before + n) % 2 ^ 64 ≡ v = step.1 in
     let back : (v + (2 ^ 64 - n)) % 2 ^ 64 ≡ before = omega (arith, legal.0, legal.1, now) in
     (back, omega (arith, back, legal.1), refl)
-counter_back (Down n) told.Done before None c can has step = absurd (cc has)
-counter_back (Down n) told.Done before (Some v) c can has step =
+counter_back (Down n) ObjReply.Done before None c can has step = absurd (cc has)
+counter_back (Down n) ObjReply.Done before (Some v) c can has step =
     let legal = step.0 in
     let now : (before + (2 ^ 64 - n)) % 2 ^ 64 ≡ v = step.1 in
     let back : (v + n) % 2 ^ 64 ≡ before = omega (arith, legal.0, legal.1, now) in
     (back, omega (arith, back, legal.1), refl)
-counter_back Read told.Done before live c can has step = absurd step.0
+counter_back Read ObjReply.Done before live c can has step = absurd step.0
 counter_back _ _ before live c can has step = (sym step.1, can, tt)
 
 pub inverse_back : (item : ObjOp × ObjReply) (before : CellState) (live : Option ℕ) → IsRecord (cell_of item.0) live → HasWhatIsUndone item live
@@ -95,20 +76,20 @@ pub record ForInverses (F : Option Presence → Option RecChange → Type 0) : T
   pub stays : F None None
 
 account_inverses : (op : AccountOp) (reply : ObjReply) (F : Option Presence → Option RecChange → Type 0) → ForInverses F → F (account_presence op reply) (account_inverse_of op reply)
-account_inverses Open told.Opened F each = each.added
-account_inverses Close told.Closed F each = each.removed
-account_inverses (Deposit n) told.Done F each = each.lowered n
-account_inverses (Withdraw n) told.Done F each = each.raised n
+account_inverses Open ObjReply.Opened F each = each.added
+account_inverses Close ObjReply.Closed F each = each.removed
+account_inverses (Deposit n) ObjReply.Done F each = each.lowered n
+account_inverses (Withdraw n) ObjReply.Done F each = each.raised n
 account_inverses _ _ F each = each.stays
 
 element_inverses : (op : ElementOp) (reply : ObjReply) (F : Option Presence → Option RecChange → Type 0) → ForInverses F → F (element_presence op reply) (element_inverse_of op reply)
-element_inverses element.Add told.Added F each = each.added
-element_inverses element.Remove told.Removed F each = each.removed
+element_inverses ElementOp.Add ObjReply.Added F each = each.added
+element_inverses ElementOp.Remove ObjReply.Removed F each = each.removed
 element_inverses _ _ F each = each.stays
 
 counter_inverses : (op : CounterOp) (reply : ObjReply) (F : Option Presence → Option RecChange → Type 0) → ForInverses F → F None (counter_inverse_of op reply)
-counter_inverses (Up n) told.Done F each = each.lowered n
-counter_inverses (Down n) told.Done F each = each.raised n
+counter_inverses (Up n) ObjReply.Done F each = each.lowered n
+counter_inverses (Down n) ObjReply.Done F each = each.raised n
 counter_inverses _ _ F each = each.stays
 
 pub by_inverse : (item : ObjOp × ObjReply) (F : Option Presence → Option RecChange → Type 0) → ForInverses F → F (presence_of item) (inverse_of item)
@@ -119,6 +100,6 @@ by_inverse (Size s, reply) F each = each.stays
 
 -- and one about what undoes a change of the size record of a set
 pub by_size_inverse : (item : ObjOp × ObjReply) (F : Option RecChange → Type 0) → ForResizes F → F (size_inverse_of item)
-by_size_inverse (Element s e element.Add, told.Added) F each = each.lowered
-by_size_inverse (Element s e element.Remove, told.Removed) F each = each.raised
+by_size_inverse (Element s e ElementOp.Add, ObjReply.Added) F each = each.lowered
+by_size_inverse (Element s e ElementOp.Remove, ObjReply.Removed) F each = each.raised
 by_size_inverse _ F each = each.stays

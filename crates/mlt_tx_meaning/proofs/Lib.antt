@@ -1,3 +1,4 @@
+mod Names
 pub mod ChangeGhosts
 pub mod DoneGhosts
 pub mod Fixed

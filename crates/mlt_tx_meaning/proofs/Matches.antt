@@ -1,26 +1,11 @@
 -- The match of clean pages and a history, by what the lists of the history ask of the rest.
-use Rattle.std.proofs.Common.{◌≡◌, ◌↔◌, ℕ, ◌<◌, true, List, [], ◌∷◌, ◌++◌, Contains, sym, subst, ap, ◌∙◌}
-use Rattle.std.specs.Cmp.{nat_cmp_total}
+use Rattle.std.proofs.Common.{◌≡◌, ◌↔◌, ℕ, ◌<◌, true, List, [], ◌∷◌, ◌++◌, Contains, sym, subst, ap, ◌∙◌, nat_cmp}
+use Rattle.mlt_tx_meaning.proofs.Names.{nat_cmp_total, IsInRange, Page, Base, Step, empty_base, cell_of, ObjOp, ObjReply, IsHistory, Lists, after_entry, no_lists, Fresh, Running, Means, HasSizeToUndo, HasWhatIsUndone, base_functional, base_injective, live_records, KeepsPages, standing_of, IsFileWithGhosts, PagesMeanHistory, AbstractState, ledger_with, lists_in, record_of, size_record_of}
 use Rattle.std.specs.FinMap as map
 use Rattle.std.specs.FinSet as set
-use Rattle.std.specs.Ordering.{nat_cmp}
-use Rattle.mlt_types.specs.Cells.{IsInRange}
-use Rattle.mlt_page.specs.declared.page.Page.{Page}
-use Rattle.mlt_object_kinds.specs.Bases.{Base, Step, empty_base}
-use Rattle.mlt_object_kinds.specs.Operations.{cell_of}
-use Rattle.mlt_object_kinds.specs.declared.operation.ObjOp.{ObjOp}
-use Rattle.mlt_object_kinds.specs.declared.operation.ObjReply.{ObjReply}
-use Rattle.mlt_order.specs.Histories.{Entry, IsHistory, Lists, MayCome, after_entry, lists_of, no_lists}
-use Rattle.mlt_order.specs.Histories.Stage.{Fresh, Running}
+use Rattle.mlt_order.specs.Histories.{Entry, MayCome, lists_of}
 use Rattle.mlt_order.proofs.Growing.{after_entries-push, follow_push}
 use Rattle.mlt_order.proofs.Keeping.{Kept, kept_by_history}
-use Rattle.mlt_object_base.specs.Meaning.{Means}
-use Rattle.mlt_object_base.specs.Records.{HasSizeToUndo, HasWhatIsUndone}
-use Rattle.mlt_object_conflicts.proofs.BaseOrder.{base_functional, base_injective}
-use Rattle.mlt_hash_form.specs.Records.{live_records}
-use Rattle.mlt_tx_meaning.specs.Ends.{KeepsPages}
-use Rattle.mlt_tx_meaning.specs.Presences.{standing_of}
-use Rattle.mlt_tx_meaning.specs.AbstractStates.{IsFileWithGhosts, PagesMeanHistory, AbstractState, ledger_with, lists_in, record_of, size_record_of}
 
 -- what lists ask of the rest
 pub record FitsLists (state : AbstractState) (lists : Lists (ObjOp × ObjReply)) : Type 0 where

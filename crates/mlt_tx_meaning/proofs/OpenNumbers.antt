@@ -1,9 +1,7 @@
 -- Members of a set of numbers with one more, and with one less.
-use Rattle.std.proofs.Common.{ℕ, ◌≡◌, ◌&&◌, ◌||◌, nat_eq, true, false, not, refl, sym, ◌∙◌, ap, inl, inr}
-use Rattle.std.specs.Cmp.{nat_cmp_total, unsigned_tied}
-use Rattle.std.specs.Ordering.{nat_cmp}
+use Rattle.std.proofs.Common.{ℕ, ◌≡◌, ◌&&◌, ◌||◌, nat_eq, true, false, not, refl, sym, ◌∙◌, ap, inl, inr, nat_cmp, eq-eqb, ne_eqb}
+use Rattle.mlt_tx_meaning.proofs.Names.{nat_cmp_total, unsigned_tied, both_ways, cases_eq}
 use Rattle.std.specs.FinSet as set
-use Rattle.std.proofs.lemmas.Bool.{both_ways, cases_eq, eq-eqb, ne_eqb}
 
 inserted : (active : set.FinSet nat_cmp) (x q : ℕ) → set.contains (set.insert active x) q ≡ (nat_eq q x || set.contains active q)
 inserted active x q = set.contains-insert nat_cmp_total active x q ∙ ap (λ b. b || set.contains active q) (unsigned_tied q x)

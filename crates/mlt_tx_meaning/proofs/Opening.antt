@@ -1,28 +1,16 @@
 -- A file as it is opened matches the history in which nothing has begun.
-use Rattle.std.proofs.Common.{◌≡◌, ℕ, ◌≤◌, false, Option, Bool, None, is_some, refl, sym, subst, ap, ◌∙◌, arith}
-use Rattle.std.proofs.lemmas.Bool.{both_ways}
-use Rattle.std.specs.Ordering.{nat_cmp}
+use Rattle.std.proofs.Common.{◌≡◌, ℕ, ◌≤◌, false, Option, Bool, None, is_some, refl, sym, subst, ap, ◌∙◌, arith, nat_cmp}
+use Rattle.mlt_tx_meaning.proofs.Names.{both_ways, key_number, Cell, Page, empty_base, state_at, AccountState, ElementState, CounterState, Means, IsRecord, counter_of_record, state_of_record, Fresh, Running, contains-nothing, GivesPseudokeys, header_of, live_records, PagesMeanHistory, ledger_of}
 use Rattle.std.specs.FinMap as map
 use Rattle.std.specs.FinSet as set
-use Rattle.mlt_types.specs.Cells.{key_number}
-use Rattle.mlt_types.specs.declared.cell.Cell.{Cell}
 use Rattle.mlt_types.specs.declared.cell.Cell.TheVariants.{Account, Element, Counter, Size}
-use Rattle.mlt_page.specs.declared.page.Page.{Page}
-use Rattle.mlt_object_kinds.specs.Bases.{counter_value, element_cmp, empty_base, state_at}
-use Rattle.mlt_object_kinds.specs.Cells.CellState.{AccountState, ElementState, CounterState}
-use Rattle.mlt_object_base.specs.Meaning.{Means}
+use Rattle.mlt_object_kinds.specs.Bases.{counter_value, element_cmp}
 use Rattle.mlt_object_kinds.proofs.Sizes.{size_of_empty}
-use Rattle.mlt_object_base.specs.Records.{IsRecord, counter_of_record, state_of_record}
-use Rattle.mlt_order.specs.Histories.Stage.{Fresh, Running}
-use Rattle.mlt_order.proofs.RunLemmas.{contains-nothing}
 use Rattle.mlt_hash_form.specs.Changes.{IsOpening}
-use Rattle.mlt_hash_form.specs.File.{GivesPseudokeys, header_of}
-use Rattle.mlt_hash_form.specs.Records.{live_records}
 use Rattle.mlt_hash_form.proofs.MapChanges.{opening_map}
 use Rattle.mlt_hash_form.proofs.OpeningFile.{opening_has_form, opening_is_free}
 use Rattle.mlt_hash_ghosts.proofs.Transactions.{free_file}
 use Rattle.mlt_tx_meaning.specs.Events.{new_state}
-use Rattle.mlt_tx_meaning.specs.AbstractStates.{PagesMeanHistory, ledger_of}
 
 -- the record of an absent key can be there, and means what the empty base has
 absent_can_be : (c : Cell) → IsRecord c None

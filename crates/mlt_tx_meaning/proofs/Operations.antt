@@ -1,32 +1,13 @@
 -- The end of an operation keeps the match.
-use Rattle.std.proofs.Common.{◌≡◌, ℕ, List, [], ◌∷◌, ◌++◌, Contains, refl, sym, subst, ap, ◌∙◌, inl, inr, arith, slice_index_or}
-use Rattle.std.proofs.lemmas.Bool.{cases_eq}
+use Rattle.std.proofs.Common.{◌≡◌, ℕ, List, [], ◌∷◌, ◌++◌, Contains, refl, sym, subst, ap, ◌∙◌, inl, inr, arith, slice_index_or, nat_cmp}
+use Rattle.mlt_tx_meaning.proofs.Names.{cases_eq, IsInRange, Cell, Page, ObjOp, ObjReply, Base, Step, cell_of, RecChange, Means, changes_of, record_in, records_after, size_record_in, told_by, changes_on, HasSizeToUndo, HasWhatIsUndone, Lists, after_entry, Gains, table_with, changed, live_records, ChangesPages, presence_of, MayDo, PagesMeanHistory, AbstractState, lists_in, record_of}
 use Rattle.std.proofs.lemmas.List.Elements.{Contains-append_cases}
 use Rattle.std.specs.FinMap as map
-use Rattle.std.specs.Ordering.{nat_cmp}
-use Rattle.mlt_types.specs.Cells.{IsInRange}
-use Rattle.mlt_types.specs.declared.cell.Cell.{Cell}
-use Rattle.mlt_page.specs.declared.page.Page.{Page}
-use Rattle.mlt_object_kinds.specs.declared.operation.ObjOp.{ObjOp}
-use Rattle.mlt_object_kinds.specs.declared.operation.ObjReply.{ObjReply}
-use Rattle.mlt_object_kinds.specs.Bases.{Base, Step}
-use Rattle.mlt_object_kinds.specs.Operations.{cell_of}
-use Rattle.mlt_object_base.specs.declared.record.RecChange.{RecChange}
-use Rattle.mlt_object_base.specs.Meaning.{Means, changes_of, record_in, records_after, size_record_in, told_by}
-use Rattle.mlt_object_base.specs.Effects.{changes_on}
-use Rattle.mlt_object_base.specs.Records.{HasSizeToUndo, HasWhatIsUndone}
 use Rattle.mlt_object_base.proofs.OperationChanges.{means_step}
 use Rattle.mlt_object_base.proofs.SizeRecords.{has_size_now, has_size_still}
 use Rattle.mlt_object_conflicts.proofs.BaseOrder.{did_may_come}
-use Rattle.mlt_order.specs.Histories.{Lists, after_entry}
 use Rattle.mlt_order.specs.Histories.Entry.{Did}
-use Rattle.mlt_order.specs.Tables.{Gains, table_with}
-use Rattle.mlt_order.proofs.Tables.{changed}
-use Rattle.mlt_hash_form.specs.Records.{live_records}
-use Rattle.mlt_tx_meaning.specs.Ends.{ChangesPages}
-use Rattle.mlt_tx_meaning.specs.Presences.{presence_of}
-use Rattle.mlt_tx_meaning.specs.Events.{MayDo, with_done}
-use Rattle.mlt_tx_meaning.specs.AbstractStates.{PagesMeanHistory, AbstractState, lists_in, record_of}
+use Rattle.mlt_tx_meaning.specs.Events.{with_done}
 use Rattle.mlt_tx_meaning.proofs.DoneGhosts.{done_keeps_file}
 use Rattle.mlt_tx_meaning.proofs.Matches.{FitsLists, grown, in_range_there, runs}
 use Rattle.mlt_tx_meaning.proofs.RecordChanges.{records_become}

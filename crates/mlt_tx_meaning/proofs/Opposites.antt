@@ -1,42 +1,30 @@
 -- An addition and a removal of one cell clash, whichever is held.
-use Rattle.std.proofs.Common.{◌≡◌, true, Some, refl}
-use Rattle.std.proofs.lemmas.Bool.{eq-eqb}
-use Rattle.mlt_object_kinds.specs.declared.account.AccountOp.{AccountOp}
-use Rattle.mlt_object_kinds.specs.declared.account.AccountOp.TheVariants.{Open, Close}
-use Rattle.mlt_object_kinds.specs.declared.element.ElementOp.{ElementOp}
+use Rattle.std.proofs.Common.{◌≡◌, true, Some, refl, eq-eqb}
+use Rattle.mlt_tx_meaning.proofs.Names.{AccountOp, Open, Close, ElementOp, ObjOp, Account, Element, Counter, Size, ObjReply, cell_of, Presence, Added, Removed, account_presence, element_presence, presence_of}
 use Rattle.mlt_object_kinds.specs.declared.element.ElementOp.TheVariants.{Add, Remove}
-use Rattle.mlt_object_kinds.specs.declared.operation.ObjOp.{ObjOp}
-use Rattle.mlt_object_kinds.specs.declared.operation.ObjOp.TheVariants.{Account, Element, Counter, Size}
-use Rattle.mlt_object_kinds.specs.declared.operation.ObjReply.{ObjReply}
-use Rattle.mlt_object_kinds.specs.declared.operation.ObjReply.TheVariants as told
-use Rattle.mlt_object_kinds.specs.Operations.{cell_of}
 use Rattle.mlt_object_conflicts.specs.AccountTable.{account_class, account_marks}
 use Rattle.mlt_object_conflicts.specs.Clashes.{clashes}
 use Rattle.mlt_object_conflicts.specs.ElementTable.{element_class, element_marks}
 use Rattle.mlt_object_conflicts.specs.declared.accounts.AccountClass.{AccountClass}
-use Rattle.mlt_object_conflicts.specs.declared.accounts.AccountClass.TheVariants as account
 use Rattle.mlt_object_conflicts.specs.declared.elements.ElementClass.{ElementClass}
-use Rattle.mlt_object_conflicts.specs.declared.elements.ElementClass.TheVariants as element
-use Rattle.mlt_hash_ghosts.specs.Operations.{Presence, Added, Removed}
-use Rattle.mlt_tx_meaning.specs.Presences.{account_presence, element_presence, presence_of}
 
 -- the classes of what adds and of what removes
 abbrev account_by : Presence → AccountClass
-account_by Added = account.Opened
-account_by Removed = account.Closed
+account_by Added = AccountClass.Opened
+account_by Removed = AccountClass.Closed
 
 abbrev element_by : Presence → ElementClass
-element_by Added = element.Added
-element_by Removed = element.Removed
+element_by Added = ElementClass.Added
+element_by Removed = ElementClass.Removed
 
 account_class_by : (op : AccountOp) (reply : ObjReply) (p : Presence) → account_presence op reply ≡ Some p → account_class op reply ≡ Some (account_by p)
-account_class_by Open told.Opened Added is = refl
-account_class_by Close told.Closed Removed is = refl
+account_class_by Open ObjReply.Opened Added is = refl
+account_class_by Close ObjReply.Closed Removed is = refl
 account_class_by _ _ _ is = absurd (cc)
 
 element_class_by : (op : ElementOp) (reply : ObjReply) (p : Presence) → element_presence op reply ≡ Some p → element_class op reply ≡ Some (element_by p)
-element_class_by Add told.Added Added is = refl
-element_class_by Remove told.Removed Removed is = refl
+element_class_by Add ObjReply.Added Added is = refl
+element_class_by Remove ObjReply.Removed Removed is = refl
 element_class_by _ _ _ is = absurd (cc)
 
 -- both orders are marked

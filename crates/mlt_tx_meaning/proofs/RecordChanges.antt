@@ -1,43 +1,27 @@
 -- What changes leave of the map of the records.
-use Rattle.std.proofs.Common.{◌≡◌, ℕ, List, [], ◌∷◌, ◌++◌, Option, Some, None, refl, ap, ◌∙◌, inl, inr}
+use Rattle.std.proofs.Common.{◌≡◌, ℕ, List, [], ◌∷◌, ◌++◌, Option, Some, None, refl, ap, ◌∙◌, inl, inr, nat_cmp}
 use Rattle.std.specs.FinMap as map
 use Rattle.std.specs.FinSet as set
-use Rattle.std.specs.Ordering.{nat_cmp}
-use Rattle.mlt_types.specs.Cells.{key_number}
+use Rattle.mlt_tx_meaning.proofs.Names.{key_number, Cell, is_kept, Page, Live, RecChange, records_after, record_after, FilePages, GivesPseudokeys, HasForm, buckets_of, lead_of, look_up, live_records, value_after, Change, Performs, ChangesPages, LeavesChange, AbstractState, record_at}
 use Rattle.mlt_types.specs.Maps.{with_entry}
-use Rattle.mlt_types.specs.declared.cell.Cell.{Cell}
-use Rattle.mlt_page.specs.Slots.{is_kept}
-use Rattle.mlt_page.specs.declared.page.Page.{Page}
-use Rattle.mlt_page.specs.declared.slot.Slot.TheVariants.{Live}
-use Rattle.mlt_object_base.specs.declared.record.RecChange.{RecChange}
-use Rattle.mlt_object_base.specs.declared.record.RecChange.TheVariants as rec
-use Rattle.mlt_object_base.specs.Meaning.{records_after}
-use Rattle.mlt_object_base.specs.Records.{record_after}
-use Rattle.mlt_hash_form.specs.File.{FilePages, GivesPseudokeys, HasForm, buckets_of, lead_of, look_up}
 use Rattle.mlt_hash_form.specs.Form.{HasSlot}
-use Rattle.mlt_hash_form.specs.Records.{live_records}
 use Rattle.mlt_hash_form.proofs.InPages.{same_option}
 use Rattle.mlt_hash_form.proofs.Lookup.{found}
 use Rattle.mlt_hash_form.proofs.MapChanges.{changed_map}
-use Rattle.mlt_hash.specs.Passes.{value_after}
-use Rattle.mlt_hash.specs.declared.pass.Change.{Change}
 use Rattle.mlt_hash_ghosts.specs.Moves.{MovesSlots}
-use Rattle.mlt_tx_two_records.specs.Performing.{Performs}
-use Rattle.mlt_tx_meaning.specs.Ends.{ChangesPages, LeavesChange}
-use Rattle.mlt_tx_meaning.specs.AbstractStates.{AbstractState, record_at}
 use Rattle.mlt_tx_meaning.proofs.Matches.{kept_pages}
 
 -- what is done leaves the value that the change of the record asks for
 performed : (change : RecChange) (live : Option ℕ) (done : Change) → Performs change live done → value_after done ≡ record_after (Some change) live
-performed (rec.Add v) live done (inl is) = ap value_after is
-performed (rec.Add v) live done (inr is) = ap value_after is
-performed (rec.Set v) live done is = ap value_after is
-performed rec.ToGhost live done is = ap value_after is
-performed rec.Revive live done is = ap value_after is
-performed (rec.Plus n) (Some v) done is = ap value_after is
-performed (rec.Minus n) (Some v) done is = ap value_after is
-performed (rec.Plus n) None done is = absurd is
-performed (rec.Minus n) None done is = absurd is
+performed (RecChange.Add v) live done (inl is) = ap value_after is
+performed (RecChange.Add v) live done (inr is) = ap value_after is
+performed (RecChange.Set v) live done is = ap value_after is
+performed RecChange.ToGhost live done is = ap value_after is
+performed RecChange.Revive live done is = ap value_after is
+performed (RecChange.Plus n) (Some v) done is = ap value_after is
+performed (RecChange.Minus n) (Some v) done is = ap value_after is
+performed (RecChange.Plus n) None done is = absurd is
+performed (RecChange.Minus n) None done is = absurd is
 
 -- where slots are moved, each key has the value that it had
 moved_values : (bits : ℕ → ℕ) (active : set.FinSet nat_cmp) (before after : FilePages) (root : ℕ) → MovesSlots bits (is_kept active) before after root → HasForm bits before root

@@ -1,26 +1,10 @@
 -- What counters need to be counted back, once records have changed.
-use Rattle.std.proofs.Common.{◌≡◌, ℕ, List, [], ◌∷◌, ◌++◌, Option, None, Some, IsSome, refl, sym, subst, ap, ◌∙◌, inl, inr}
+use Rattle.std.proofs.Common.{◌≡◌, ℕ, List, [], ◌∷◌, ◌++◌, Option, None, Some, IsSome, refl, sym, subst, ap, ◌∙◌, inl, inr, nat_cmp}
 use Rattle.std.specs.FinMap as map
-use Rattle.std.specs.Ordering.{nat_cmp}
-use Rattle.mlt_types.specs.Cells.{IsInRange}
-use Rattle.mlt_types.specs.declared.cell.Cell.{Cell}
-use Rattle.mlt_types.specs.declared.cell.Cell.TheVariants as cell
-use Rattle.mlt_object_kinds.specs.declared.counter.CounterOp.TheVariants.{Up, Down, Read}
-use Rattle.mlt_object_kinds.specs.declared.operation.ObjOp.{ObjOp}
-use Rattle.mlt_object_kinds.specs.declared.operation.ObjOp.TheVariants.{Account, Element, Counter, Size}
-use Rattle.mlt_object_kinds.specs.declared.operation.ObjReply.{ObjReply}
+use Rattle.mlt_tx_meaning.proofs.Names.{IsInRange, Cell, Up, Down, Read, ObjOp, Account, Element, Counter, Size, ObjReply, cell_of, RecordChanges, RecChange, changes_on, own_change_on, size_change_on, changes_back, changes_of, record_in, records_after, size_record_in, told_by, HasWhatIsUndone, record_after, record_beside, Presence, presence_of}
 use Rattle.mlt_object_kinds.proofs.BaseLaws.{one_cell_or_two}
-use Rattle.mlt_object_kinds.specs.Operations.{cell_of}
-use Rattle.mlt_object_base.specs.declared.record.RecordChanges.{RecordChanges}
-use Rattle.mlt_object_base.specs.declared.record.RecChange.{RecChange}
-use Rattle.mlt_object_base.specs.declared.record.RecChange.TheVariants as rec
-use Rattle.mlt_object_base.specs.Effects.{changes_on, own_change_on, size_change_on}
-use Rattle.mlt_object_base.specs.Meaning.{changes_back, changes_of, record_in, records_after, size_record_in, told_by}
-use Rattle.mlt_object_base.specs.Records.{HasWhatIsUndone, record_after}
-use Rattle.mlt_object_base.proofs.Meanings.{changed, record_beside, record_here}
+use Rattle.mlt_object_base.proofs.Meanings.{changed, record_here}
 use Rattle.mlt_object_base.proofs.OperationChanges.{after_both, after_own}
-use Rattle.mlt_hash_ghosts.specs.Operations.{Presence}
-use Rattle.mlt_tx_meaning.specs.Presences.{presence_of}
 use Rattle.mlt_tx_meaning.proofs.Inverses.{by_inverse, by_size_inverse}
 use Rattle.mlt_tx_meaning.proofs.Replies.{IsCount, by_reply, by_size_change, count_says_nothing, reply_leaves_counters}
 
@@ -28,7 +12,7 @@ use Rattle.mlt_tx_meaning.proofs.Replies.{IsCount, by_reply, by_size_change, cou
 
 -- the change leaves a record where there is one
 abbrev LeavesRecord : RecChange → Type 0
-LeavesRecord rec.ToGhost = ⊥
+LeavesRecord RecChange.ToGhost = ⊥
 LeavesRecord change = Unit {0}
 
 abbrev LeavesRecordIf : Option RecChange → Type 0
@@ -36,14 +20,14 @@ LeavesRecordIf None = Unit {0}
 LeavesRecordIf (Some change) = LeavesRecord change
 
 leaves : (change : RecChange) (live : Option ℕ) → LeavesRecord change → IsSome live → IsSome (record_after (Some change) live)
-leaves (rec.Add v) live is some = refl
-leaves (rec.Set v) live is some = refl
-leaves rec.ToGhost live is some = absurd is
-leaves rec.Revive live is some = refl
-leaves (rec.Plus n) (Some v) is some = refl
-leaves (rec.Plus n) None is some = absurd (cc some)
-leaves (rec.Minus n) (Some v) is some = refl
-leaves (rec.Minus n) None is some = absurd (cc some)
+leaves (RecChange.Add v) live is some = refl
+leaves (RecChange.Set v) live is some = refl
+leaves RecChange.ToGhost live is some = absurd is
+leaves RecChange.Revive live is some = refl
+leaves (RecChange.Plus n) (Some v) is some = refl
+leaves (RecChange.Plus n) None is some = absurd (cc some)
+leaves (RecChange.Minus n) (Some v) is some = refl
+leaves (RecChange.Minus n) None is some = absurd (cc some)
 
 -- changes leave the record of this cell, if there is one
 abbrev pub KeepsRecord : Cell → List (Cell × RecChange) → Type 0
@@ -104,8 +88,8 @@ module _ (records : map.FinMap nat_cmp ℕ) (changes : List (Cell × RecChange))
   pub counted_still : (item : ObjOp × ObjReply) → IsInRange (cell_of item.0) → HasWhatIsUndone item (record_in records (cell_of item.0)) → HasWhatIsUndone item (record_in (records_after records changes) (cell_of item.0))
   counted_still (Account a op, reply) range has = tt
   counted_still (Element s e op, reply) range has = tt
-  counted_still (Counter c (Up n), reply) range has = still_there records (cell.Counter c) changes range (keeps (cell.Counter c) tt) has
-  counted_still (Counter c (Down n), reply) range has = still_there records (cell.Counter c) changes range (keeps (cell.Counter c) tt) has
+  counted_still (Counter c (Up n), reply) range has = still_there records (Cell.Counter c) changes range (keeps (Cell.Counter c) tt) has
+  counted_still (Counter c (Down n), reply) range has = still_there records (Cell.Counter c) changes range (keeps (Cell.Counter c) tt) has
   counted_still (Counter c Read, reply) range has = tt
   counted_still (Size s, reply) range has = tt
 
@@ -117,9 +101,9 @@ counted_now records (Element s e op) = tt
 counted_now records (Counter c op) =
     let o = Counter c op in
     let own = (changes_of records o).own in
-    let live = record_in records (cell.Counter c) in
-    let is : record_in (records_after records (changes_on o (changes_of records o))) (cell.Counter c) ≡ record_after own live =
-    ap (λ (r : map.FinMap nat_cmp ℕ). record_in r (cell.Counter c)) (after_both records (own_change_on o own) [] ∙ after_own records o own) ∙ record_here records (cell.Counter c) (record_after own live)
+    let live = record_in records (Cell.Counter c) in
+    let is : record_in (records_after records (changes_on o (changes_of records o))) (Cell.Counter c) ≡ record_after own live =
+    ap (λ (r : map.FinMap nat_cmp ℕ). record_in r (Cell.Counter c)) (after_both records (own_change_on o own) [] ∙ after_own records o own) ∙ record_here records (Cell.Counter c) (record_after own live)
     in
     subst (HasWhatIsUndone (o, told_by records o)) (sym is) (reply_leaves_counters o live)
 counted_now records (Size s) = tt

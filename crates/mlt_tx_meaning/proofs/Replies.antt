@@ -1,29 +1,8 @@
 -- What an operation is told of a record and changes of it: a step of its cell, by one of five kinds of change.
-use Rattle.std.proofs.Common.{◌≡◌, ℕ, ◌+◌, ◌-◌, ◌%◌, ◌^◌, ◌<◌, ◌≤◌, Bool, true, false, cond, Option, Some, None, is_some, nat_eq, nat_lt, refl, sym, subst, arith}
-use Rattle.std.proofs.lemmas.Bool.{eqb-true, ltb-true}
-use Rattle.mlt_types.specs.declared.cell.Cell.{Cell}
-use Rattle.mlt_types.specs.declared.cell.Cell.TheVariants as cell
-use Rattle.mlt_object_kinds.specs.declared.account.AccountOp.{AccountOp}
-use Rattle.mlt_object_kinds.specs.declared.account.AccountOp.TheVariants.{Open, Close, Deposit, Withdraw, Balance}
-use Rattle.mlt_object_kinds.specs.declared.counter.CounterOp.{CounterOp}
-use Rattle.mlt_object_kinds.specs.declared.counter.CounterOp.TheVariants.{Up, Down, Read}
-use Rattle.mlt_object_kinds.specs.declared.element.ElementOp.{ElementOp}
-use Rattle.mlt_object_kinds.specs.declared.element.ElementOp.TheVariants as element
-use Rattle.mlt_object_kinds.specs.declared.operation.ObjOp.{ObjOp}
-use Rattle.mlt_object_kinds.specs.declared.operation.ObjOp.TheVariants.{Account, Element, Counter, Size}
-use Rattle.mlt_object_kinds.specs.declared.operation.ObjReply.{ObjReply}
-use Rattle.mlt_object_kinds.specs.declared.operation.ObjReply.TheVariants as told
-use Rattle.mlt_object_kinds.specs.Accounts.{AccountStep, IsAccount, max_balance}
-use Rattle.mlt_object_kinds.specs.Cells.{CellStep}
-use Rattle.mlt_object_kinds.specs.Counters.{CounterStep}
-use Rattle.mlt_object_kinds.specs.Elements.{ElementStep}
-use Rattle.mlt_object_kinds.specs.Operations.{cell_of}
-use Rattle.mlt_object_base.specs.declared.record.RecChange.{RecChange}
-use Rattle.mlt_object_base.specs.declared.record.RecChange.TheVariants.{Add, Set, ToGhost, Plus, Minus}
-use Rattle.mlt_object_base.specs.Effects.{account_reply_of, counter_reply_of, element_reply_of, reply_of, size_change_of, size_reply_of}
-use Rattle.mlt_object_base.specs.Records.{HasWhatIsUndone, IsElementRecord, IsRecord, counter_of_record, record_after, state_of_record}
-use Rattle.mlt_hash_ghosts.specs.Operations.{Presence, Added, Removed}
-use Rattle.mlt_tx_meaning.specs.Presences.{account_amount, account_presence, amount_of, counter_amount, element_presence, presence_of}
+use Rattle.std.proofs.Common.{◌≡◌, ℕ, ◌+◌, ◌-◌, ◌%◌, ◌^◌, ◌<◌, ◌≤◌, Bool, true, false, cond, Option, Some, None, is_some, nat_eq, nat_lt, refl, sym, subst, arith, eqb-true, ltb-true}
+use Rattle.mlt_tx_meaning.proofs.Names.{Cell, AccountOp, Open, Close, Deposit, Withdraw, Balance, CounterOp, Up, Down, Read, ElementOp, ObjOp, Account, Element, Counter, Size, ObjReply, AccountStep, IsAccount, max_balance, CellStep, CounterStep, ElementStep, cell_of, RecChange, ToGhost, Plus, Minus, reply_of, size_change_of, HasWhatIsUndone, IsElementRecord, IsRecord, counter_of_record, record_after, state_of_record, Presence, Added, Removed, account_amount, account_presence, amount_of, counter_amount, element_presence, presence_of}
+use Rattle.mlt_object_base.specs.declared.record.RecChange.TheVariants.{Add, Set}
+use Rattle.mlt_object_base.specs.Effects.{account_reply_of, counter_reply_of, element_reply_of, size_reply_of}
 
 -- ---- the step of the cell
 
@@ -36,19 +15,19 @@ account_steps Open None can small = ((tt, refl), omega arith)
 account_steps Open (Some v) can small = ((can, refl), can)
 account_steps Close None can small = ((tt, refl), tt)
 account_steps Close (Some v) can small =
-    elim (nat_eq v 0) as (λ b. nat_eq v 0 ≡ b → StepsAccount Close (Some v) (cond b (told.Closed, Some ToGhost) (told.NotEmpty, None))) [
+    elim (nat_eq v 0) as (λ b. nat_eq v 0 ≡ b → StepsAccount Close (Some v) (cond b (ObjReply.Closed, Some ToGhost) (ObjReply.NotEmpty, None))) [
       | true ↦ λ is. ((eqb-true v 0 is, refl), tt)
       | false ↦ λ is. let some : 1 ≤ v = grind (arith, is) in (((some, can), refl), can)
     ] refl
 account_steps (Deposit n) None can small = ((small, refl), tt)
 account_steps (Deposit n) (Some v) can small =
-    elim (nat_lt max_balance (v + n)) as (λ b. nat_lt max_balance (v + n) ≡ b → StepsAccount (Deposit n) (Some v) (cond b (told.Over, None) (told.Done, Some (Set (v + n))))) [
+    elim (nat_lt max_balance (v + n)) as (λ b. nat_lt max_balance (v + n) ≡ b → StepsAccount (Deposit n) (Some v) (cond b (ObjReply.Over, None) (ObjReply.Done, Some (Set (v + n))))) [
       | true ↦ λ is. (((small, can, ltb-true max_balance (v + n) is), refl), can)
       | false ↦ λ is. let fits : v + n ≤ max_balance = grind (arith, is) in (((small, fits), refl), fits)
     ] refl
 account_steps (Withdraw n) None can small = ((small, refl), tt)
 account_steps (Withdraw n) (Some v) can small =
-    elim (nat_lt v n) as (λ b. nat_lt v n ≡ b → StepsAccount (Withdraw n) (Some v) (cond b (told.Short, None) (told.Done, Some (Set (v - n))))) [
+    elim (nat_lt v n) as (λ b. nat_lt v n ≡ b → StepsAccount (Withdraw n) (Some v) (cond b (ObjReply.Short, None) (ObjReply.Done, Some (Set (v - n))))) [
       | true ↦ λ is. (((small, can, ltb-true v n is), refl), can)
       | false ↦ λ is. let enough : n ≤ v = grind (arith, is) in let less : v - n ≤ max_balance = omega arith in (((small, can, enough), refl), less)
     ] refl
@@ -59,12 +38,12 @@ abbrev StepsElement : ElementOp → Option ℕ → ObjReply × Option RecChange 
 StepsElement op live r = ElementStep (is_some live) op r.0 (is_some (record_after r.1 live)) × IsElementRecord (record_after r.1 live)
 
 element_steps : (op : ElementOp) (live : Option ℕ) → IsElementRecord live → StepsElement op live (element_reply_of op (is_some live))
-element_steps element.Add None can = ((tt, refl), refl)
-element_steps element.Add (Some v) can = ((tt, refl), can)
-element_steps element.Remove None can = ((tt, refl), tt)
-element_steps element.Remove (Some v) can = ((tt, refl), tt)
-element_steps element.Has None can = ((tt, refl), tt)
-element_steps element.Has (Some v) can = ((tt, refl), can)
+element_steps ElementOp.Add None can = ((tt, refl), refl)
+element_steps ElementOp.Add (Some v) can = ((tt, refl), can)
+element_steps ElementOp.Remove None can = ((tt, refl), tt)
+element_steps ElementOp.Remove (Some v) can = ((tt, refl), tt)
+element_steps ElementOp.Has None can = ((tt, refl), tt)
+element_steps ElementOp.Has (Some v) can = ((tt, refl), can)
 
 abbrev StepsCounter : CounterOp → Option ℕ → ObjReply × Option RecChange → Type 0
 StepsCounter op live r = CounterStep (counter_of_record live) op r.0 (counter_of_record (record_after r.1 live)) × (counter_of_record (record_after r.1 live) < 2 ^ 64)
@@ -79,9 +58,9 @@ counter_steps Read (Some v) can small = (((can, refl), refl), can)
 
 -- a size is told, and stays
 abbrev StepsSize : ℕ → Option ℕ → ObjReply × Option RecChange → Type 0
-StepsSize s live r = CellStep (state_of_record (cell.Size s) live) (Size s, r.0) (state_of_record (cell.Size s) (record_after r.1 live)) × IsRecord (cell.Size s) (record_after r.1 live)
+StepsSize s live r = CellStep (state_of_record (Cell.Size s) live) (Size s, r.0) (state_of_record (Cell.Size s) (record_after r.1 live)) × IsRecord (Cell.Size s) (record_after r.1 live)
 
-size_steps : (s : ℕ) (live : Option ℕ) → IsRecord (cell.Size s) live → StepsSize s live (size_reply_of live)
+size_steps : (s : ℕ) (live : Option ℕ) → IsRecord (Cell.Size s) live → StepsSize s live (size_reply_of live)
 size_steps s None can = (tt, can)
 size_steps s (Some v) can = (tt, can)
 
@@ -101,10 +80,10 @@ reply_steps (Size s) live can small = size_steps s live can
 
 -- it is the cell of a counter, or that of a set's size: their records say a number, and no operation removes them
 abbrev pub IsCount : Cell → Type 0
-IsCount (cell.Account a) = ⊥
-IsCount (cell.Element s e) = ⊥
-IsCount (cell.Counter c) = Unit {0}
-IsCount (cell.Size s) = Unit {0}
+IsCount (Cell.Account a) = ⊥
+IsCount (Cell.Element s e) = ⊥
+IsCount (Cell.Counter c) = Unit {0}
+IsCount (Cell.Size s) = Unit {0}
 
 -- A fact about what was done to the presence of a key, and to its record, is shown for the five kinds that there are.
 pub record ForReplies (op : ObjOp) (F : Option Presence → Option RecChange → Type 0) : Type 0 where
@@ -120,24 +99,24 @@ account_replies a Open None F each = each.added 0
 account_replies a Open (Some v) F each = each.stays
 account_replies a Close None F each = each.stays
 account_replies a Close (Some v) F each =
-    elim (nat_eq v 0) as (λ b. let r : ObjReply × Option RecChange = cond b (told.Closed, Some ToGhost) (told.NotEmpty, None) in F (account_presence Close r.0) r.1) [ true ↦ each.removed | false ↦ each.stays ]
+    elim (nat_eq v 0) as (λ b. let r : ObjReply × Option RecChange = cond b (ObjReply.Closed, Some ToGhost) (ObjReply.NotEmpty, None) in F (account_presence Close r.0) r.1) [ true ↦ each.removed | false ↦ each.stays ]
 account_replies a (Deposit n) None F each = each.stays
 account_replies a (Deposit n) (Some v) F each =
-    elim (nat_lt max_balance (v + n)) as (λ b. let r : ObjReply × Option RecChange = cond b (told.Over, None) (told.Done, Some (Set (v + n))) in F (account_presence (Deposit n) r.0) r.1) [ true ↦ each.stays | false ↦ each.updated (v + n) ]
+    elim (nat_lt max_balance (v + n)) as (λ b. let r : ObjReply × Option RecChange = cond b (ObjReply.Over, None) (ObjReply.Done, Some (Set (v + n))) in F (account_presence (Deposit n) r.0) r.1) [ true ↦ each.stays | false ↦ each.updated (v + n) ]
 account_replies a (Withdraw n) None F each = each.stays
 account_replies a (Withdraw n) (Some v) F each =
-    elim (nat_lt v n) as (λ b. let r : ObjReply × Option RecChange = cond b (told.Short, None) (told.Done, Some (Set (v - n))) in F (account_presence (Withdraw n) r.0) r.1) [ true ↦ each.stays | false ↦ each.updated (v - n) ]
+    elim (nat_lt v n) as (λ b. let r : ObjReply × Option RecChange = cond b (ObjReply.Short, None) (ObjReply.Done, Some (Set (v - n))) in F (account_presence (Withdraw n) r.0) r.1) [ true ↦ each.stays | false ↦ each.updated (v - n) ]
 account_replies a Balance None F each = each.stays
 account_replies a Balance (Some v) F each = each.stays
 
 element_replies : (s e : ℕ) (op : ElementOp) (present : Bool) (F : Option Presence → Option RecChange → Type 0) → ForReplies (Element s e op) F
     → F (element_presence op (element_reply_of op present).0) (element_reply_of op present).1
-element_replies s e element.Add false F each = each.added 0
-element_replies s e element.Add true F each = each.stays
-element_replies s e element.Remove true F each = each.removed
-element_replies s e element.Remove false F each = each.stays
-element_replies s e element.Has true F each = each.stays
-element_replies s e element.Has false F each = each.stays
+element_replies s e ElementOp.Add false F each = each.added 0
+element_replies s e ElementOp.Add true F each = each.stays
+element_replies s e ElementOp.Remove true F each = each.removed
+element_replies s e ElementOp.Remove false F each = each.stays
+element_replies s e ElementOp.Has true F each = each.stays
+element_replies s e ElementOp.Has false F each = each.stays
 
 counter_replies : (c : ℕ) (op : CounterOp) (live : Option ℕ) (F : Option Presence → Option RecChange → Type 0) → ForReplies (Counter c op) F
     → F None (counter_reply_of op live).1
@@ -166,9 +145,9 @@ pub record ForResizes (F : Option RecChange → Type 0) : Type 0 where
   pub stays : F None
 
 pub by_size_change : (item : ObjOp × ObjReply) (found : Option ℕ) (F : Option RecChange → Type 0) → F (Some (Add 1)) → ForResizes F → F (size_change_of item found)
-by_size_change (Element s e element.Add, told.Added) None F made each = made
-by_size_change (Element s e element.Add, told.Added) (Some v) F made each = each.raised
-by_size_change (Element s e element.Remove, told.Removed) found F made each = each.lowered
+by_size_change (Element s e ElementOp.Add, ObjReply.Added) None F made each = made
+by_size_change (Element s e ElementOp.Add, ObjReply.Added) (Some v) F made each = each.raised
+by_size_change (Element s e ElementOp.Remove, ObjReply.Removed) found F made each = each.lowered
 by_size_change _ found F made each = each.stays
 
 -- ---- what counters need to be counted back

@@ -1,31 +1,13 @@
 -- One change of a record keeps the file with its ghosts, whatever its records mean: the laws of changes of one slot,
 -- where slots were moved before.
-use Rattle.std.proofs.Common.{◌≡◌, ℕ, true, false, Option, Some, sym, subst, ap, ◌∙◌}
-use Rattle.std.specs.Prelude.{slice_index_or}
+use Rattle.std.proofs.Common.{◌≡◌, ℕ, true, false, Option, Some, sym, subst, ap, ◌∙◌, slice_index_or, nat_cmp}
 use Rattle.std.specs.FinMap as map
-use Rattle.std.specs.Ordering.{nat_cmp}
-use Rattle.mlt_page.specs.declared.page.Page.{Page}
-use Rattle.mlt_page.specs.declared.slot.Slot.TheVariants.{Free, Ghost}
-use Rattle.mlt_types.specs.Cells.{key_number}
-use Rattle.mlt_types.specs.declared.cell.Cell.{Cell}
-use Rattle.mlt_object_base.specs.declared.record.RecChange.{RecChange}
-use Rattle.mlt_hash_form.specs.Changes.{slot_of}
-use Rattle.mlt_hash_form.specs.File.{bucket_of, buckets_of}
-use Rattle.mlt_hash_form.specs.Form.{slot_at}
-use Rattle.mlt_hash.specs.Passes.{slot_after, value_after}
-use Rattle.mlt_hash.specs.Walks.{StoodBefore}
-use Rattle.mlt_hash.specs.declared.pass.Change.{Change}
-use Rattle.mlt_hash.specs.declared.pass.Change.TheVariants.{Put, Revive, Set, Remove}
+use Rattle.mlt_tx_meaning.proofs.Names.{Page, Free, Ghost, key_number, Cell, RecChange, slot_of, bucket_of, buckets_of, slot_at, slot_after, value_after, StoodBefore, Change, Set, PagesMatchOperations, Ledger, NoOtherLast, last_by, Added, Appends, Removed, Standing, LeavesChange, IsOpenAt, IsFileWithGhosts, AbstractState, context_of, ledger_with}
+use Rattle.mlt_hash.specs.declared.pass.Change.TheVariants.{Put, Revive, Remove}
 use Rattle.mlt_hash_ghosts.specs.Events.{ChangesSlot}
-use Rattle.mlt_hash_ghosts.specs.Ghosts.{PagesMatchOperations}
-use Rattle.mlt_hash_ghosts.specs.Ledgers.{Ledger, NoOtherLast, last_by}
-use Rattle.mlt_hash_ghosts.specs.Operations.{Added, Appends, Removed, Standing}
 use Rattle.mlt_hash_ghosts.proofs.Changes.{ghost_addition_law, plain_put_law, plain_update_law, put_addition_law, removal_law, undone_addition_law, undone_removal_law}
 use Rattle.mlt_hash_ghosts.proofs.Moves.{moved}
 use Rattle.mlt_hash_ghosts.proofs.SlotTests.{ghost_from}
-use Rattle.mlt_tx_meaning.specs.Ends.{LeavesChange}
-use Rattle.mlt_tx_meaning.specs.Events.{IsOpenAt}
-use Rattle.mlt_tx_meaning.specs.AbstractStates.{IsFileWithGhosts, AbstractState, context_of, ledger_with}
 
 module _ (state : AbstractState) (tx : ℕ) (cell : Cell) (change : RecChange) (pages : map.FinMap nat_cmp Page) (stood : Standing)
     (h : IsFileWithGhosts (ledger_with state stood) state.max_depth) (e : LeavesChange state tx cell change pages) where

@@ -1,19 +1,7 @@
 -- What items do to the operations that stand, and who else has such on their keys.
 use Rattle.std.proofs.Common.{◌≡◌, ℕ, Option, Some, None, Contains, sym, ◌∙◌}
-use Rattle.std.proofs.lemmas.Bool.{both_ways}
-use Rattle.mlt_types.specs.Cells.{IsInRange, key_number}
-use Rattle.mlt_types.specs.declared.cell.Cell.{Cell}
-use Rattle.mlt_object_kinds.specs.declared.operation.ObjOp.{ObjOp}
-use Rattle.mlt_object_kinds.specs.declared.operation.ObjReply.{ObjReply}
-use Rattle.mlt_object_kinds.specs.Bases.{Transcript}
-use Rattle.mlt_object_kinds.specs.Operations.{cell_of}
+use Rattle.mlt_tx_meaning.proofs.Names.{both_ways, IsInRange, key_number, Cell, ObjOp, ObjReply, Transcript, cell_of, Gains, Ledger, NoOtherLast, last_by, Appends, Presence, Standing, last_of, op_key, presence_of, standing_of, MayDo, PagesMeanHistory, AbstractState, ledger_of, lists_in}
 use Rattle.mlt_object_base.proofs.Meanings.{same_cell}
-use Rattle.mlt_order.specs.Tables.{Gains}
-use Rattle.mlt_hash_ghosts.specs.Ledgers.{Ledger, NoOtherLast, last_by}
-use Rattle.mlt_hash_ghosts.specs.Operations.{Appends, Presence, Standing, last_of}
-use Rattle.mlt_tx_meaning.specs.Presences.{op_key, presence_of, standing_of}
-use Rattle.mlt_tx_meaning.specs.Events.{MayDo}
-use Rattle.mlt_tx_meaning.specs.AbstractStates.{PagesMeanHistory, AbstractState, ledger_of, lists_in}
 use Rattle.mlt_tx_meaning.proofs.Matches.{lists_kept}
 use Rattle.mlt_tx_meaning.proofs.Opposites.{opposites_clash}
 use Rattle.mlt_tx_meaning.proofs.Replies.{IsCount, count_says_nothing}

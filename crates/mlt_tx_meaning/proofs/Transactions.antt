@@ -1,21 +1,14 @@
 -- Beginnings and ends of transactions keep the match. The pages stay.
 use Rattle.std.proofs.Common.{◌≡◌, ◌≢◌, ◌↔◌, ℕ, ◌+◌, Bool, true, false, List, [], Contains, refl, sym, subst, ap, ◌∙◌, inl, inr, arith}
-use Rattle.std.proofs.lemmas.Bool.{both_ways, cases_eq}
+use Rattle.mlt_tx_meaning.proofs.Names.{both_ways, cases_eq, ObjOp, ObjReply, Lists, after_entry, Fresh, Running, table_with, contains-nothing, changed, PagesMatchOperations, Ledger, presences_on, standing_of, IsOpenAt, PagesMeanHistory, AbstractState, ledger_of, lists_in}
 use Rattle.std.specs.FinSet as set
-use Rattle.mlt_object_kinds.specs.declared.operation.ObjOp.{ObjOp}
-use Rattle.mlt_object_kinds.specs.declared.operation.ObjReply.{ObjReply}
-use Rattle.mlt_order.specs.Histories.{Lists, Stage, after_entry, ended}
+use Rattle.mlt_order.specs.Histories.{Stage, ended}
 use Rattle.mlt_order.specs.Histories.Entry.{Begun, Closed, Committed}
-use Rattle.mlt_order.specs.Histories.Stage.{Ended, Fresh, Running}
-use Rattle.mlt_order.specs.Tables.{SameElsewhere, table_with}
-use Rattle.mlt_order.proofs.RunLemmas.{contains-nothing}
-use Rattle.mlt_order.proofs.Tables.{changed}
-use Rattle.mlt_hash_ghosts.specs.Ghosts.{PagesMatchOperations}
-use Rattle.mlt_hash_ghosts.specs.Ledgers.{IsOpenIn, Ledger}
+use Rattle.mlt_order.specs.Histories.Stage.{Ended}
+use Rattle.mlt_order.specs.Tables.{SameElsewhere}
+use Rattle.mlt_hash_ghosts.specs.Ledgers.{IsOpenIn}
 use Rattle.mlt_hash_ghosts.proofs.Transactions.{begin_law, close_law}
-use Rattle.mlt_tx_meaning.specs.Presences.{presences_on, standing_of}
-use Rattle.mlt_tx_meaning.specs.Events.{IsOpenAt, with_begun, with_closed, with_committed}
-use Rattle.mlt_tx_meaning.specs.AbstractStates.{PagesMeanHistory, AbstractState, ledger_of, lists_in}
+use Rattle.mlt_tx_meaning.specs.Events.{with_begun, with_closed, with_committed}
 use Rattle.mlt_tx_meaning.proofs.Matches.{FitsLists, both, grown, lists_kept, runs}
 use Rattle.mlt_tx_meaning.proofs.OpenNumbers.{inserted_beside, inserted_here, removed_beside, removed_here}
 

@@ -1,18 +1,11 @@
 -- What a transcript says of keys' presence, and how that changes with an item at its end.
-use Rattle.std.proofs.Common.{◌≡◌, ◌≢◌, ℕ, Option, Some, None, [], ◌∷◌, ◌++◌, refl, sym, subst, ap, ◌∙◌, inl, inr, Contains}
-use Rattle.std.specs.Prelude.{◌⊎◌}
+use Rattle.std.proofs.Common.{◌≡◌, ◌≢◌, ℕ, Option, Some, None, [], ◌∷◌, ◌++◌, refl, sym, subst, ap, ◌∙◌, inl, inr, Contains, ◌⊎◌, eq-eqb, ne_eqb, append-nil}
 use Rattle.std.specs.List.{cons_option, last_or}
-use Rattle.std.proofs.lemmas.Bool.{cases_eq, eq-eqb, ne_eqb}
-use Rattle.std.proofs.lemmas.List.{append-nil}
+use Rattle.mlt_tx_meaning.proofs.Names.{cases_eq, Transcript, ObjOp, ObjReply, Gains, contains-first, Appends, Presence, last_of, op_key, presence_of, presences_on, standing_of}
 use Rattle.std.proofs.lemmas.List.Elements.{filter_map-append}
-use Rattle.mlt_object_kinds.specs.Bases.{Transcript}
-use Rattle.mlt_object_kinds.specs.declared.operation.ObjOp.{ObjOp}
-use Rattle.mlt_object_kinds.specs.declared.operation.ObjReply.{ObjReply}
-use Rattle.mlt_order.specs.Tables.{Gains}
-use Rattle.mlt_order.proofs.RunLemmas.{contains-first, contains-later}
-use Rattle.mlt_hash_ghosts.specs.Operations.{Appends, Presence, last_of}
+use Rattle.mlt_order.proofs.RunLemmas.{contains-later}
 use Rattle.mlt_hash_ghosts.proofs.Lists.{last_append_from}
-use Rattle.mlt_tx_meaning.specs.Presences.{op_key, presence_at, presence_of, presences_on, standing_of}
+use Rattle.mlt_tx_meaning.specs.Presences.{presence_at}
 
 presence_here : (item : ObjOp × ObjReply) → presence_at (op_key item.0) item ≡ presence_of item
 presence_here item = rw (eq-eqb (op_key item.0) (op_key item.0) refl) refl

@@ -1,46 +1,19 @@
 -- An operation on two records that ends leaves both its changes, one after the other, or none; and what it is to change is
 -- there.
-use Rattle.std.proofs.Common.{◌≡◌, ℕ, [], ◌∷◌, None, Option, Some, is_some, refl, sym, subst, ap, ◌∙◌, inl, inr, arith}
-use Rattle.std.specs.Prelude.{◌⊎◌}
+use Rattle.std.proofs.Common.{◌≡◌, ℕ, [], ◌∷◌, None, Option, Some, is_some, refl, sym, subst, ap, ◌∙◌, inl, inr, arith, ◌⊎◌, nat_cmp}
 use Rattle.std.specs.FinMap as map
-use Rattle.std.specs.Ordering.{nat_cmp}
-use Rattle.mlt_types.specs.Cells.{IsInRange, key_number}
-use Rattle.mlt_types.specs.declared.cell.Cell.{Cell}
-use Rattle.mlt_types.specs.declared.cell.Cell.TheVariants as cell
-use Rattle.mlt_page.specs.declared.page.Page.{Page}
-use Rattle.mlt_object_kinds.specs.declared.element.ElementOp.{ElementOp}
-use Rattle.mlt_object_kinds.specs.declared.element.ElementOp.TheVariants as element
-use Rattle.mlt_object_kinds.specs.declared.operation.ObjOp.{ObjOp}
-use Rattle.mlt_object_kinds.specs.declared.operation.ObjOp.TheVariants.{Account, Element, Counter, Size}
-use Rattle.mlt_object_kinds.specs.declared.operation.ObjReply.{ObjReply}
-use Rattle.mlt_object_kinds.specs.declared.operation.ObjReply.TheVariants as told
-use Rattle.mlt_object_kinds.specs.Operations.{cell_of}
-use Rattle.mlt_object_base.specs.declared.record.RecordChanges.{RecordChanges}
-use Rattle.mlt_object_base.specs.declared.record.RecChange.{RecChange}
-use Rattle.mlt_object_base.specs.declared.record.RecChange.TheVariants as rec
+use Rattle.mlt_tx_meaning.proofs.Names.{IsInRange, key_number, Cell, Page, ElementOp, ObjOp, Account, Element, Counter, Size, ObjReply, cell_of, RecordChanges, RecChange, TakeBack, changes_on, inverse_of, reply_of, size_change_of, changes_back, changes_of, record_in, told_by, CanChange, CanResize, record_beside, FilePages, look_up, over, own_or_clean, live_records, View, Change, Presence, rearranged_moved, Performs, ChangesPages, KeepsPages, LeavesChange, MayUndo, PagesMeanHistory, AbstractState, context_of, record_at, record_of, size_record_of}
 use Rattle.mlt_object_base.specs.declared.request.Request.{Request}
-use Rattle.mlt_object_base.specs.declared.request.Request.TheVariants.{Do, TakeBack}
-use Rattle.mlt_object_base.specs.Effects.{changes_on, inverse_of, reply_of, size_change_of}
-use Rattle.mlt_object_base.specs.Meaning.{changes_back, changes_of, record_in, told_by}
-use Rattle.mlt_object_base.specs.Records.{CanChange}
-use Rattle.mlt_object_base.specs.Requests.{CanResize, decision, size_decision, size_key_of, target_of}
-use Rattle.mlt_object_base.proofs.Meanings.{record_beside}
+use Rattle.mlt_object_base.specs.declared.request.Request.TheVariants.{Do}
+use Rattle.mlt_object_base.specs.Requests.{decision, size_decision, size_key_of, target_of}
 use Rattle.mlt_object_base.proofs.SizeRecords.{can_resize, size_change_fits}
-use Rattle.mlt_hash_form.specs.File.{FilePages, look_up}
-use Rattle.mlt_hash_form.specs.Held.{SeenPages, over, own_or_clean}
-use Rattle.mlt_hash_form.specs.Records.{live_records}
+use Rattle.mlt_hash_form.specs.Held.{SeenPages}
 use Rattle.mlt_hash_access.specs.LocalStates.{LocalState}
-use Rattle.mlt_hash_access.specs.Views.{View, view_of}
+use Rattle.mlt_hash_access.specs.Views.{view_of}
 use Rattle.mlt_hash_access.proofs.Views.{seen_free}
-use Rattle.mlt_hash.specs.declared.pass.Change.{Change}
-use Rattle.mlt_hash_ghosts.specs.Operations.{Presence}
-use Rattle.mlt_hash_ghosts.proofs.Moves.{rearranged_moved}
 use Rattle.mlt_tx_two_records.specs.TwoRecordWalks.{CanDoBoth}
 use Rattle.mlt_tx_two_records.specs.Leaving.{LeavesAll, LeavesAsTold, LeavesBoth, LeavesRecord}
-use Rattle.mlt_tx_two_records.specs.Performing.{Performs}
-use Rattle.mlt_tx_meaning.specs.Ends.{ChangesPages, EndsWith, KeepsPages, LeavesChange, SeesHeldAlone}
-use Rattle.mlt_tx_meaning.specs.Events.{MayUndo}
-use Rattle.mlt_tx_meaning.specs.AbstractStates.{PagesMeanHistory, AbstractState, context_of, record_at, record_of, size_record_of}
+use Rattle.mlt_tx_meaning.specs.Ends.{EndsWith, SeesHeldAlone}
 use Rattle.mlt_tx_meaning.proofs.RecordChanges.{records_become}
 use Rattle.mlt_tx_meaning.proofs.Replies.{by_reply, reply_steps}
 use Rattle.mlt_tx_meaning.proofs.Undoing.{inverse_can, undone_can_resize}
@@ -76,12 +49,12 @@ module _ (state : AbstractState) (tx : ℕ) (request : Request) (reply : ObjRepl
   none_changed : (size_key : ℕ) → LeavesAll (context_of state tx) request reply size_key view clean → KeepsPages state pages
   none_changed size_key all q = ends.ends q ∙ ap (λ own. own_or_clean own (clean q)) (all.unwritten q)
 
-  both_changed : (s e : ℕ) → IsInRange (cell.Element s e) → (target_of request).0 ≡ key_number (cell.Element s e) → (both : LeavesBoth (context_of state tx) request reply (key_number (cell.Size s)) view clean)
-      → ChangesPages state tx ((cell.Element s e, both.change) ∷ (cell.Size s, both.resize) ∷ []) pages
+  both_changed : (s e : ℕ) → IsInRange (Cell.Element s e) → (target_of request).0 ≡ key_number (Cell.Element s e) → (both : LeavesBoth (context_of state tx) request reply (key_number (Cell.Size s)) view clean)
+      → ChangesPages state tx ((Cell.Element s e, both.change) ∷ (Cell.Size s, both.resize) ∷ []) pages
   both_changed s e range key_is both =
       let context = context_of state tx in
-      let own = cell.Element s e in
-      let size = cell.Size s in
+      let own = Cell.Element s e in
+      let size = Cell.Size s in
       let between = written_over state.pages both.written view.modes (λ q none. both.held q (ends.held q none)) in
       let there : over clean both.written ≡ map.get between.0 = λ i q. sym (between.1 q) i in
       let then : AbstractState = record state { pages = between.0 } in
@@ -108,7 +81,7 @@ module _ (state : AbstractState) (tx : ℕ) (request : Request) (reply : ObjRepl
   asked_for size_key (inl all) = record { own = None; size = None }
   asked_for size_key (inr both) = record { own = Some both.change; size = Some both.resize }
 
-  changed_as : (s e : ℕ) (o : ElementOp) (changes : RecordChanges) (size_key : ℕ) → IsInRange (cell.Element s e) → (target_of request).0 ≡ key_number (cell.Element s e) → size_key ≡ key_number (cell.Size s)
+  changed_as : (s e : ℕ) (o : ElementOp) (changes : RecordChanges) (size_key : ℕ) → IsInRange (Cell.Element s e) → (target_of request).0 ≡ key_number (Cell.Element s e) → size_key ≡ key_number (Cell.Size s)
       → (leaves : LeavesAll (context_of state tx) request reply size_key view clean ⊎ LeavesBoth (context_of state tx) request reply size_key view clean) → changes ≡ asked_for size_key leaves
       → ChangesPages state tx (changes_on (Element s e o) changes) pages
   changed_as s e o changes size_key range key_is size_is (inl all) is =
@@ -125,15 +98,15 @@ module _ (state : AbstractState) (tx : ℕ) (reply : ObjReply) (view : View) (pa
   records = live_records state.pages
 
   -- what is told and changed by what the clean pages have is told and changed by the records
-  told_changes : (s e : ℕ) (o : ElementOp) (size_key : ℕ) (own size : Option RecChange) → size_key ≡ key_number (cell.Size s)
-      → reply_of (Element s e o) (look_up state.bits (map.get state.pages) state.root (key_number (cell.Element s e))) ≡ (reply, own)
+  told_changes : (s e : ℕ) (o : ElementOp) (size_key : ℕ) (own size : Option RecChange) → size_key ≡ key_number (Cell.Size s)
+      → reply_of (Element s e o) (look_up state.bits (map.get state.pages) state.root (key_number (Cell.Element s e))) ≡ (reply, own)
       → size_change_of (Element s e o, reply) (look_up state.bits (map.get state.pages) state.root size_key) ≡ size
       → (told_by records (Element s e o) ≡ reply) × (changes_of records (Element s e o) ≡ record { own = own; size = size })
   told_changes s e o size_key own size size_is decided resized =
       let op = Element s e o in
-      let is : reply_of op (record_of state op) ≡ (reply, own) = ap (reply_of op) (record_looked_up state (cell.Element s e) h) ∙ decided in
+      let is : reply_of op (record_of state op) ≡ (reply, own) = ap (reply_of op) (record_looked_up state (Cell.Element s e) h) ∙ decided in
       let told : told_by records op ≡ reply = ap (λ (d : ObjReply × Option RecChange). d.0) is in
-      let found : size_record_of state op ≡ look_up state.bits (map.get state.pages) state.root size_key = record_looked_up state (cell.Size s) h ∙ ap (look_up state.bits (map.get state.pages) state.root) (sym size_is) in
+      let found : size_record_of state op ≡ look_up state.bits (map.get state.pages) state.root size_key = record_looked_up state (Cell.Size s) h ∙ ap (look_up state.bits (map.get state.pages) state.root) (sym size_is) in
       let size_now : size_change_of (op, told_by records op) (size_record_of state op) ≡ size =
       ap (λ r. size_change_of (op, r) (size_record_of state op)) told ∙ ap (size_change_of (op, reply)) found ∙ resized
       in
@@ -142,7 +115,7 @@ module _ (state : AbstractState) (tx : ℕ) (reply : ObjReply) (view : View) (pa
   abbrev IsDone : ObjOp → Type 0
   IsDone op = (told_by records op ≡ reply) × ChangesPages state tx (changes_on op (changes_of records op)) pages
 
-  element_done : (s e : ℕ) (o : ElementOp) (size_key : ℕ) → IsInRange (cell.Element s e) → size_key ≡ key_number (cell.Size s)
+  element_done : (s e : ℕ) (o : ElementOp) (size_key : ℕ) → IsInRange (Cell.Element s e) → size_key ≡ key_number (Cell.Size s)
       → LeavesAll (context_of state tx) (Do (Element s e o)) reply size_key view (map.get state.pages) ⊎ LeavesBoth (context_of state tx) (Do (Element s e o)) reply size_key view (map.get state.pages)
       → IsDone (Element s e o)
   element_done s e o size_key range size_is (inl all) =
@@ -154,9 +127,9 @@ module _ (state : AbstractState) (tx : ℕ) (reply : ObjReply) (view : View) (pa
 
   -- **An operation on two records is told what the records ask for, and leaves the changes that go with that.**
   pub done_leaves : (op : ObjOp) → IsInRange (cell_of op) → LeavesAsTold (context_of state tx) (Do op) reply view (map.get state.pages) → IsDone op
-  done_leaves (Element s e element.Add) range leaves = element_done s e element.Add leaves.0 range (let is = leaves.1 in cc) leaves.2
-  done_leaves (Element s e element.Remove) range leaves = element_done s e element.Remove leaves.0 range (let is = leaves.1 in cc) leaves.2
-  done_leaves (Element s e element.Has) range leaves = absurd (let is = leaves.1 in cc)
+  done_leaves (Element s e ElementOp.Add) range leaves = element_done s e ElementOp.Add leaves.0 range (let is = leaves.1 in cc) leaves.2
+  done_leaves (Element s e ElementOp.Remove) range leaves = element_done s e ElementOp.Remove leaves.0 range (let is = leaves.1 in cc) leaves.2
+  done_leaves (Element s e ElementOp.Has) range leaves = absurd (let is = leaves.1 in cc)
   done_leaves (Account a o) range leaves = absurd (let is = leaves.1 in cc)
   done_leaves (Counter c o) range leaves = absurd (let is = leaves.1 in cc)
   done_leaves (Size s) range leaves = absurd (let is = leaves.1 in cc)
@@ -164,7 +137,7 @@ module _ (state : AbstractState) (tx : ℕ) (reply : ObjReply) (view : View) (pa
   abbrev IsUndone : ObjOp × ObjReply → Type 0
   IsUndone item = ChangesPages state tx (changes_on item.0 (changes_back item)) pages
 
-  element_undone : (s e : ℕ) (o : ElementOp) (was : ObjReply) (size_key : ℕ) → IsInRange (cell.Element s e) → size_key ≡ key_number (cell.Size s)
+  element_undone : (s e : ℕ) (o : ElementOp) (was : ObjReply) (size_key : ℕ) → IsInRange (Cell.Element s e) → size_key ≡ key_number (Cell.Size s)
       → LeavesAll (context_of state tx) (TakeBack (Element s e o, was)) reply size_key view (map.get state.pages) ⊎ LeavesBoth (context_of state tx) (TakeBack (Element s e o, was)) reply size_key view (map.get state.pages)
       → IsUndone (Element s e o, was)
   element_undone s e o was size_key range size_is (inl all) =
@@ -176,15 +149,15 @@ module _ (state : AbstractState) (tx : ℕ) (reply : ObjReply) (view : View) (pa
 
   -- **So does the inverse of one.**
   pub undone_leaves : (item : ObjOp × ObjReply) → IsInRange (cell_of item.0) → LeavesAsTold (context_of state tx) (TakeBack item) reply view (map.get state.pages) → IsUndone item
-  undone_leaves (Element s e element.Add, told.Added) range leaves = element_undone s e element.Add told.Added leaves.0 range (let is = leaves.1 in cc) leaves.2
-  undone_leaves (Element s e element.Remove, told.Removed) range leaves = element_undone s e element.Remove told.Removed leaves.0 range (let is = leaves.1 in cc) leaves.2
+  undone_leaves (Element s e ElementOp.Add, ObjReply.Added) range leaves = element_undone s e ElementOp.Add ObjReply.Added leaves.0 range (let is = leaves.1 in cc) leaves.2
+  undone_leaves (Element s e ElementOp.Remove, ObjReply.Removed) range leaves = element_undone s e ElementOp.Remove ObjReply.Removed leaves.0 range (let is = leaves.1 in cc) leaves.2
   undone_leaves _ range leaves = absurd (let is = leaves.1 in cc)
 
 -- ---- what is changed is there
 
-revives_nothing : (op : ObjOp) (live : Option ℕ) → (reply_of op live).1 ≡ Some rec.Revive → ⊥
+revives_nothing : (op : ObjOp) (live : Option ℕ) → (reply_of op live).1 ≡ Some RecChange.Revive → ⊥
 revives_nothing op live =
-    let Never : Option Presence → Option RecChange → Type 0 = λ p c. c ≡ Some rec.Revive → ⊥ in
+    let Never : Option Presence → Option RecChange → Type 0 = λ p c. c ≡ Some RecChange.Revive → ⊥ in
     by_reply op live Never (record {
       added = λ v e. cc e;
       removed = λ e. cc e;
@@ -195,31 +168,31 @@ revives_nothing op live =
 
 module _ (state : AbstractState) (tx : ℕ) (h : PagesMeanHistory state) where
   -- a size record that can be changed as is asked is on the clean pages
-  size_fits : (request : Request) (reply : ObjReply) (s key : ℕ) → key ≡ key_number (cell.Size s) → CanResize request reply (record_at state (cell.Size s))
+  size_fits : (request : Request) (reply : ObjReply) (s key : ℕ) → key ≡ key_number (Cell.Size s) → CanResize request reply (record_at state (Cell.Size s))
       → CanChange (size_decision request reply (look_up state.bits (map.get state.pages) state.root key)) (look_up state.bits (map.get state.pages) state.root key)
   size_fits request reply s key key_is can =
-      let found : record_at state (cell.Size s) ≡ look_up state.bits (map.get state.pages) state.root key = record_looked_up state (cell.Size s) h ∙ ap (look_up state.bits (map.get state.pages) state.root) (sym key_is) in
-      subst (λ f. CanChange (size_decision request reply f) f) found (size_change_fits request reply (record_at state (cell.Size s)) can)
+      let found : record_at state (Cell.Size s) ≡ look_up state.bits (map.get state.pages) state.root key = record_looked_up state (Cell.Size s) h ∙ ap (look_up state.bits (map.get state.pages) state.root) (sym key_is) in
+      subst (λ f. CanChange (size_decision request reply f) f) found (size_change_fits request reply (record_at state (Cell.Size s)) can)
 
   abbrev SizeFits : Request → Type 0
   SizeFits request = (key : ℕ) → size_key_of request ≡ Some key
       → CanChange (size_decision request (decision request (look_up state.bits (map.get state.pages) state.root (target_of request).0)).0 (look_up state.bits (map.get state.pages) state.root key))
       (look_up state.bits (map.get state.pages) state.root key)
 
-  element_fits : (s e : ℕ) (o : ElementOp) (key : ℕ) → IsInRange (cell.Element s e) → key ≡ key_number (cell.Size s)
-      → CanChange (size_change_of (Element s e o, (reply_of (Element s e o) (look_up state.bits (map.get state.pages) state.root (key_number (cell.Element s e)))).0) (look_up state.bits (map.get state.pages) state.root key))
+  element_fits : (s e : ℕ) (o : ElementOp) (key : ℕ) → IsInRange (Cell.Element s e) → key ≡ key_number (Cell.Size s)
+      → CanChange (size_change_of (Element s e o, (reply_of (Element s e o) (look_up state.bits (map.get state.pages) state.root (key_number (Cell.Element s e)))).0) (look_up state.bits (map.get state.pages) state.root key))
       (look_up state.bits (map.get state.pages) state.root key)
   element_fits s e o key range key_is =
       let op = Element s e o in
       let cell_steps = reply_steps op (record_of state op) (h.records.means.can_be (cell_of op) range) (omega arith) in
       let can = can_resize (live_records state.pages) state.base op h.records.means range cell_steps.1 cell_steps.0 in
-      let told = ap (λ f. (reply_of op f).0) (record_looked_up state (cell.Element s e) h) in
+      let told = ap (λ f. (reply_of op f).0) (record_looked_up state (Cell.Element s e) h) in
       size_fits (Do op) _ s key key_is (subst (λ r. CanResize (Do op) r (size_record_of state op)) told can)
 
   done_size_fits : (op : ObjOp) → IsInRange (cell_of op) → SizeFits (Do op)
-  done_size_fits (Element s e element.Add) range key is = element_fits s e element.Add key range (cc is)
-  done_size_fits (Element s e element.Remove) range key is = element_fits s e element.Remove key range (cc is)
-  done_size_fits (Element s e element.Has) range key is = absurd (cc is)
+  done_size_fits (Element s e ElementOp.Add) range key is = element_fits s e ElementOp.Add key range (cc is)
+  done_size_fits (Element s e ElementOp.Remove) range key is = element_fits s e ElementOp.Remove key range (cc is)
+  done_size_fits (Element s e ElementOp.Has) range key is = absurd (cc is)
   done_size_fits (Account a o) range key is = absurd (cc is)
   done_size_fits (Counter c o) range key is = absurd (cc is)
   done_size_fits (Size s) range key is = absurd (cc is)
@@ -233,8 +206,8 @@ module _ (state : AbstractState) (tx : ℕ) (h : PagesMeanHistory state) where
   }
 
   undone_size_fits : (item : ObjOp × ObjReply) → MayUndo state tx item → SizeFits (TakeBack item)
-  undone_size_fits (Element s e element.Add, told.Added) may key is = size_fits (TakeBack (Element s e element.Add, told.Added)) told.Added s key (cc is) (undone_can_resize state tx (Element s e element.Add, told.Added) h may told.Added)
-  undone_size_fits (Element s e element.Remove, told.Removed) may key is = size_fits (TakeBack (Element s e element.Remove, told.Removed)) told.Removed s key (cc is) (undone_can_resize state tx (Element s e element.Remove, told.Removed) h may told.Removed)
+  undone_size_fits (Element s e ElementOp.Add, ObjReply.Added) may key is = size_fits (TakeBack (Element s e ElementOp.Add, ObjReply.Added)) ObjReply.Added s key (cc is) (undone_can_resize state tx (Element s e ElementOp.Add, ObjReply.Added) h may ObjReply.Added)
+  undone_size_fits (Element s e ElementOp.Remove, ObjReply.Removed) may key is = size_fits (TakeBack (Element s e ElementOp.Remove, ObjReply.Removed)) ObjReply.Removed s key (cc is) (undone_can_resize state tx (Element s e ElementOp.Remove, ObjReply.Removed) h may ObjReply.Removed)
   undone_size_fits _ may key is = absurd (cc is)
 
   -- **and what the inverse of one is to change.**

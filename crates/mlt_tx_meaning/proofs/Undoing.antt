@@ -1,41 +1,17 @@
 -- The end of an inverse keeps the match, and what it needs is there.
-use Rattle.std.proofs.Common.{◌≡◌, ◌≢◌, ℕ, Option, List, [], ◌∷◌, ◌++◌, Contains, refl, sym, subst, ap, ◌∙◌, inl, inr, arith}
-use Rattle.std.proofs.lemmas.Bool.{cases_eq}
+use Rattle.std.proofs.Common.{◌≡◌, ◌≢◌, ℕ, Option, List, [], ◌∷◌, ◌++◌, Contains, refl, sym, subst, ap, ◌∙◌, inl, inr, arith, nat_cmp}
+use Rattle.mlt_tx_meaning.proofs.Names.{cases_eq, IsInRange, Cell, Page, ObjOp, Account, Element, Counter, Size, ObjReply, Base, Step, empty_base, state_at, CellState, CellStep, cell_of, RecChange, Means, changes_back, record_in, records_after, size_record_in, changes_on, inverse_of, CanChange, HasSizeToUndo, HasWhatIsUndone, IsRecord, record_after, state_of_record, CanResize, TakeBack, base_functional, base_injective, Lists, after_entry, Gains, contains-first, changed, live_records, ChangesPages, presence_of, standing_of, MayUndo, PagesMeanHistory, AbstractState, lists_in, record_of, size_record_of}
 use Rattle.std.proofs.lemmas.List.Elements.{Contains-append_left, Contains-append_right}
 use Rattle.std.specs.FinMap as map
-use Rattle.std.specs.Ordering.{nat_cmp}
-use Rattle.mlt_types.specs.Cells.{IsInRange}
-use Rattle.mlt_types.specs.declared.cell.Cell.{Cell}
-use Rattle.mlt_page.specs.declared.page.Page.{Page}
-use Rattle.mlt_object_kinds.specs.declared.operation.ObjOp.{ObjOp}
-use Rattle.mlt_object_kinds.specs.declared.operation.ObjOp.TheVariants.{Account, Element, Counter, Size}
-use Rattle.mlt_object_kinds.specs.declared.operation.ObjReply.{ObjReply}
-use Rattle.mlt_object_kinds.specs.declared.operation.ObjReply.TheVariants as told
 use Rattle.mlt_object_kinds.proofs.Sizes.{size_after_step}
-use Rattle.mlt_object_kinds.specs.Bases.{Base, Step, TellsSize, empty_base, size_at, state_at}
-use Rattle.mlt_object_kinds.specs.Cells.{CellState, CellStep}
-use Rattle.mlt_object_kinds.specs.Operations.{cell_of}
-use Rattle.mlt_object_base.specs.declared.record.RecChange.{RecChange}
-use Rattle.mlt_object_base.specs.Meaning.{Means, changes_back, record_in, records_after, size_record_in}
-use Rattle.mlt_object_base.specs.Effects.{changes_on, inverse_of}
-use Rattle.mlt_object_base.specs.Records.{CanChange, HasSizeToUndo, HasWhatIsUndone, IsRecord, record_after, state_of_record}
-use Rattle.mlt_object_base.specs.Requests.{CanResize}
-use Rattle.mlt_object_base.specs.declared.request.Request.TheVariants.{TakeBack}
+use Rattle.mlt_object_kinds.specs.Bases.{TellsSize, size_at}
 use Rattle.mlt_object_base.proofs.OperationChanges.{means_step_back}
 use Rattle.mlt_object_base.proofs.SizeRecords.{can_resize_back, has_size_still_back}
-use Rattle.mlt_object_conflicts.proofs.BaseOrder.{base_functional, base_injective}
-use Rattle.mlt_order.specs.Histories.{Lists, after_entry, but_last}
+use Rattle.mlt_order.specs.Histories.{but_last}
 use Rattle.mlt_order.specs.Histories.Entry.{TookBack}
-use Rattle.mlt_order.specs.Tables.{Gains}
 use Rattle.mlt_order.proofs.Growing.{but_last-push}
 use Rattle.mlt_order.proofs.Keeping.{last_goes}
-use Rattle.mlt_order.proofs.RunLemmas.{contains-first}
-use Rattle.mlt_order.proofs.Tables.{changed}
-use Rattle.mlt_hash_form.specs.Records.{live_records}
-use Rattle.mlt_tx_meaning.specs.Ends.{ChangesPages}
-use Rattle.mlt_tx_meaning.specs.Presences.{presence_of, standing_of}
-use Rattle.mlt_tx_meaning.specs.Events.{MayUndo, with_undone}
-use Rattle.mlt_tx_meaning.specs.AbstractStates.{PagesMeanHistory, AbstractState, lists_in, record_of, size_record_of}
+use Rattle.mlt_tx_meaning.specs.Events.{with_undone}
 use Rattle.mlt_tx_meaning.proofs.Inverses.{GoesBack, inverse_back}
 use Rattle.mlt_tx_meaning.proofs.Matches.{FitsLists, grown, in_range_there}
 use Rattle.mlt_tx_meaning.proofs.RecordChanges.{records_become}
@@ -49,7 +25,7 @@ told_after : (b c : Base) (item : ObjOp × ObjReply) → Step b item c → Tells
 told_after b c (Size s, reply) step =
     let same = size_after_step b c (Size s, reply) s step in
     let sizes : size_at b s ≡ size_at c s = omega (arith, same) in
-    step.2 ∙ ap told.Is sizes
+    step.2 ∙ ap ObjReply.Is sizes
 told_after b c (Account a op, reply) step = tt
 told_after b c (Element t e op, reply) step = tt
 told_after b c (Counter d op, reply) step = tt

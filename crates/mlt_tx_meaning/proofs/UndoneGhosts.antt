@@ -1,20 +1,7 @@
 -- All that takes an operation back keeps the file with its ghosts.
-use Rattle.std.proofs.Common.{◌≡◌, ℕ, true, Option, sym}
+use Rattle.std.proofs.Common.{◌≡◌, ℕ, true, Option, sym, nat_cmp}
 use Rattle.std.specs.FinMap as map
-use Rattle.std.specs.Ordering.{nat_cmp}
-use Rattle.mlt_types.specs.Cells.{IsInRange}
-use Rattle.mlt_page.specs.declared.page.Page.{Page}
-use Rattle.mlt_object_kinds.specs.declared.operation.ObjOp.{ObjOp}
-use Rattle.mlt_object_kinds.specs.declared.operation.ObjReply.{ObjReply}
-use Rattle.mlt_object_kinds.specs.Operations.{cell_of}
-use Rattle.mlt_object_base.specs.declared.record.RecChange.{RecChange}
-use Rattle.mlt_object_base.specs.Effects.{changes_on, inverse_of, own_change_on, size_change_on, size_inverse_of}
-use Rattle.mlt_object_base.specs.Meaning.{changes_back}
-use Rattle.mlt_hash_ghosts.specs.Operations.{Presence, Standing}
-use Rattle.mlt_tx_meaning.specs.Ends.{ChangesPages}
-use Rattle.mlt_tx_meaning.specs.Presences.{op_key, presence_of}
-use Rattle.mlt_tx_meaning.specs.Events.{IsOpenAt}
-use Rattle.mlt_tx_meaning.specs.AbstractStates.{IsFileWithGhosts, PagesMeanHistory, AbstractState, ledger_with, stood_in}
+use Rattle.mlt_tx_meaning.proofs.Names.{IsInRange, Page, ObjOp, ObjReply, cell_of, RecChange, changes_on, inverse_of, own_change_on, size_change_on, size_inverse_of, changes_back, Presence, Standing, ChangesPages, op_key, presence_of, IsOpenAt, IsFileWithGhosts, PagesMeanHistory, AbstractState, ledger_with, stood_in}
 use Rattle.mlt_tx_meaning.proofs.ChangeGhosts.{KeepsResized, added_back, file_stays, lowered, raised, removed_back, resized}
 use Rattle.mlt_tx_meaning.proofs.Inverses.{by_inverse, by_size_inverse}
 use Rattle.mlt_tx_meaning.proofs.RecordChanges.{changes_split}

@@ -1,24 +1,9 @@
 -- A walk that ends leaves the change that it has made.
-use Rattle.std.proofs.Common.{◌≡◌, ℕ, ◌≤◌, Option, Some, None, sym, subst, ap, ◌∙◌}
-use Rattle.std.specs.Prelude.{unwrap_or}
+use Rattle.std.proofs.Common.{◌≡◌, ℕ, ◌≤◌, Option, Some, None, sym, subst, ap, ◌∙◌, unwrap_or, nat_cmp}
 use Rattle.std.specs.FinMap as map
-use Rattle.std.specs.Ordering.{nat_cmp}
-use Rattle.mlt_types.specs.Cells.{key_number}
-use Rattle.mlt_types.specs.declared.cell.Cell.{Cell}
-use Rattle.mlt_page.specs.declared.page.Page.{Page}
-use Rattle.mlt_page.specs.declared.page.Page.TheVariants as page
-use Rattle.mlt_object_base.specs.declared.record.RecChange.{RecChange}
-use Rattle.mlt_hash_form.specs.Changes.{ChangesRecord, IsAtHome, Spot, slot_of, slot_change}
-use Rattle.mlt_hash_form.specs.File.{FilePages, HasForm, header_of}
-use Rattle.mlt_hash_form.specs.Held.{Agrees, over, own_or_clean}
-use Rattle.mlt_hash_access.specs.Views.{View}
-use Rattle.mlt_hash.specs.Passes.{slot_after, value_after}
-use Rattle.mlt_hash.specs.Walks.{IsChanged, StoodBefore, WalkFields}
-use Rattle.mlt_hash.specs.declared.pass.Change.{Change}
-use Rattle.mlt_hash_ghosts.proofs.Moves.{rearranged_moved}
-use Rattle.mlt_tx_two_records.specs.Performing.{Performs}
-use Rattle.mlt_tx_meaning.specs.Ends.{LeavesChange}
-use Rattle.mlt_tx_meaning.specs.AbstractStates.{AbstractState, context_of, record_at}
+use Rattle.mlt_tx_meaning.proofs.Names.{key_number, Cell, Page, RecChange, slot_of, FilePages, HasForm, header_of, Agrees, over, own_or_clean, View, slot_after, value_after, StoodBefore, WalkFields, Change, rearranged_moved, Performs, LeavesChange, AbstractState, context_of, record_at}
+use Rattle.mlt_hash_form.specs.Changes.{ChangesRecord, IsAtHome, Spot, slot_change}
+use Rattle.mlt_hash.specs.Walks.{IsChanged}
 
 module _ (state : AbstractState) (tx : ℕ) (pages : map.FinMap nat_cmp Page) (walk : WalkFields) (view : View) (bucket : ℕ) (done : Change)
     (changed : IsChanged (context_of state tx) walk view bucket done) (agrees : Agrees view.seen (map.get state.pages)) (ends : (q : ℕ) → map.get pages q ≡ over (map.get state.pages) view.own q)
@@ -29,10 +14,10 @@ module _ (state : AbstractState) (tx : ℕ) (pages : map.FinMap nat_cmp Page) (w
   abbrev spot : Spot
   spot = record { number = bucket; at = changed.slot; bucket = changed.fields }
 
-  header_now : map.get pages state.root ≡ Some (page.Head changed.header)
+  header_now : map.get pages state.root ≡ Some (Page.Head changed.header)
   header_now =
       let placed = changed.read.way.placed in
-      ends state.root ∙ ap (own_or_clean (view.own state.root)) (agrees state.root (Some (page.Head placed.header)) placed.head)
+      ends state.root ∙ ap (own_or_clean (view.own state.root)) (agrees state.root (Some (Page.Head placed.header)) placed.head)
       ∙ sym (ap (λ (o : Option (Option Page)). own_or_clean (view.own state.root) (unwrap_or o None)) placed.head) ∙ changed.head
 
   -- what is said of the key, where these are the pages

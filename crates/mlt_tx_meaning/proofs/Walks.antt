@@ -1,44 +1,22 @@
 -- Walks on pages that match a history: what they find, and where they stand when others begin and end.
-use Rattle.std.proofs.Common.{◌≡◌, ℕ, ◌+◌, true, List, Option, Some, refl, sym, subst, ap, ◌∙◌, arith}
-use Rattle.std.specs.Prelude.{position, slice_index_or}
+use Rattle.std.proofs.Common.{◌≡◌, ℕ, ◌+◌, true, List, Option, Some, refl, sym, subst, ap, ◌∙◌, arith, position, slice_index_or}
 use Rattle.std.specs.FinMap as map
 use Rattle.std.specs.FinSet as set
-use Rattle.std.proofs.lemmas.Bool.{false≢true}
-use Rattle.mlt_types.specs.Cells.{key_number}
-use Rattle.mlt_types.specs.declared.cell.Cell.{Cell}
-use Rattle.mlt_page.specs.Slots.{is_ghost_of, is_kept}
+use Rattle.mlt_tx_meaning.proofs.Names.{false≢true, key_number, Cell, is_kept, Page, Free, Live, Ghost, ObjOp, ObjReply, cell_of, RecChange, inverse_of, CanChange, bucket_of, buckets_of, lead_of, look_up, slot_at, Agrees, View, WalkFields, last_by, Presence, Removed, last_of, op_key, presence_of, presences_on, MayUndo, PagesMeanHistory, AbstractState, context_of, ledger_of, record_at}
+use Rattle.mlt_page.specs.Slots.{is_ghost_of}
 use Rattle.mlt_page.specs.Values.{BucketFields}
-use Rattle.mlt_page.specs.declared.page.Page.{Page}
 use Rattle.mlt_page.specs.declared.slot.Slot.{Slot}
-use Rattle.mlt_page.specs.declared.slot.Slot.TheVariants.{Free, Live, Ghost}
-use Rattle.mlt_object_kinds.specs.declared.operation.ObjOp.{ObjOp}
-use Rattle.mlt_object_kinds.specs.declared.operation.ObjReply.{ObjReply}
-use Rattle.mlt_object_kinds.specs.Operations.{cell_of}
-use Rattle.mlt_object_base.specs.declared.record.RecChange.{RecChange}
-use Rattle.mlt_object_base.specs.declared.record.RecChange.TheVariants as rec
-use Rattle.mlt_object_base.specs.Effects.{inverse_of}
-use Rattle.mlt_object_base.specs.Records.{CanChange}
-use Rattle.mlt_hash_form.specs.File.{bucket_of, buckets_of, lead_of, look_up}
-use Rattle.mlt_hash_form.specs.Form.{slot_at}
-use Rattle.mlt_hash_form.specs.Held.{Agrees}
 use Rattle.mlt_hash_form.proofs.InPages.{led_at}
 use Rattle.mlt_hash_form.proofs.MapChanges.{map_is_look_up}
-use Rattle.mlt_hash_access.specs.Views.{View}
 use Rattle.mlt_hash_split.specs.Rests.{KeepsNoMore}
 use Rattle.mlt_hash.specs.Changes.{HasOwnGhost, page_of}
-use Rattle.mlt_hash.specs.Walks.{HasRead, IsAtBucket, IsStanding, Stands, WalkFields}
+use Rattle.mlt_hash.specs.Walks.{HasRead, IsAtBucket, IsStanding, Stands}
 use Rattle.mlt_hash.specs.declared.pass.Phase.{Phase}
-use Rattle.mlt_hash.specs.declared.pass.Phase.TheVariants as at
 use Rattle.mlt_hash.proofs.Laws.{path_taken}
 use Rattle.mlt_hash.proofs.Owners.{stands_still}
 use Rattle.mlt_hash.proofs.Passed.{read_at_bucket}
 use Rattle.mlt_hash.proofs.Standings.{found_still}
-use Rattle.mlt_hash_ghosts.specs.Ledgers.{last_by}
-use Rattle.mlt_hash_ghosts.specs.Operations.{Presence, Removed, last_of}
 use Rattle.mlt_hash_ghosts.proofs.GhostLookup.{undone_found}
-use Rattle.mlt_tx_meaning.specs.Presences.{op_key, presence_of, presences_on}
-use Rattle.mlt_tx_meaning.specs.Events.{MayUndo}
-use Rattle.mlt_tx_meaning.specs.AbstractStates.{PagesMeanHistory, AbstractState, context_of, ledger_of, record_at}
 use Rattle.mlt_tx_meaning.proofs.Inverses.{by_inverse}
 use Rattle.mlt_tx_meaning.proofs.OpenNumbers.{inserted_beside, removed_was}
 use Rattle.mlt_tx_meaning.proofs.Transcripts.{last_is}
@@ -58,9 +36,9 @@ found_is_record state tx cell key view found h read key_is agree =
 -- ---- what is taken back
 
 -- what is undone by reviving a ghost was a removal
-revives_removal : (item : ObjOp × ObjReply) → inverse_of item ≡ Some rec.Revive → presence_of item ≡ Some Removed
+revives_removal : (item : ObjOp × ObjReply) → inverse_of item ≡ Some RecChange.Revive → presence_of item ≡ Some Removed
 revives_removal item =
-    let Follows : Option Presence → Option RecChange → Type 0 = λ p c. c ≡ Some rec.Revive → p ≡ Some Removed in
+    let Follows : Option Presence → Option RecChange → Type 0 = λ p c. c ≡ Some RecChange.Revive → p ≡ Some Removed in
     by_inverse item Follows (record {
       added = λ e. absurd (cc e);
       removed = λ e. refl;
@@ -70,7 +48,7 @@ revives_removal item =
     })
 
 -- the ghost of a removal that is to be taken back is in the bucket of its key
-pub ghost_there : (state : AbstractState) (tx : ℕ) (item : ObjOp × ObjReply) → PagesMeanHistory state → MayUndo state tx item → inverse_of item ≡ Some rec.Revive
+pub ghost_there : (state : AbstractState) (tx : ℕ) (item : ObjOp × ObjReply) → PagesMeanHistory state → MayUndo state tx item → inverse_of item ≡ Some RecChange.Revive
     → (i : ℕ) × (position (is_ghost_of (op_key item.0) tx) (buckets_of (map.get state.pages) (lead_of (map.get state.pages) state.root (state.bits (op_key item.0)))).slots ≡ Some i)
 ghost_there state tx item h may revives =
     let stood : last_by (ledger_of state) tx (op_key item.0) ≡ Some Removed =
@@ -79,7 +57,7 @@ ghost_there state tx item h may revives =
     ((undone_found (ledger_of state) tx (op_key item.0) h.file.ghosts h.file.form may.is_open).1 stood).0
 
 module _ (state : AbstractState) (tx : ℕ) (item : ObjOp × ObjReply) (walk : WalkFields) (view : View) (bucket depth : ℕ) (found : Option ℕ)
-    (h : PagesMeanHistory state) (may : MayUndo state tx item) (phase : walk.phase ≡ at.AtBucket bucket depth found) (key_is : walk.key ≡ op_key item.0) (stands : IsStanding (context_of state tx) walk view) (agree : Agrees view.seen (map.get state.pages)) where
+    (h : PagesMeanHistory state) (may : MayUndo state tx item) (phase : walk.phase ≡ Phase.AtBucket bucket depth found) (key_is : walk.key ≡ op_key item.0) (stands : IsStanding (context_of state tx) walk view) (agree : Agrees view.seen (map.get state.pages)) where
   here : IsAtBucket (context_of state tx) walk view bucket depth found
   here = subst (λ (p : Phase). Stands p (context_of state tx) walk view) phase stands
 
@@ -88,7 +66,7 @@ module _ (state : AbstractState) (tx : ℕ) (item : ObjOp × ObjReply) (walk : W
       let is = found_is_record state tx (cell_of item.0) walk.key view found h (read_at_bucket (context_of state tx) walk view bucket depth found here) key_is agree in
       subst (CanChange (inverse_of item)) (sym is) (inverse_can state tx item h may)
 
-  own_ghost : inverse_of item ≡ Some rec.Revive → HasOwnGhost tx walk view
+  own_ghost : inverse_of item ≡ Some RecChange.Revive → HasOwnGhost tx walk view
   own_ghost revives =
       let pages = map.get state.pages in
       let Ghost : ℕ → Type 0 = λ key. (i : ℕ) × (position (is_ghost_of key tx) (buckets_of pages (lead_of pages state.root (state.bits key))).slots ≡ Some i) in
@@ -99,7 +77,7 @@ module _ (state : AbstractState) (tx : ℕ) (item : ObjOp × ObjReply) (walk : W
       in
       (here.fields, ghost.0, record { at = ap (λ (p : Phase). view.seen (page_of p)) phase ∙ here.at }, ap (position (is_ghost_of walk.key tx)) (sym slots) ∙ ghost.1)
 
-  pub undone_is_there : CanChange (inverse_of item) found × (inverse_of item ≡ Some rec.Revive → HasOwnGhost tx walk view)
+  pub undone_is_there : CanChange (inverse_of item) found × (inverse_of item ≡ Some RecChange.Revive → HasOwnGhost tx walk view)
   undone_is_there = (undo_can, own_ghost)
 
 -- ---- others begin and end

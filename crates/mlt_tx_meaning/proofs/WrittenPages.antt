@@ -1,14 +1,10 @@
 -- Clean pages with what was written on some of them in place, as a finite map.
-use Rattle.std.proofs.Common.{◌≡◌, ◌≢◌, ℕ, ◌||◌, false, true, List, [], ◌∷◌, None, Option, Some, is_some, refl, sym, ap, ◌∙◌, inl, inr}
-use Rattle.std.proofs.lemmas.Bool.{cases_eq, false≢true, ne_eqb}
-use Rattle.std.specs.Cmp.{nat_cmp_total, unsigned_tied}
+use Rattle.std.proofs.Common.{◌≡◌, ◌≢◌, ℕ, ◌||◌, false, true, List, [], ◌∷◌, None, Option, Some, is_some, refl, sym, ap, ◌∙◌, inl, inr, ne_eqb, nat_cmp}
+use Rattle.mlt_tx_meaning.proofs.Names.{cases_eq, false≢true, nat_cmp_total, unsigned_tied, Page, FilePages, over, own_or_clean}
 use Rattle.std.specs.FinMap as map
 use Rattle.std.specs.List.{list_any}
-use Rattle.std.specs.Ordering.{eq_by_cmp, nat_cmp}
-use Rattle.mlt_page.specs.declared.page.Page.{Page}
+use Rattle.std.specs.Ordering.{eq_by_cmp}
 use Rattle.mlt_object_kinds.proofs.BaseLaws.{entry_beside, entry_here}
-use Rattle.mlt_hash_form.specs.File.{FilePages}
-use Rattle.mlt_hash_form.specs.Held.{over, own_or_clean}
 
 -- the map with what is written on this page, if it is
 abbrev with_page : Option Page → ℕ → map.FinMap nat_cmp Page → map.FinMap nat_cmp Page

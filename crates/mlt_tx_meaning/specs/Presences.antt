@@ -1,6 +1,5 @@
 -- What operations with their replies did to the presence of their keys.
-use Rattle.std.specs.Prelude.{ℕ, ◌<◌, ◌^◌, ◌==◌, if◌then◌else◌, Option, Some, None, List}
-use Rattle.std.specs.List.{filter_map}
+use Rattle.std.specs.Prelude.{ℕ, ◌<◌, ◌^◌, ◌==◌, if◌then◌else◌, Option, Some, None, List, filter_map}
 use Rattle.mlt_types.specs.Cells.{IsInRange, key_number}
 use Rattle.mlt_object_kinds.specs.declared.account.AccountOp.{AccountOp}
 use Rattle.mlt_object_kinds.specs.declared.account.AccountOp.TheVariants.{Open, Close, Deposit, Withdraw}
@@ -11,7 +10,6 @@ use Rattle.mlt_object_kinds.specs.declared.element.ElementOp.TheVariants.{Add, R
 use Rattle.mlt_object_kinds.specs.declared.operation.ObjOp.{ObjOp}
 use Rattle.mlt_object_kinds.specs.declared.operation.ObjOp.TheVariants.{Account, Element, Counter, Size}
 use Rattle.mlt_object_kinds.specs.declared.operation.ObjReply.{ObjReply}
-use Rattle.mlt_object_kinds.specs.declared.operation.ObjReply.TheVariants as told
 use Rattle.mlt_object_kinds.specs.Bases.{Transcript}
 use Rattle.mlt_object_kinds.specs.Operations.{cell_of}
 use Rattle.mlt_hash_ghosts.specs.Operations.{Presence, Added, Removed, Standing}
@@ -19,13 +17,13 @@ use Rattle.mlt_hash_ghosts.specs.Operations.{Presence, Added, Removed, Standing}
 -- An account that was opened, or an element that was added, has a record since, and one that was closed or removed has
 -- none. Counters keep the records that they once have, and so do sizes of sets.
 abbrev pub account_presence : AccountOp → ObjReply → Option Presence
-account_presence Open told.Opened = Some Added
-account_presence Close told.Closed = Some Removed
+account_presence Open ObjReply.Opened = Some Added
+account_presence Close ObjReply.Closed = Some Removed
 account_presence _ _ = None
 
 abbrev pub element_presence : ElementOp → ObjReply → Option Presence
-element_presence Add told.Added = Some Added
-element_presence Remove told.Removed = Some Removed
+element_presence Add ObjReply.Added = Some Added
+element_presence Remove ObjReply.Removed = Some Removed
 element_presence _ _ = None
 
 -- what an operation that was told the reply did to the presence of its key, if it did anything to it

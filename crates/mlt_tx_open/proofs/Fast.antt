@@ -1,20 +1,11 @@
 -- Steps of one transaction at once, in the table of open ones
-use Rattle.std.proofs.Common.{◌≡◌, ℕ, None, Option, Some, refl, sym, ap, subst, ◌∙◌, inl, inr, arith}
-use Rattle.std.specs.Prelude.{Err, IfOk, Ok, Result}
+use Rattle.std.proofs.Common.{◌≡◌, ℕ, None, Option, Some, refl, sym, ap, subst, ◌∙◌, inl, inr, arith, Err, IfOk, Ok, Result}
 use Rattle.std.specs.FinMap as map
-use Rattle.std.proofs.lemmas.Bool.{cases_eq}
-use Rattle.std.proofs.lemmas.Bool.Decides.{nat_tests}
-use Rattle.mlt_page_locks.proofs.Maps.{get_inserted, same_entries}
-use Rattle.mlt_object_kinds.specs.declared.operation.ObjOp.{ObjOp}
-use Rattle.mlt_object_kinds.specs.declared.operation.ObjReply.{ObjReply}
+use Rattle.mlt_tx_open.proofs.Names.{cases_eq, nat_tests, get_inserted, same_entries, ObjOp, ObjReply, WalkContext, SharedState, Transaction, ChangesOne, Table}
 use Rattle.mlt_page_subtx.specs.Images.{Running}
-use Rattle.mlt_hash.specs.Walks.{WalkContext}
 use Rattle.mlt_event.specs.declared.answer.Answer.{Answer}
-use Rattle.mlt_event.specs.declared.answer.Answer.TheVariants as answer
 use Rattle.mlt_tx.specs.Fast.{CallsFast, StepsFast, TakesStep}
-use Rattle.mlt_tx.specs.declared.shared.SharedState.{SharedState}
-use Rattle.mlt_tx.specs.declared.transaction.Transaction.{Transaction}
-use Rattle.mlt_tx_open.specs.Tables.{CallsOneFast, ChangesOne, StepsOne, StepsOneFast, Table}
+use Rattle.mlt_tx_open.specs.Tables.{CallsOneFast, StepsOne, StepsOneFast}
 
 inserted_here : (table : Table) (tx : ℕ) (t : Transaction) → map.get (map.insert table tx t) tx ≡ Some t
 inserted_here table tx t = grind (arith, nat_tests, get_inserted table tx t tx)
@@ -55,17 +46,17 @@ steps_one_fast context tx old new shared shared' reply changes steps =
       with_header = steps.with_header;
       with_directory = steps.with_directory;
       with_bucket = steps.with_bucket;
-      first = steps_one context tx old changes.before steps.headed shared steps.with_header answer.Going changes.was steps.first;
+      first = steps_one context tx old changes.before steps.headed shared steps.with_header Answer.Going changes.was steps.first;
       second =
-          steps_one context tx headed steps.headed steps.placed steps.with_header steps.with_directory answer.Going (inserted_here old tx steps.headed)
-          (subst (λ (n : ℕ). TakesStep (context n) steps.headed steps.placed steps.with_header steps.with_directory answer.Going) (sym at_header) steps.second);
+          steps_one context tx headed steps.headed steps.placed steps.with_header steps.with_directory Answer.Going (inserted_here old tx steps.headed)
+          (subst (λ (n : ℕ). TakesStep (context n) steps.headed steps.placed steps.with_header steps.with_directory Answer.Going) (sym at_header) steps.second);
       third =
-          steps_one context tx placed steps.placed steps.told steps.with_directory steps.with_bucket answer.Going (inserted_here headed tx steps.placed)
-          (subst (λ (n : ℕ). TakesStep (context n) steps.placed steps.told steps.with_directory steps.with_bucket answer.Going) (sym at_directory) steps.third);
+          steps_one context tx placed steps.placed steps.told steps.with_directory steps.with_bucket Answer.Going (inserted_here headed tx steps.placed)
+          (subst (λ (n : ℕ). TakesStep (context n) steps.placed steps.told steps.with_directory steps.with_bucket Answer.Going) (sym at_directory) steps.third);
       ends =
-          subst (λ (table : Table). StepsOne context tx told table steps.with_bucket shared' (answer.Done reply)) last
-          (steps_one context tx told steps.told changes.after steps.with_bucket shared' (answer.Done reply) (inserted_here placed tx steps.told)
-          (subst (λ (n : ℕ). TakesStep (context n) steps.told changes.after steps.with_bucket shared' (answer.Done reply)) (sym at_bucket) steps.ends));
+          subst (λ (table : Table). StepsOne context tx told table steps.with_bucket shared' (Answer.Done reply)) last
+          (steps_one context tx told steps.told changes.after steps.with_bucket shared' (Answer.Done reply) (inserted_here placed tx steps.told)
+          (subst (λ (n : ℕ). TakesStep (context n) steps.told changes.after steps.with_bucket shared' (Answer.Done reply)) (sym at_bucket) steps.ends));
     }
 
 -- **A call of the transaction, and its steps, are those of its table.**

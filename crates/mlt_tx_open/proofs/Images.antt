@@ -1,15 +1,12 @@
 -- First images that the transactions of a table keep
-use Rattle.std.proofs.Common.{◌≡◌, ℕ, suc, IfNone, ◌<◌, ◌+◌, List, [], ◌∷◌, Option, Some, None, Bor, IfSome, is_some, true, false, length, get_or, refl, sym, ap, subst, ◌∙◌, ◌⊎◌, inl, inr, true≢false, arith}
-use Rattle.std.specs.Ordering.{nat_cmp}
+use Rattle.std.proofs.Common.{◌≡◌, ℕ, suc, IfNone, ◌<◌, ◌+◌, List, [], ◌∷◌, Option, Some, None, Bor, IfSome, is_some, true, false, length, get_or, refl, sym, ap, subst, ◌∙◌, ◌⊎◌, inl, inr, true≢false, arith, nat_cmp}
 use Rattle.std.specs.FinMap as map
-use Rattle.std.proofs.lemmas.Bool.{cases_eq}
+use Rattle.mlt_tx_open.proofs.Names.{cases_eq, Transaction, TxSlot, Table, AreTxSlots, LackImage, is_free, is_slot_of, table_of}
 use Rattle.std.proofs.lemmas.List.{get_or_default}
 use Rattle.mlt_page.specs.declared.page.Page.{Page}
-use Rattle.mlt_tx.specs.declared.transaction.Transaction.{Transaction}
 use Rattle.mlt_page_subtx.specs.Images.{image_of}
-use Rattle.mlt_tx_open.specs.declared.tx_slot.TxSlot.{TxSlot}
-use Rattle.mlt_tx_open.specs.Tables.{KeepsImage, KeepsNoImage, Table}
-use Rattle.mlt_tx_open.specs.TxSlots.{AreTxSlots, KeepsInSlot, LackImage, is_free, is_slot_of, table_of}
+use Rattle.mlt_tx_open.specs.Tables.{KeepsImage, KeepsNoImage}
+use Rattle.mlt_tx_open.specs.TxSlots.{KeepsInSlot}
 use Rattle.mlt_tx_open.proofs.TxSlots.{get-table_of, stands_in_table}
 
 -- where nobody in a slot keeps an image of the page, no transaction of the table does

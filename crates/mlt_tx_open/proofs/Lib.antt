@@ -1,3 +1,4 @@
+mod Names
 pub mod Fast
 pub mod Images
 pub mod TakingBack

@@ -1,24 +1,18 @@
 -- What stands is taken back slot by slot.
-use Prim.Native.Nat.{zero}
-use Rattle.std.proofs.Common.{suc, ◌≡◌, ◌≢◌, ℕ, ◌+◌, ◌<◌, ◌≤◌, true, false, not, ◌&&◌, cond, List, [], ◌∷◌, ◌++◌, length, drop, get_or, Option, None, Some, is_some, refl, sym, ap, subst, ◌∙◌, arith}
-use Rattle.std.proofs.lemmas.Bool.{ne_eqb}
-use Rattle.std.proofs.lemmas.List.{append-nil, drop_more}
+use Rattle.mlt_tx_open.proofs.Names.{zero, UndoneTo, Step, ObjOp, ObjReply, Transaction, TxSlot, standing_in, HaveOneEach, is_free, is_slot_of, table_of}
+use Rattle.std.proofs.Common.{suc, ◌≡◌, ◌≢◌, ℕ, ◌+◌, ◌<◌, ◌≤◌, true, false, not, ◌&&◌, cond, List, [], ◌∷◌, ◌++◌, length, drop, get_or, Option, None, Some, is_some, refl, sym, ap, subst, ◌∙◌, arith, ne_eqb, append-nil, nat_cmp}
+use Rattle.std.proofs.lemmas.List.{drop_more}
 use Rattle.std.specs.FinMap as map
-use Rattle.std.specs.Ordering.{nat_cmp}
-use Rattle.mlt_order.specs.Interleavings.{IsInterleaving, UndoneTo, all_items, items_of}
+use Rattle.mlt_order.specs.Interleavings.{IsInterleaving, all_items, items_of}
 use Rattle.mlt_order.specs.Runs.{Runs}
 use Rattle.mlt_order.specs.Tables.{IsEmptied}
 use Rattle.mlt_order.proofs.Parts.{all_items-append, all_items-numbered, items_of-append, items_of-numbered_other, items_of-numbered_same, numbered}
 use Rattle.mlt_order.proofs.RunLemmas.{runs_split}
 use Rattle.mlt_order.proofs.Tables.{at_each}
 use Rattle.mlt_order.proofs.UndoLaws.{undone_to_same}
-use Rattle.mlt_object_kinds.specs.Bases.{Base, Step, TranscriptLeads}
-use Rattle.mlt_object_kinds.specs.declared.operation.ObjOp.{ObjOp}
-use Rattle.mlt_object_kinds.specs.declared.operation.ObjReply.{ObjReply}
-use Rattle.mlt_tx.specs.declared.transaction.Transaction.{Transaction}
-use Rattle.mlt_tx_open.specs.declared.tx_slot.TxSlot.{TxSlot}
-use Rattle.mlt_tx_open.specs.Standing.{entries_of, standing_in}
-use Rattle.mlt_tx_open.specs.TxSlots.{HaveOneEach, entries_in, is_free, is_slot_of, table_of}
+use Rattle.mlt_object_kinds.specs.Bases.{Base, TranscriptLeads}
+use Rattle.mlt_tx_open.specs.Standing.{entries_of}
+use Rattle.mlt_tx_open.specs.TxSlots.{entries_in}
 use Rattle.mlt_tx_open.proofs.TxSlots.{OneEach, get-table_of, later, no_second, stands_in_table}
 
 abbrev Item : Type 0

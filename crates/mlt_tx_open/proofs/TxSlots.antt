@@ -1,19 +1,13 @@
 -- The table of slots: the first slot of a number counts.
-use Prim.Native.Nat.{zero}
-use Rattle.std.proofs.Common.{◌≡◌, ℕ, suc, ◌≤◌, ◌<◌, ◌+◌, eqb, true, false, not, cond, ◌&&◌, Some, None, is_some, IsSome, List, [], ◌∷◌, ◌++◌, length, get_or, set, refl, sym, ap, ◌∙◌, arith}
-use Rattle.std.specs.Prelude.{position}
+use Rattle.mlt_tx_open.proofs.Names.{zero, nat_tests, get_inserted, same_entries, Transaction, TxSlot, ChangesOne, Table, AreTxSlots, is_free, is_slot_of, table_of}
+use Rattle.std.proofs.Common.{◌≡◌, ℕ, suc, ◌≤◌, ◌<◌, ◌+◌, eqb, true, false, not, cond, ◌&&◌, Some, None, is_some, IsSome, List, [], ◌∷◌, ◌++◌, length, get_or, set, refl, sym, ap, ◌∙◌, arith, position, nat_cmp}
 use Rattle.std.specs.List.{position_from}
-use Rattle.std.specs.Ordering.{nat_cmp}
 use Rattle.std.specs.Cmp.{nat_cmp_total}
 use Rattle.std.specs.FinMap as map
-use Rattle.std.proofs.lemmas.Bool.Decides.{nat_tests}
 use Rattle.std.proofs.lemmas.Iterator.Adapters.{position_from-zero}
 use Rattle.std.proofs.lemmas.List.Quantifiers.{position-Some}
-use Rattle.mlt_page_locks.proofs.Maps.{get_inserted, get_removed, same_entries}
-use Rattle.mlt_tx.specs.declared.transaction.Transaction.{Transaction}
-use Rattle.mlt_tx_open.specs.declared.tx_slot.TxSlot.{TxSlot}
-use Rattle.mlt_tx_open.specs.Tables.{ChangesOne, Table}
-use Rattle.mlt_tx_open.specs.TxSlots.{AreTxSlots, is_free, is_slot_of, slots_taken, table_of}
+use Rattle.mlt_page_locks.proofs.Maps.{get_removed}
+use Rattle.mlt_tx_open.specs.TxSlots.{slots_taken}
 
 -- under a number stands who lies in the first slot of it
 pub get-table_of : (slot : TxSlot) (slots : List TxSlot) (u : ℕ) → map.get (table_of (slot ∷ slots)) u ≡ cond (is_slot_of u slot) (Some slot.transaction.value) (map.get (table_of slots) u)

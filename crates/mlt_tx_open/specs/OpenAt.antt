@@ -2,24 +2,22 @@
 use Rattle.std.specs.Prelude.{ℕ, ◌≡◌, ◌<◌, ◌≤◌, length, None, Some, Result, Ok, Err}
 use Rattle.std.specs.FinMap as map
 use Rattle.mlt_types.specs.declared.refusal.Refusal.{Refusal}
-use Rattle.mlt_types.specs.declared.refusal.Refusal.TheVariants as refusal
 use Rattle.mlt_object_kinds.specs.declared.operation.ObjOp.{ObjOp}
 use Rattle.mlt_hash.specs.Walks.{WalkContext}
 use Rattle.mlt_event.specs.declared.answer.Answer.{Answer}
 use Rattle.mlt_tx.specs.declared.shared.SharedState.{SharedState}
 use Rattle.mlt_tx.specs.declared.transaction.At.{At}
-use Rattle.mlt_tx.specs.declared.transaction.At.TheVariants as at
 use Rattle.mlt_tx.specs.declared.transaction.Transaction.{Transaction}
 use Rattle.mlt_tx.specs.Transactions.{IsPending, IsUndoing, MayStepIn}
 use Rattle.mlt_tx_open.specs.Tables.{CallsNone, CallsOne, StepsOne, Table}
 
 -- what a transaction may be at
 abbrev pub IsIdle : At → Type 0
-IsIdle at.Idle = Unit {0}
+IsIdle At.Idle = Unit {0}
 IsIdle other = ⊥
 
 abbrev pub IsBusy : At → Type 0
-IsBusy at.Idle = ⊥
+IsBusy At.Idle = ⊥
 IsBusy other = Unit {0}
 
 -- the transaction of this number is open, and this is so of what it is at
@@ -36,14 +34,14 @@ IsNotOpen txs tx = map.get txs tx ≡ None
 pub record IsIdleWith (txs : Table) (tx count : ℕ) : Type 0 where
   pub one : Transaction
   pub there : map.get txs tx ≡ Some one
-  pub idle : one.at ≡ at.Idle
+  pub idle : one.at ≡ At.Idle
   pub counts : length one.undo.entries ≡ count
 
 -- why a transaction is not idle: there is none of this number; or its abort has begun; or an operation is pending
 abbrev pub IsNotIdle : Refusal → Table → ℕ → Type 0
-IsNotIdle refusal.NoSuchTx txs tx = IsNotOpen txs tx
-IsNotIdle refusal.Undoing txs tx = IsOpenAt txs tx IsUndoing
-IsNotIdle refusal.Running txs tx = IsOpenAt txs tx IsPending
+IsNotIdle Refusal.NoSuchTx txs tx = IsNotOpen txs tx
+IsNotIdle Refusal.Undoing txs tx = IsOpenAt txs tx IsUndoing
+IsNotIdle Refusal.Running txs tx = IsOpenAt txs tx IsPending
 IsNotIdle other txs tx = ⊥
 
 -- it may be called: it is idle, and may have one more operation
@@ -52,7 +50,7 @@ MayCallOne txs tx max_ops = (count : ℕ) × IsIdleWith txs tx count × (count <
 
 -- why it is not called: it is not idle; or it has as many operations as it may have
 abbrev pub IsCauseAtCallOf : Refusal → Table → ℕ → ℕ → Type 0
-IsCauseAtCallOf refusal.LogFull txs tx max_ops =
+IsCauseAtCallOf Refusal.LogFull txs tx max_ops =
     (count : ℕ) × IsIdleWith txs tx count × (max_ops ≤ count)
 IsCauseAtCallOf reason txs tx max_ops = IsNotIdle reason txs tx
 
@@ -61,15 +59,15 @@ abbrev pub TriesCall : ℕ → ObjOp → ℕ → Table → Table → SharedState
     → Result (Unit {0}) Refusal → Type 0
 TriesCall tx op max_ops old new shared shared' (Ok done) =
     MayCallOne old tx max_ops × CallsOne tx op old new shared shared'
-TriesCall tx op max_ops old new shared shared' (Err refusal.OutOfMemory) =
+TriesCall tx op max_ops old new shared shared' (Err Refusal.OutOfMemory) =
     MayCallOne old tx max_ops × CallsNone tx old new shared shared'
 TriesCall tx op max_ops old new shared shared' (Err reason) =
     IsCauseAtCallOf reason old tx max_ops × (new ≡ old) × (shared' ≡ shared)
 
 -- why it takes no step: there is none of this number, or it is at nothing
 abbrev pub IsCauseAtStep : Refusal → Table → ℕ → Type 0
-IsCauseAtStep refusal.NoSuchTx txs tx = IsNotOpen txs tx
-IsCauseAtStep refusal.NotRunning txs tx = IsOpenAt txs tx IsIdle
+IsCauseAtStep Refusal.NoSuchTx txs tx = IsNotOpen txs tx
+IsCauseAtStep Refusal.NotRunning txs tx = IsOpenAt txs tx IsIdle
 IsCauseAtStep other txs tx = ⊥
 
 -- where it is at something, it may take a step; `context` is what the transaction of each number goes by

@@ -9,7 +9,6 @@ use Rattle.mlt_object_kinds.specs.declared.operation.ObjOp.{ObjOp}
 use Rattle.mlt_object_kinds.specs.declared.operation.ObjReply.{ObjReply}
 use Rattle.mlt_hash.specs.Walks.{WalkContext}
 use Rattle.mlt_event.specs.declared.answer.Answer.{Answer}
-use Rattle.mlt_event.specs.declared.answer.Answer.TheVariants as answer
 use Rattle.mlt_tx.specs.declared.shared.SharedState.{SharedState}
 use Rattle.mlt_tx.specs.declared.transaction.At.{At}
 use Rattle.mlt_tx.specs.declared.transaction.At.TheVariants.{Idle}
@@ -66,10 +65,10 @@ pub record StepsOneFast (context : ℕ → WalkContext) (tx : ℕ) (old new : Ta
   pub with_header : SharedState
   pub with_directory : SharedState
   pub with_bucket : SharedState
-  pub first : StepsOne context tx old headed shared with_header answer.Going
-  pub second : StepsOne context tx headed placed with_header with_directory answer.Going
-  pub third : StepsOne context tx placed told with_directory with_bucket answer.Going
-  pub ends : StepsOne context tx told new with_bucket shared' (answer.Done reply)
+  pub first : StepsOne context tx old headed shared with_header Answer.Going
+  pub second : StepsOne context tx headed placed with_header with_directory Answer.Going
+  pub third : StepsOne context tx placed told with_directory with_bucket Answer.Going
+  pub ends : StepsOne context tx told new with_bucket shared' (Answer.Done reply)
 
 -- it is called, and takes its four steps
 pub record DoesOneFast (context : ℕ → WalkContext) (tx : ℕ) (op : ObjOp) (old new : Table)

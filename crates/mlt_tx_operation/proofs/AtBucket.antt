@@ -1,44 +1,13 @@
 -- What an operation leaves at its bucket
 use Rattle.std.proofs.Common.{◌≡◌, ℕ, ◌+◌, Option, None, Some, refl, sym, ap, subst, ◌∙◌, inl, inr}
-use Rattle.mlt_types.specs.declared.mode.Mode.{Mode}
-use Rattle.mlt_types.specs.declared.mode.Mode.TheVariants.{Exclusive}
-use Rattle.mlt_page.specs.declared.page.Page.{Page}
-use Rattle.mlt_object_kinds.specs.declared.operation.ObjReply.{ObjReply}
-use Rattle.mlt_object_base.specs.declared.record.RecChange.{RecChange}
-use Rattle.mlt_object_base.specs.declared.record.RecChange.TheVariants.{Add, Revive}
-use Rattle.mlt_object_base.specs.Records.{CanChange}
-use Rattle.mlt_object_base.specs.Requests.{decision, size_key_of, target_of}
+use Rattle.mlt_tx_operation.proofs.Names.{Mode, Exclusive, Page, ObjReply, RecChange, Add, Revive, CanChange, decision, size_key_of, target_of, Agrees, LocalState, Leaves, IsRolledBack, View, view_of, agrees, WalkContext, HasRead, IsChanged, Stands, WalkFields, one_key, MayChange, page_of, next_of, HasFound, IsSameWalk, steps_to_bucket, steps_to_put_at, Change, Phase, WalkAnswer, Pass, read_of, Refusal, StepAnswer, Request, Do, TakeBack, HasToRestart, Finishes, IsThereFor, MayDecide, TellsAtBucket, FitsPhase, HasPerformed, IsToAdd, WalkingFields, AsksToAdd, TellsOfDecision}
 use Rattle.mlt_hash_form.specs.File.{look_up}
-use Rattle.mlt_hash_form.specs.Held.{Agrees}
-use Rattle.mlt_hash_access.specs.LocalStates.{LocalState}
-use Rattle.mlt_hash_access.specs.PageSteps.{Leaves}
-use Rattle.mlt_hash_access.specs.PageTurns.{IsRolledBack}
-use Rattle.mlt_hash_access.specs.Views.{View, view_of}
 use Rattle.mlt_hash_access.proofs.Leaving.{leaves_it}
-use Rattle.mlt_hash_access.proofs.Views.{agrees}
-use Rattle.mlt_hash.specs.Walks.{WalkContext, HasRead, IsChanged, Stands, WalkFields, one_key}
-use Rattle.mlt_hash.specs.Changes.{HasNoRoom, HasOwnGhost, MayChange, MustWiden, NeedsSplit, WritesIfChanged, page_of}
-use Rattle.mlt_hash.specs.Passes.{next_of}
-use Rattle.mlt_hash.specs.Steps.{HasFound, IsSameWalk, steps_to_bucket}
-use Rattle.mlt_hash.specs.StepsLeft.{steps_to_put_at}
-use Rattle.mlt_hash.specs.declared.pass.Change.{Change}
-use Rattle.mlt_hash.specs.declared.pass.Phase.{Phase}
-use Rattle.mlt_hash.specs.declared.pass.Phase.TheVariants as at
-use Rattle.mlt_hash.specs.declared.answer.WalkAnswer.TheVariants as answer
-use Rattle.mlt_hash.specs.declared.pass.Pass.TheVariants as pass
-use Rattle.mlt_hash.proofs.Passed.{read_of}
+use Rattle.mlt_hash.specs.Changes.{HasNoRoom, HasOwnGhost, MustWiden, NeedsSplit, WritesIfChanged}
 use Rattle.mlt_hash.proofs.Standings.{found_still}
-use Rattle.mlt_types.specs.declared.refusal.Refusal.{Refusal}
-use Rattle.mlt_types.specs.declared.refusal.Refusal.TheVariants as refusal
-use Rattle.mlt_tx_operation.specs.declared.answer.StepAnswer.TheVariants as step
-use Rattle.mlt_object_base.specs.declared.request.Request.{Request}
-use Rattle.mlt_object_base.specs.declared.request.Request.TheVariants.{Do, TakeBack}
-use Rattle.mlt_tx_operation.specs.Answers.{HasToRestart}
-use Rattle.mlt_tx_operation.specs.AtBucket.{BeginsAgain, FindsNoRoom, Finishes, SplitsInPass, IsThereFor, MayDecide, TellsAtBucket}
-use Rattle.mlt_tx_operation.specs.Walking.{FitsPhase, HasPerformed, IsToAdd, IsTold, WalkingFields}
-use Rattle.mlt_tx_two_records.specs.Performing.{AsksToAdd}
+use Rattle.mlt_tx_operation.specs.AtBucket.{BeginsAgain, FindsNoRoom, SplitsInPass}
+use Rattle.mlt_tx_operation.specs.Walking.{IsTold}
 use Rattle.mlt_tx_two_records.specs.AtWideBuckets.{IsMade, OfAddition}
-use Rattle.mlt_tx_operation.specs.Performing.{TellsOfDecision}
 use Rattle.mlt_tx_two_records.proofs.RollingBack.{starts_again}
 use Rattle.mlt_tx_two_records.proofs.WideOwn.{absent_at}
 use Rattle.mlt_tx_two_records.proofs.WideSize.{found_clean}
@@ -69,11 +38,11 @@ ghost_is_there context m o found reply change may is revives =
 
 -- at the bucket, the reply fits what was found, and no step but the end is left
 fits_bucket : (phase : Phase) (context : WalkContext) (o : WalkingFields) (view : View) (found : Option ℕ) → HasFound phase found → IsTold o found → FitsPhase phase (one_key context) o view
-fits_bucket (at.AtBucket bucket depth f) context o view found is told = subst (λ (g : Option ℕ). IsTold o g) (sym is) told
+fits_bucket (Phase.AtBucket bucket depth f) context o view found is told = subst (λ (g : Option ℕ). IsTold o g) (sym is) told
 fits_bucket other context o view found is told = absurd is
 
 last_at_bucket : (phase : Phase) (root : ℕ) (walk : WalkFields) (view : View) (found : Option ℕ) → HasFound phase found → steps_to_bucket phase + steps_to_put_at phase root walk view + 1 ≡ 1
-last_at_bucket (at.AtBucket bucket depth f) root walk view found is = refl
+last_at_bucket (Phase.AtBucket bucket depth f) root walk view found is = refl
 last_at_bucket other root walk view found is = absurd is
 
 -- **What asks for no change is told its reply, and all else stays.**
@@ -106,11 +75,11 @@ changed_read context walk view bucket done found clean changed agree is =
 -- **What asks for a change is told its reply, with the change written.**
 pub change_finishes : (context : WalkContext) (old new : LocalState) (before after : WalkingFields) (found : Option ℕ) (reply : ObjReply) (change : RecChange)
     → MayDecide (one_key context) old before found → decision before.request found ≡ (reply, Some change)
-    → Leaves old new → WritesIfChanged old new (page_of before.walk.phase) answer.Changed
+    → Leaves old new → WritesIfChanged old new (page_of before.walk.phase) WalkAnswer.Changed
     → IsMade (one_key context) new before.walk after.walk change found
     → after.request ≡ before.request → after.reply ≡ Some reply → Finishes (one_key context) old new before after
 change_finishes context old new before after found reply change may is leaves writes made request told =
-    let phase : Phase = at.Changed (page_of before.walk.phase) made.done in
+    let phase : Phase = Phase.Changed (page_of before.walk.phase) made.done in
     let clean = may.walks.file.clean in
     let agree_old : Agrees (view_of old).seen clean = agrees old clean may.walks.may may.walks.file.is_clean in
     let agree_new : Agrees (view_of new).seen clean = agrees new clean leaves.may (leaves.clean clean may.walks.file.is_clean) in
@@ -154,10 +123,10 @@ absent_to_add context m o found other Is may can of = absurd of
 -- an addition that lacks room is to be split for, in a later pass
 splits_for : (context : WalkContext) (new : LocalState) (before after : WalkingFields) (change : RecChange) (found : Option ℕ) (reply : ObjReply)
     → MayDecide (one_key context) new before found → decision before.request found ≡ (reply, Some change) → CanChange (Some change) found
-    → OfAddition change (λ value. NeedsSplit (one_key context) new before.walk after.walk value) → (after.walk.pass ≡ pass.First → ⊥)
+    → OfAddition change (λ value. NeedsSplit (one_key context) new before.walk after.walk value) → (after.walk.pass ≡ Pass.First → ⊥)
     → after.request ≡ before.request → after.reply ≡ before.reply → SplitsInPass (one_key context) new new before after
 splits_for context new before after (Add value) found reply may is can needs not request same =
-    let later : before.walk.pass ≡ pass.First → ⊥ = λ first. not (needs.same.pass ∙ first) in
+    let later : before.walk.pass ≡ Pass.First → ⊥ = λ first. not (needs.same.pass ∙ first) in
     let adding = needs.later later in
     let to_add : IsToAdd after value = (same ∙ may.untold, (reply, ap (λ (r : Request). decision r None) request ∙ subst (λ (f : Option ℕ). decision before.request f ≡ (reply, Some (Add value))) can is)) in
     record {
@@ -180,22 +149,22 @@ splits_for context new before after other found reply may is can needs not reque
 -- **A later pass whose bucket has no room is to split it.**
 pub splits_in_pass : (context : WalkContext) (old new : LocalState) (before after : WalkingFields) (change : RecChange) (found : Option ℕ) (reply : ObjReply)
     → MayDecide (one_key context) old before found → decision before.request found ≡ (reply, Some change) → CanChange (Some change) found
-    → new ≡ old → TellsOfDecision (one_key context) new before.walk after.walk change found answer.NeedSplit → (after.walk.pass ≡ pass.First → ⊥)
+    → new ≡ old → TellsOfDecision (one_key context) new before.walk after.walk change found WalkAnswer.NeedSplit → (after.walk.pass ≡ Pass.First → ⊥)
     → after.request ≡ before.request → after.reply ≡ before.reply → SplitsInPass (one_key context) old new before after
 splits_in_pass context old new before after change found reply may is can stays tells not request same =
     let split : SplitsInPass (one_key context) old old before after = splits_for (one_key context) old before after change found reply may is can
-    (subst (λ (m : LocalState). TellsOfDecision (one_key context) m before.walk after.walk change found answer.NeedSplit) stays tells) not request same in
+    (subst (λ (m : LocalState). TellsOfDecision (one_key context) m before.walk after.walk change found WalkAnswer.NeedSplit) stays tells) not request same in
     subst (λ (m : LocalState). SplitsInPass (one_key context) old m before after) (sym stays) split
 
 -- **A pass that is rolled back begins again.**
 pub begins_again : (context : WalkContext) (old new : LocalState) (before after : WalkingFields) (found : Option ℕ) (full : WalkFields)
     → MayDecide (one_key context) old before found → HasFound before.walk.phase None → (value : ℕ) × AsksToAdd before.request value → IsRolledBack old new → HasToRestart (one_key context) old before.walk full → IsSameWalk before.walk full
-    → after.walk ≡ record full { pass = next_of full.phase; phase = at.Start; split = None }
+    → after.walk ≡ record full { pass = next_of full.phase; phase = Phase.Start; split = None }
     → after.request ≡ before.request → after.reply ≡ before.reply → BeginsAgain (one_key context) old new before after
 begins_again context old new before after found full may absent adds back restarts alike again request same =
     let key : after.walk.key ≡ before.walk.key = ap (λ (w : WalkFields). w.key) again ∙ alike.key in
     let mode : after.walk.mode ≡ before.walk.mode = ap (λ (w : WalkFields). w.mode) again ∙ alike.mode in
-    let phase : after.walk.phase ≡ at.Start = ap (λ (w : WalkFields). w.phase) again in
+    let phase : after.walk.phase ≡ Phase.Start = ap (λ (w : WalkFields). w.phase) again in
     record {
       back = back;
       request = request;
@@ -215,7 +184,7 @@ begins_again context old new before after found full may absent adds back restar
 
 -- which of a first pass, and of a narrow one, begins again
 pub first_restarts : (context : WalkContext) (m : LocalState) (walk full : WalkFields) (change : RecChange)
-    → OfAddition change (λ value. NeedsSplit (one_key context) m walk full value) → full.pass ≡ pass.First → HasToRestart (one_key context) m walk full × IsSameWalk walk full
+    → OfAddition change (λ value. NeedsSplit (one_key context) m walk full value) → full.pass ≡ Pass.First → HasToRestart (one_key context) m walk full × IsSameWalk walk full
 first_restarts context m walk full (Add value) needs first = (inl (sym needs.same.pass ∙ first, (value, needs)), needs.same)
 first_restarts context m walk full other needs first = absurd needs
 
@@ -241,7 +210,7 @@ finds_no_room context old new before other found reply after may is can none bac
 -- what is told where the walk's change is refused
 pub refused_at_bucket : (context : WalkContext) (old mid new : LocalState) (before after : WalkingFields) (change : RecChange) (found : Option ℕ) (reply : ObjReply) (walk : WalkFields) (reason : Refusal)
     → MayDecide (one_key context) old before found → decision before.request found ≡ (reply, Some change) → CanChange (Some change) found → mid ≡ old
-    → TellsOfDecision (one_key context) mid before.walk walk change found (answer.Refused reason) → IsRolledBack old new → TellsAtBucket (one_key context) old new before after (step.Refused reason)
-refused_at_bucket context old mid new before after change found reply walk refusal.NoRoom may is can stays tells back =
-    finds_no_room (one_key context) old new before change found reply walk may is can (subst (λ (m : LocalState). TellsOfDecision (one_key context) m before.walk walk change found (answer.Refused refusal.NoRoom)) stays tells) back
+    → TellsOfDecision (one_key context) mid before.walk walk change found (WalkAnswer.Refused reason) → IsRolledBack old new → TellsAtBucket (one_key context) old new before after (StepAnswer.Refused reason)
+refused_at_bucket context old mid new before after change found reply walk Refusal.NoRoom may is can stays tells back =
+    finds_no_room (one_key context) old new before change found reply walk may is can (subst (λ (m : LocalState). TellsOfDecision (one_key context) m before.walk walk change found (WalkAnswer.Refused Refusal.NoRoom)) stays tells) back
 refused_at_bucket context old mid new before after change found reply walk other may is can stays tells back = absurd tells

@@ -1,19 +1,12 @@
 -- What an operation may decide on
 use Rattle.std.proofs.Common.{◌≡◌, ℕ, ◌+◌, ◌-◌, Bool, true, false, nat_lt, ◌==◌, cond, Option, None, Some, refl, sym, ap, ◌∙◌}
-use Rattle.std.proofs.lemmas.Bool.{false≢true}
-use Rattle.mlt_types.specs.declared.mode.Mode.{Mode}
-use Rattle.mlt_types.specs.declared.mode.Mode.TheVariants.{Shared, Exclusive}
+use Rattle.mlt_tx_operation.proofs.Names.{false≢true, Mode, Shared, Exclusive, ElementOp, ObjOp, Element, ObjReply, RecChange, Revive}
 use Rattle.mlt_object_kinds.specs.declared.account.AccountOp.{AccountOp}
 use Rattle.mlt_object_kinds.specs.declared.account.AccountOp.TheVariants.{Open, Close, Deposit, Withdraw, Balance}
 use Rattle.mlt_object_kinds.specs.declared.counter.CounterOp.TheVariants.{Up, Down, Read}
-use Rattle.mlt_object_kinds.specs.declared.element.ElementOp.TheVariants as element
-use Rattle.mlt_object_kinds.specs.declared.operation.ObjOp.{ObjOp}
-use Rattle.mlt_object_kinds.specs.declared.operation.ObjOp.TheVariants.{Account, Element, Counter, Size}
-use Rattle.mlt_object_kinds.specs.declared.operation.ObjReply.{ObjReply}
-use Rattle.mlt_object_kinds.specs.declared.operation.ObjReply.TheVariants as told
+use Rattle.mlt_object_kinds.specs.declared.operation.ObjOp.TheVariants.{Account, Counter, Size}
 use Rattle.mlt_object_kinds.specs.Accounts.{max_balance}
-use Rattle.mlt_object_base.specs.declared.record.RecChange.{RecChange}
-use Rattle.mlt_object_base.specs.declared.record.RecChange.TheVariants.{Revive, Set, ToGhost}
+use Rattle.mlt_object_base.specs.declared.record.RecChange.TheVariants.{Set, ToGhost}
 use Rattle.mlt_object_base.specs.Effects.{account_reply_of, mode_of, reply_of}
 use Rattle.mlt_tx_two_records.proofs.Asking.{is_revival}
 
@@ -26,23 +19,23 @@ account_never : (op : AccountOp) (found : Option ℕ) → is_revival (account_re
 account_never Open None = refl
 account_never Open (Some v) = refl
 account_never Close None = refl
-account_never Close (Some v) = either (v == 0) (told.Closed, Some ToGhost) (told.NotEmpty, None) refl refl
+account_never Close (Some v) = either (v == 0) (ObjReply.Closed, Some ToGhost) (ObjReply.NotEmpty, None) refl refl
 account_never (Deposit n) None = refl
-account_never (Deposit n) (Some v) = either (nat_lt max_balance (v + n)) (told.Over, None) (told.Done, Some (Set (v + n))) refl refl
+account_never (Deposit n) (Some v) = either (nat_lt max_balance (v + n)) (ObjReply.Over, None) (ObjReply.Done, Some (Set (v + n))) refl refl
 account_never (Withdraw n) None = refl
-account_never (Withdraw n) (Some v) = either (nat_lt v n) (told.Short, None) (told.Done, Some (Set (v - n))) refl refl
+account_never (Withdraw n) (Some v) = either (nat_lt v n) (ObjReply.Short, None) (ObjReply.Done, Some (Set (v - n))) refl refl
 account_never Balance None = refl
 account_never Balance (Some v) = refl
 
 -- an operation asks for no revival
 never : (op : ObjOp) (found : Option ℕ) → is_revival (reply_of op found).1 ≡ false
 never (Account a op) found = account_never op found
-never (Element s e element.Add) None = refl
-never (Element s e element.Add) (Some v) = refl
-never (Element s e element.Remove) None = refl
-never (Element s e element.Remove) (Some v) = refl
-never (Element s e element.Has) None = refl
-never (Element s e element.Has) (Some v) = refl
+never (Element s e ElementOp.Add) None = refl
+never (Element s e ElementOp.Add) (Some v) = refl
+never (Element s e ElementOp.Remove) None = refl
+never (Element s e ElementOp.Remove) (Some v) = refl
+never (Element s e ElementOp.Has) None = refl
+never (Element s e ElementOp.Has) (Some v) = refl
 never (Counter c (Up n)) None = refl
 never (Counter c (Up n)) (Some v) = refl
 never (Counter c (Down n)) None = refl
@@ -69,10 +62,10 @@ allowed (Account a (Deposit n)) found = refl
 allowed (Account a (Withdraw n)) found = refl
 allowed (Account a Balance) None = refl
 allowed (Account a Balance) (Some v) = refl
-allowed (Element s e element.Add) found = refl
-allowed (Element s e element.Remove) found = refl
-allowed (Element s e element.Has) None = refl
-allowed (Element s e element.Has) (Some v) = refl
+allowed (Element s e ElementOp.Add) found = refl
+allowed (Element s e ElementOp.Remove) found = refl
+allowed (Element s e ElementOp.Has) None = refl
+allowed (Element s e ElementOp.Has) (Some v) = refl
 allowed (Counter c (Up n)) found = refl
 allowed (Counter c (Down n)) found = refl
 allowed (Counter c Read) None = refl

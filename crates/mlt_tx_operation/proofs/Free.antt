@@ -1,17 +1,14 @@
 -- Locks where nobody else holds a page
-use Rattle.std.proofs.Common.{◌≡◌, ℕ, false, Option, None, Some, is_some, unwrap_or, refl, sym, ap, ◌∙◌, inl, inr, arith}
-use Rattle.std.specs.Ordering.{nat_cmp}
+use Rattle.std.proofs.Common.{◌≡◌, ℕ, false, Option, None, Some, is_some, unwrap_or, refl, sym, ap, ◌∙◌, inl, inr, arith, nat_cmp}
 use Rattle.std.specs.FinMap as map
-use Rattle.std.proofs.lemmas.Bool.{cases_eq, false≢true}
+use Rattle.mlt_tx_operation.proofs.Names.{false≢true, Mode, Exclusive, Shared, can_write, pages_of, released, NobodyHolds}
+use Rattle.std.proofs.lemmas.Bool.{cases_eq}
 use Rattle.std.proofs.lemmas.Bool.Decides.{nat_tests}
-use Rattle.mlt_types.specs.declared.mode.Mode.{Mode}
-use Rattle.mlt_types.specs.declared.mode.Mode.TheVariants.{Exclusive, Shared}
 use Rattle.mlt_page_subtx.proofs.ImageLaws.{not_true}
-use Rattle.mlt_page_locks.specs.LockTables.{LockTable, Modes, can_read, can_write, is_holder, pages_of}
-use Rattle.mlt_page_locks.specs.Requests.{IsNobody, conflicts, granted, released, with_page}
+use Rattle.mlt_page_locks.specs.LockTables.{LockTable, Modes, can_read, is_holder}
+use Rattle.mlt_page_locks.specs.Requests.{IsNobody, conflicts, granted, with_page}
 use Rattle.mlt_page_locks.proofs.LockLaws.{can_read-granted, conflicts-exclusive, conflicts-shared, writer_reads}
 use Rattle.mlt_page_locks.proofs.Maps.{get_inserted, get_removed, same_entries}
-use Rattle.mlt_tx_operation.specs.Fast.{NobodyHolds}
 
 -- nobody but tx reads a page
 abbrev pub NoOtherReads : ℕ → LockTable → Type 0

@@ -1,46 +1,23 @@
 -- How an operation goes on within its pass
 use Rattle.std.proofs.Common.{◌≡◌, ◌+◌, ◌-◌, false, None, Option, Some, refl, sym, ap, subst, ◌∙◌, inl, inr, arith}
-use Rattle.mlt_object_kinds.specs.declared.operation.ObjReply.{ObjReply}
-use Rattle.mlt_object_base.specs.declared.record.RecChange.{RecChange}
-use Rattle.mlt_object_base.specs.declared.record.RecChange.TheVariants.{Add}
-use Rattle.mlt_object_base.specs.Requests.{decision, size_key_of, target_of}
-use Rattle.mlt_hash_access.specs.LocalStates.{LocalState}
-use Rattle.mlt_hash_access.specs.PageSteps.{Leaves}
-use Rattle.mlt_hash_access.specs.Views.{View, view_of}
-use Rattle.mlt_hash.specs.Walks.{WalkContext, HasRead, IsChanged, Stands, one_key}
-use Rattle.mlt_hash.specs.Changes.{page_of}
-use Rattle.mlt_hash.specs.Splitting.{IsUnderWay, TellsAt}
-use Rattle.mlt_hash.specs.Steps.{IsSameWalk, steps_to_bucket}
-use Rattle.mlt_hash.specs.StepsLeft.{bucket_depth, directory_depth, steps_to_put_at}
-use Rattle.mlt_hash.specs.declared.answer.WalkAnswer.TheVariants as answer
-use Rattle.mlt_hash.specs.declared.pass.Change.TheVariants as change
-use Rattle.mlt_hash.specs.declared.pass.Phase.{Phase}
-use Rattle.mlt_hash.specs.declared.pass.Phase.TheVariants as at
-use Rattle.mlt_hash.proofs.Passed.{read_of}
+use Rattle.mlt_tx_operation.proofs.Names.{ObjReply, RecChange, Add, decision, size_key_of, target_of, LocalState, Leaves, View, view_of, WalkContext, HasRead, IsChanged, Stands, one_key, page_of, IsUnderWay, TellsAt, IsSameWalk, steps_to_bucket, bucket_depth, directory_depth, steps_to_put_at, WalkAnswer, Change, Phase, read_of, Request, StepsOn, on_one, FitsPhase, HasPerformed, IsToAdd, MayWalkOn, WalkingFields, steps_of_walk, AsksToAdd, steps_to_change, one_step_turns}
 use Rattle.mlt_hash.proofs.StepsLeft.{put_is_left}
-use Rattle.mlt_object_base.specs.declared.request.Request.{Request}
-use Rattle.mlt_tx_operation.specs.Answers.{StepsOn}
-use Rattle.mlt_tx_operation.specs.Operating.{on_one}
-use Rattle.mlt_tx_operation.specs.Walking.{FitsPhase, HasPerformed, IsToAdd, MayWalkOn, WalkingFields, steps_of_walk}
-use Rattle.mlt_tx_two_records.specs.Performing.{AsksToAdd}
-use Rattle.mlt_tx_two_records.specs.WalkSteps.{steps_to_change}
 use Rattle.mlt_tx_two_records.specs.WidePass.{PutsThen}
 use Rattle.mlt_tx_two_records.proofs.WideGoing.{goes_further, puts_behind, puts_still}
-use Rattle.mlt_tx_two_records.proofs.WideTurns.{one_step_turns}
 
 -- what its walk is to put is what it asks to add
 puts_asked : (p : Phase) (context : WalkContext) (o : WalkingFields) (view : View) → FitsPhase p (one_key context) o view → PutsThen p (AsksToAdd o.request)
-puts_asked (at.Adding value bucket depth unsplit) context o view fits = fits.1
-puts_asked (at.Splitting value depth) context o view fits = fits.1
+puts_asked (Phase.Adding value bucket depth unsplit) context o view fits = fits.1
+puts_asked (Phase.Splitting value depth) context o view fits = fits.1
 puts_asked other context o view fits = tt
 
 -- its walk has a next step, and nothing is told yet
 fits_under_way : (p : Phase) (context : WalkContext) (o : WalkingFields) (view : View) → IsUnderWay p → o.reply ≡ None → PutsThen p (AsksToAdd o.request) → FitsPhase p (one_key context) o view
-fits_under_way at.Start context o view more untold asked = untold
-fits_under_way (at.Headed dir row depth) context o view more untold asked = untold
-fits_under_way (at.Placed bucket depth) context o view more untold asked = untold
-fits_under_way (at.Adding value bucket depth unsplit) context o view more untold asked = (untold, asked)
-fits_under_way (at.Splitting value depth) context o view more untold asked = (untold, asked)
+fits_under_way Phase.Start context o view more untold asked = untold
+fits_under_way (Phase.Headed dir row depth) context o view more untold asked = untold
+fits_under_way (Phase.Placed bucket depth) context o view more untold asked = untold
+fits_under_way (Phase.Adding value bucket depth unsplit) context o view more untold asked = (untold, asked)
+fits_under_way (Phase.Splitting value depth) context o view more untold asked = (untold, asked)
 fits_under_way other context o view never untold asked = absurd never
 
 -- the target of a walk that is the same but for its phase
@@ -50,7 +27,7 @@ same_target before after target same request = (λ i. (same.key i, same.mode i))
 
 -- **Where its walk goes on, so does the operation.**
 pub goes_on : (context : WalkContext) (old new : LocalState) (before after : WalkingFields) → MayWalkOn (one_key context) old before → Leaves old new
-    → TellsAt before.walk.phase (one_key context) old new before.walk after.walk answer.Going → after.request ≡ before.request → after.reply ≡ before.reply → before.reply ≡ None
+    → TellsAt before.walk.phase (one_key context) old new before.walk after.walk WalkAnswer.Going → after.request ≡ before.request → after.reply ≡ before.reply → before.reply ≡ None
     → StepsOn (one_key context) old new (on_one before) (on_one after)
 goes_on context old new before after may leaves tells request same untold =
     let further = goes_further (one_key context) old new before.walk after.walk may.walks leaves tells in
@@ -72,15 +49,15 @@ goes_on context old new before after may leaves tells request same untold =
 
 -- **Where its walk has put the record behind splits, the operation is told its reply.**
 pub puts : (context : WalkContext) (old new : LocalState) (before after : WalkingFields) → MayWalkOn (one_key context) old before → Leaves old new
-    → TellsAt before.walk.phase (one_key context) old new before.walk after.walk answer.Changed → after.request ≡ before.request
+    → TellsAt before.walk.phase (one_key context) old new before.walk after.walk WalkAnswer.Changed → after.request ≡ before.request
     → after.reply ≡ Some (decision before.request None).0 → StepsOn (one_key context) old new (on_one before) (on_one after)
 puts context old new before after may leaves tells request told =
     let put = puts_behind before.walk.phase (one_key context) old new before.walk after.walk refl tells in
     let adds : IsToAdd before put.value = subst (λ (p : Phase). FitsPhase p (one_key context) before (view_of old)) put.was may.operates.fits in
-    let phase : after.walk.phase ≡ at.Changed put.bucket (change.Put put.value) = put.makes.phase ∙ ap (λ (p : Phase). at.Changed (page_of p) (change.Put put.value)) put.was in
-    let changed : IsChanged (one_key context) after.walk (view_of new) put.bucket (change.Put put.value) = subst (λ (p : Phase). Stands p (one_key context) after.walk (view_of new)) phase put.makes.stands in
+    let phase : after.walk.phase ≡ Phase.Changed put.bucket (Change.Put put.value) = put.makes.phase ∙ ap (λ (p : Phase). Phase.Changed (page_of p) (Change.Put put.value)) put.was in
+    let changed : IsChanged (one_key context) after.walk (view_of new) put.bucket (Change.Put put.value) = subst (λ (p : Phase). Stands p (one_key context) after.walk (view_of new)) phase put.makes.stands in
     let read : HasRead (one_key context) after.walk.key (view_of new) None = read_of (one_key context) after.walk.key (view_of new) changed.found None changed.fits changed.read in
-    let performed : HasPerformed (one_key context) after (view_of new) (change.Put put.value) = record {
+    let performed : HasPerformed (one_key context) after (view_of new) (Change.Put put.value) = record {
       found = None;
       reply = adds.1.0;
       decided = Add put.value;
@@ -90,7 +67,7 @@ puts context old new before after may leaves tells request told =
       performs = inl refl;
     } in
     let last : steps_of_walk context.root after.walk (view_of new) ≡ 1 = ap (λ (p : Phase). steps_to_bucket p + steps_to_put_at p context.root after.walk (view_of new) + 1) phase in
-    let left : steps_of_walk context.root before.walk (view_of old) ≡ 0 + steps_to_put_at (at.Adding put.value put.bucket put.room_depth false) context.root before.walk (view_of old) + 1 =
+    let left : steps_of_walk context.root before.walk (view_of old) ≡ 0 + steps_to_put_at (Phase.Adding put.value put.bucket put.room_depth false) context.root before.walk (view_of old) + 1 =
     ap (λ (p : Phase). steps_to_bucket p + steps_to_put_at p context.root before.walk (view_of old) + 1) put.was in
     record {
       turn = one_step_turns (one_key context) old new before.walk may.walks leaves;

@@ -1,3 +1,4 @@
+mod Names
 pub mod AtBucket
 pub mod Deciding
 pub mod TwoRecordWalks

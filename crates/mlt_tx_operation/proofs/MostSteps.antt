@@ -1,32 +1,16 @@
 -- Operations come to an end
-use Rattle.std.proofs.Common.{ℕ, ◌≡◌, ◌≤◌, ◌<◌, ◌+◌, ◌*◌, ◌-◌, ◌⊎◌, Bool, true, nat_eq, Option, None, sym, ap, subst, ◌∙◌, inl, inr, arith}
-use Rattle.std.proofs.lemmas.Bool.{cases_lt, cond-false, cond-true, eq-eqb, ne_eqb}
-use Rattle.mlt_object_kinds.specs.declared.operation.ObjReply.{ObjReply}
-use Rattle.mlt_object_base.specs.declared.request.Request.{Request}
-use Rattle.mlt_hash_access.specs.LocalStates.{LocalState}
-use Rattle.mlt_hash_access.specs.Views.{View, view_of}
+use Rattle.std.proofs.Common.{ℕ, ◌≡◌, ◌≤◌, ◌<◌, ◌+◌, ◌*◌, ◌-◌, ◌⊎◌, Bool, true, nat_eq, Option, None, sym, ap, subst, ◌∙◌, inl, inr, arith, eq-eqb, ne_eqb}
+use Rattle.std.proofs.lemmas.Bool.{cases_lt, cond-false, cond-true}
+use Rattle.mlt_tx_operation.proofs.Names.{ObjReply, Request, LocalState, View, view_of, page_of, next_of, steps_to_bucket, bucket_depth, directory_depth, steps_to_put_at, WalkContext, Stands, WalkFields, one_key, Pass, Phase, put_on_way, StepAnswer, steps_of_two_records, TwoRecordWalk, First, Wide, WideStage, AccessPath, One, Two, HasToRestart, TellsOfStep, most_steps_by, OperatesBy, OperationFields, steps_of_walk}
 use Rattle.mlt_hash_form.specs.File.{header_of}
-use Rattle.mlt_hash.specs.Changes.{page_of}
-use Rattle.mlt_hash.specs.Passes.{IsNextPass, next_of}
-use Rattle.mlt_hash.specs.Steps.{steps_to_bucket}
-use Rattle.mlt_hash.specs.StepsLeft.{bucket_depth, directory_depth, steps_of_splits, steps_to_put_at}
-use Rattle.mlt_hash.specs.Walks.{WalkContext, IsAdding, IsStanding, Stands, WalkFields, one_key}
-use Rattle.mlt_hash.specs.declared.pass.Pass.{Pass}
-use Rattle.mlt_hash.specs.declared.pass.Pass.TheVariants as pass
-use Rattle.mlt_hash.specs.declared.pass.Phase.{Phase}
-use Rattle.mlt_hash.proofs.StepsLeft.{put_on_way}
-use Rattle.mlt_tx_operation.specs.declared.answer.StepAnswer.TheVariants as step
-use Rattle.mlt_tx_two_records.specs.TwoRecordWalks.{most_to_change, most_to_put, steps_of_two_records}
-use Rattle.mlt_tx_two_records.specs.declared.two_records.TwoRecordWalk.{TwoRecordWalk}
-use Rattle.mlt_tx_two_records.specs.declared.two_records.TwoRecordWalk.TheVariants.{First, Wide}
-use Rattle.mlt_tx_two_records.specs.declared.two_records.WideStage.TheVariants as wide_stage
-use Rattle.mlt_tx_operation.specs.declared.access_path.AccessPath.{AccessPath}
-use Rattle.mlt_tx_operation.specs.declared.access_path.AccessPath.TheVariants.{One, Two}
-use Rattle.mlt_tx_operation.specs.Answers.{TwoRecordRestarts, HasToRestart, PutsBehindSplits, RestartsBy, SplitsBy, StepsBy, TellsOfStep, WalkBeginsToSplit, WalkGoesOn, WalkRestarts}
+use Rattle.mlt_hash.specs.Passes.{IsNextPass}
+use Rattle.mlt_hash.specs.StepsLeft.{steps_of_splits}
+use Rattle.mlt_hash.specs.Walks.{IsAdding, IsStanding}
+use Rattle.mlt_tx_two_records.specs.TwoRecordWalks.{most_to_change, most_to_put}
+use Rattle.mlt_tx_operation.specs.Answers.{TwoRecordRestarts, PutsBehindSplits, RestartsBy, SplitsBy, StepsBy, WalkBeginsToSplit, WalkGoesOn, WalkRestarts}
 use Rattle.mlt_tx_two_records.specs.WalkSteps.{GoesNearer}
-use Rattle.mlt_tx_operation.specs.MostSteps.{most_from_bucket, most_steps, most_steps_by, most_steps_of_walk, passes_after}
-use Rattle.mlt_tx_operation.specs.Operating.{IsInFirst, OperatesBy, OperationFields, steps_by}
-use Rattle.mlt_tx_operation.specs.Walking.{steps_of_walk}
+use Rattle.mlt_tx_operation.specs.MostSteps.{most_from_bucket, most_steps, most_steps_of_walk, passes_after}
+use Rattle.mlt_tx_operation.specs.Operating.{IsInFirst, steps_by}
 use Rattle.mlt_tx_two_records.proofs.SplitSteps.{few_splits}
 
 from_bucket : (root : ℕ) (walk : WalkFields) (view : View) → steps_to_bucket walk.phase ≡ 0 → most_steps_of_walk root walk view ≡ steps_of_walk root walk view
@@ -66,11 +50,11 @@ walk_goes_on root old new before after s fewer =
     ]
 
 -- at a full bucket that it is to split
-walk_splits : (context : WalkContext) (old : View) (new : LocalState) (before after : WalkFields) → context.max_depth ≤ 16 → IsStanding (one_key context) after (view_of new) → (before.pass ≡ pass.First → ⊥) → WalkBeginsToSplit (one_key context) new before after
+walk_splits : (context : WalkContext) (old : View) (new : LocalState) (before after : WalkFields) → context.max_depth ≤ 16 → IsStanding (one_key context) after (view_of new) → (before.pass ≡ Pass.First → ⊥) → WalkBeginsToSplit (one_key context) new before after
     → most_steps_of_walk context.root after (view_of new) < most_steps_of_walk context.root before old
 walk_splits context old new before after small here later w =
     let s = w.splits in
-    let adding = s.needs.later (λ (first : s.walk.pass ≡ pass.First). later (sym s.reaches.same.pass ∙ first)) in
+    let adding = s.needs.later (λ (first : s.walk.pass ≡ Pass.First). later (sym s.reaches.same.pass ∙ first)) in
     let stands : IsAdding (one_key context) after (view_of new) (page_of s.walk.phase) adding.0 true = subst (λ (p : Phase). Stands p (one_key context) after (view_of new)) adding.1 here in
     let l = bucket_depth (view_of new) (page_of s.walk.phase) in
     let g = directory_depth (view_of new) context.root in
@@ -86,9 +70,9 @@ walk_splits context old new before after small here later w =
 
 -- the pass that follows a first one, and any that is begun again
 after_first : (next : Pass) (crowded : ℕ → Bool) (l most g : ℕ) → IsNextPass crowded l most g next → passes_after next < 2
-after_first pass.First crowded l most g never = absurd never
-after_first pass.Narrow crowded l most g may = omega arith
-after_first pass.Wide crowded l most g not = omega arith
+after_first Pass.First crowded l most g never = absurd never
+after_first Pass.Narrow crowded l most g may = omega arith
+after_first Pass.Wide crowded l most g not = omega arith
 
 fewer_passes : (context : WalkContext) (m : LocalState) (walk full : WalkFields) → HasToRestart (one_key context) m walk full → passes_after (next_of full.phase) < passes_after walk.pass
 fewer_passes context m walk full (inl (first, (value, needs))) =
@@ -130,7 +114,7 @@ splits_by other other' context old new o reply small operates later never = absu
 
 two_records_restarts : (before after : TwoRecordWalk) (context : WalkContext) (old new : LocalState) (request : Request) → TwoRecordRestarts before after (one_key context) old new request
     → steps_of_two_records context.root after (view_of new) < steps_of_two_records context.root before (view_of old)
-two_records_restarts (First pair) (Wide wide_stage.Own walk) context old new request restarts =
+two_records_restarts (First pair) (Wide WideStage.Own walk) context old new request restarts =
     let start : steps_to_bucket walk.phase ≡ 3 = ap (λ (w : WalkFields). steps_to_bucket w.phase) restarts.1 in
     let way : most_to_change context.root walk (view_of new) ≡ steps_to_bucket walk.phase + most_to_put =
     cond-false (nat_eq (steps_to_bucket walk.phase) 0) _ _ (ne_eqb _ _ (λ (there : steps_to_bucket walk.phase ≡ 0). omega (arith, start, there))) in
@@ -146,7 +130,7 @@ restarts_by (One before) (Two after) context old mid new request never = absurd 
 restarts_by (Two before) (One after) context old mid new request never = absurd never
 
 -- **Each step that goes on leaves fewer.**
-pub one_fewer_at_least : (context : WalkContext) (old new : LocalState) (before after : OperationFields) → context.max_depth ≤ 16 → TellsOfStep (one_key context) old new before after step.Going
+pub one_fewer_at_least : (context : WalkContext) (old new : LocalState) (before after : OperationFields) → context.max_depth ≤ 16 → TellsOfStep (one_key context) old new before after StepAnswer.Going
     → most_steps context.root after (view_of new) < most_steps context.root before (view_of old)
 one_fewer_at_least context old new before after small (inl on) = goes_by before.access_path after.access_path context old new before.request before.reply after.reply on.how on.fewer
 one_fewer_at_least context old new before after small (inr (inl split)) = splits_by before.access_path after.access_path context (view_of old) new after before.reply small split.operates split.later split.how

@@ -1,43 +1,21 @@
 -- Where an operation stands, on one record or on two
-use Rattle.std.proofs.Common.{◌≡◌, ◌≢◌, ℕ, Option, None, Some, true, refl, subst, ◌∙◌, arith}
-use Rattle.std.specs.Ordering.{nat_cmp}
+use Rattle.std.proofs.Common.{◌≡◌, ◌≢◌, ℕ, Option, None, Some, true, refl, subst, ◌∙◌, arith, nat_cmp}
 use Rattle.std.specs.FinMap as map
 use Rattle.std.specs.FinSet as set
 use Rattle.mlt_types.specs.Cells.{IsInRange, key_number}
 use Rattle.mlt_types.specs.declared.cell.Cell.{Cell}
-use Rattle.mlt_types.specs.declared.cell.Cell.TheVariants as cell
-use Rattle.mlt_object_kinds.specs.declared.element.ElementOp.TheVariants as element
-use Rattle.mlt_object_kinds.specs.declared.operation.ObjOp.TheVariants.{Element}
-use Rattle.mlt_object_kinds.specs.declared.operation.ObjReply.{ObjReply}
-use Rattle.mlt_object_kinds.specs.declared.operation.ObjReply.TheVariants as told
+use Rattle.mlt_tx_operation.proofs.Names.{ElementOp, Element, ObjReply, Request, Do, TakeBack, size_key_of, target_of, pages_of, Agrees, nothing_written, LocalState, View, view_of, WalkContext, one_key, Phase, TwoRecordWalk, First, Owing, Wide, WideStage, AccessPath, One, Two, MayOperate, OperatesBy, OperationFields, access_path_for, on_one, on_two, started_for, FitsPhase, MayWalkOn, WalkingFields}
 use Rattle.mlt_object_kinds.specs.Operations.{cell_of}
-use Rattle.mlt_object_base.specs.declared.request.Request.{Request}
-use Rattle.mlt_object_base.specs.declared.request.Request.TheVariants.{Do, TakeBack}
-use Rattle.mlt_object_base.specs.Requests.{size_key_of, target_of}
 use Rattle.mlt_object_base.proofs.Meanings.{same_cell}
-use Rattle.mlt_page_locks.specs.LockTables.{pages_of}
 use Rattle.mlt_hash_form.specs.File.{FilePages, HasForm}
-use Rattle.mlt_hash_form.specs.Held.{Agrees}
-use Rattle.mlt_hash_access.proofs.Since.{nothing_written}
-use Rattle.mlt_hash_access.specs.LocalStates.{LocalState}
-use Rattle.mlt_hash_access.specs.Views.{View, view_of}
 use Rattle.mlt_hash_split.specs.Rests.{KeepsNoMore}
-use Rattle.mlt_hash.specs.Walks.{WalkContext, one_key}
-use Rattle.mlt_hash.specs.declared.pass.Phase.{Phase}
-use Rattle.mlt_hash.specs.declared.pass.Phase.TheVariants as at
 use Rattle.mlt_hash_pair.proofs.Laws.{starts as pair_starts}
 use Rattle.mlt_hash.proofs.Laws.{at_start}
 use Rattle.mlt_hash.proofs.Owners.{stands_still}
 use Rattle.mlt_hash.proofs.Passed.{read_as}
 use Rattle.mlt_tx_two_records.specs.TwoRecordWalks.{MayGoOn, Stands}
 use Rattle.mlt_tx_two_records.proofs.TwoRecordLaws.{two_records_still, told_still}
-use Rattle.mlt_tx_two_records.specs.declared.two_records.TwoRecordWalk.{TwoRecordWalk}
-use Rattle.mlt_tx_two_records.specs.declared.two_records.TwoRecordWalk.TheVariants.{First, Owing, Wide}
-use Rattle.mlt_tx_two_records.specs.declared.two_records.WideStage.TheVariants as wide_stage
-use Rattle.mlt_tx_operation.specs.declared.access_path.AccessPath.{AccessPath}
-use Rattle.mlt_tx_operation.specs.declared.access_path.AccessPath.TheVariants.{One, Two}
-use Rattle.mlt_tx_operation.specs.Operating.{CanDoBy, IsOperating, MayOperate, OperatesBy, OperationFields, StandsOrTold, access_path_for, on_one, on_two, started_for}
-use Rattle.mlt_tx_operation.specs.Walking.{FitsPhase, MayWalkOn, WalkingFields}
+use Rattle.mlt_tx_operation.specs.Operating.{CanDoBy, IsOperating, StandsOrTold}
 
 -- ---- the start
 
@@ -47,14 +25,14 @@ cell_asked (Do op) = cell_of op
 cell_asked (TakeBack done) = cell_of done.0
 
 -- the key of an element is not that of a size
-element_apart : (s e size : ℕ) → IsInRange (cell.Element s e) → size ≡ key_number (cell.Size s) → key_number (cell.Element s e) ≢ size
-element_apart s e size range is same = let one : cell.Element s e ≡ cell.Size s = same_cell (cell.Element s e) (cell.Size s) range range.0 (same ∙ is) in cc
+element_apart : (s e size : ℕ) → IsInRange (Cell.Element s e) → size ≡ key_number (Cell.Size s) → key_number (Cell.Element s e) ≢ size
+element_apart s e size range is same = let one : Cell.Element s e ≡ Cell.Size s = same_cell (Cell.Element s e) (Cell.Size s) range range.0 (same ∙ is) in cc
 
 keys_apart : (request : Request) (size : ℕ) → IsInRange (cell_asked request) → size_key_of request ≡ Some size → (target_of request).0 ≢ size
-keys_apart (Do (Element s e element.Add)) size range is = element_apart s e size range cc
-keys_apart (Do (Element s e element.Remove)) size range is = element_apart s e size range cc
-keys_apart (TakeBack (Element s e element.Add, told.Added)) size range is = element_apart s e size range cc
-keys_apart (TakeBack (Element s e element.Remove, told.Removed)) size range is = element_apart s e size range cc
+keys_apart (Do (Element s e ElementOp.Add)) size range is = element_apart s e size range cc
+keys_apart (Do (Element s e ElementOp.Remove)) size range is = element_apart s e size range cc
+keys_apart (TakeBack (Element s e ElementOp.Add, ObjReply.Added)) size range is = element_apart s e size range cc
+keys_apart (TakeBack (Element s e ElementOp.Remove, ObjReply.Removed)) size range is = element_apart s e size range cc
 keys_apart other size range none = absurd cc
 
 starts_by : (key : Option ℕ) (context : WalkContext) (request : Request) (m : LocalState) → size_key_of request ≡ key → IsInRange (cell_asked request) → pages_of m.locks m.running.tx ≡ map.empty
@@ -92,8 +70,8 @@ may_walk_on context m o may = record {
 size_key : (two_records : TwoRecordWalk) (context : WalkContext) (request : Request) (view : View) → Stands two_records context request view → (size : ℕ) × (size_key_of request ≡ Some size)
 size_key (First pair) context request view stands = (pair.right, stands.keys.size_is)
 size_key (Owing pair reply) context request view stands = (pair.right, stands.keys.size_is)
-size_key (Wide wide_stage.Own walk) context request view stands = (stands.size, stands.keys.size_is)
-size_key (Wide wide_stage.Size walk) context request view stands = (walk.key, stands.keys.size_is)
+size_key (Wide WideStage.Own walk) context request view stands = (stands.size, stands.keys.size_is)
+size_key (Wide WideStage.Size walk) context request view stands = (walk.key, stands.keys.size_is)
 
 -- **One on two records may go on.**
 pub may_go_on : (context : WalkContext) (m : LocalState) (request : Request) (two_records : TwoRecordWalk) → MayOperate (one_key context) m (on_two request None two_records) → MayGoOn (one_key context) m request two_records
@@ -111,7 +89,7 @@ may_go_on context m request two_records may = record {
 
 -- what a walk's phase says of a reply does not name who is open
 fits_for : (p : Phase) (context : WalkContext) (active : set.FinSet nat_cmp) (o : WalkingFields) (view : View) → FitsPhase p context o view → FitsPhase p (record context { active = active }) o view
-fits_for (at.Changed bucket done) context active o view fits = record {
+fits_for (Phase.Changed bucket done) context active o view fits = record {
   found = fits.found;
   reply = fits.reply;
   decided = fits.decided;

@@ -1,56 +1,25 @@
 -- The steps of an operation on one record, while nobody else holds a page
-use Rattle.std.proofs.Common.{◌≡◌, ℕ, false, true, List, Option, None, Some, is_some, refl, sym, ap, subst, ◌∙◌, inl, inr, arith}
-use Rattle.std.specs.Prelude.{IsSome}
+use Rattle.std.proofs.Common.{◌≡◌, ℕ, false, true, List, Option, None, Some, is_some, refl, sym, ap, subst, ◌∙◌, inl, inr, arith, IsSome}
 use Rattle.std.specs.FinMap as map
-use Rattle.std.proofs.lemmas.Bool.{false≢true}
-use Rattle.mlt_types.specs.declared.mode.Mode.{Mode}
-use Rattle.mlt_types.specs.declared.mode.Mode.TheVariants.{Shared}
-use Rattle.mlt_page.specs.Slots.{is_live_of}
-use Rattle.mlt_page.specs.declared.slot.Slot.TheVariants.{Live}
-use Rattle.mlt_page.specs.declared.page.Page.{Page}
-use Rattle.mlt_page.specs.declared.page.Page.TheVariants as page
+use Rattle.mlt_tx_operation.proofs.Names.{false≢true, Mode, Shared, is_live_of, Live, Page, BucketFields, ObjOp, ObjReply, RecChange, Request, Do, decision, size_key_of, target_of, page_at, can_write, released, IsPath, value_in, SetsFirst, WriteFields, LocalState, Leaves, view_of, nothing_written, MayChange, HasFound, WalkContext, WalkFields, one_key, WalkAnswer, Change, Phase, Performs, StepAnswer, StepsOn, Finishes, MayDecide, MayOperate, OperationFields, access_path_for, on_one, started_for, CanTakeBackOne, MayWalkOn, WalkingFields, walking, NobodyHolds, PassesFast, store_after}
 use Rattle.mlt_page.specs.Pages.{page_with_slot}
-use Rattle.mlt_page.specs.Values.{BucketFields, HeadFields}
-use Rattle.mlt_object_kinds.specs.declared.operation.ObjOp.{ObjOp}
-use Rattle.mlt_object_kinds.specs.declared.operation.ObjReply.{ObjReply}
-use Rattle.mlt_object_base.specs.declared.record.RecChange.{RecChange}
-use Rattle.mlt_object_base.specs.declared.request.Request.{Request}
-use Rattle.mlt_object_base.specs.declared.request.Request.TheVariants.{Do}
-use Rattle.mlt_object_base.specs.Requests.{decision, size_key_of, target_of}
-use Rattle.mlt_page_store.specs.Stores.{page_at}
-use Rattle.mlt_page_locks.specs.LockTables.{can_write}
-use Rattle.mlt_page_locks.specs.Requests.{released}
-use Rattle.mlt_hash_form.specs.File.{IsPath, bucket_of, dir_of, row_of}
-use Rattle.mlt_hash_form.specs.Form.{value_in}
+use Rattle.mlt_page.specs.Values.{HeadFields}
+use Rattle.mlt_hash_form.specs.File.{bucket_of, dir_of, row_of}
 use Rattle.mlt_hash_form.specs.Held.{own_or_clean}
-use Rattle.mlt_hash_record.specs.Plans.{SetsFirst, WriteFields}
-use Rattle.mlt_hash_access.specs.LocalStates.{LocalState}
-use Rattle.mlt_hash_access.specs.PageSteps.{Leaves, LocksPage, WritesHeldPage, WritesHeldSlot}
-use Rattle.mlt_hash_access.specs.Views.{ReadsHeldBucket, ReadsPage, view_of}
+use Rattle.mlt_hash_access.specs.PageSteps.{LocksPage, WritesHeldPage, WritesHeldSlot}
+use Rattle.mlt_hash_access.specs.Views.{ReadsHeldBucket, ReadsPage}
 use Rattle.mlt_hash_access.proofs.Leaving.{leaves_by_locking, leaves_by_writing}
 use Rattle.mlt_hash_access.proofs.LocalStates.{locked, written}
 use Rattle.mlt_hash_access.proofs.Results.{bucket_there}
-use Rattle.mlt_hash_access.proofs.Since.{nothing_written}
 use Rattle.mlt_hash_access.proofs.Views.{lock_reads}
-use Rattle.mlt_hash.specs.Changes.{MayChange}
-use Rattle.mlt_hash.specs.Steps.{GoesOn as WalkGoesOn, HasFound}
-use Rattle.mlt_hash.specs.Walks.{WalkContext, WalkFields, one_key}
-use Rattle.mlt_hash.specs.declared.answer.WalkAnswer.TheVariants as answer
-use Rattle.mlt_hash.specs.declared.pass.Change.TheVariants as change
-use Rattle.mlt_hash.specs.declared.pass.Phase.TheVariants as at
+use Rattle.mlt_hash.specs.Steps.{GoesOn as WalkGoesOn}
 use Rattle.mlt_hash.proofs.InPlace.{ReadsBucket, reads_bucket, record_may_write, update_tells}
 use Rattle.mlt_hash.proofs.Paths.{arrived, headed, placed}
-use Rattle.mlt_tx_two_records.specs.Performing.{Performs}
-use Rattle.mlt_tx_operation.specs.declared.answer.StepAnswer.TheVariants as step
-use Rattle.mlt_tx_operation.specs.Answers.{StepsOn}
-use Rattle.mlt_tx_operation.specs.AtBucket.{Finishes, MayDecide}
-use Rattle.mlt_tx_operation.specs.Operating.{MayOperate, OperationFields, access_path_for, on_one, started_for}
-use Rattle.mlt_tx_operation.specs.Walking.{CanTakeBackOne, MayWalkOn, WalkingFields, walk_for, walking}
+use Rattle.mlt_tx_operation.specs.Walking.{walk_for}
 use Rattle.mlt_tx_operation.proofs.AtBucket.{change_finishes, may_change, told_finishes}
 use Rattle.mlt_tx_operation.proofs.Going.{goes_on}
 use Rattle.mlt_tx_operation.proofs.Operations.{may_walk_on}
 use Rattle.mlt_tx_operation.proofs.Telling.{found_tells, may_decide}
-use Rattle.mlt_tx_operation.specs.Fast.{NobodyHolds, PassesFast, store_after}
 use Rattle.mlt_tx_operation.proofs.Free.{NoOtherReads, nobody_reads, nobody_stands, nobody_still, released-granted, released_nothing}
 
 -- no key of a size
@@ -115,19 +84,19 @@ module _ (context : WalkContext) (m : LocalState) (op : ObjOp) (free : NobodyHol
   with_header = locked m context.root Shared
 
   locks_header : LocksPage m with_header context.root Shared
-  locks_header = locks_free m context.root Shared (page.Head header) free_at_start path.head
+  locks_header = locks_free m context.root Shared (Page.Head header) free_at_start path.head
 
   leaves_header : Leaves m with_header
   leaves_header = leaves_by_locking m with_header with_header context.root Shared may_start.walks.may locks_header refl
 
   abbrev pub walk_headed : WalkFields
-  walk_headed = record walk_start { phase = at.Headed (dir_of header x) (row_of header x) header.depth }
+  walk_headed = record walk_start { phase = Phase.Headed (dir_of header x) (row_of header x) header.depth }
 
   abbrev pub on_headed : WalkingFields
   on_headed = walking (Do op) None walk_headed
 
-  reads_header : ReadsPage (view_of m) (view_of with_header) context.root Shared (Some (page.Head header))
-  reads_header = lock_reads m with_header context.root Shared (page.Head header) may_start.walks.may locks_header path.head
+  reads_header : ReadsPage (view_of m) (view_of with_header) context.root Shared (Some (Page.Head header))
+  reads_header = lock_reads m with_header context.root Shared (Page.Head header) may_start.walks.may locks_header path.head
 
   goes_header : WalkGoesOn (one_key context) with_header walk_start walk_headed
   goes_header =
@@ -149,19 +118,19 @@ module _ (context : WalkContext) (m : LocalState) (op : ObjOp) (free : NobodyHol
   with_directory = locked with_header (dir_of header x) Shared
 
   locks_directory : LocksPage with_header with_directory (dir_of header x) Shared
-  locks_directory = locks_free with_header (dir_of header x) Shared (page.Dir dir) free_headed path.listed
+  locks_directory = locks_free with_header (dir_of header x) Shared (Page.Dir dir) free_headed path.listed
 
   leaves_directory : Leaves with_header with_directory
   leaves_directory = leaves_by_locking with_header with_directory with_directory (dir_of header x) Shared may_headed.walks.may locks_directory refl
 
   abbrev pub walk_placed : WalkFields
-  walk_placed = record walk_start { phase = at.Placed number header.depth }
+  walk_placed = record walk_start { phase = Phase.Placed number header.depth }
 
   abbrev pub on_placed : WalkingFields
   on_placed = walking (Do op) None walk_placed
 
-  reads_directory : ReadsPage (view_of with_header) (view_of with_directory) (dir_of header x) Shared (Some (page.Dir dir))
-  reads_directory = lock_reads with_header with_directory (dir_of header x) Shared (page.Dir dir) may_headed.walks.may locks_directory path.listed
+  reads_directory : ReadsPage (view_of with_header) (view_of with_directory) (dir_of header x) Shared (Some (Page.Dir dir))
+  reads_directory = lock_reads with_header with_directory (dir_of header x) Shared (Page.Dir dir) may_headed.walks.may locks_directory path.listed
 
   goes_directory : WalkGoesOn (one_key context) with_directory walk_headed walk_placed
   goes_directory =
@@ -186,19 +155,19 @@ module _ (context : WalkContext) (m : LocalState) (op : ObjOp) (free : NobodyHol
   with_bucket = locked with_directory number mode
 
   locks_bucket : LocksPage with_directory with_bucket number mode
-  locks_bucket = locks_free with_directory number mode (page.Bucket fields) free_placed path.found
+  locks_bucket = locks_free with_directory number mode (Page.Bucket fields) free_placed path.found
 
   leaves_bucket : Leaves with_directory with_bucket
   leaves_bucket = leaves_by_locking with_directory with_bucket with_bucket number mode may_placed.walks.may locks_bucket refl
 
-  reads_of_bucket : ReadsPage (view_of with_directory) (view_of with_bucket) number mode (Some (page.Bucket fields))
-  reads_of_bucket = lock_reads with_directory with_bucket number mode (page.Bucket fields) may_placed.walks.may locks_bucket path.found
+  reads_of_bucket : ReadsPage (view_of with_directory) (view_of with_bucket) number mode (Some (Page.Bucket fields))
+  reads_of_bucket = lock_reads with_directory with_bucket number mode (Page.Bucket fields) may_placed.walks.may locks_bucket path.found
 
   abbrev pub found : Option ℕ
   found = value_in key fields.slots
 
   abbrev pub walk_at : WalkFields
-  walk_at = record walk_start { phase = at.AtBucket number header.depth found }
+  walk_at = record walk_start { phase = Phase.AtBucket number header.depth found }
 
   abbrev pub on_bucket : WalkingFields
   on_bucket = walking (Do op) None walk_at
@@ -232,7 +201,7 @@ module _ (context : WalkContext) (m : LocalState) (op : ObjOp) (free : NobodyHol
       second = record { untold = refl; tells = inl steps_directory; asked = refl; own = refl };
       third = record {
         untold = refl;
-        tells = found_tells context with_directory with_bucket new on_placed on_bucket after found step.Going may_placed leaves_bucket (inr (mode, locks_bucket)) finds refl refl (inl finishes);
+        tells = found_tells context with_directory with_bucket new on_placed on_bucket after found StepAnswer.Going may_placed leaves_bucket (inr (mode, locks_bucket)) finds refl refl (inl finishes);
         asked = asked;
         own = own;
       };
@@ -247,7 +216,7 @@ module _ (context : WalkContext) (m : LocalState) (op : ObjOp) (free : NobodyHol
   passes_reading reply is = passes reply with_bucket (record on_bucket { reply = Some reply }) (told_finishes context with_bucket on_bucket (record on_bucket { reply = Some reply }) found reply decides is refl) refl refl refl refl
 
   -- what gives the record another value
-  module _ (reply : ObjReply) (decided : RecChange) (value i : ℕ) (is : decision (Do op) found ≡ (reply, Some decided)) (performs : Performs decided found (change.Set value)) (some : IsSome found)
+  module _ (reply : ObjReply) (decided : RecChange) (value i : ℕ) (is : decision (Do op) found ≡ (reply, Some decided)) (performs : Performs decided found (Change.Set value)) (some : IsSome found)
       (plan : SetsFirst number fields (is_live_of key) (Live key value) (record { number = number; at = i; slot = Live key value })) where
     abbrev pub write : WriteFields
     write = record { number = number; at = i; slot = Live key value }
@@ -275,13 +244,13 @@ module _ (context : WalkContext) (m : LocalState) (op : ObjOp) (free : NobodyHol
 
     writes_slot : WritesHeldSlot with_bucket with_change number i (Live key value)
     writes_slot bucket reads_it =
-        let there : page_at with_bucket.store.pages number ≡ Some (page.Bucket bucket) = bucket_there with_bucket number bucket may_make.walks.may may_set reads_it in
-        let same : Some (page.Bucket fields) ≡ Some (page.Bucket bucket) = sym path.found ∙ there in
+        let there : page_at with_bucket.store.pages number ≡ Some (Page.Bucket bucket) = bucket_there with_bucket number bucket may_make.walks.may may_set reads_it in
+        let same : Some (Page.Bucket fields) ≡ Some (Page.Bucket bucket) = sym path.found ∙ there in
         let alike : fields ≡ bucket = cc in
         subst (λ (b : BucketFields). WritesHeldPage with_bucket with_change number (page_with_slot b i (Live key value))) alike writes
 
     abbrev pub walk_changed : WalkFields
-    walk_changed = record walk_at { phase = at.Changed number (change.Set value) }
+    walk_changed = record walk_at { phase = Phase.Changed number (Change.Set value) }
 
     leaves_change : Leaves with_bucket with_change
     leaves_change = leaves_by_writing with_bucket with_change number changed_page may_make.walks.may writes
@@ -290,8 +259,8 @@ module _ (context : WalkContext) (m : LocalState) (op : ObjOp) (free : NobodyHol
     finishes =
         change_finishes context with_bucket with_change on_bucket (walking (Do op) (Some reply) walk_changed) found reply decided decides is leaves_change (changed_page, writes)
         (record {
-          done = change.Set value;
-          makes = update_tells (one_key context) walk_at walk_changed with_bucket with_change number key fields write answer.Changed reads value some plan (writes_slot, refl);
+          done = Change.Set value;
+          makes = update_tells (one_key context) walk_at walk_changed with_bucket with_change number key fields write WalkAnswer.Changed reads value some plan (writes_slot, refl);
           performs = performs;
         }) refl refl
 

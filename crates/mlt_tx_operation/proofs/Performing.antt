@@ -1,40 +1,24 @@
 -- What a decision tells, from what the walk's change tells
-use Rattle.std.proofs.Common.{◌≡◌, ℕ, Option, None, Some, refl, sym, subst, ◌∙◌, inl, inr}
-use Rattle.std.specs.Prelude.{IsSome}
-use Rattle.std.proofs.lemmas.Bool.{false≢true}
-use Rattle.mlt_types.specs.declared.refusal.Refusal.TheVariants as refusal
-use Rattle.mlt_object_base.specs.declared.record.RecChange.{RecChange}
-use Rattle.mlt_object_base.specs.declared.record.RecChange.TheVariants.{Add, Revive}
-use Rattle.mlt_object_base.specs.Records.{CanChange}
-use Rattle.mlt_hash_access.specs.LocalStates.{LocalState}
-use Rattle.mlt_hash.specs.Walks.{WalkContext, WalkFields, one_key}
+use Rattle.std.proofs.Common.{◌≡◌, ℕ, Option, None, Some, refl, sym, subst, ◌∙◌, inl, inr, IsSome}
+use Rattle.mlt_tx_operation.proofs.Names.{false≢true, Refusal, RecChange, Add, Revive, CanChange, LocalState, WalkContext, WalkFields, one_key, HasFound, Phase, Change, WalkAnswer, Performs, TellsOfDecision}
 use Rattle.mlt_hash.specs.Changes.{IsAtRecord, TellsOfAddition, TellsOfChange}
-use Rattle.mlt_hash.specs.Steps.{HasFound}
-use Rattle.mlt_hash.specs.declared.pass.Phase.{Phase}
-use Rattle.mlt_hash.specs.declared.pass.Phase.TheVariants as at
-use Rattle.mlt_hash.specs.declared.pass.Change.{Change}
-use Rattle.mlt_hash.specs.declared.pass.Change.TheVariants as change
-use Rattle.mlt_hash.specs.declared.answer.WalkAnswer.{WalkAnswer}
-use Rattle.mlt_hash.specs.declared.answer.WalkAnswer.TheVariants as answer
-use Rattle.mlt_tx_two_records.specs.Performing.{Performs}
-use Rattle.mlt_tx_operation.specs.Performing.{TellsOfDecision}
 
 -- an addition
 pub addition_tells : (context : WalkContext) (new : LocalState) (before after : WalkFields) (value : ℕ) (found : Option ℕ) (told : WalkAnswer)
     → TellsOfAddition (one_key context) new before after value told → TellsOfDecision (one_key context) new before after (Add value) found told
-addition_tells context new before after value found answer.Changed (inl makes) = record { done = change.Revive value; makes = makes; performs = inr refl }
-addition_tells context new before after value found answer.Changed (inr makes) = record { done = change.Put value; makes = makes; performs = inl refl }
-addition_tells context new before after value found answer.NeedSplit tells = tells
-addition_tells context new before after value found answer.Widen tells = tells
-addition_tells context new before after value found (answer.Refused refusal.NoRoom) tells = tells
-addition_tells context new before after value found (answer.Refused other) tells = absurd (tells.1 refl)
+addition_tells context new before after value found WalkAnswer.Changed (inl makes) = record { done = Change.Revive value; makes = makes; performs = inr refl }
+addition_tells context new before after value found WalkAnswer.Changed (inr makes) = record { done = Change.Put value; makes = makes; performs = inl refl }
+addition_tells context new before after value found WalkAnswer.NeedSplit tells = tells
+addition_tells context new before after value found WalkAnswer.Widen tells = tells
+addition_tells context new before after value found (WalkAnswer.Refused Refusal.NoRoom) tells = tells
+addition_tells context new before after value found (WalkAnswer.Refused other) tells = absurd (tells.1 refl)
 addition_tells context new before after value found other tells = tells
 
 -- any other change
 pub change_tells : (context : WalkContext) (new : LocalState) (before after : WalkFields) (decided : RecChange) (found : Option ℕ) (done : Change) (told : WalkAnswer)
     → Performs decided found done → TellsOfChange (one_key context) new before after done told → TellsOfDecision (one_key context) new before after decided found told
-change_tells context new before after decided found done answer.Changed performs makes = record { done = done; makes = makes; performs = performs }
-change_tells context new before after decided found done (answer.Refused reason) performs tells = absurd (tells.1 refl)
+change_tells context new before after decided found done WalkAnswer.Changed performs makes = record { done = done; makes = makes; performs = performs }
+change_tells context new before after decided found done (WalkAnswer.Refused reason) performs tells = absurd (tells.1 refl)
 change_tells context new before after decided found done other performs tells = absurd tells
 
 -- it finds a record, unless one is new or comes back
@@ -45,5 +29,5 @@ is_found decided (Some v) can not_new not_back = (v, refl)
 is_found decided None can not_new not_back = absurd (false≢true can)
 
 pub at_record : (phase : Phase) (found : Option ℕ) (v : ℕ) → HasFound phase found → found ≡ Some v → IsAtRecord phase
-at_record (at.AtBucket bucket depth own) found v has is = subst IsSome (sym (has ∙ is)) refl
+at_record (Phase.AtBucket bucket depth own) found v has is = subst IsSome (sym (has ∙ is)) refl
 at_record other found v has is = absurd has

@@ -1,43 +1,19 @@
 -- What an operation tells that waits, is refused, or has reached its bucket
 use Rattle.std.proofs.Common.{◌≡◌, ℕ, ◌+◌, ◌↔◌, None, Option, refl, sym, ap, subst, ◌∙◌, inl, inr, arith}
-use Rattle.mlt_types.specs.declared.mode.Mode.{Mode}
-use Rattle.mlt_types.specs.declared.refusal.Refusal.{Refusal}
-use Rattle.mlt_types.specs.declared.refusal.Refusal.TheVariants as refusal
-use Rattle.mlt_page.specs.declared.page.Page.{Page}
-use Rattle.mlt_object_base.specs.Requests.{size_key_of, target_of}
-use Rattle.mlt_hash_form.specs.Held.{Agrees}
-use Rattle.mlt_hash_access.specs.LocalStates.{LocalState}
-use Rattle.mlt_hash_access.specs.PageSteps.{HasNoPageLeft, Leaves, LocksAtMost}
-use Rattle.mlt_hash_access.specs.PageTurns.{IsRolledBack, TakesTurn}
-use Rattle.mlt_hash_access.specs.Views.{View, view_of}
-use Rattle.mlt_hash_access.proofs.Views.{agrees}
-use Rattle.mlt_hash.specs.Walks.{WalkContext, IsAtBucket, Stands, WalkFields, one_key}
-use Rattle.mlt_hash.specs.Changes.{page_of}
-use Rattle.mlt_hash.specs.Splitting.{HasToMake, TellsAt}
-use Rattle.mlt_hash.specs.Steps.{GoesOn, HasFound, steps_to_bucket}
-use Rattle.mlt_hash.specs.declared.answer.WalkAnswer.TheVariants as answer
-use Rattle.mlt_hash.specs.declared.pass.Pass.TheVariants as pass
-use Rattle.mlt_hash.specs.declared.pass.Phase.{Phase}
-use Rattle.mlt_hash.specs.declared.pass.Phase.TheVariants as at
-use Rattle.mlt_hash.proofs.StepsLeft.{put_on_way}
-use Rattle.mlt_tx_operation.specs.declared.answer.StepAnswer.{StepAnswer}
-use Rattle.mlt_tx_operation.specs.declared.answer.StepAnswer.TheVariants as step
-use Rattle.mlt_tx_operation.specs.declared.access_path.AccessPath.TheVariants.{One}
-use Rattle.mlt_object_base.specs.declared.request.Request.{Request}
-use Rattle.mlt_object_base.specs.declared.request.Request.TheVariants.{Do, TakeBack}
-use Rattle.mlt_tx_operation.specs.Answers.{CauseAtOne, IsRefused, TellsOfStep, Waits}
-use Rattle.mlt_tx_two_records.specs.Performing.{AsksToAdd}
-use Rattle.mlt_tx_two_records.specs.WalkSteps.{ReachesBucket, steps_to_change}
+use Rattle.mlt_tx_operation.proofs.Names.{Mode, Refusal, Page, size_key_of, target_of, Agrees, LocalState, Leaves, IsRolledBack, TakesTurn, View, view_of, agrees, WalkContext, Stands, WalkFields, one_key, page_of, TellsAt, HasFound, steps_to_bucket, WalkAnswer, Pass, Phase, put_on_way, StepAnswer, One, Request, Do, TakeBack, IsRefused, TellsOfStep, Waits, AsksToAdd, steps_to_change, one_step_turns, IsThereFor, MayDecide, TellsAtBucket, on_one, CanTakeBackOne, MayWalkOn, WalkingFields}
+use Rattle.mlt_hash_access.specs.PageSteps.{HasNoPageLeft, LocksAtMost}
+use Rattle.mlt_hash.specs.Walks.{IsAtBucket}
+use Rattle.mlt_hash.specs.Splitting.{HasToMake}
+use Rattle.mlt_hash.specs.Steps.{GoesOn}
+use Rattle.mlt_tx_operation.specs.Answers.{CauseAtOne}
+use Rattle.mlt_tx_two_records.specs.WalkSteps.{ReachesBucket}
 use Rattle.mlt_tx_two_records.proofs.WideTelling.{IsWhy, found_by_path, reaches, refused as why_refused, waits as walk_waits, was_last}
-use Rattle.mlt_tx_two_records.proofs.WideTurns.{lock_and_write_turn, one_step_turns, walks_on}
-use Rattle.mlt_tx_operation.specs.AtBucket.{IsThereFor, MayDecide, TellsAtBucket}
-use Rattle.mlt_tx_operation.specs.Operating.{on_one}
-use Rattle.mlt_tx_operation.specs.Walking.{CanTakeBackOne, MayWalkOn, WalkingFields}
+use Rattle.mlt_tx_two_records.proofs.WideTurns.{lock_and_write_turn, walks_on}
 use Rattle.mlt_tx_operation.proofs.Going.{same_target}
 
 -- **Where its walk waits, so does the operation.**
 pub waits : (context : WalkContext) (old new : LocalState) (before after : WalkingFields) (page by : ℕ)
-    → TellsAt before.walk.phase (one_key context) old new before.walk after.walk (answer.Waiting page by) → after.request ≡ before.request → after.reply ≡ before.reply
+    → TellsAt before.walk.phase (one_key context) old new before.walk after.walk (WalkAnswer.Waiting page by) → after.request ≡ before.request → after.reply ≡ before.reply
     → Waits (one_key context) old new (on_one before) (on_one after) page by
 waits context old new before after page by told request same =
     let walk = walk_waits (one_key context) old new before.walk after.walk page by told in
@@ -51,7 +27,7 @@ waits context old new before after page by told request same =
 
 -- what is to be taken back is there, at the bucket
 there_at : (request : Request) (context : WalkContext) (clean : ℕ → Option Page) (walk : WalkFields) (view : View) (bucket depth : ℕ) (found : Option ℕ)
-    → CanTakeBackOne (one_key context) clean request → walk.key ≡ (target_of request).0 → walk.phase ≡ at.AtBucket bucket depth found
+    → CanTakeBackOne (one_key context) clean request → walk.key ≡ (target_of request).0 → walk.phase ≡ Phase.AtBucket bucket depth found
     → IsAtBucket (one_key context) walk view bucket depth found → Agrees view.seen clean → IsThereFor request (one_key context) walk view found
 there_at (Do op) context clean walk view bucket depth found back key phase here agree = tt
 there_at (TakeBack done) context clean walk view bucket depth found back key phase here agree = back walk view bucket depth found key phase here agree
@@ -60,13 +36,13 @@ there_at (TakeBack done) context clean walk view bucket depth found back key pha
 found_at : (p : Phase) (context : WalkContext) (clean : ℕ → Option Page) (request : Request) (walk : WalkFields) (view : View) (found : Option ℕ)
     → walk.phase ≡ p → HasFound p found → Stands p (one_key context) walk view → CanTakeBackOne (one_key context) clean request → walk.key ≡ (target_of request).0 → Agrees view.seen clean
     → IsThereFor request (one_key context) walk view found
-found_at (at.AtBucket bucket depth f) context clean request walk view found is same here back key agree =
+found_at (Phase.AtBucket bucket depth f) context clean request walk view found is same here back key agree =
     subst (λ (g : Option ℕ). IsThereFor request (one_key context) walk view g) same (there_at request (one_key context) clean walk view bucket depth f back key is here agree)
 found_at other context clean request walk view found is same here back key agree = absurd same
 
 -- **An operation that has reached its bucket may decide.**
 pub may_decide : (context : WalkContext) (old mid : LocalState) (before at : WalkingFields) (found : Option ℕ) → MayWalkOn (one_key context) old before → Leaves old mid
-    → TellsAt before.walk.phase (one_key context) old mid before.walk at.walk (answer.Found found) → at.request ≡ before.request → at.reply ≡ None
+    → TellsAt before.walk.phase (one_key context) old mid before.walk at.walk (WalkAnswer.Found found) → at.request ≡ before.request → at.reply ≡ None
     → MayDecide (one_key context) mid at found
 may_decide context old mid before at found may leaves tells request untold =
     let path = found_by_path before.walk.phase (one_key context) old mid before.walk at.walk found tells in
@@ -83,7 +59,7 @@ may_decide context old mid before at found may leaves tells request untold =
 
 -- **What an operation tells at its bucket is what its step tells.**
 pub found_tells : (context : WalkContext) (old mid new : LocalState) (before at after : WalkingFields) (found : Option ℕ) (told : StepAnswer) → MayWalkOn (one_key context) old before → Leaves old mid
-    → LocksAtMost old mid (page_of at.walk.phase) → TellsAt before.walk.phase (one_key context) old mid before.walk at.walk (answer.Found found) → at.request ≡ before.request → at.reply ≡ before.reply
+    → LocksAtMost old mid (page_of at.walk.phase) → TellsAt before.walk.phase (one_key context) old mid before.walk at.walk (WalkAnswer.Found found) → at.request ≡ before.request → at.reply ≡ before.reply
     → TellsAtBucket (one_key context) mid new at after told → TellsOfStep (one_key context) old new (on_one before) (on_one after) told
 found_tells context old mid new before at after found told may leaves locks tells request same at_bucket = by told at_bucket
   where
@@ -94,7 +70,7 @@ found_tells context old mid new before at after found told may leaves locks tell
     turn = one_step_turns (one_key context) old mid before.walk may.walks leaves
 
     by : (told : StepAnswer) → TellsAtBucket (one_key context) mid new at after told → TellsOfStep (one_key context) old new (on_one before) (on_one after) told
-    by step.Going (inl finishes) =
+    by StepAnswer.Going (inl finishes) =
         let was = was_last (one_key context) mid before.walk at.walk found path.0 path.1 in
         let put = put_on_way before.walk.phase context.root before.walk (view_of old) (omega (arith, was)) in
         let by_one : steps_to_change context.root after.walk (view_of new) + 1 ≡ steps_to_change context.root before.walk (view_of old) = omega (arith, was, put, finishes.last) in
@@ -109,7 +85,7 @@ found_tells context old mid new before at after found told may leaves locks tell
             goes = inl (record { nearer = omega (arith, finishes.last); by_one = by_one; down = inl (omega (arith, was)) });
           };
         })
-    by step.Going (inr (inl splits)) =
+    by StepAnswer.Going (inr (inl splits)) =
         inr (inl (record {
           turn = subst (λ (m : LocalState). TakesTurn old m) (sym splits.stays) turn;
           request = splits.request ∙ request;
@@ -126,7 +102,7 @@ found_tells context old mid new before at after found told may leaves locks tell
             };
           };
         }))
-    by step.Going (inr (inr again)) =
+    by StepAnswer.Going (inr (inr again)) =
         inr (inr (record {
           back = record { mid = mid; turn = turn; back = again.back };
           request = again.request ∙ request;
@@ -141,7 +117,7 @@ found_tells context old mid new before at after found told may leaves locks tell
             again = again.again;
           };
         }))
-    by (step.Refused refusal.NoRoom) none = record {
+    by (StepAnswer.Refused Refusal.NoRoom) none = record {
       back = record { mid = mid; turn = turn; back = none.back };
       later = λ first. none.later (path.0.same.pass ∙ first);
       cause = inl ((none.adds.0, subst (λ (r : Request). AsksToAdd r none.adds.0) request none.adds.1), record { walk = at.walk; after = none.walk; reaches = reaches (one_key context) mid before.walk at.walk path.0 none.absent; none = none.none });
@@ -150,20 +126,20 @@ found_tells context old mid new before at after found told may leaves locks tell
 
 -- a walk that is refused on its way splits, in a later pass than the first
 in_later : (p : Phase) (context : WalkContext) (old mid : LocalState) (walk after : WalkFields) (reason : Refusal) → Stands p (one_key context) walk (view_of old)
-    → TellsAt p (one_key context) old mid walk after (answer.Refused reason) → walk.pass ≡ pass.First → ⊥
-in_later (at.Adding value bucket depth unsplit) context old mid walk after reason stands told = stands.later
-in_later (at.Splitting value depth) context old mid walk after reason stands told = stands.later
+    → TellsAt p (one_key context) old mid walk after (WalkAnswer.Refused reason) → walk.pass ≡ Pass.First → ⊥
+in_later (Phase.Adding value bucket depth unsplit) context old mid walk after reason stands told = stands.later
+in_later (Phase.Splitting value depth) context old mid walk after reason stands told = stands.later
 in_later other context old mid walk after reason stands told = absurd told
 
 cause_of : (reason : Refusal) (context : WalkContext) (old mid : LocalState) (request : Request) (walk : WalkFields) → IsWhy reason (one_key context) old walk → CauseAtOne reason (one_key context) old mid request walk
-cause_of refusal.NoRoom context old mid request walk why = inr why
-cause_of refusal.OutOfMemory context old mid request walk why = why
+cause_of Refusal.NoRoom context old mid request walk why = inr why
+cause_of Refusal.OutOfMemory context old mid request walk why = why
 cause_of other context old mid request walk why = absurd why
 
 -- **Where its walk is refused, all is rolled back.**
 pub refused : (context : WalkContext) (old mid new : LocalState) (before : WalkingFields) (after : WalkFields) (reason : Refusal) → MayWalkOn (one_key context) old before → Leaves old mid
-    → TellsAt before.walk.phase (one_key context) old mid before.walk after (answer.Refused reason)
-    → ((answer.Refused reason ≡ answer.Refused refusal.NoRoom) ↔ (HasToMake before.walk.phase (one_key context) old before.walk × HasNoPageLeft old.store))
+    → TellsAt before.walk.phase (one_key context) old mid before.walk after (WalkAnswer.Refused reason)
+    → ((WalkAnswer.Refused reason ≡ WalkAnswer.Refused Refusal.NoRoom) ↔ (HasToMake before.walk.phase (one_key context) old before.walk × HasNoPageLeft old.store))
     → IsRolledBack mid new → IsRefused (one_key context) old new (on_one before) reason
 refused context old mid new before after reason may leaves told exact back = record {
   back = record { mid = mid; turn = one_step_turns (one_key context) old mid before.walk may.walks leaves; back = back };

@@ -1,30 +1,14 @@
 -- What a step of an operation on two records tells, as one of an operation
 use Rattle.std.proofs.Common.{ℕ, ◌<◌, None, Some, refl, ap, inl, inr}
-use Rattle.mlt_types.specs.declared.refusal.Refusal.{Refusal}
-use Rattle.mlt_object_kinds.specs.declared.element.ElementOp.TheVariants as element
-use Rattle.mlt_object_kinds.specs.declared.operation.ObjOp.TheVariants.{Element}
-use Rattle.mlt_object_kinds.specs.declared.operation.ObjReply.{ObjReply}
-use Rattle.mlt_object_kinds.specs.declared.operation.ObjReply.TheVariants as told
-use Rattle.mlt_object_base.specs.declared.request.Request.{Request}
-use Rattle.mlt_object_base.specs.declared.request.Request.TheVariants.{Do}
-use Rattle.mlt_hash_access.specs.LocalStates.{LocalState}
-use Rattle.mlt_hash_access.specs.PageTurns.{TakesTurn}
-use Rattle.mlt_hash_access.specs.Views.{view_of}
+use Rattle.mlt_tx_operation.proofs.Names.{Refusal, ElementOp, Element, ObjReply, Request, Do, LocalState, TakesTurn, view_of, WalkContext, WalkFields, one_key, steps_of_two_records, AsksToAdd, TwoRecordWalk, First, Owing, Wide, WideStage, StepAnswer, IsRefused, StepsOn, TellsOfStep, Waits, on_two}
 use Rattle.mlt_hash_pair.specs.Pairs.{PairFields, mode_next}
-use Rattle.mlt_hash.specs.Walks.{WalkContext, WalkFields, one_key}
 use Rattle.mlt_tx_two_records.specs.Answers.{GoesOnBy, RefusedBy, TellsLast, WaitsBy}
-use Rattle.mlt_tx_two_records.specs.TwoRecordWalks.{IsFirst, IsTold, Stands, steps_of_two_records}
-use Rattle.mlt_tx_two_records.specs.Performing.{AddsElement, AsksToAdd}
-use Rattle.mlt_tx_two_records.specs.declared.two_records.TwoRecordWalk.{TwoRecordWalk}
-use Rattle.mlt_tx_two_records.specs.declared.two_records.TwoRecordWalk.TheVariants.{First, Owing, Wide}
-use Rattle.mlt_tx_two_records.specs.declared.two_records.WideStage.TheVariants as wide_stage
-use Rattle.mlt_tx_operation.specs.declared.answer.StepAnswer.TheVariants as step
-use Rattle.mlt_tx_operation.specs.Answers.{IsRefused, StepsOn, TellsOfStep, Waits}
-use Rattle.mlt_tx_operation.specs.Operating.{on_two}
+use Rattle.mlt_tx_two_records.specs.TwoRecordWalks.{IsFirst, IsTold, Stands}
+use Rattle.mlt_tx_two_records.specs.Performing.{AddsElement}
 
 -- what adds an element asks for a record where there is none
 asks_to_add : (request : Request) → AddsElement request → (value : ℕ) × AsksToAdd request value
-asks_to_add (Do (Element s e element.Add)) adds = (0, (told.Added, refl))
+asks_to_add (Do (Element s e ElementOp.Add)) adds = (0, (ObjReply.Added, refl))
 asks_to_add other never = absurd never
 
 -- a turn within the pass, or from one stage of a wide pass to the other
@@ -41,10 +25,10 @@ goes_on before after context old new request turn first stands goes fewer = reco
 
 -- **One that goes on, or begins its wide pass.**
 pub two_records_goes_on : (before after : TwoRecordWalk) (context : WalkContext) (old new : LocalState) (request : Request) → Stands after (one_key context) request (view_of new) → GoesOnBy before after (one_key context) old new request
-    → steps_of_two_records context.root after (view_of new) < steps_of_two_records context.root before (view_of old) → TellsOfStep (one_key context) old new (on_two request None before) (on_two request None after) step.Going
+    → steps_of_two_records context.root after (view_of new) < steps_of_two_records context.root before (view_of old) → TellsOfStep (one_key context) old new (on_two request None before) (on_two request None after) StepAnswer.Going
 two_records_goes_on (First pair) (First pair') context old new request stands goes fewer = inl (goes_on (First pair) (First pair') context old new request goes.0 (λ first. tt) stands goes fewer)
 two_records_goes_on (First pair) (Owing pair' reply) context old new request stands goes fewer = inl (goes_on (First pair) (Owing pair' reply) context old new request goes.0 (λ first. tt) stands goes fewer)
-two_records_goes_on (First pair) (Wide wide_stage.Own walk) context old new request stands restarts fewer = inr (inr (record {
+two_records_goes_on (First pair) (Wide WideStage.Own walk) context old new request stands restarts fewer = inr (inr (record {
   back = restarts.0.back;
   request = refl;
   untold = (refl, refl);
@@ -52,11 +36,11 @@ two_records_goes_on (First pair) (Wide wide_stage.Own walk) context old new requ
   adds = asks_to_add request restarts.0.adds;
   how = restarts;
 }))
-two_records_goes_on (First pair) (Wide wide_stage.Size walk) context old new request stands never fewer = absurd never
+two_records_goes_on (First pair) (Wide WideStage.Size walk) context old new request stands never fewer = absurd never
 two_records_goes_on (Owing pair reply) after context old new request stands never fewer = absurd never
-two_records_goes_on (Wide wide_stage.Own walk) (Wide wide_stage.Own walk') context old new request stands goes fewer = inl (goes_on (Wide wide_stage.Own walk) (Wide wide_stage.Own walk') context old new request goes.0 (λ first. first) stands goes fewer)
-two_records_goes_on (Wide wide_stage.Own walk) (Wide wide_stage.Size walk') context old new request stands goes fewer = inl (goes_on (Wide wide_stage.Own walk) (Wide wide_stage.Size walk') context old new request goes.0 (λ first. first) stands goes fewer)
-two_records_goes_on (Wide wide_stage.Size walk) (Wide wide_stage.Size walk') context old new request stands goes fewer = inl (goes_on (Wide wide_stage.Size walk) (Wide wide_stage.Size walk') context old new request goes.0 (λ first. first) stands goes fewer)
+two_records_goes_on (Wide WideStage.Own walk) (Wide WideStage.Own walk') context old new request stands goes fewer = inl (goes_on (Wide WideStage.Own walk) (Wide WideStage.Own walk') context old new request goes.0 (λ first. first) stands goes fewer)
+two_records_goes_on (Wide WideStage.Own walk) (Wide WideStage.Size walk') context old new request stands goes fewer = inl (goes_on (Wide WideStage.Own walk) (Wide WideStage.Size walk') context old new request goes.0 (λ first. first) stands goes fewer)
+two_records_goes_on (Wide WideStage.Size walk) (Wide WideStage.Size walk') context old new request stands goes fewer = inl (goes_on (Wide WideStage.Size walk) (Wide WideStage.Size walk') context old new request goes.0 (λ first. first) stands goes fewer)
 two_records_goes_on other other' context old new request stands never fewer = absurd never
 
 -- it stays in its first pass
@@ -68,7 +52,7 @@ still_first other other' never first = absurd never
 
 -- **One that is told its reply.**
 pub two_records_tells : (before after : TwoRecordWalk) (context : WalkContext) (old new : LocalState) (request : Request) (reply : ObjReply) → TakesTurn old new → TellsLast before after → IsTold after (one_key context) request reply (view_of new)
-    → 1 < steps_of_two_records context.root before (view_of old) → TellsOfStep (one_key context) old new (on_two request None before) (on_two request (Some reply) after) step.Going
+    → 1 < steps_of_two_records context.root before (view_of old) → TellsOfStep (one_key context) old new (on_two request None before) (on_two request (Some reply) after) StepAnswer.Going
 two_records_tells before after context old new request reply turn last told more = inl (record {
   turn = turn;
   request = refl;
@@ -88,25 +72,25 @@ two_records_waits (First pair) (First pair') context old new request page by wai
   pages = waits.pages;
   stays = ap (λ (p : PairFields). on_two request None (First p)) waits.stays;
 }
-two_records_waits (Wide wide_stage.Own walk) (Wide wide_stage.Own walk') context old new request page by waits = record {
+two_records_waits (Wide WideStage.Own walk) (Wide WideStage.Own walk') context old new request page by waits = record {
   mode = waits.mode;
   asks = waits.asks;
   lowest = waits.lowest;
   pages = waits.pages;
-  stays = ap (λ (w : WalkFields). on_two request None (Wide wide_stage.Own w)) waits.stays;
+  stays = ap (λ (w : WalkFields). on_two request None (Wide WideStage.Own w)) waits.stays;
 }
-two_records_waits (Wide wide_stage.Size walk) (Wide wide_stage.Size walk') context old new request page by waits = record {
+two_records_waits (Wide WideStage.Size walk) (Wide WideStage.Size walk') context old new request page by waits = record {
   mode = waits.waits.mode;
   asks = (waits.since, waits.put, waits.waits.asks);
   lowest = waits.waits.lowest;
   pages = waits.waits.pages;
-  stays = ap (λ (w : WalkFields). on_two request None (Wide wide_stage.Size w)) waits.waits.stays;
+  stays = ap (λ (w : WalkFields). on_two request None (Wide WideStage.Size w)) waits.waits.stays;
 }
 two_records_waits other other' context old new request page by never = absurd never
 
 -- **One that is refused.**
 pub two_records_refused : (before : TwoRecordWalk) (context : WalkContext) (old new : LocalState) (request : Request) (reason : Refusal) → RefusedBy before (one_key context) old new request reason
     → IsRefused (one_key context) old new (on_two request None before) reason
-two_records_refused (Wide wide_stage.Own walk) context old new request reason refused = record { back = refused.back; later = λ first. first; cause = refused.cause }
-two_records_refused (Wide wide_stage.Size walk) context old new request reason refused = record { back = refused.back; later = λ first. first; cause = (refused.since, refused.put, refused.cause) }
+two_records_refused (Wide WideStage.Own walk) context old new request reason refused = record { back = refused.back; later = λ first. first; cause = refused.cause }
+two_records_refused (Wide WideStage.Size walk) context old new request reason refused = record { back = refused.back; later = λ first. first; cause = (refused.since, refused.put, refused.cause) }
 two_records_refused other context old new request reason never = absurd never

@@ -2,7 +2,6 @@
 use Rattle.std.specs.Prelude.{ℕ, ◌≡◌, ◌<◌, ◌⊎◌, false, Option, None, Some}
 use Rattle.mlt_types.specs.declared.mode.Mode.{Mode}
 use Rattle.mlt_types.specs.declared.refusal.Refusal.{Refusal}
-use Rattle.mlt_types.specs.declared.refusal.Refusal.TheVariants as refusal
 use Rattle.mlt_object_kinds.specs.declared.operation.ObjReply.{ObjReply}
 use Rattle.mlt_object_base.specs.declared.request.Request.{Request}
 use Rattle.mlt_object_base.specs.Requests.{target_of}
@@ -15,9 +14,9 @@ use Rattle.mlt_hash.specs.Walks.{WalkContext, Before, WalkFields, context_after,
 use Rattle.mlt_hash.specs.Passes.{next_of}
 use Rattle.mlt_hash.specs.Steps.{steps_to_bucket}
 use Rattle.mlt_hash.specs.Changes.{MustWiden, NeedsSplit}
-use Rattle.mlt_hash.specs.declared.pass.Change.TheVariants as change
-use Rattle.mlt_hash.specs.declared.pass.Pass.TheVariants as pass
-use Rattle.mlt_hash.specs.declared.pass.Phase.TheVariants as at
+use Rattle.mlt_hash.specs.declared.pass.Change.{Change}
+use Rattle.mlt_hash.specs.declared.pass.Pass.{Pass}
+use Rattle.mlt_hash.specs.declared.pass.Phase.{Phase}
 use Rattle.mlt_tx_two_records.specs.Answers.{GoesOnBy, TellsLast}
 use Rattle.mlt_tx_two_records.specs.FirstPass.{FindsNoRoom}
 use Rattle.mlt_tx_two_records.specs.Performing.{AsksToAdd}
@@ -25,9 +24,8 @@ use Rattle.mlt_tx_two_records.specs.WalkSteps.{AsksForAt, BeginsToSplit, GoesNea
 use Rattle.mlt_tx_two_records.specs.WidePass.{CauseAtOwn, CauseAtSize, HasPutOwn, wide_to}
 use Rattle.mlt_tx_two_records.specs.declared.two_records.TwoRecordWalk.{TwoRecordWalk}
 use Rattle.mlt_tx_two_records.specs.declared.two_records.TwoRecordWalk.TheVariants.{First, Owing, Wide}
-use Rattle.mlt_tx_two_records.specs.declared.two_records.WideStage.TheVariants as wide_stage
+use Rattle.mlt_tx_two_records.specs.declared.two_records.WideStage.{WideStage}
 use Rattle.mlt_tx_operation.specs.declared.answer.StepAnswer.{StepAnswer}
-use Rattle.mlt_tx_operation.specs.declared.answer.StepAnswer.TheVariants as answer
 use Rattle.mlt_tx_operation.specs.declared.access_path.AccessPath.{AccessPath}
 use Rattle.mlt_tx_operation.specs.declared.access_path.AccessPath.TheVariants.{One, Two}
 use Rattle.mlt_tx_operation.specs.Operating.{IsInFirst, IsOperating, OperationFields, steps_left}
@@ -39,8 +37,8 @@ pub record PutsBehindSplits (before after : WalkFields) : Type 0 where
   pub value : ℕ
   pub bucket : ℕ
   pub room_depth : ℕ
-  pub was : before.phase ≡ at.Adding value bucket room_depth false
-  pub is : after.phase ≡ at.Changed bucket (change.Put value)
+  pub was : before.phase ≡ Phase.Adding value bucket room_depth false
+  pub is : after.phase ≡ Phase.Changed bucket (Change.Put value)
 
 -- Its walk goes on within its pass, and never back from its bucket: one step nearer to its change; or it puts its record
 -- behind splits, where there may be room early.
@@ -56,7 +54,7 @@ pub record WalkBeginsToSplit (context : WalkContext) (new : LocalState) (before 
 -- a first pass has found no room, or a narrow one that it has to be wide
 abbrev pub HasToRestart : WalkContext → LocalState → WalkFields → WalkFields → Type 0
 HasToRestart context m walk full =
-    ((walk.pass ≡ pass.First) × ((value : ℕ) × NeedsSplit context m walk full value))
+    ((walk.pass ≡ Pass.First) × ((value : ℕ) × NeedsSplit context m walk full value))
     ⊎ MustWiden context m walk full
 
 -- Its bucket has no room, and another pass is to split it, which begins.
@@ -65,14 +63,14 @@ pub record WalkRestarts (context : WalkContext) (mid : LocalState) (before after
   pub reaches : ReachesBucket context mid before walk
   pub full : WalkFields
   pub restarts : HasToRestart context mid walk full
-  pub again : after ≡ record full { pass = next_of full.phase; phase = at.Start; split = None }
+  pub again : after ≡ record full { pass = next_of full.phase; phase = Phase.Start; split = None }
 
 -- why it is refused: it lacks room or a page, or memory, to make one or to keep an image
 abbrev pub CauseAtOne : Refusal → WalkContext → LocalState → LocalState → Request → WalkFields → Type 0
-CauseAtOne refusal.NoRoom context old mid request before =
+CauseAtOne Refusal.NoRoom context old mid request before =
     (((value : ℕ) × AsksToAdd request value) × LacksRoom context mid before)
     ⊎ LacksPage context old before
-CauseAtOne refusal.OutOfMemory context old mid request before =
+CauseAtOne Refusal.OutOfMemory context old mid request before =
     (steps_to_bucket before.phase ≡ 0) × (LacksPage context old before → ⊥)
 CauseAtOne other context old mid request before = ⊥
 
@@ -115,7 +113,7 @@ pub record SplitsFromHere (context : WalkContext) (old new : LocalState) (before
 
 -- A first pass to two records has found a bucket without room, and a wide one begins.
 abbrev pub TwoRecordRestarts : TwoRecordWalk → TwoRecordWalk → WalkContext → LocalState → LocalState → Request → Type 0
-TwoRecordRestarts (First pair) (Wide wide_stage.Own walk) context old new request =
+TwoRecordRestarts (First pair) (Wide WideStage.Own walk) context old new request =
     FindsNoRoom context old new request pair × (walk ≡ wide_to (target_of request).0)
 TwoRecordRestarts other other' context old new request = ⊥
 
@@ -140,9 +138,9 @@ abbrev pub TwoRecordAsksFor : TwoRecordWalk → WalkContext → View → Request
 TwoRecordAsksFor (First pair) context view request page mode =
     (page ≡ page_next context.root pair) × (mode ≡ mode_next pair)
 TwoRecordAsksFor (Owing pair reply) context view request page mode = ⊥
-TwoRecordAsksFor (Wide wide_stage.Own walk) context view request page mode =
+TwoRecordAsksFor (Wide WideStage.Own walk) context view request page mode =
     AsksForAt walk.phase (one_key context) view walk page mode
-TwoRecordAsksFor (Wide wide_stage.Size walk) context view request page mode =
+TwoRecordAsksFor (Wide WideStage.Size walk) context view request page mode =
     (since : Before) × HasPutOwn context request view since
     × AsksForAt walk.phase (context_after since context) (rebased since.written view) walk page mode
 
@@ -163,9 +161,9 @@ pub record Waits (context : WalkContext) (old new : LocalState) (before after : 
 abbrev pub CauseAtTwo : TwoRecordWalk → Refusal → WalkContext → LocalState → LocalState → Request → Type 0
 CauseAtTwo (First pair) reason context old mid request = ⊥
 CauseAtTwo (Owing pair reply) reason context old mid request = ⊥
-CauseAtTwo (Wide wide_stage.Own walk) reason context old mid request =
+CauseAtTwo (Wide WideStage.Own walk) reason context old mid request =
     CauseAtOwn reason (one_key context) old mid walk
-CauseAtTwo (Wide wide_stage.Size walk) reason context old mid request =
+CauseAtTwo (Wide WideStage.Size walk) reason context old mid request =
     (since : Before) × HasPutOwn context request (view_of old) since
     × CauseAtSize reason (context_after since context) old mid walk
 
@@ -189,10 +187,10 @@ pub record IsRefused (context : WalkContext) (old new : LocalState) (before : Op
 -- all is rolled back.
 abbrev pub TellsOfStep : WalkContext → LocalState → LocalState → OperationFields → OperationFields → StepAnswer
     → Type 0
-TellsOfStep context old new before after answer.Going =
+TellsOfStep context old new before after StepAnswer.Going =
     StepsOn context old new before after ⊎ SplitsFromHere context old new before after
     ⊎ Restarts context old new before after
-TellsOfStep context old new before after (answer.Waiting page by) =
+TellsOfStep context old new before after (StepAnswer.Waiting page by) =
     Waits context old new before after page by
-TellsOfStep context old new before after (answer.Refused reason) =
+TellsOfStep context old new before after (StepAnswer.Refused reason) =
     IsRefused context old new before reason

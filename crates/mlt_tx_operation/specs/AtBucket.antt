@@ -1,6 +1,6 @@
 -- What an operation on one record does once its walk has reached its bucket
 use Rattle.std.specs.Prelude.{ℕ, ◌≡◌, ◌⊎◌, Option, None}
-use Rattle.mlt_types.specs.declared.refusal.Refusal.TheVariants as refusal
+use Rattle.mlt_types.specs.declared.refusal.Refusal.{Refusal}
 use Rattle.mlt_object_base.specs.Effects.{inverse_of}
 use Rattle.mlt_object_base.specs.Requests.{size_key_of, target_of}
 use Rattle.mlt_hash_access.specs.LocalStates.{LocalState}
@@ -11,12 +11,11 @@ use Rattle.mlt_hash.specs.Walks.{WalkContext, MayWalk, WalkFields}
 use Rattle.mlt_hash.specs.Passes.{next_of}
 use Rattle.mlt_hash.specs.Steps.{HasFound}
 use Rattle.mlt_hash.specs.Changes.{HasNoRoom, NeedsSplit, page_of}
-use Rattle.mlt_hash.specs.declared.pass.Pass.TheVariants as pass
-use Rattle.mlt_hash.specs.declared.pass.Phase.TheVariants as at
+use Rattle.mlt_hash.specs.declared.pass.Pass.{Pass}
+use Rattle.mlt_hash.specs.declared.pass.Phase.{Phase}
 use Rattle.mlt_object_base.specs.declared.request.Request.{Request}
 use Rattle.mlt_object_base.specs.declared.request.Request.TheVariants.{Do, TakeBack}
 use Rattle.mlt_tx_operation.specs.declared.answer.StepAnswer.{StepAnswer}
-use Rattle.mlt_tx_operation.specs.declared.answer.StepAnswer.TheVariants as answer
 use Rattle.mlt_tx_operation.specs.Answers.{HasToRestart}
 use Rattle.mlt_tx_operation.specs.Walking.{IsThere, IsWalking, WalkingFields, steps_of_walk}
 use Rattle.mlt_tx_two_records.specs.Performing.{AsksToAdd}
@@ -50,7 +49,7 @@ pub record SplitsInPass (context : WalkContext) (old new : LocalState) (before a
   pub request : after.request ≡ before.request
   pub in_pass : after.walk.pass ≡ before.walk.pass
   pub operates : IsWalking context after (view_of new)
-  pub later : before.walk.pass ≡ pass.First → ⊥
+  pub later : before.walk.pass ≡ Pass.First → ⊥
   pub absent : HasFound before.walk.phase None
   pub value : ℕ
   pub needs : NeedsSplit context new before.walk after.walk value
@@ -65,12 +64,12 @@ pub record BeginsAgain (context : WalkContext) (old new : LocalState) (before af
   pub adds : (value : ℕ) × AsksToAdd before.request value
   pub full : WalkFields
   pub restarts : HasToRestart context old before.walk full
-  pub again : after.walk ≡ record full { pass = next_of full.phase; phase = at.Start; split = None }
+  pub again : after.walk ≡ record full { pass = next_of full.phase; phase = Phase.Start; split = None }
 
 -- There is no room at any depth.
 pub record FindsNoRoom (context : WalkContext) (old new : LocalState) (before : WalkingFields) : Type 0 where
   pub back : IsRolledBack old new
-  pub later : before.walk.pass ≡ pass.First → ⊥
+  pub later : before.walk.pass ≡ Pass.First → ⊥
   pub absent : HasFound before.walk.phase None
   pub adds : (value : ℕ) × AsksToAdd before.request value
   pub walk : WalkFields
@@ -78,9 +77,9 @@ pub record FindsNoRoom (context : WalkContext) (old new : LocalState) (before : 
 
 abbrev pub TellsAtBucket : WalkContext → LocalState → LocalState → WalkingFields → WalkingFields → StepAnswer
     → Type 0
-TellsAtBucket context old new before after answer.Going =
+TellsAtBucket context old new before after StepAnswer.Going =
     Finishes context old new before after ⊎ SplitsInPass context old new before after
     ⊎ BeginsAgain context old new before after
-TellsAtBucket context old new before after (answer.Refused refusal.NoRoom) =
+TellsAtBucket context old new before after (StepAnswer.Refused Refusal.NoRoom) =
     FindsNoRoom context old new before
 TellsAtBucket context old new before after other = ⊥

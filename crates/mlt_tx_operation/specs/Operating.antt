@@ -7,7 +7,7 @@ use Rattle.mlt_hash_form.specs.File.{FilePages, depth_of}
 use Rattle.mlt_hash_access.specs.LocalStates.{HasCleanFile, MayStep, LocalState}
 use Rattle.mlt_hash_access.specs.Views.{View, view_of}
 use Rattle.mlt_hash.specs.Walks.{WalkContext}
-use Rattle.mlt_hash.specs.declared.pass.Pass.TheVariants as pass
+use Rattle.mlt_hash.specs.declared.pass.Pass.{Pass}
 use Rattle.mlt_tx_two_records.specs.TwoRecordWalks.{CanDoBoth, IsFirst, IsTold, Stands, find_both, steps_of_two_records}
 use Rattle.mlt_tx_two_records.specs.declared.two_records.TwoRecordWalk.{TwoRecordWalk}
 use Rattle.mlt_tx_operation.specs.declared.access_path.AccessPath.{AccessPath}
@@ -43,7 +43,7 @@ started_for request = record {
 
 -- it is in its first pass
 abbrev pub IsInFirst : AccessPath → Type 0
-IsInFirst (One walk) = walk.pass ≡ pass.First
+IsInFirst (One walk) = walk.pass ≡ Pass.First
 IsInFirst (Two two_records) = IsFirst two_records
 
 -- where one on two records stands: on its way, or with its reply told, since all is written

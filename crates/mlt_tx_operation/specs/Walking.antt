@@ -15,9 +15,8 @@ use Rattle.mlt_hash_access.specs.Views.{View, view_of}
 use Rattle.mlt_hash.specs.Walks.{WalkContext, HasRead, IsAtBucket, IsStanding, MayWalk, WalkFields}
 use Rattle.mlt_hash.specs.Changes.{HasOwnGhost}
 use Rattle.mlt_hash.specs.declared.pass.Change.{Change}
-use Rattle.mlt_hash.specs.declared.pass.Pass.TheVariants as pass
+use Rattle.mlt_hash.specs.declared.pass.Pass.{Pass}
 use Rattle.mlt_hash.specs.declared.pass.Phase.{Phase}
-use Rattle.mlt_hash.specs.declared.pass.Phase.TheVariants as at
 use Rattle.mlt_tx_two_records.specs.Performing.{AsksToAdd, Performs}
 use Rattle.mlt_tx_two_records.specs.WalkSteps.{steps_to_change}
 
@@ -35,8 +34,8 @@ abbrev pub walk_for : Request → WalkFields
 walk_for request = record {
   key = (target_of request).0;
   mode = (target_of request).1;
-  pass = pass.First;
-  phase = at.Start;
+  pass = Pass.First;
+  phase = Phase.Start;
   split = None;
 }
 
@@ -62,14 +61,14 @@ pub record HasPerformed (context : WalkContext) (o : WalkingFields) (view : View
 
 -- what the walk's phase says of the reply
 abbrev pub FitsPhase : Phase → WalkContext → WalkingFields → View → Type 0
-FitsPhase at.Start context o view = o.reply ≡ None
-FitsPhase (at.Headed dir row depth) context o view = o.reply ≡ None
-FitsPhase (at.Placed bucket depth) context o view = o.reply ≡ None
-FitsPhase (at.AtBucket bucket depth found) context o view = IsTold o found
-FitsPhase (at.Full next) context o view = ⊥
-FitsPhase (at.Adding value bucket room_depth unsplit) context o view = IsToAdd o value
-FitsPhase (at.Splitting value room_depth) context o view = IsToAdd o value
-FitsPhase (at.Changed bucket done) context o view = HasPerformed context o view done
+FitsPhase Phase.Start context o view = o.reply ≡ None
+FitsPhase (Phase.Headed dir row depth) context o view = o.reply ≡ None
+FitsPhase (Phase.Placed bucket depth) context o view = o.reply ≡ None
+FitsPhase (Phase.AtBucket bucket depth found) context o view = IsTold o found
+FitsPhase (Phase.Full next) context o view = ⊥
+FitsPhase (Phase.Adding value bucket room_depth unsplit) context o view = IsToAdd o value
+FitsPhase (Phase.Splitting value room_depth) context o view = IsToAdd o value
+FitsPhase (Phase.Changed bucket done) context o view = HasPerformed context o view done
 
 -- It changes no size. Its walk is one to its key, and stands; and what it is told fits what the walk has found.
 pub record IsWalking (context : WalkContext) (o : WalkingFields) (view : View) : Type 0 where
@@ -89,7 +88,7 @@ abbrev pub CanTakeBackOne : WalkContext → (ℕ → Option Page) → Request �
 CanTakeBackOne context clean (Do op) = Unit {0}
 CanTakeBackOne context clean (TakeBack done) =
     (walk : WalkFields) (view : View) (bucket depth : ℕ) (found : Option ℕ)
-    → walk.key ≡ (target_of (TakeBack done)).0 → walk.phase ≡ at.AtBucket bucket depth found
+    → walk.key ≡ (target_of (TakeBack done)).0 → walk.phase ≡ Phase.AtBucket bucket depth found
     → IsAtBucket context walk view bucket depth found → Agrees view.seen clean
     → IsThere context walk view (inverse_of done) found
 

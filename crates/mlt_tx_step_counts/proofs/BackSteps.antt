@@ -1,24 +1,10 @@
 -- One step of an inverse, of an operation on one record or on two
 use Rattle.std.proofs.Common.{ℕ, ◌≡◌, ◌⊎◌, List, [], ◌∷◌, ◌++◌, Option, None, Some, IsSome, refl, sym, ap, subst, ◌∙◌, inl, inr}
-use Rattle.mlt_object_kinds.specs.declared.operation.ObjOp.{ObjOp}
-use Rattle.mlt_object_kinds.specs.declared.operation.ObjReply.{ObjReply}
-use Rattle.mlt_object_base.specs.Effects.{inverse_of}
+use Rattle.mlt_tx_step_counts.proofs.Names.{ObjOp, ObjReply, inverse_of, local, View, view_of, WalkContext, one_key, StepsOn, OperationFields, Answer, At, Transaction, inverse_from, TellsAt, TellsOfTransaction, IsTakenBack, IsToTakeBack, AreOwnSteps, GoesThen, OwnStep, answers_of, context_at, view_in, with_answer}
 use Rattle.mlt_object_undo.specs.Undo.{Undo}
-use Rattle.mlt_hash_access.specs.LocalStates.{local}
-use Rattle.mlt_hash_access.specs.Views.{View, view_of}
-use Rattle.mlt_hash.specs.Walks.{WalkContext, one_key}
-use Rattle.mlt_tx_operation.specs.Answers.{StepsOn, Waits}
-use Rattle.mlt_tx_operation.specs.Operating.{OperationFields}
-use Rattle.mlt_event.specs.declared.answer.Answer.{Answer}
-use Rattle.mlt_event.specs.declared.answer.Answer.TheVariants as answer
-use Rattle.mlt_tx.specs.declared.transaction.At.{At}
-use Rattle.mlt_tx.specs.declared.transaction.At.TheVariants as at
-use Rattle.mlt_tx.specs.declared.transaction.Transaction.{Transaction}
-use Rattle.mlt_tx.specs.Steps.{inverse_from}
-use Rattle.mlt_tx.specs.Transactions.{StepsBack, TellsAt, TellsOfTransaction}
+use Rattle.mlt_tx_operation.specs.Answers.{Waits}
+use Rattle.mlt_tx.specs.Transactions.{StepsBack}
 use Rattle.mlt_tx.proofs.Backing.{one_last}
-use Rattle.mlt_tx_step_counts.specs.Counts.{IsTakenBack, IsToTakeBack}
-use Rattle.mlt_tx_step_counts.specs.OwnSteps.{AreOwnSteps, GoesThen, OwnStep, answers_of, context_at, view_in, with_answer}
 
 not_both : {A B : Type 0} (o : Option B) → IsSome o → o ≡ None → A
 not_both None is none = cc
@@ -35,14 +21,14 @@ ends_at_last (Some o) last begins untold without at_end = not_both o.reply (at_e
 
 -- The abort takes this operation back, the last that stands: its inverse runs, or is to begin.
 pub record Undoes (inverting : Option OperationFields) (last : ObjOp × ObjReply) (t : Transaction) : Type 0 where
-  pub undoing : t.at ≡ at.Undoing inverting
+  pub undoing : t.at ≡ At.Undoing inverting
   pub front : List (ObjOp × ObjReply)
   pub entries : t.undo.entries ≡ front ++ last ∷ []
   pub begins : inverting ≡ None → IsSome (inverse_of last)
 
 -- it goes on
 pub record GoesBack (context : WalkContext) (inverting : Option OperationFields) (last : ObjOp × ObjReply) (t : Transaction) (own : OwnStep) : Type 0 where
-  pub going : own.told ≡ answer.Going
+  pub going : own.told ≡ Answer.Going
   pub next : OperationFields
   pub undoes : Undoes (Some next) last own.after
   pub on : StepsOn (context_at (one_key context) own) (local t.subtx own.old.pages) (local own.after.subtx own.new.pages) (inverse_from inverting last) next
@@ -51,7 +37,7 @@ pub record GoesBack (context : WalkContext) (inverting : Option OperationFields)
 pub record StaysBack (inverting : Option OperationFields) (last : ObjOp × ObjReply) (t : Transaction) (own : OwnStep) : Type 0 where
   pub page : ℕ
   pub by : ℕ
-  pub waiting : own.told ≡ answer.Waiting page by
+  pub waiting : own.told ≡ Answer.Waiting page by
   pub next : Option OperationFields
   pub undoes : Undoes next last own.after
   pub stands : inverse_from next last ≡ inverse_from inverting last
@@ -70,21 +56,21 @@ module _ (context : WalkContext) (inverting : Option OperationFields) (last : Ob
   back_step tells = subst (λ (a : At). TellsAt a (context_at (one_key context) own) t own.after own.old own.new own.told) undoes.undoing tells
 
   by_answer : (told : Answer) → own.told ≡ told → StepsBack (context_at (one_key context) own) inverting t own.after own.old own.new told → BackOutcome (one_key context) inverting last t own
-  by_answer answer.Going is s =
+  by_answer Answer.Going is s =
       let w = s.tells in
       let same : w.last ≡ last = one_last t.undo.entries w.front undoes.front w.last last w.entries undoes.entries in
       inr (inl (record {
         going = is;
         next = w.after;
         undoes = record {
-          undoing = s.now_at ∙ ap at.Undoing w.is;
+          undoing = s.now_at ∙ ap At.Undoing w.is;
           front = undoes.front;
           entries = ap (λ (u : Undo). u.entries) w.rest.undo_kept ∙ undoes.entries;
           begins = no_some w.after;
         };
         on = subst (λ (item : ObjOp × ObjReply). StepsOn (context_at (one_key context) own) (local t.subtx own.old.pages) (local own.after.subtx own.new.pages) (inverse_from inverting item) w.after) same w.tells;
       }))
-  by_answer (answer.Waiting page by) is s =
+  by_answer (Answer.Waiting page by) is s =
       let w = s.tells in
       let same : w.last ≡ last = one_last t.undo.entries w.front undoes.front w.last last w.entries undoes.entries in
       let waits : Waits (context_at (one_key context) own) (local t.subtx own.old.pages) (local own.after.subtx own.new.pages) (inverse_from inverting last) w.after page by =
@@ -95,7 +81,7 @@ module _ (context : WalkContext) (inverting : Option OperationFields) (last : Ob
         waiting = is;
         next = Some w.after;
         undoes = record {
-          undoing = s.now_at ∙ ap at.Undoing w.is;
+          undoing = s.now_at ∙ ap At.Undoing w.is;
           front = undoes.front;
           entries = ap (λ (u : Undo). u.entries) w.rest.undo_kept ∙ undoes.entries;
           begins = no_some w.after;
@@ -103,41 +89,41 @@ module _ (context : WalkContext) (inverting : Option OperationFields) (last : Ob
         stands = waits.stays;
         same = ap view_of waits.pages;
       })
-  by_answer answer.Undone is s = inr (inr (record {
+  by_answer Answer.Undone is s = inr (inr (record {
     taken = subst IsTakenBack (sym is) tt;
     told = λ untold. ends_at_last inverting last undoes.begins untold (λ none. s.tells.without undoes.front last none undoes.entries) (λ o some. (s.tells.at_end o some).0);
   }))
-  by_answer answer.Aborted is s = inr (inr (record {
+  by_answer Answer.Aborted is s = inr (inr (record {
     taken = subst IsTakenBack (sym is) tt;
     told = λ untold. ends_at_last inverting last undoes.begins untold (λ none. s.tells.without undoes.front last none undoes.entries) (λ o some. (s.tells.at_end o some).0);
   }))
-  by_answer (answer.Blocked by) is s = absurd s.tells
-  by_answer (answer.Done reply) is s = absurd s.tells
-  by_answer (answer.Refused reason) is s = absurd s.tells
+  by_answer (Answer.Blocked by) is s = absurd s.tells
+  by_answer (Answer.Done reply) is s = absurd s.tells
+  by_answer (Answer.Refused reason) is s = absurd s.tells
 
   -- **A step of an inverse.**
   pub inverse_step : TellsOfTransaction (context_at (one_key context) own) t own.after own.old own.new own.told → BackOutcome (one_key context) inverting last t own
   inverse_step tells = by_answer own.told refl (back_step tells)
 
 pub taken_then : (told : Answer) (rest : List Answer) → IsTakenBack told → GoesThen 0 IsTakenBack (with_answer told rest)
-taken_then answer.Undone rest is = tt
-taken_then answer.Aborted rest is = tt
+taken_then Answer.Undone rest is = tt
+taken_then Answer.Aborted rest is = tt
 taken_then other rest is = absurd is
 
 -- one without an inverse
 fast : (context : WalkContext) (t : Transaction) (last : ObjOp × ObjReply) (seen : View) (step : OwnStep) (more : List OwnStep) → IsToTakeBack t last → inverse_of last ≡ None
     → (told : Answer) → step.told ≡ told → StepsBack (context_at (one_key context) step) None t step.after step.old step.new told → IsTakenBack step.told
-fast context t last seen step more to none answer.Going is s =
+fast context t last seen step more to none Answer.Going is s =
     let same : s.tells.last ≡ last = one_last t.undo.entries s.tells.front to.front s.tells.last last s.tells.entries to.entries in
     not_both (inverse_of s.tells.last) (s.tells.begins refl) (ap inverse_of same ∙ none)
-fast context t last seen step more to none (answer.Waiting page by) is s =
+fast context t last seen step more to none (Answer.Waiting page by) is s =
     let same : s.tells.last ≡ last = one_last t.undo.entries s.tells.front to.front s.tells.last last s.tells.entries to.entries in
     not_both (inverse_of s.tells.last) (s.tells.begins refl) (ap inverse_of same ∙ none)
-fast context t last seen step more to none answer.Undone is s = subst IsTakenBack (sym is) tt
-fast context t last seen step more to none answer.Aborted is s = subst IsTakenBack (sym is) tt
-fast context t last seen step more to none (answer.Blocked by) is s = absurd s.tells
-fast context t last seen step more to none (answer.Done reply) is s = absurd s.tells
-fast context t last seen step more to none (answer.Refused reason) is s = absurd s.tells
+fast context t last seen step more to none Answer.Undone is s = subst IsTakenBack (sym is) tt
+fast context t last seen step more to none Answer.Aborted is s = subst IsTakenBack (sym is) tt
+fast context t last seen step more to none (Answer.Blocked by) is s = absurd s.tells
+fast context t last seen step more to none (Answer.Done reply) is s = absurd s.tells
+fast context t last seen step more to none (Answer.Refused reason) is s = absurd s.tells
 
 pub without_inverse : (context : WalkContext) (t : Transaction) (last : ObjOp × ObjReply) (seen : View) (steps : List OwnStep) → IsToTakeBack t last → AreOwnSteps (one_key context) t seen steps → inverse_of last ≡ None → GoesThen 0 IsTakenBack (answers_of steps)
 without_inverse context t last seen [] to own none = tt

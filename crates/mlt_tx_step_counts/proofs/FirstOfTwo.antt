@@ -1,30 +1,10 @@
 -- The steps of a first pass of an operation on two records, one after another
 use Rattle.std.proofs.Common.{ℕ, suc, ◌≡◌, ◌≤◌, ◌+◌, ◌⊎◌, Option, None, Some, IsSome, List, [], ◌∷◌, refl, ap, ◌∙◌, inl, inr, arith}
-use Rattle.mlt_object_kinds.specs.declared.operation.ObjOp.{ObjOp}
-use Rattle.mlt_object_kinds.specs.declared.operation.ObjReply.{ObjReply}
-use Rattle.mlt_object_base.specs.declared.request.Request.TheVariants.{Do}
-use Rattle.mlt_object_base.specs.Requests.{size_key_of, target_of}
-use Rattle.mlt_hash_access.specs.LocalStates.{local}
-use Rattle.mlt_hash_access.specs.Views.{View}
-use Rattle.mlt_hash_pair.specs.Pairs.{PairFields, find_by, least_steps, most_steps}
+use Rattle.mlt_tx_step_counts.proofs.Names.{ObjOp, ObjReply, Do, size_key_of, target_of, local, View, PairFields, find_by, least_steps, most_steps, WalkContext, WalkFields, one_key, TwoRecordWalk, First, Owing, Wide, WideStage, GoesOnBy, TellsLast, wide_to, Two, access_path_for, started_for, Answer, At, Transaction, IsDoneOrBlocked, started_wide, AreOwnSteps, GoesThen, GoesToTurn, OwnStep, answers_of, context_at, view_in, with_answer}
 use Rattle.mlt_hash_pair.specs.declared.descent.Descent.{Descent}
-use Rattle.mlt_hash_pair.specs.declared.descent.Descent.TheVariants as way
-use Rattle.mlt_hash.specs.Walks.{WalkContext, WalkFields, one_key}
-use Rattle.mlt_tx_two_records.specs.declared.two_records.TwoRecordWalk.{TwoRecordWalk}
-use Rattle.mlt_tx_two_records.specs.declared.two_records.TwoRecordWalk.TheVariants.{First, Owing, Wide}
-use Rattle.mlt_tx_two_records.specs.declared.two_records.WideStage.TheVariants as wide_stage
-use Rattle.mlt_tx_two_records.specs.Answers.{GoesOnBy, TellsLast}
 use Rattle.mlt_tx_two_records.specs.TwoRecordWalks as two_records
-use Rattle.mlt_tx_two_records.specs.WidePass.{wide_to}
-use Rattle.mlt_tx_operation.specs.declared.access_path.AccessPath.TheVariants.{Two}
-use Rattle.mlt_tx_operation.specs.Operating.{access_path_for, started_for}
-use Rattle.mlt_event.specs.declared.answer.Answer.{Answer}
-use Rattle.mlt_event.specs.declared.answer.Answer.TheVariants as answer
-use Rattle.mlt_tx.specs.declared.transaction.At.TheVariants as at
-use Rattle.mlt_tx.specs.declared.transaction.Transaction.{Transaction}
-use Rattle.mlt_tx_step_counts.specs.Counts.{IsDoneOrBlocked}
-use Rattle.mlt_tx_step_counts.specs.CountsOfTwo.{FindsBoth, FindsNoRoomForTwo, OwesEarlier, started_wide}
-use Rattle.mlt_tx_step_counts.specs.OwnSteps.{AreOwnSteps, GoesBelow, GoesThen, GoesToTurn, OwnStep, answers_of, context_at, view_in, with_answer}
+use Rattle.mlt_tx_step_counts.specs.CountsOfTwo.{FindsBoth, FindsNoRoomForTwo, OwesEarlier}
+use Rattle.mlt_tx_step_counts.specs.OwnSteps.{GoesBelow}
 use Rattle.mlt_tx_step_counts.proofs.Answers.{then_after_going, then_after_wait, turn_after_going, turn_after_wait, turn_here}
 use Rattle.mlt_tx_step_counts.proofs.StagesOfTwo.{IsReady, StandsAt, end_comes_of_two, pending_at, step_of_two}
 
@@ -34,14 +14,14 @@ EndsFirst context op Then least most steps =
     GoesBelow most (answers_of steps)
     ⊎ ((n : ℕ) × (least ≤ n) × (n ≤ most) × GoesToTurn (one_key context) n (FindsBoth (one_key context) op Then) steps)
 
-after_wait : (context : WalkContext) (op : ObjOp) (Then : List OwnStep → Type 0) (least most page by : ℕ) (step : OwnStep) (more : List OwnStep) → step.told ≡ answer.Waiting page by → EndsFirst (one_key context) op Then least most more → EndsFirst (one_key context) op Then least most (step ∷ more)
+after_wait : (context : WalkContext) (op : ObjOp) (Then : List OwnStep → Type 0) (least most page by : ℕ) (step : OwnStep) (more : List OwnStep) → step.told ≡ Answer.Waiting page by → EndsFirst (one_key context) op Then least most more → EndsFirst (one_key context) op Then least most (step ∷ more)
 after_wait context op Then least most page by step more waits (inl (k, few, goes)) = inl (k, few, ap (λ (a : Answer). with_answer a (answers_of more)) waits ∙ goes)
 after_wait context op Then least most page by step more waits (inr (n, some, few, turn)) = inr (n, some, few, turn_after_wait step more (one_key context) n page by (FindsBoth (one_key context) op Then) waits turn)
 
-after_going : (context : WalkContext) (op : ObjOp) (Then : List OwnStep → Type 0) (least most least' most' : ℕ) (step : OwnStep) (more : List OwnStep) → step.told ≡ answer.Going → least ≤ least' + 1 → most' + 1 ≤ most
+after_going : (context : WalkContext) (op : ObjOp) (Then : List OwnStep → Type 0) (least most least' most' : ℕ) (step : OwnStep) (more : List OwnStep) → step.told ≡ Answer.Going → least ≤ least' + 1 → most' + 1 ≤ most
     → EndsFirst (one_key context) op Then least' most' more → EndsFirst (one_key context) op Then least most (step ∷ more)
 after_going context op Then least most least' most' step more going low high (inl (k, few, goes)) =
-    inl (suc k, omega (arith, high, few), ap (λ (a : Answer). with_answer a (answers_of more)) going ∙ ap (λ (l : List Answer). answer.Going ∷ l) goes)
+    inl (suc k, omega (arith, high, few), ap (λ (a : Answer). with_answer a (answers_of more)) going ∙ ap (λ (l : List Answer). Answer.Going ∷ l) goes)
 after_going context op Then least most least' most' step more going low high (inr (n, some, few, turn)) = inr (suc n, omega (arith, low, some), omega (arith, high, few), turn_after_going step more (one_key context) n (FindsBoth (one_key context) op Then) going turn)
 
 -- the write of the earlier bucket, and the end
@@ -58,40 +38,40 @@ ends_owing context op pair reply t seen (step ∷ more) s own = elim (step_of_tw
     none_on : (after : TwoRecordWalk) → GoesOnBy (Owing pair reply) after (context_at (one_key context) step) (local t.subtx step.old.pages) (local step.after.subtx step.new.pages) (Do op) → GoesThen 1 IsDoneOrBlocked (answers_of (step ∷ more))
     none_on (First pair') none = absurd none
     none_on (Owing pair' reply') none = absurd none
-    none_on (Wide wide_stage.Own walk) none = absurd none
-    none_on (Wide wide_stage.Size walk) none = absurd none
+    none_on (Wide WideStage.Own walk) none = absurd none
+    none_on (Wide WideStage.Size walk) none = absurd none
 
 -- what may follow where there is no room
 abbrev Follows : WalkContext → ObjOp → (List OwnStep → Type 0) → Type 0
-Follows context op Then = (t : Transaction) (seen : View) (steps : List OwnStep) → t.at ≡ at.Pending (started_wide (Do op)) → AreOwnSteps (one_key context) t seen steps → Then steps
+Follows context op Then = (t : Transaction) (seen : View) (steps : List OwnStep) → t.at ≡ At.Pending (started_wide (Do op)) → AreOwnSteps (one_key context) t seen steps → Then steps
 
 -- a wide pass begins
-begins_wide : (op : ObjOp) (walk : WalkFields) (t : Transaction) → walk ≡ wide_to (target_of (Do op)).0 → StandsAt (Do op) (Wide wide_stage.Own walk) t → t.at ≡ at.Pending (started_wide (Do op))
+begins_wide : (op : ObjOp) (walk : WalkFields) (t : Transaction) → walk ≡ wide_to (target_of (Do op)).0 → StandsAt (Do op) (Wide WideStage.Own walk) t → t.at ≡ At.Pending (started_wide (Do op))
 begins_wide op walk t is s =
-    s.pending ∙ ap at.Pending (λ i. record { request = s.asked i; reply = s.untold i; access_path = (s.access_path ∙ ap (λ (w : WalkFields). Two (Wide wide_stage.Own w)) is) i })
+    s.pending ∙ ap At.Pending (λ i. record { request = s.asked i; reply = s.untold i; access_path = (s.access_path ∙ ap (λ (w : WalkFields). Two (Wide WideStage.Own w)) is) i })
 
 -- the two bounds
 pub few_or_more : (left right : Descent) → least_steps left right ≤ most_steps left right
-few_or_more way.Start other = omega arith
-few_or_more (way.Headed place dir row) way.Start = omega arith
-few_or_more (way.Headed place dir row) (way.Headed place' dir' row') = omega arith
-few_or_more (way.Headed place dir row) (way.Placed dir' bucket') = omega arith
-few_or_more (way.Headed place dir row) (way.AtBucket dir' bucket' found') = omega arith
-few_or_more (way.Placed dir bucket) way.Start = omega arith
-few_or_more (way.Placed dir bucket) (way.Headed place' dir' row') = omega arith
-few_or_more (way.Placed dir bucket) (way.Placed dir' bucket') = omega arith
-few_or_more (way.Placed dir bucket) (way.AtBucket dir' bucket' found') = omega arith
-few_or_more (way.AtBucket dir bucket found) way.Start = omega arith
-few_or_more (way.AtBucket dir bucket found) (way.Headed place' dir' row') = omega arith
-few_or_more (way.AtBucket dir bucket found) (way.Placed dir' bucket') = omega arith
-few_or_more (way.AtBucket dir bucket found) (way.AtBucket dir' bucket' found') = omega arith
+few_or_more Descent.Start other = omega arith
+few_or_more (Descent.Headed place dir row) Descent.Start = omega arith
+few_or_more (Descent.Headed place dir row) (Descent.Headed place' dir' row') = omega arith
+few_or_more (Descent.Headed place dir row) (Descent.Placed dir' bucket') = omega arith
+few_or_more (Descent.Headed place dir row) (Descent.AtBucket dir' bucket' found') = omega arith
+few_or_more (Descent.Placed dir bucket) Descent.Start = omega arith
+few_or_more (Descent.Placed dir bucket) (Descent.Headed place' dir' row') = omega arith
+few_or_more (Descent.Placed dir bucket) (Descent.Placed dir' bucket') = omega arith
+few_or_more (Descent.Placed dir bucket) (Descent.AtBucket dir' bucket' found') = omega arith
+few_or_more (Descent.AtBucket dir bucket found) Descent.Start = omega arith
+few_or_more (Descent.AtBucket dir bucket found) (Descent.Headed place' dir' row') = omega arith
+few_or_more (Descent.AtBucket dir bucket found) (Descent.Placed dir' bucket') = omega arith
+few_or_more (Descent.AtBucket dir bucket found) (Descent.AtBucket dir' bucket' found') = omega arith
 
 -- how it ends from where the pair is
 abbrev EndsFrom : WalkContext → ObjOp → (List OwnStep → Type 0) → PairFields → List OwnStep → Type 0
 EndsFrom context op Then pair steps = EndsFirst (one_key context) op Then (least_steps pair.left_descent pair.right_descent) (most_steps pair.left_descent pair.right_descent) steps
 
 module _ (context : WalkContext) (op : ObjOp) (Then : List OwnStep → Type 0) (then : Follows (one_key context) op Then) (pair : PairFields) (t : Transaction) (s : StandsAt (Do op) (First pair) t)
-    (step : OwnStep) (more : List OwnStep) (own : AreOwnSteps (one_key context) step.after (view_in step.after step.new) more) (going : step.told ≡ answer.Going) where
+    (step : OwnStep) (more : List OwnStep) (own : AreOwnSteps (one_key context) step.after (view_in step.after step.new) more) (going : step.told ≡ Answer.Going) where
   -- at the step that finds both keys
   finds : least_steps pair.left_descent pair.right_descent ≤ 1 → 1 ≤ most_steps pair.left_descent pair.right_descent
       → (GoesThen 0 IsDoneOrBlocked (answers_of more) ⊎ OwesEarlier step more ⊎ FindsNoRoomForTwo (one_key context) op Then pair t step more) → EndsFrom (one_key context) op Then pair (step ∷ more)
@@ -110,14 +90,14 @@ module _ (context : WalkContext) (op : ObjOp) (Then : List OwnStep → Type 0) (
     still = pending_at (Do op) (Owing pair' reply) step.after s';
     ends = ends_owing (one_key context) op pair' reply step.after (view_in step.after step.new) more s' own;
   })))
-  goes_from rest (Wide wide_stage.Own walk) s' holds on =
+  goes_from rest (Wide WideStage.Own walk) s' holds on =
       let begins = begins_wide op walk step.after on.1 s' in
       finds on.0.last.least on.0.last.most (inr (inr (record {
         begins = begins;
         none = on.0;
         later = then step.after (view_in step.after step.new) more begins own;
       })))
-  goes_from rest (Wide wide_stage.Size walk) s' holds none = absurd none
+  goes_from rest (Wide WideStage.Size walk) s' holds none = absurd none
 
   tells_from : (after : TwoRecordWalk) → TellsLast (First pair) after → IsReady step.after → EndsFrom (one_key context) op Then pair (step ∷ more)
   tells_from (First pair') last ready = finds last.least last.most (inl (end_comes_of_two (one_key context) step.after (view_in step.after step.new) more ready own))
@@ -138,7 +118,7 @@ to_end context op Then then (step ∷ more) pair t seen s some own = elim (step_
 
 -- **A first pass on two records.**
 pub first_of_two : (context : WalkContext) (op : ObjOp) (Then : List OwnStep → Type 0) (then : Follows (one_key context) op Then) (t : Transaction) (seen : View) (steps : List OwnStep) → IsSome (size_key_of (Do op))
-    → t.at ≡ at.Pending (started_for (Do op)) → AreOwnSteps (one_key context) t seen steps → EndsFirst (one_key context) op Then 3 5 steps
+    → t.at ≡ At.Pending (started_for (Do op)) → AreOwnSteps (one_key context) t seen steps → EndsFirst (one_key context) op Then 3 5 steps
 first_of_two context op Then then t seen steps two pending own = by (size_key_of (Do op)) refl two
   where
     by : (size : Option ℕ) → size_key_of (Do op) ≡ size → IsSome size → EndsFirst (one_key context) op Then 3 5 steps

@@ -1,19 +1,7 @@
 -- The steps of an inverse of an operation on one record, one after another
 use Rattle.std.proofs.Common.{ℕ, zero, suc, ◌≡◌, ◌≤◌, List, [], ◌∷◌, Option, None, Some, refl, ap, subst, ◌∙◌, inl, inr, arith}
-use Rattle.mlt_object_kinds.specs.declared.operation.ObjOp.{ObjOp}
-use Rattle.mlt_object_kinds.specs.declared.operation.ObjReply.{ObjReply}
-use Rattle.mlt_object_base.specs.declared.request.Request.TheVariants.{TakeBack}
-use Rattle.mlt_object_base.specs.Requests.{size_key_of}
-use Rattle.mlt_hash_access.specs.LocalStates.{local}
-use Rattle.mlt_hash_access.specs.Views.{View}
-use Rattle.mlt_hash.specs.Walks.{WalkContext, one_key}
-use Rattle.mlt_tx_operation.specs.Answers.{StepsOn}
-use Rattle.mlt_tx_operation.specs.Operating.{OperationFields, access_path_for, on_one}
-use Rattle.mlt_tx_operation.specs.Walking.{WalkingFields, steps_of_walk, walk_for, walking}
-use Rattle.mlt_tx.specs.declared.transaction.Transaction.{Transaction}
-use Rattle.mlt_tx.specs.Steps.{inverse_from}
-use Rattle.mlt_tx_step_counts.specs.Counts.{IsTakenBack, IsToTakeBack, TakesBackInFour}
-use Rattle.mlt_tx_step_counts.specs.OwnSteps.{AreOwnSteps, GoesThen, OwnStep, answers_of, context_at, view_in}
+use Rattle.mlt_tx_step_counts.proofs.Names.{ObjOp, ObjReply, TakeBack, size_key_of, local, View, WalkContext, one_key, StepsOn, OperationFields, access_path_for, on_one, WalkingFields, steps_of_walk, walk_for, walking, Transaction, inverse_from, IsTakenBack, IsToTakeBack, AreOwnSteps, GoesThen, OwnStep, answers_of, context_at, view_in}
+use Rattle.mlt_tx_step_counts.specs.Counts.{TakesBackInFour}
 use Rattle.mlt_tx_step_counts.proofs.Answers.{then_after_going, then_after_wait}
 use Rattle.mlt_tx_step_counts.proofs.BackSteps.{GoesBack, StaysBack, Undoes, inverse_step, taken_then, to_begin, without_inverse}
 use Rattle.mlt_tx_step_counts.proofs.Stages.{one_fewer_after, still_on_one, untold_before}

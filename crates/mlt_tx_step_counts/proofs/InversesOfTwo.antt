@@ -1,32 +1,11 @@
 -- The steps of an inverse of an operation on two records, one after another
 use Rattle.std.proofs.Common.{ℕ, zero, suc, ◌≡◌, ◌≤◌, ◌+◌, ◌⊎◌, List, [], ◌∷◌, Option, None, Some, IsSome, is_some, refl, sym, ap, subst, ◌∙◌, inl, inr, arith}
-use Rattle.mlt_object_kinds.specs.declared.operation.ObjOp.{ObjOp}
-use Rattle.mlt_object_kinds.specs.declared.operation.ObjReply.{ObjReply}
-use Rattle.mlt_object_kinds.specs.declared.operation.ObjOp.TheVariants as op
-use Rattle.mlt_object_kinds.specs.declared.operation.ObjReply.TheVariants as reply
-use Rattle.mlt_object_kinds.specs.declared.element.ElementOp.TheVariants as element
-use Rattle.mlt_object_base.specs.declared.request.Request.{Request}
-use Rattle.mlt_object_base.specs.declared.request.Request.TheVariants.{TakeBack}
-use Rattle.mlt_object_base.specs.Effects.{inverse_of}
-use Rattle.mlt_object_base.specs.Requests.{size_key_of, target_of}
-use Rattle.mlt_hash_access.specs.LocalStates.{LocalState, local}
-use Rattle.mlt_hash_access.specs.Views.{View, view_of}
-use Rattle.mlt_hash_pair.specs.Pairs.{PairFields, find_by, least_steps, most_steps}
-use Rattle.mlt_hash.specs.Walks.{WalkContext, one_key}
-use Rattle.mlt_tx_two_records.specs.declared.two_records.TwoRecordWalk.{TwoRecordWalk}
-use Rattle.mlt_tx_two_records.specs.declared.two_records.TwoRecordWalk.TheVariants.{First, Owing, Wide}
-use Rattle.mlt_tx_two_records.specs.declared.two_records.WideStage.TheVariants as wide_stage
-use Rattle.mlt_tx_two_records.specs.Answers.{TellsLast}
+use Rattle.mlt_tx_step_counts.proofs.Names.{ObjOp, ObjReply, Request, TakeBack, inverse_of, size_key_of, target_of, LocalState, local, View, view_of, PairFields, find_by, least_steps, most_steps, WalkContext, one_key, TwoRecordWalk, First, Owing, Wide, WideStage, TellsLast, AccessPath, One, Two, StepsOn, IsInFirst, OperationFields, access_path_for, Transaction, inverse_from, IsTakenBack, IsToTakeBack, AreOwnSteps, GoesThen, OwnStep, answers_of, context_at, view_in}
+use Rattle.mlt_object_kinds.specs.declared.element.ElementOp.{ElementOp}
 use Rattle.mlt_tx_two_records.specs.TwoRecordWalks.{IsFirst}
-use Rattle.mlt_tx_operation.specs.declared.access_path.AccessPath.{AccessPath}
-use Rattle.mlt_tx_operation.specs.declared.access_path.AccessPath.TheVariants.{One, Two}
-use Rattle.mlt_tx_operation.specs.Answers.{TwoRecordSteps, StepsBy, StepsOn}
-use Rattle.mlt_tx_operation.specs.Operating.{IsInFirst, OperationFields, access_path_for, steps_by, steps_left}
-use Rattle.mlt_tx.specs.declared.transaction.Transaction.{Transaction}
-use Rattle.mlt_tx.specs.Steps.{inverse_from}
-use Rattle.mlt_tx_step_counts.specs.Counts.{IsTakenBack, IsToTakeBack}
+use Rattle.mlt_tx_operation.specs.Answers.{TwoRecordSteps, StepsBy}
+use Rattle.mlt_tx_operation.specs.Operating.{steps_by, steps_left}
 use Rattle.mlt_tx_step_counts.specs.CountsOfTwo.{TakesBackInSeven}
-use Rattle.mlt_tx_step_counts.specs.OwnSteps.{AreOwnSteps, GoesThen, OwnStep, answers_of, context_at, view_in}
 use Rattle.mlt_tx_step_counts.proofs.Answers.{then_after_going, then_after_wait}
 use Rattle.mlt_tx_step_counts.proofs.BackSteps.{GoesBack, StaysBack, Undoes, inverse_step, taken_then, to_begin}
 use Rattle.mlt_tx_step_counts.proofs.FirstOfTwo.{few_or_more}
@@ -62,8 +41,8 @@ waits_ready two_records inverting last t own s waits = record {
 one_left : (root : ℕ) (two_records : TwoRecordWalk) (reply : Option ObjReply) (view : View) → 1 ≤ steps_by (Two two_records) root reply view
 one_left root (First pair) None view = omega arith
 one_left root (Owing pair told) None view = omega arith
-one_left root (Wide wide_stage.Own walk) None view = omega arith
-one_left root (Wide wide_stage.Size walk) None view = omega arith
+one_left root (Wide WideStage.Own walk) None view = omega arith
+one_left root (Wide WideStage.Size walk) None view = omega arith
 one_left root two_records (Some told) view = omega arith
 
 -- what a step that goes on makes of it
@@ -144,8 +123,8 @@ ends_owing context (step ∷ more) pair told inverting last t seen s own = elim 
     none_on : {A : Type 0} (after : TwoRecordWalk) → TwoRecordSteps None (Owing pair told) after (context_at (one_key context) step) (local t.subtx step.old.pages) (local step.after.subtx step.new.pages) (inverse_from inverting last).request → A
     none_on (First pair') none = absurd none
     none_on (Owing pair' told') none = absurd none
-    none_on (Wide wide_stage.Own walk) none = absurd none
-    none_on (Wide wide_stage.Size walk) none = absurd none
+    none_on (Wide WideStage.Own walk) none = absurd none
+    none_on (Wide WideStage.Size walk) none = absurd none
 
 -- how it ends from where the pair is
 abbrev EndsBack : ℕ → ℕ → List OwnStep → Type 0
@@ -199,8 +178,8 @@ to_end context (step ∷ more) pair inverting last t seen s own = elim (inverse_
 
 -- what was done to two records has an inverse
 has_inverse : (last : ObjOp × ObjReply) → IsSome (size_key_of (TakeBack last)) → IsSome (inverse_of last)
-has_inverse (op.Element s e element.Add, reply.Added) two = refl
-has_inverse (op.Element s e element.Remove, reply.Removed) two = refl
+has_inverse (ObjOp.Element s e ElementOp.Add, ObjReply.Added) two = refl
+has_inverse (ObjOp.Element s e ElementOp.Remove, ObjReply.Removed) two = refl
 has_inverse other two = cc
 
 -- **An inverse.**

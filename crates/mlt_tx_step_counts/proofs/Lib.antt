@@ -1,3 +1,4 @@
+mod Names
 pub mod Answers
 pub mod BackSteps
 pub mod Extra

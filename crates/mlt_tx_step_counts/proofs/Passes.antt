@@ -1,32 +1,11 @@
 -- The steps of one pass of an operation on one record, one after another
 use Rattle.std.proofs.Common.{ℕ, zero, suc, ◌≡◌, ◌≤◌, ◌⊎◌, List, [], ◌∷◌, None, refl, sym, ap, subst, ◌∙◌, inl, inr, true, Bool, arith}
 use Rattle.mlt_types.specs.declared.mode.Mode.{Mode}
-use Rattle.mlt_object_kinds.specs.declared.operation.ObjOp.{ObjOp}
-use Rattle.mlt_object_base.specs.declared.request.Request.{Request}
-use Rattle.mlt_object_base.specs.declared.request.Request.TheVariants.{Do}
-use Rattle.mlt_object_base.specs.Requests.{target_of}
-use Rattle.mlt_hash_form.specs.File.{bucket_of}
-use Rattle.mlt_hash_access.specs.LocalStates.{LocalState, local}
-use Rattle.mlt_hash_access.specs.Views.{View, view_of}
-use Rattle.mlt_hash.specs.Changes.{page_of}
+use Rattle.mlt_tx_step_counts.proofs.Names.{ObjOp, Request, Do, target_of, bucket_of, LocalState, local, View, view_of, page_of, steps_to_bucket, bucket_depth, directory_depth, WalkContext, IsAdding, Stands, WalkFields, one_key, Pass, Phase, put_on_way, StepsOn, on_one, FitsPhase, WalkingFields, steps_of_walk, walk_for, walking, Answer, At, Transaction, TellsOfTransaction, IsDoneOrBlocked, IsRefusal, AreOwnSteps, GoesThen, GoesToTurn, GoesUpTo, OwnStep, answers_of, context_at, view_in}
 use Rattle.mlt_hash.specs.Passes.{IsNextPass, next_of}
-use Rattle.mlt_hash.specs.Steps.{steps_to_bucket}
-use Rattle.mlt_hash.specs.StepsLeft.{bucket_depth, directory_depth}
-use Rattle.mlt_hash.specs.Walks.{WalkContext, IsAdding, Stands, WalkFields, one_key}
-use Rattle.mlt_hash.specs.declared.pass.Pass.{Pass}
-use Rattle.mlt_hash.specs.declared.pass.Pass.TheVariants as pass
-use Rattle.mlt_hash.specs.declared.pass.Phase.{Phase}
-use Rattle.mlt_hash.specs.declared.pass.Phase.TheVariants as phase
-use Rattle.mlt_hash.proofs.StepsLeft.{put_on_way}
-use Rattle.mlt_tx_operation.specs.Answers.{HasToRestart, PutsBehindSplits, Restarts, SplitsFromHere, StepsOn}
-use Rattle.mlt_tx_operation.specs.Operating.{on_one}
-use Rattle.mlt_tx_operation.specs.Walking.{FitsPhase, IsToAdd, WalkingFields, steps_of_walk, walk_for, walking}
-use Rattle.mlt_event.specs.declared.answer.Answer.TheVariants as answer
-use Rattle.mlt_tx.specs.declared.transaction.At.TheVariants as at
-use Rattle.mlt_tx.specs.declared.transaction.Transaction.{Transaction}
-use Rattle.mlt_tx.specs.Transactions.{TellsOfTransaction}
-use Rattle.mlt_tx_step_counts.specs.Counts.{BeginsSplits, FindsNoRoom, IsDoneOrBlocked, IsRefusal, MayFollow, PutsRecord, TakesFirstPass, TakesLaterPass, TakesNarrowPass, TakesNextPass, started_in}
-use Rattle.mlt_tx_step_counts.specs.OwnSteps.{AreOwnSteps, GoesThen, GoesToTurn, GoesUpTo, OwnStep, answers_of, context_at, view_in}
+use Rattle.mlt_tx_operation.specs.Answers.{HasToRestart, PutsBehindSplits, Restarts, SplitsFromHere}
+use Rattle.mlt_tx_operation.specs.Walking.{IsToAdd}
+use Rattle.mlt_tx_step_counts.specs.Counts.{BeginsSplits, FindsNoRoom, MayFollow, PutsRecord, TakesFirstPass, TakesLaterPass, TakesNarrowPass, TakesNextPass, started_in}
 use Rattle.mlt_tx_step_counts.proofs.Answers.{ended_then, refused_in, then_after_going, then_after_wait, turn_after_going, turn_after_wait, turn_here, up_to_after_wait, up_to_after_going}
 use Rattle.mlt_tx_step_counts.proofs.PendingSteps.{last_step, one_step}
 use Rattle.mlt_tx_step_counts.proofs.Stages.{GoesOnOne, Stage, goes_on_one, left_at, on_stage, one_fewer_after, still_stage, told_at_last, untold_before}
@@ -37,19 +16,19 @@ two_left : (root : ℕ) (walk : WalkFields) (view : View) → steps_to_bucket wa
 two_left root walk view last = let none = put_on_way walk.phase root walk view (omega (arith, last)) in omega (arith, last, none)
 
 -- the pass that follows a full bucket, by the pass that found it full
-after_first : (next : Pass) (crowded : ℕ → Bool) (l most g : ℕ) → IsNextPass crowded l most g next → MayFollow pass.First next
-after_first pass.First crowded l most g never = absurd never
-after_first pass.Narrow crowded l most g may = inl refl
-after_first pass.Wide crowded l most g not = inr refl
+after_first : (next : Pass) (crowded : ℕ → Bool) (l most g : ℕ) → IsNextPass crowded l most g next → MayFollow Pass.First next
+after_first Pass.First crowded l most g never = absurd never
+after_first Pass.Narrow crowded l most g may = inl refl
+after_first Pass.Wide crowded l most g not = inr refl
 
 follows : (context : WalkContext) (m : LocalState) (walk full : WalkFields) (p : Pass) → walk.pass ≡ p → HasToRestart (one_key context) m walk full → MayFollow p (next_of full.phase)
 follows context m walk full p is (inl (first, (value, needs))) =
     let next = needs.first first in
     subst (λ (q : Pass). MayFollow q (next_of full.phase)) (sym first ∙ is)
-    (subst (λ (q : Phase). MayFollow pass.First (next_of q)) (sym next.1) (after_first next.0 _ _ _ _ next.2))
+    (subst (λ (q : Phase). MayFollow Pass.First (next_of q)) (sym next.1) (after_first next.0 _ _ _ _ next.2))
 follows context m walk full p is (inr widen) =
     subst (λ (q : Pass). MayFollow q (next_of full.phase)) (sym widen.narrow ∙ is)
-    (subst (λ (q : Phase). MayFollow pass.Narrow (next_of q)) (sym widen.phase) refl)
+    (subst (λ (q : Phase). MayFollow Pass.Narrow (next_of q)) (sym widen.phase) refl)
 
 -- what is begun again is the same operation, started in the next pass
 begun_anew : (context : WalkContext) (old new : LocalState) (op : ObjOp) (before next : WalkingFields) → before.request ≡ Do op → (r : Restarts (one_key context) old new (on_one before) (on_one next))
@@ -58,7 +37,7 @@ begun_anew context old new op before next asked r =
     let request : next.request ≡ Do op = r.request ∙ asked in
     let key : r.how.full.key ≡ (target_of (Do op)).0 = sym (ap (λ (w : WalkFields). w.key) r.how.again) ∙ ap (λ (k : ℕ × Mode). k.0) r.operates.target ∙ ap (λ (q : Request). (target_of q).0) request in
     let mode : r.how.full.mode ≡ (target_of (Do op)).1 = sym (ap (λ (w : WalkFields). w.mode) r.how.again) ∙ ap (λ (k : ℕ × Mode). k.1) r.operates.target ∙ ap (λ (q : Request). (target_of q).1) request in
-    let walk : next.walk ≡ record (walk_for (Do op)) { pass = next_of r.how.full.phase } = r.how.again ∙ (λ i. record { key = key i; mode = mode i; pass = next_of r.how.full.phase; phase = phase.Start; split = None }) in
+    let walk : next.walk ≡ record (walk_for (Do op)) { pass = next_of r.how.full.phase } = r.how.again ∙ (λ i. record { key = key i; mode = mode i; pass = next_of r.how.full.phase; phase = Phase.Start; split = None }) in
     let untold : next.reply ≡ None = subst (λ (q : Phase). FitsPhase q (one_key context) next (view_of new)) (ap (λ (w : WalkFields). w.phase) r.how.again) r.operates.fits in
     λ i. on_one (walking (request i) (untold i) (walk i))
 
@@ -76,7 +55,7 @@ end_comes context op p o t seen [] stage own = tt
 end_comes context op p o t seen (step ∷ more) stage own = ended_then step.told (answers_of more) (last_step (one_key context) (on_one o) t step stage.pending (stage.told refl) own.1)
 
 module _ (context : WalkContext) (op : ObjOp) (p : Pass) (o : WalkingFields) (t : Transaction) (seen : View) (step : OwnStep) (n : ℕ) (stage : Stage (one_key context) op n p o t seen)
-    (there : steps_to_bucket o.walk.phase ≡ 0) (untold : o.reply ≡ None) (goes : GoesOnOne (one_key context) o t step) (going : step.told ≡ answer.Going) where
+    (there : steps_to_bucket o.walk.phase ≡ 0) (untold : o.reply ≡ None) (goes : GoesOnOne (one_key context) o t step) (going : step.told ≡ Answer.Going) where
   -- it puts its record,
   puts_now : (on : StepsOn (context_at (one_key context) step) (local t.subtx step.old.pages) (local step.after.subtx step.new.pages) (on_one o) (on_one goes.next)) → PutsBehindSplits o.walk goes.next.walk
       → PutsNow (one_key context) PutsRecord o.walk t step
@@ -159,7 +138,7 @@ split_outcome context op p walk t seen step s there sees tells =
 
 module _ (context : WalkContext) (op : ObjOp) (n : ℕ) (p : Pass) (o : WalkingFields) (t : Transaction) (seen : View) (step : OwnStep) (more : List OwnStep) (stage : Stage (one_key context) op n p o t seen) (goes : GoesOnOne (one_key context) o t step) where
   -- a pass that is given up
-  pub no_room : (Then : Pass → List OwnStep → Type 0) → ((next : Pass) (t : Transaction) (seen : View) (steps : List OwnStep) → MayFollow p next → t.at ≡ at.Pending (started_in (Do op) next) → AreOwnSteps (one_key context) t seen steps → Then next steps)
+  pub no_room : (Then : Pass → List OwnStep → Type 0) → ((next : Pass) (t : Transaction) (seen : View) (steps : List OwnStep) → MayFollow p next → t.at ≡ At.Pending (started_in (Do op) next) → AreOwnSteps (one_key context) t seen steps → Then next steps)
       → Restarts (context_at (one_key context) step) (local t.subtx step.old.pages) (local step.after.subtx step.new.pages) (on_one o) (on_one goes.next)
       → AreOwnSteps (one_key context) step.after (view_in step.after step.new) more → FindsNoRoom (one_key context) op p Then t step more
   no_room Then then r own =
@@ -171,9 +150,9 @@ module _ (context : WalkContext) (op : ObjOp) (n : ℕ) (p : Pass) (o : WalkingF
         pending = stage.pending;
         next = next;
         follows = may;
-        begins = goes.now_at ∙ ap at.Pending anew;
+        begins = goes.now_at ∙ ap At.Pending anew;
         restarts = subst (Restarts (context_at (one_key context) step) (local t.subtx step.old.pages) (local step.after.subtx step.new.pages) (on_one o)) anew r;
-        later = then next step.after (view_in step.after step.new) more may (goes.now_at ∙ ap at.Pending anew) own;
+        later = then next step.after (view_in step.after step.new) more may (goes.now_at ∙ ap At.Pending anew) own;
       }
 
   -- a pass that splits
@@ -182,8 +161,8 @@ module _ (context : WalkContext) (op : ObjOp) (n : ℕ) (p : Pass) (o : WalkingF
   splitting s own =
       let seen' = view_in step.after step.new in
       let q = page_of s.how.splits.walk.phase in
-      let adding = s.how.splits.needs.later (λ (first : s.how.splits.walk.pass ≡ pass.First). s.later (sym s.how.splits.reaches.same.pass ∙ first)) in
-      let is : goes.next.walk.phase ≡ phase.Adding s.how.splits.value q adding.0 true = adding.1 in
+      let adding = s.how.splits.needs.later (λ (first : s.how.splits.walk.pass ≡ Pass.First). s.later (sym s.how.splits.reaches.same.pass ∙ first)) in
+      let is : goes.next.walk.phase ≡ Phase.Adding s.how.splits.value q adding.0 true = adding.1 in
       let stands : IsAdding (context_at (one_key context) step) goes.next.walk seen' q adding.0 true = subst (λ (x : Phase). Stands x (context_at (one_key context) step) goes.next.walk seen') is s.operates.stands in
       let adds : IsToAdd goes.next s.how.splits.value = subst (λ (x : Phase). FitsPhase x (context_at (one_key context) step) goes.next seen') is s.operates.fits in
       let l = bucket_depth seen' q in
@@ -228,17 +207,17 @@ module _ (context : WalkContext) (op : ObjOp) (n : ℕ) (p : Pass) (o : WalkingF
 abbrev Third : WalkContext → ObjOp → (Pass → List OwnStep → Type 0) → Pass → ℕ → List OwnStep → Type 0
 Third context op Then p n steps =
     GoesThen n IsDoneOrBlocked (answers_of steps)
-    ⊎ (GoesUpTo n IsRefusal (answers_of steps) × (p ≡ pass.First → ⊥))
-    ⊎ (GoesToTurn (one_key context) n (BeginsSplits (one_key context)) steps × (p ≡ pass.First → ⊥))
+    ⊎ (GoesUpTo n IsRefusal (answers_of steps) × (p ≡ Pass.First → ⊥))
+    ⊎ (GoesToTurn (one_key context) n (BeginsSplits (one_key context)) steps × (p ≡ Pass.First → ⊥))
     ⊎ GoesToTurn (one_key context) n (FindsNoRoom (one_key context) op p Then) steps
 
-third_after_wait : (context : WalkContext) (op : ObjOp) (Then : Pass → List OwnStep → Type 0) (p : Pass) (n page by : ℕ) (step : OwnStep) (more : List OwnStep) → step.told ≡ answer.Waiting page by → Third (one_key context) op Then p n more → Third (one_key context) op Then p n (step ∷ more)
+third_after_wait : (context : WalkContext) (op : ObjOp) (Then : Pass → List OwnStep → Type 0) (p : Pass) (n page by : ℕ) (step : OwnStep) (more : List OwnStep) → step.told ≡ Answer.Waiting page by → Third (one_key context) op Then p n more → Third (one_key context) op Then p n (step ∷ more)
 third_after_wait context op Then p n page by step more waits (inl then) = inl (then_after_wait step more n page by IsDoneOrBlocked waits then)
 third_after_wait context op Then p n page by step more waits (inr (inl (away, later))) = inr (inl (up_to_after_wait step more n page by IsRefusal waits away, later))
 third_after_wait context op Then p n page by step more waits (inr (inr (inl (splits, later)))) = inr (inr (inl (turn_after_wait step more (one_key context) n page by (BeginsSplits (one_key context)) waits splits, later)))
 third_after_wait context op Then p n page by step more waits (inr (inr (inr none))) = inr (inr (inr (turn_after_wait step more (one_key context) n page by (FindsNoRoom (one_key context) op p Then) waits none)))
 
-third_after_going : (context : WalkContext) (op : ObjOp) (Then : Pass → List OwnStep → Type 0) (p : Pass) (n : ℕ) (step : OwnStep) (more : List OwnStep) → step.told ≡ answer.Going → Third (one_key context) op Then p n more → Third (one_key context) op Then p (suc n) (step ∷ more)
+third_after_going : (context : WalkContext) (op : ObjOp) (Then : Pass → List OwnStep → Type 0) (p : Pass) (n : ℕ) (step : OwnStep) (more : List OwnStep) → step.told ≡ Answer.Going → Third (one_key context) op Then p n more → Third (one_key context) op Then p (suc n) (step ∷ more)
 third_after_going context op Then p n step more goes (inl then) = inl (then_after_going step more n IsDoneOrBlocked goes then)
 third_after_going context op Then p n step more goes (inr (inl (away, later))) = inr (inl (up_to_after_going step more n IsRefusal goes away, later))
 third_after_going context op Then p n step more goes (inr (inr (inl (splits, later)))) = inr (inr (inl (turn_after_going step more (one_key context) n (BeginsSplits (one_key context)) goes splits, later)))
@@ -248,7 +227,7 @@ third_after_going context op Then p n step more goes (inr (inr (inr none))) = in
 last_of_way : (m root : ℕ) (walk : WalkFields) (view : View) → steps_of_walk root walk view ≡ suc (suc m) → steps_to_bucket walk.phase ≡ 1 → m ≡ 0
 last_of_way m root walk view left last = let two = two_left root walk view last in omega (arith, left, two)
 
-to_third : (context : WalkContext) (op : ObjOp) (Then : Pass → List OwnStep → Type 0) (p : Pass) (then : (next : Pass) (t : Transaction) (seen : View) (steps : List OwnStep) → MayFollow p next → t.at ≡ at.Pending (started_in (Do op) next) → AreOwnSteps (one_key context) t seen steps → Then next steps)
+to_third : (context : WalkContext) (op : ObjOp) (Then : Pass → List OwnStep → Type 0) (p : Pass) (then : (next : Pass) (t : Transaction) (seen : View) (steps : List OwnStep) → MayFollow p next → t.at ≡ At.Pending (started_in (Do op) next) → AreOwnSteps (one_key context) t seen steps → Then next steps)
     (steps : List OwnStep) (n : ℕ) (o : WalkingFields) (t : Transaction) (seen : View)
     → Stage (one_key context) op (suc n) p o t seen → n ≤ 3 → AreOwnSteps (one_key context) t seen steps → Third (one_key context) op Then p n steps
 to_third context op Then p then [] zero o t seen stage few own = inl tt
@@ -280,15 +259,15 @@ to_third context op Then p then (step ∷ more) (suc m) o t seen stage few own =
           ]
     ]
 
-from_start : (context : WalkContext) (op : ObjOp) (Then : Pass → List OwnStep → Type 0) (p : Pass) (then : (next : Pass) (t : Transaction) (seen : View) (steps : List OwnStep) → MayFollow p next → t.at ≡ at.Pending (started_in (Do op) next) → AreOwnSteps (one_key context) t seen steps → Then next steps)
-    (t : Transaction) (seen : View) (steps : List OwnStep) → t.at ≡ at.Pending (started_in (Do op) p) → AreOwnSteps (one_key context) t seen steps → Third (one_key context) op Then p 3 steps
+from_start : (context : WalkContext) (op : ObjOp) (Then : Pass → List OwnStep → Type 0) (p : Pass) (then : (next : Pass) (t : Transaction) (seen : View) (steps : List OwnStep) → MayFollow p next → t.at ≡ At.Pending (started_in (Do op) next) → AreOwnSteps (one_key context) t seen steps → Then next steps)
+    (t : Transaction) (seen : View) (steps : List OwnStep) → t.at ≡ At.Pending (started_in (Do op) p) → AreOwnSteps (one_key context) t seen steps → Third (one_key context) op Then p 3 steps
 from_start context op Then p then t seen steps pending own =
     to_third (one_key context) op Then p then steps 3 (walking (Do op) None (record (walk_for (Do op)) { pass = p })) t seen
     (record { pending = pending; asked = refl; in_pass = refl; left = refl; told = λ (last : 4 ≡ 1). absurd (omega (arith, last)); untold = λ some. refl }) (omega arith) own
 
 -- **A wide pass.**
-pub wide_pass : (context : WalkContext) (op : ObjOp) (t : Transaction) (seen : View) (steps : List OwnStep) → t.at ≡ at.Pending (started_in (Do op) pass.Wide) → AreOwnSteps (one_key context) t seen steps → TakesLaterPass (one_key context) steps
-wide_pass context op t seen steps pending own = elim (from_start (one_key context) op (λ next back. TakesLaterPass (one_key context) back) pass.Wide (λ next t' seen' back never is own'. absurd never) t seen steps pending own) [
+pub wide_pass : (context : WalkContext) (op : ObjOp) (t : Transaction) (seen : View) (steps : List OwnStep) → t.at ≡ At.Pending (started_in (Do op) Pass.Wide) → AreOwnSteps (one_key context) t seen steps → TakesLaterPass (one_key context) steps
+wide_pass context op t seen steps pending own = elim (from_start (one_key context) op (λ next back. TakesLaterPass (one_key context) back) Pass.Wide (λ next t' seen' back never is own'. absurd never) t seen steps pending own) [
   | inl then ↦ inl then
   | inr (inl away) ↦ inr (inl away.0)
   | inr (inr (inl splits)) ↦ inr (inr splits.0)
@@ -296,12 +275,12 @@ wide_pass context op t seen steps pending own = elim (from_start (one_key contex
 ]
 
 -- what follows a narrow pass
-after_narrow : (context : WalkContext) (op : ObjOp) (next : Pass) (t : Transaction) (seen : View) (steps : List OwnStep) → MayFollow pass.Narrow next → t.at ≡ at.Pending (started_in (Do op) next) → AreOwnSteps (one_key context) t seen steps → TakesLaterPass (one_key context) steps
-after_narrow context op next t seen steps is pending own = wide_pass (one_key context) op t seen steps (pending ∙ ap (λ (p : Pass). at.Pending (started_in (Do op) p)) is) own
+after_narrow : (context : WalkContext) (op : ObjOp) (next : Pass) (t : Transaction) (seen : View) (steps : List OwnStep) → MayFollow Pass.Narrow next → t.at ≡ At.Pending (started_in (Do op) next) → AreOwnSteps (one_key context) t seen steps → TakesLaterPass (one_key context) steps
+after_narrow context op next t seen steps is pending own = wide_pass (one_key context) op t seen steps (pending ∙ ap (λ (p : Pass). At.Pending (started_in (Do op) p)) is) own
 
 -- **A narrow pass.**
-pub narrow_pass : (context : WalkContext) (op : ObjOp) (t : Transaction) (seen : View) (steps : List OwnStep) → t.at ≡ at.Pending (started_in (Do op) pass.Narrow) → AreOwnSteps (one_key context) t seen steps → TakesNarrowPass (one_key context) op steps
-narrow_pass context op t seen steps pending own = elim (from_start (one_key context) op (λ next back. TakesLaterPass (one_key context) back) pass.Narrow (after_narrow (one_key context) op) t seen steps pending own) [
+pub narrow_pass : (context : WalkContext) (op : ObjOp) (t : Transaction) (seen : View) (steps : List OwnStep) → t.at ≡ At.Pending (started_in (Do op) Pass.Narrow) → AreOwnSteps (one_key context) t seen steps → TakesNarrowPass (one_key context) op steps
+narrow_pass context op t seen steps pending own = elim (from_start (one_key context) op (λ next back. TakesLaterPass (one_key context) back) Pass.Narrow (after_narrow (one_key context) op) t seen steps pending own) [
   | inl then ↦ inl (inl then)
   | inr (inl away) ↦ inl (inr (inl away.0))
   | inr (inr (inl splits)) ↦ inl (inr (inr splits.0))
@@ -309,15 +288,15 @@ narrow_pass context op t seen steps pending own = elim (from_start (one_key cont
 ]
 
 -- what follows a first pass
-after_a_first : (context : WalkContext) (op : ObjOp) (next : Pass) (t : Transaction) (seen : View) (steps : List OwnStep) → MayFollow pass.First next → t.at ≡ at.Pending (started_in (Do op) next) → AreOwnSteps (one_key context) t seen steps → TakesNextPass (one_key context) op next steps
-after_a_first context op pass.First t seen steps (inl is) pending own = cc
-after_a_first context op pass.First t seen steps (inr is) pending own = cc
-after_a_first context op pass.Narrow t seen steps may pending own = narrow_pass (one_key context) op t seen steps pending own
-after_a_first context op pass.Wide t seen steps may pending own = wide_pass (one_key context) op t seen steps pending own
+after_a_first : (context : WalkContext) (op : ObjOp) (next : Pass) (t : Transaction) (seen : View) (steps : List OwnStep) → MayFollow Pass.First next → t.at ≡ At.Pending (started_in (Do op) next) → AreOwnSteps (one_key context) t seen steps → TakesNextPass (one_key context) op next steps
+after_a_first context op Pass.First t seen steps (inl is) pending own = cc
+after_a_first context op Pass.First t seen steps (inr is) pending own = cc
+after_a_first context op Pass.Narrow t seen steps may pending own = narrow_pass (one_key context) op t seen steps pending own
+after_a_first context op Pass.Wide t seen steps may pending own = wide_pass (one_key context) op t seen steps pending own
 
 -- **A first pass.**
-pub first_pass : (context : WalkContext) (op : ObjOp) (t : Transaction) (seen : View) (steps : List OwnStep) → t.at ≡ at.Pending (started_in (Do op) pass.First) → AreOwnSteps (one_key context) t seen steps → TakesFirstPass (one_key context) op steps
-first_pass context op t seen steps pending own = elim (from_start (one_key context) op (TakesNextPass (one_key context) op) pass.First (after_a_first (one_key context) op) t seen steps pending own) [
+pub first_pass : (context : WalkContext) (op : ObjOp) (t : Transaction) (seen : View) (steps : List OwnStep) → t.at ≡ At.Pending (started_in (Do op) Pass.First) → AreOwnSteps (one_key context) t seen steps → TakesFirstPass (one_key context) op steps
+first_pass context op t seen steps pending own = elim (from_start (one_key context) op (TakesNextPass (one_key context) op) Pass.First (after_a_first (one_key context) op) t seen steps pending own) [
   | inl then ↦ inl then
   | inr (inl away) ↦ absurd (away.1 refl)
   | inr (inr (inl splits)) ↦ absurd (splits.1 refl)

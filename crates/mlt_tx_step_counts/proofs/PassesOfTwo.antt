@@ -1,17 +1,7 @@
 -- The passes of an operation on two records; and of any operation
 use Rattle.std.proofs.Common.{◌≡◌, ℕ, List, Option, None, Some, IsSome, is_some, refl, ap, ◌∙◌}
-use Rattle.mlt_object_kinds.specs.declared.operation.ObjOp.{ObjOp}
-use Rattle.mlt_object_kinds.specs.declared.operation.ObjReply.{ObjReply}
-use Rattle.mlt_object_base.specs.declared.request.Request.TheVariants.{Do, TakeBack}
-use Rattle.mlt_object_base.specs.Requests.{size_key_of}
-use Rattle.mlt_hash_access.specs.Views.{View}
-use Rattle.mlt_hash.specs.Walks.{WalkContext, one_key}
-use Rattle.mlt_tx_operation.specs.Operating.{access_path_for, started_for}
-use Rattle.mlt_tx.specs.declared.transaction.At.TheVariants as at
-use Rattle.mlt_tx.specs.declared.transaction.Transaction.{Transaction}
-use Rattle.mlt_tx_step_counts.specs.Counts.{IsToTakeBack}
-use Rattle.mlt_tx_step_counts.specs.CountsOfTwo.{TakesBackBy, TakesBackOf, TakesFirstPassOfTwo, TakesPassBy, TakesPassOf, TakesWidePassOfTwo}
-use Rattle.mlt_tx_step_counts.specs.OwnSteps.{AreOwnSteps, OwnStep}
+use Rattle.mlt_tx_step_counts.proofs.Names.{ObjOp, ObjReply, Do, TakeBack, size_key_of, View, WalkContext, one_key, access_path_for, started_for, At, Transaction, IsToTakeBack, TakesWidePassOfTwo, AreOwnSteps, OwnStep}
+use Rattle.mlt_tx_step_counts.specs.CountsOfTwo.{TakesBackBy, TakesBackOf, TakesFirstPassOfTwo, TakesPassBy, TakesPassOf}
 use Rattle.mlt_tx_step_counts.proofs.FirstOfTwo.{first_of_two}
 use Rattle.mlt_tx_step_counts.proofs.Inverses.{taken_back}
 use Rattle.mlt_tx_step_counts.proofs.InversesOfTwo.{taken_back_of_two}
@@ -19,16 +9,16 @@ use Rattle.mlt_tx_step_counts.proofs.Passes.{first_pass}
 use Rattle.mlt_tx_step_counts.proofs.WideOfTwo.{wide_of_two}
 
 -- **A first pass on two records, and the wide one that may follow.**
-pub first_pass_of_two : (context : WalkContext) (op : ObjOp) (t : Transaction) (seen : View) (steps : List OwnStep) → IsSome (size_key_of (Do op)) → t.at ≡ at.Pending (started_for (Do op)) → AreOwnSteps (one_key context) t seen steps
+pub first_pass_of_two : (context : WalkContext) (op : ObjOp) (t : Transaction) (seen : View) (steps : List OwnStep) → IsSome (size_key_of (Do op)) → t.at ≡ At.Pending (started_for (Do op)) → AreOwnSteps (one_key context) t seen steps
     → TakesFirstPassOfTwo (one_key context) op steps
 first_pass_of_two context op t seen steps two pending own = first_of_two (one_key context) op (TakesWidePassOfTwo (one_key context)) (wide_of_two (one_key context) op) t seen steps two pending own
 
 -- **The first pass of any operation.**
-pub pass_of : (context : WalkContext) (op : ObjOp) (t : Transaction) (seen : View) (steps : List OwnStep) → t.at ≡ at.Pending (started_for (Do op)) → AreOwnSteps (one_key context) t seen steps → TakesPassOf (one_key context) op steps
+pub pass_of : (context : WalkContext) (op : ObjOp) (t : Transaction) (seen : View) (steps : List OwnStep) → t.at ≡ At.Pending (started_for (Do op)) → AreOwnSteps (one_key context) t seen steps → TakesPassOf (one_key context) op steps
 pass_of context op t seen steps pending own = by (size_key_of (Do op)) refl
   where
     by : (size : Option ℕ) → size_key_of (Do op) ≡ size → TakesPassBy size (one_key context) op steps
-    by None is = first_pass (one_key context) op t seen steps (pending ∙ (λ i. at.Pending (record { request = Do op; reply = None; access_path = access_path_for (Do op) (is i) }))) own
+    by None is = first_pass (one_key context) op t seen steps (pending ∙ (λ i. At.Pending (record { request = Do op; reply = None; access_path = access_path_for (Do op) (is i) }))) own
     by (Some key) is = first_pass_of_two (one_key context) op t seen steps (ap is_some is) pending own
 
 -- **And its inverse.**

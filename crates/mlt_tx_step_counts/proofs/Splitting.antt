@@ -1,19 +1,10 @@
 -- The steps of the splits of a pass, and of the write of the record behind them, whosever walk it is that splits
 use Rattle.std.proofs.Common.{ℕ, zero, suc, ◌≡◌, ◌≤◌, ◌<◌, ◌+◌, ◌*◌, ◌-◌, ◌⊎◌, Option, Some, None, List, [], ◌∷◌, refl, sym, ap, subst, ◌∙◌, inl, inr, true, false, arith}
-use Rattle.mlt_hash_access.specs.Views.{View}
-use Rattle.mlt_hash_split.specs.Splits.{SplitFields, directory_steps}
-use Rattle.mlt_hash.specs.Steps.{steps_to_bucket}
-use Rattle.mlt_hash.specs.StepsLeft.{bucket_depth, depth_after, directory_depth, steps_of_splits, steps_to_put, steps_to_put_at}
-use Rattle.mlt_hash.specs.Walks.{WalkContext, WalkFields, one_key}
-use Rattle.mlt_hash.specs.declared.pass.Phase.{Phase}
-use Rattle.mlt_hash.specs.declared.pass.Phase.TheVariants as phase
+use Rattle.mlt_tx_step_counts.proofs.Names.{View, SplitFields, directory_steps, steps_to_bucket, bucket_depth, depth_after, directory_depth, steps_to_put_at, WalkContext, WalkFields, one_key, Phase, Answer, Transaction, TellsOfTransaction, IsRefusal, AreOwnSteps, GoesToTurn, GoesUpTo, OwnStep, answers_of, context_at, view_in}
+use Rattle.mlt_hash.specs.StepsLeft.{steps_of_splits, steps_to_put}
 use Rattle.mlt_tx_two_records.specs.Depths.{Depths, GoesDown, deeper, depths_at}
-use Rattle.mlt_event.specs.declared.answer.Answer.TheVariants as answer
-use Rattle.mlt_tx.specs.declared.transaction.Transaction.{Transaction}
-use Rattle.mlt_tx.specs.Transactions.{TellsOfTransaction}
-use Rattle.mlt_tx_step_counts.specs.Counts.{IsRefusal, SplitsAndPutsOrNot}
+use Rattle.mlt_tx_step_counts.specs.Counts.{SplitsAndPutsOrNot}
 use Rattle.mlt_tx_step_counts.specs.Extra.{extra_of_splits}
-use Rattle.mlt_tx_step_counts.specs.OwnSteps.{AreOwnSteps, GoesToTurn, GoesUpTo, OwnStep, answers_of, context_at, view_in}
 use Rattle.mlt_tx_step_counts.proofs.Answers.{refused_in, turn_after_going, turn_after_wait, turn_here, up_to_after_going, up_to_after_wait}
 use Rattle.mlt_tx_step_counts.proofs.Extra.{of_one, of_splits, one_at_least}
 
@@ -64,24 +55,24 @@ some_is_one x y is = cc
 
 -- a walk that splits has at least the write of its record to do
 pub one_step_left : (p : Phase) (root : ℕ) (walk : WalkFields) (view : View) (depths : Depths) → depths_at p root walk view ≡ Some depths → 1 ≤ steps_to_put_at p root walk view
-one_step_left (phase.Adding value bucket d unsplit) root walk view depths is = one_at_least (d - bucket_depth view bucket) (bucket_depth view bucket) (directory_depth view root)
-one_step_left (phase.Splitting value d) root walk view depths is = by walk.split is
+one_step_left (Phase.Adding value bucket d unsplit) root walk view depths is = one_at_least (d - bucket_depth view bucket) (bucket_depth view bucket) (directory_depth view root)
+one_step_left (Phase.Splitting value d) root walk view depths is = by walk.split is
   where
-    by : (o : Option SplitFields) → depths_at (phase.Splitting value d) root (record walk { split = o }) view ≡ Some depths → 1 ≤ steps_to_put_at (phase.Splitting value d) root (record walk { split = o }) view
+    by : (o : Option SplitFields) → depths_at (Phase.Splitting value d) root (record walk { split = o }) view ≡ Some depths → 1 ≤ steps_to_put_at (Phase.Splitting value d) root (record walk { split = o }) view
     by None none = cc
     by (Some split) some =
         let more = one_at_least (d - (split.depth + 1)) (split.depth + 1) (depth_after split.depth split.directory_depth) in
         omega (arith, more)
-one_step_left phase.Start root walk view depths is = cc
-one_step_left (phase.Headed dir row depth) root walk view depths is = cc
-one_step_left (phase.Placed bucket depth) root walk view depths is = cc
-one_step_left (phase.AtBucket bucket depth found) root walk view depths is = cc
-one_step_left (phase.Full next) root walk view depths is = cc
-one_step_left (phase.Changed bucket done) root walk view depths is = cc
+one_step_left Phase.Start root walk view depths is = cc
+one_step_left (Phase.Headed dir row depth) root walk view depths is = cc
+one_step_left (Phase.Placed bucket depth) root walk view depths is = cc
+one_step_left (Phase.AtBucket bucket depth found) root walk view depths is = cc
+one_step_left (Phase.Full next) root walk view depths is = cc
+one_step_left (Phase.Changed bucket done) root walk view depths is = cc
 
 -- no split has begun
 abbrev pub IsUnsplit : Phase → Type 0
-IsUnsplit (phase.Adding value bucket d true) = Unit {0}
+IsUnsplit (Phase.Adding value bucket d true) = Unit {0}
 IsUnsplit other = ⊥
 
 -- A transaction runs an operation with a walk that splits, of which `At` is so. Its step is told to wait, and it stands where it
@@ -89,12 +80,12 @@ IsUnsplit other = ⊥
 pub record StaysPut (At : WalkFields → Transaction → View → Type 0) (walk : WalkFields) (t : Transaction) (own : OwnStep) : Type 0 where
   pub page : ℕ
   pub by : ℕ
-  pub waiting : own.told ≡ answer.Waiting page by
+  pub waiting : own.told ≡ Answer.Waiting page by
   pub same : view_in own.after own.new ≡ view_in t own.old
   pub is : At walk own.after (view_in own.after own.new)
 
 pub record SplitsOn (context : WalkContext) (At : WalkFields → Transaction → View → Type 0) (walk : WalkFields) (t : Transaction) (own : OwnStep) : Type 0 where
-  pub going : own.told ≡ answer.Going
+  pub going : own.told ≡ Answer.Going
   pub next : WalkFields
   pub is : At next own.after (view_in own.after own.new)
   pub there : steps_to_bucket next.phase ≡ 0
@@ -102,11 +93,11 @@ pub record SplitsOn (context : WalkContext) (At : WalkFields → Transaction →
   pub down_by : GoesDown context.root walk next (view_in t own.old) (view_in own.after own.new)
 
 pub record PutsNow (context : WalkContext) (Puts : ℕ → Transaction → OwnStep → List OwnStep → Type 0) (walk : WalkFields) (t : Transaction) (own : OwnStep) : Type 0 where
-  pub going : own.told ≡ answer.Going
+  pub going : own.told ≡ Answer.Going
   pub value : ℕ
   pub bucket : ℕ
   pub room_depth : ℕ
-  pub was : walk.phase ≡ phase.Adding value bucket room_depth false
+  pub was : walk.phase ≡ Phase.Adding value bucket room_depth false
   pub puts : (l : ℕ) (back : List OwnStep) → bucket_depth (view_in t own.old) bucket ≡ l → AreOwnSteps (one_key context) own.after (view_in own.after own.new) back → Puts l t own back
 
 abbrev pub SplitOutcome : WalkContext → (WalkFields → Transaction → View → Type 0) → (ℕ → Transaction → OwnStep → List OwnStep → Type 0) → WalkFields → Transaction → OwnStep → Type 0
@@ -135,7 +126,7 @@ abbrev PutsOrNot : WalkContext → (ℕ → Transaction → OwnStep → List Own
 PutsOrNot context Puts depths gone m steps = GoesUpTo (suc m) IsRefusal (answers_of steps) ⊎ PutsLater (one_key context) Puts depths gone steps
 
 module _ (context : WalkContext) (At : WalkFields → Transaction → View → Type 0) (Puts : ℕ → Transaction → OwnStep → List OwnStep → Type 0) (depths : Depths) where
-  after_wait : (gone m page by : ℕ) (step : OwnStep) (more : List OwnStep) → step.told ≡ answer.Waiting page by → PutsOrNot (one_key context) Puts depths gone m more → PutsOrNot (one_key context) Puts depths gone m (step ∷ more)
+  after_wait : (gone m page by : ℕ) (step : OwnStep) (more : List OwnStep) → step.told ≡ Answer.Waiting page by → PutsOrNot (one_key context) Puts depths gone m more → PutsOrNot (one_key context) Puts depths gone m (step ∷ more)
   after_wait gone m page by step more waits (inl not) = inl (up_to_after_wait step more (suc m) page by IsRefusal waits not)
   after_wait gone m page by step more waits (inr later) = inr (record {
     k = later.k;
@@ -146,7 +137,7 @@ module _ (context : WalkContext) (At : WalkFields → Transaction → View → T
     puts = turn_after_wait step more (one_key context) later.m page by (Puts (depths.bucket + later.k)) waits later.puts;
   })
 
-  after_going : (gone m : ℕ) (step : OwnStep) (more : List OwnStep) → step.told ≡ answer.Going → PutsOrNot (one_key context) Puts depths (gone + 1) m more → PutsOrNot (one_key context) Puts depths gone (suc m) (step ∷ more)
+  after_going : (gone m : ℕ) (step : OwnStep) (more : List OwnStep) → step.told ≡ Answer.Going → PutsOrNot (one_key context) Puts depths (gone + 1) m more → PutsOrNot (one_key context) Puts depths gone (suc m) (step ∷ more)
   after_going gone m step more goes (inl not) = inl (up_to_after_going step more (suc m) IsRefusal goes not)
   after_going gone m step more goes (inr later) = inr (record {
     k = later.k;
@@ -252,7 +243,7 @@ module _ (context : WalkContext) (At : WalkFields → Transaction → View → T
     (outcome : (walk : WalkFields) (t : Transaction) (seen : View) (step : OwnStep) → At walk t seen → steps_to_bucket walk.phase ≡ 0 → view_in t step.old ≡ seen
     → TellsOfTransaction (context_at (one_key context) step) t step.after step.old step.new step.told → SplitOutcome (one_key context) At Puts walk t step) where
   pub splits_and_puts : (steps : List OwnStep) (walk : WalkFields) (t : Transaction) (seen : View) (value bucket l g d : ℕ)
-      → At walk t seen → walk.phase ≡ phase.Adding value bucket d true → bucket_depth seen bucket ≡ l → directory_depth seen context.root ≡ g → l < d
+      → At walk t seen → walk.phase ≡ Phase.Adding value bucket d true → bucket_depth seen bucket ≡ l → directory_depth seen context.root ≡ g → l < d
       → AreOwnSteps (one_key context) t seen steps → SplitsAndPutsOrNot (one_key context) l g d Puts steps
   splits_and_puts steps walk t seen value bucket l g d here is bucket_is directory_is deep own =
       let depths : Depths = record { room = d; bucket = l; directory = g } in

@@ -1,27 +1,8 @@
 -- Where an operation on two records stands, and what its next step makes of that
 use Rattle.std.proofs.Common.{ℕ, ◌≡◌, ◌⊎◌, List, [], ◌∷◌, Option, None, Some, IsSome, is_some, refl, sym, ap, subst, inl, inr}
-use Rattle.mlt_object_kinds.specs.declared.operation.ObjReply.{ObjReply}
-use Rattle.mlt_object_base.specs.declared.request.Request.{Request}
-use Rattle.mlt_hash_access.specs.LocalStates.{LocalState, local}
-use Rattle.mlt_hash_access.specs.Views.{View, view_of}
-use Rattle.mlt_hash.specs.Walks.{WalkContext, one_key}
-use Rattle.mlt_tx_two_records.specs.declared.two_records.TwoRecordWalk.{TwoRecordWalk}
-use Rattle.mlt_tx_two_records.specs.declared.two_records.TwoRecordWalk.TheVariants.{First, Wide}
-use Rattle.mlt_tx_two_records.specs.declared.two_records.WideStage.TheVariants as wide_stage
-use Rattle.mlt_tx_two_records.specs.Answers.{GoesOnBy, TellsLast}
+use Rattle.mlt_tx_step_counts.proofs.Names.{ObjReply, Request, LocalState, local, View, view_of, WalkContext, one_key, TwoRecordWalk, First, Wide, WideStage, GoesOnBy, TellsLast, StepAnswer, AccessPath, One, Two, TellsOfStep, IsInFirst, OperationFields, Answer, At, Transaction, TellsOfTransaction, IsDoneOrBlocked, IsRefusal, IsPendingAt, AreOwnSteps, GoesThen, OwnStep, answers_of, context_at, view_in}
 use Rattle.mlt_tx_two_records.specs.TwoRecordWalks as two_records
-use Rattle.mlt_tx_operation.specs.declared.answer.StepAnswer.TheVariants as step
-use Rattle.mlt_tx_operation.specs.declared.access_path.AccessPath.{AccessPath}
-use Rattle.mlt_tx_operation.specs.declared.access_path.AccessPath.TheVariants.{One, Two}
-use Rattle.mlt_tx_operation.specs.Answers.{TwoRecordRestarts, TellsOfStep}
-use Rattle.mlt_tx_operation.specs.Operating.{IsInFirst, OperationFields}
-use Rattle.mlt_event.specs.declared.answer.Answer.TheVariants as answer
-use Rattle.mlt_tx.specs.declared.transaction.At.TheVariants as at
-use Rattle.mlt_tx.specs.declared.transaction.Transaction.{Transaction}
-use Rattle.mlt_tx.specs.Transactions.{TellsOfTransaction}
-use Rattle.mlt_tx_step_counts.specs.Counts.{IsDoneOrBlocked, IsRefusal}
-use Rattle.mlt_tx_step_counts.specs.CountsOfTwo.{IsPendingAt}
-use Rattle.mlt_tx_step_counts.specs.OwnSteps.{AreOwnSteps, GoesThen, OwnStep, answers_of, context_at, view_in}
+use Rattle.mlt_tx_operation.specs.Answers.{TwoRecordRestarts}
 use Rattle.mlt_tx_step_counts.proofs.Answers.{ended_then}
 use Rattle.mlt_tx_step_counts.proofs.PendingSteps.{Goes, last_step, one_step}
 
@@ -38,11 +19,11 @@ pub record GoesOnTwo (context : WalkContext) (old new : LocalState) (request : R
   pub how : GoesOnOrTells next.reply before after context old new request
 
 restarts_go_on : (before after : TwoRecordWalk) (context : WalkContext) (old new : LocalState) (request : Request) → TwoRecordRestarts before after context old new request → GoesOnBy before after context old new request
-restarts_go_on (First pair) (Wide wide_stage.Own walk) context old new request r = r
+restarts_go_on (First pair) (Wide WideStage.Own walk) context old new request r = r
 restarts_go_on before after context old new request r = absurd r
 
 by_reply : (context : WalkContext) (old new : LocalState) (request : Request) (before after : TwoRecordWalk) (reply : Option ObjReply) (request' : Request) → request' ≡ request
-    → TellsOfStep context old new (record { request = request; reply = None; access_path = Two before }) (record { request = request'; reply = reply; access_path = Two after }) step.Going
+    → TellsOfStep context old new (record { request = request; reply = None; access_path = Two before }) (record { request = request'; reply = reply; access_path = Two after }) StepAnswer.Going
     → GoesOnOrTells reply before after context old new request
 by_reply context old new request before after None request' same (inl on) = (subst (λ (r : Request). two_records.Stands after context r (view_of new)) same on.operates, on.how)
 by_reply context old new request before after (Some reply) request' same (inl on) = on.how
@@ -51,7 +32,7 @@ by_reply context old new request before after None request' same (inr (inr again
 by_reply context old new request before after (Some reply) request' same (inr (inr again)) = let none : Some reply ≡ None = again.untold.1 in cc
 
 by_access_path : (context : WalkContext) (old new : LocalState) (request : Request) (before : TwoRecordWalk) (request' : Request) (reply : Option ObjReply) (access_path : AccessPath)
-    → TellsOfStep context old new (record { request = request; reply = None; access_path = Two before }) (record { request = request'; reply = reply; access_path = access_path }) step.Going
+    → TellsOfStep context old new (record { request = request; reply = None; access_path = Two before }) (record { request = request'; reply = reply; access_path = access_path }) StepAnswer.Going
     → GoesOnTwo context old new request before (record { request = request'; reply = reply; access_path = access_path })
 by_access_path context old new request before request' reply (One walk) (inl on) = absurd on.how
 by_access_path context old new request before request' reply (One walk) (inr (inl splits)) = absurd splits.how
@@ -60,20 +41,20 @@ by_access_path context old new request before request' reply (Two after) tells =
     let same : request' ≡ request = same_request tells in
     record { after = after; access_path = refl; request_is = same; how = by_reply context old new request before after reply request' same tells }
   where
-    same_request : TellsOfStep context old new (record { request = request; reply = None; access_path = Two before }) (record { request = request'; reply = reply; access_path = Two after }) step.Going → request' ≡ request
+    same_request : TellsOfStep context old new (record { request = request; reply = None; access_path = Two before }) (record { request = request'; reply = reply; access_path = Two after }) StepAnswer.Going → request' ≡ request
     same_request (inl on) = on.request
     same_request (inr (inl splits)) = splits.request
     same_request (inr (inr again)) = again.request
 
-pub goes_on_two : (context : WalkContext) (old new : LocalState) (o next : OperationFields) (before : TwoRecordWalk) → o.access_path ≡ Two before → o.reply ≡ None → TellsOfStep context old new o next step.Going → GoesOnTwo context old new o.request before next
+pub goes_on_two : (context : WalkContext) (old new : LocalState) (o next : OperationFields) (before : TwoRecordWalk) → o.access_path ≡ Two before → o.reply ≡ None → TellsOfStep context old new o next StepAnswer.Going → GoesOnTwo context old new o.request before next
 goes_on_two context old new o next before access_path untold tells =
     by_access_path context old new o.request before next.request next.reply next.access_path
-    (subst (λ (x : OperationFields). TellsOfStep context old new x next step.Going) (λ i. record { request = o.request; reply = untold i; access_path = access_path i }) tells)
+    (subst (λ (x : OperationFields). TellsOfStep context old new x next StepAnswer.Going) (λ i. record { request = o.request; reply = untold i; access_path = access_path i }) tells)
 
 -- An operation on two records is pending, and is here; it was asked this, and is not told its reply.
 pub record StandsAt (request : Request) (two_records : TwoRecordWalk) (t : Transaction) : Type 0 where
   pub o : OperationFields
-  pub pending : t.at ≡ at.Pending o
+  pub pending : t.at ≡ At.Pending o
   pub asked : o.request ≡ request
   pub access_path : o.access_path ≡ Two two_records
   pub untold : o.reply ≡ None
@@ -81,7 +62,7 @@ pub record StandsAt (request : Request) (two_records : TwoRecordWalk) (t : Trans
 -- It is told its reply: its next step is its end.
 pub record IsReady (t : Transaction) : Type 0 where
   pub o : OperationFields
-  pub pending : t.at ≡ at.Pending o
+  pub pending : t.at ≡ At.Pending o
   pub told : IsSome o.reply
 
 pub pending_at : (request : Request) (two_records : TwoRecordWalk) (t : Transaction) → StandsAt request two_records t → IsPendingAt two_records t.at
@@ -91,19 +72,19 @@ pending_at request two_records t s = subst (IsPendingAt two_records) (sym s.pend
 pub record WaitsAt (request : Request) (two_records : TwoRecordWalk) (t : Transaction) (own : OwnStep) : Type 0 where
   pub page : ℕ
   pub by : ℕ
-  pub waiting : own.told ≡ answer.Waiting page by
+  pub waiting : own.told ≡ Answer.Waiting page by
   pub same : view_in own.after own.new ≡ view_in t own.old
   pub stands : StandsAt request two_records own.after
 
 pub record GoesAt (context : WalkContext) (request : Request) (before : TwoRecordWalk) (t : Transaction) (own : OwnStep) : Type 0 where
-  pub going : own.told ≡ answer.Going
+  pub going : own.told ≡ Answer.Going
   pub after : TwoRecordWalk
   pub stands : StandsAt request after own.after
   pub holds : two_records.Stands after (context_at (one_key context) own) request (view_in own.after own.new)
   pub how : GoesOnBy before after (context_at (one_key context) own) (local t.subtx own.old.pages) (local own.after.subtx own.new.pages) request
 
 pub record TellsNow (before : TwoRecordWalk) (own : OwnStep) : Type 0 where
-  pub going : own.told ≡ answer.Going
+  pub going : own.told ≡ Answer.Going
   pub after : TwoRecordWalk
   pub ready : IsReady own.after
   pub how : TellsLast before after

@@ -1,38 +1,18 @@
 -- The steps of a wide pass of an operation on two records, one after another
 use Rattle.std.proofs.Common.{ℕ, zero, suc, ◌≡◌, ◌≤◌, ◌+◌, ◌-◌, ◌⊎◌, List, [], ◌∷◌, true, refl, sym, ap, subst, ◌∙◌, inl, inr, arith}
-use Rattle.mlt_object_kinds.specs.declared.operation.ObjOp.{ObjOp}
-use Rattle.mlt_object_base.specs.declared.request.Request.{Request}
-use Rattle.mlt_object_base.specs.declared.request.Request.TheVariants.{Do}
-use Rattle.mlt_object_base.specs.Requests.{target_of}
-use Rattle.mlt_hash_form.specs.File.{FilePages, bucket_of}
-use Rattle.mlt_hash_access.specs.LocalStates.{LocalState, local}
+use Rattle.mlt_tx_step_counts.proofs.Names.{ObjOp, Request, Do, target_of, bucket_of, LocalState, local, View, page_of, steps_to_bucket, bucket_depth, directory_depth, steps_to_put_at, WalkContext, IsAdding, Stands, WalkFields, one_key, Pass, Phase, put_on_way, TwoRecordWalk, First, Owing, Wide, WideStage, GoesOnBy, TellsLast, wide_to, Answer, At, Transaction, TellsOfTransaction, IsDoneOrBlocked, IsRefusal, IsPendingAt, TakesWidePassOfTwo, started_wide, AreOwnSteps, GoesThen, GoesToTurn, GoesUpTo, OwnStep, answers_of, context_at, view_in}
+use Rattle.mlt_hash_form.specs.File.{FilePages}
 use Rattle.mlt_hash_access.proofs.Since.{read_over_writes}
-use Rattle.mlt_hash_access.specs.Views.{HasWritten, View, rebased}
+use Rattle.mlt_hash_access.specs.Views.{HasWritten, rebased}
 use Rattle.mlt_hash_split.specs.Rests.{held_page}
-use Rattle.mlt_hash.specs.Changes.{page_of}
 use Rattle.mlt_hash.specs.Splitting.{IsUnderWay}
-use Rattle.mlt_hash.specs.Steps.{steps_to_bucket}
-use Rattle.mlt_hash.specs.StepsLeft.{bucket_depth, directory_depth, steps_of_splits, steps_to_put_at}
-use Rattle.mlt_hash.specs.Walks.{WalkContext, IsAdding, Stands, WalkFields, context_after, one_key}
-use Rattle.mlt_hash.specs.declared.pass.Pass.TheVariants as pass
-use Rattle.mlt_hash.specs.declared.pass.Phase.{Phase}
-use Rattle.mlt_hash.specs.declared.pass.Phase.TheVariants as phase
-use Rattle.mlt_hash.proofs.StepsLeft.{put_on_way}
-use Rattle.mlt_tx_two_records.specs.declared.two_records.TwoRecordWalk.{TwoRecordWalk}
-use Rattle.mlt_tx_two_records.specs.declared.two_records.TwoRecordWalk.TheVariants.{First, Owing, Wide}
-use Rattle.mlt_tx_two_records.specs.declared.two_records.WideStage.{WideStage}
-use Rattle.mlt_tx_two_records.specs.declared.two_records.WideStage.TheVariants as wide_stage
-use Rattle.mlt_tx_two_records.specs.Answers.{GoesOnBy, TellsLast}
+use Rattle.mlt_hash.specs.StepsLeft.{steps_of_splits}
+use Rattle.mlt_hash.specs.Walks.{context_after}
 use Rattle.mlt_tx_two_records.specs.TwoRecordWalks as two_records
 use Rattle.mlt_tx_two_records.specs.WalkSteps.{BeginsToSplit, GoesNearer, steps_to_change}
-use Rattle.mlt_tx_two_records.specs.WidePass.{HasChangedNow, PutsBehind, wide_to}
-use Rattle.mlt_event.specs.declared.answer.Answer.TheVariants as answer
-use Rattle.mlt_tx.specs.declared.transaction.At.TheVariants as at
-use Rattle.mlt_tx.specs.declared.transaction.Transaction.{Transaction}
-use Rattle.mlt_tx.specs.Transactions.{TellsOfTransaction}
-use Rattle.mlt_tx_step_counts.specs.Counts.{IsDoneOrBlocked, IsRefusal, IsToSplit}
-use Rattle.mlt_tx_step_counts.specs.CountsOfTwo.{BeginsSplitsOn, BeginsToSplitOn, GoesOver, IsPendingAt, PutsOn, TakesSizesWideStage, TakesWidePassOfTwo, started_wide}
-use Rattle.mlt_tx_step_counts.specs.OwnSteps.{AreOwnSteps, GoesThen, GoesToTurn, GoesUpTo, OwnStep, answers_of, context_at, view_in}
+use Rattle.mlt_tx_two_records.specs.WidePass.{HasChangedNow, PutsBehind}
+use Rattle.mlt_tx_step_counts.specs.Counts.{IsToSplit}
+use Rattle.mlt_tx_step_counts.specs.CountsOfTwo.{BeginsSplitsOn, BeginsToSplitOn, GoesOver, PutsOn, TakesSizesWideStage}
 use Rattle.mlt_tx_step_counts.proofs.Answers.{refused_in, then_after_going, then_after_wait, turn_after_going, turn_after_wait, turn_here, up_to_after_going, up_to_after_wait}
 use Rattle.mlt_tx_step_counts.proofs.Extra.{one_at_least, one_or_four}
 use Rattle.mlt_tx_step_counts.proofs.Splitting.{PutsNow, SplitOutcome, splits_and_puts}
@@ -49,18 +29,18 @@ rebased_page written view has q = read_over_writes (written q) (view.own q) (vie
 
 -- one at least, for a walk that is under way
 left_at_least : (p : Phase) (context : WalkContext) (walk : WalkFields) (view seen : View) → Stands p context walk view → IsUnderWay p → 1 ≤ steps_to_bucket p + steps_to_put_at p context.root walk seen
-left_at_least phase.Start context walk view seen stands under = omega arith
-left_at_least (phase.Headed dir row depth) context walk view seen stands under = omega arith
-left_at_least (phase.Placed bucket depth) context walk view seen stands under = omega arith
-left_at_least (phase.AtBucket bucket depth found) context walk view seen stands none = absurd none
-left_at_least (phase.Full next) context walk view seen stands none = absurd none
-left_at_least (phase.Adding value bucket d unsplit) context walk view seen stands under =
+left_at_least Phase.Start context walk view seen stands under = omega arith
+left_at_least (Phase.Headed dir row depth) context walk view seen stands under = omega arith
+left_at_least (Phase.Placed bucket depth) context walk view seen stands under = omega arith
+left_at_least (Phase.AtBucket bucket depth found) context walk view seen stands none = absurd none
+left_at_least (Phase.Full next) context walk view seen stands none = absurd none
+left_at_least (Phase.Adding value bucket d unsplit) context walk view seen stands under =
     let some = one_at_least (d - bucket_depth seen bucket) (bucket_depth seen bucket) (directory_depth seen context.root) in
     omega (arith, some)
-left_at_least (phase.Splitting value d) context walk view seen stands under =
+left_at_least (Phase.Splitting value d) context walk view seen stands under =
     let some = some_behind walk.split stands.split d stands.split_is in
     omega (arith, some)
-left_at_least (phase.Changed bucket done) context walk view seen stands none = absurd none
+left_at_least (Phase.Changed bucket done) context walk view seen stands none = absurd none
 
 -- at the step to the bucket there is one, and so there is where the record is put behind splits, if there are three at most
 last_to_bucket : (root : ℕ) (walk : WalkFields) (view : View) → steps_to_bucket walk.phase ≡ 1 → steps_to_change root walk view ≡ 1
@@ -80,7 +60,7 @@ last_to_change root walk view (inr (value, bucket, d, was)) few =
 
 -- it is nearer to its change
 record IsNearer (context : WalkContext) (request : Request) (on : WideStage) (walk : WalkFields) (t : Transaction) (own : OwnStep) : Type 0 where
-  going : own.told ≡ answer.Going
+  going : own.told ≡ Answer.Going
   next : WalkFields
   stands : StandsAt request (Wide on next) own.after
   some : 1 ≤ steps_to_change context.root next (view_in own.after own.new)
@@ -88,7 +68,7 @@ record IsNearer (context : WalkContext) (request : Request) (on : WideStage) (wa
 
 -- its bucket is to be split
 record IsToBeSplit (context : WalkContext) (request : Request) (on : WideStage) (walk : WalkFields) (t : Transaction) (own : OwnStep) : Type 0 where
-  going : own.told ≡ answer.Going
+  going : own.told ≡ Answer.Going
   next : WalkFields
   stands : StandsAt request (Wide on next) own.after
   last : steps_to_bucket walk.phase ≡ 1
@@ -97,18 +77,18 @@ record IsToBeSplit (context : WalkContext) (request : Request) (on : WideStage) 
 
 -- it goes on to the key of the size
 record IsOver (context : WalkContext) (request : Request) (on : WideStage) (walk : WalkFields) (t : Transaction) (own : OwnStep) : Type 0 where
-  going : own.told ≡ answer.Going
-  is_own : on ≡ wide_stage.Own
+  going : own.told ≡ Answer.Going
+  is_own : on ≡ WideStage.Own
   next : WalkFields
-  stands : StandsAt request (Wide wide_stage.Size next) own.after
+  stands : StandsAt request (Wide WideStage.Size next) own.after
   changed : HasChangedNow walk
   steps : steps_to_bucket next.phase ≡ 2
 
 -- it tells its reply
 record IsTellingNow (on : WideStage) (walk : WalkFields) (own : OwnStep) : Type 0 where
-  going : own.told ≡ answer.Going
+  going : own.told ≡ Answer.Going
   ready : IsReady own.after
-  changed : (steps_to_bucket walk.phase ≡ 1) ⊎ ((on ≡ wide_stage.Size) × PutsBehind walk)
+  changed : (steps_to_bucket walk.phase ≡ 1) ⊎ ((on ≡ WideStage.Size) × PutsBehind walk)
 
 abbrev WideStageOutcome : WalkContext → Request → WideStage → WalkFields → Transaction → OwnStep → Type 0
 WideStageOutcome context request on walk t own =
@@ -118,7 +98,7 @@ WideStageOutcome context request on walk t own =
 module _ (context : WalkContext) (request : Request) where
   -- the bucket that is to be split, by the context and the view of its walk
   plan_of : (context' : WalkContext) (next : WalkFields) (seen view : View) (value q d : ℕ) → context'.root ≡ context.root → context'.max_depth ≡ context.max_depth → ((p : ℕ) → held_page view p ≡ held_page seen p)
-      → next.phase ≡ phase.Adding value q d true → Stands next.phase context' next view → (l : ℕ) × (g : ℕ) × (d : ℕ) × IsToSplit (one_key context) seen next l g d
+      → next.phase ≡ Phase.Adding value q d true → Stands next.phase context' next view → (l : ℕ) × (g : ℕ) × (d : ℕ) × IsToSplit (one_key context) seen next l g d
   plan_of context' next seen view value q d root most same is stands =
       let adding : IsAdding context' next view q d true = subst (λ (x : Phase). Stands x context' next view) is stands in
       let deep : bucket_depth seen q ≡ adding.fields.depth = ap (λ x. (bucket_of x).depth) (sym (same q) ∙ adding.rest.found) in
@@ -139,26 +119,26 @@ module _ (context : WalkContext) (request : Request) where
       )
 
   -- the phase of a walk that begins to split in a wide pass
-  module _ (context' : WalkContext) (new : LocalState) (walk next : WalkFields) (b : BeginsToSplit context' new walk next) (wide : next.pass ≡ pass.Wide) where
-    not_first : b.walk.pass ≡ pass.First → ⊥
-    not_first first = let both : pass.Wide ≡ pass.First = sym wide ∙ b.needs.same.pass ∙ first in cc
+  module _ (context' : WalkContext) (new : LocalState) (walk next : WalkFields) (b : BeginsToSplit context' new walk next) (wide : next.pass ≡ Pass.Wide) where
+    not_first : b.walk.pass ≡ Pass.First → ⊥
+    not_first first = let both : Pass.Wide ≡ Pass.First = sym wide ∙ b.needs.same.pass ∙ first in cc
 
-    adds_here : (d : ℕ) × (next.phase ≡ phase.Adding b.value (page_of b.walk.phase) d true)
+    adds_here : (d : ℕ) × (next.phase ≡ Phase.Adding b.value (page_of b.walk.phase) d true)
     adds_here = let adding = b.needs.later not_first in (adding.0, adding.1)
 
-  own_on : (walk : WalkFields) (t : Transaction) (own : OwnStep) → own.told ≡ answer.Going → (after : TwoRecordWalk) → StandsAt request after own.after
+  own_on : (walk : WalkFields) (t : Transaction) (own : OwnStep) → own.told ≡ Answer.Going → (after : TwoRecordWalk) → StandsAt request after own.after
       → two_records.Stands after (context_at (one_key context) own) request (view_in own.after own.new)
-      → GoesOnBy (Wide wide_stage.Own walk) after (context_at (one_key context) own) (local t.subtx own.old.pages) (local own.after.subtx own.new.pages) request → WideStageOutcome (one_key context) request wide_stage.Own walk t own
+      → GoesOnBy (Wide WideStage.Own walk) after (context_at (one_key context) own) (local t.subtx own.old.pages) (local own.after.subtx own.new.pages) request → WideStageOutcome (one_key context) request WideStage.Own walk t own
   own_on walk t own going (First pair) s holds none = absurd none
   own_on walk t own going (Owing pair reply) s holds none = absurd none
-  own_on walk t own going (Wide wide_stage.Own next) s holds (turn, inl near) = inr (inl (record {
+  own_on walk t own going (Wide WideStage.Own next) s holds (turn, inl near) = inr (inl (record {
     going = going;
     next = next;
     stands = s;
     some = left_at_least next.phase (one_key (context_at (one_key context) own)) next (view_in own.after own.new) (view_in own.after own.new) holds.stands holds.under_way;
     near = near;
   }))
-  own_on walk t own going (Wide wide_stage.Own next) s holds (turn, inr b) =
+  own_on walk t own going (Wide WideStage.Own next) s holds (turn, inr b) =
       let adds = adds_here (one_key (context_at (one_key context) own)) (local own.after.subtx own.new.pages) walk next b holds.to_key.wide in
       inr (inr (inl (record {
         going = going;
@@ -168,7 +148,7 @@ module _ (context : WalkContext) (request : Request) where
         splits = b;
         plan = plan_of (one_key (context_at (one_key context) own)) next (view_in own.after own.new) (view_in own.after own.new) b.value (page_of b.walk.phase) adds.0 refl refl (λ p. refl) adds.1 holds.stands;
       })))
-  own_on walk t own going (Wide wide_stage.Size next) s holds (turn, over) = inr (inr (inr (inl (record {
+  own_on walk t own going (Wide WideStage.Size next) s holds (turn, over) = inr (inr (inr (inl (record {
     going = going;
     is_own = refl;
     next = next;
@@ -177,13 +157,13 @@ module _ (context : WalkContext) (request : Request) where
     steps = over.steps;
   }))))
 
-  size_on : (walk : WalkFields) (t : Transaction) (own : OwnStep) → own.told ≡ answer.Going → (after : TwoRecordWalk) → StandsAt request after own.after
+  size_on : (walk : WalkFields) (t : Transaction) (own : OwnStep) → own.told ≡ Answer.Going → (after : TwoRecordWalk) → StandsAt request after own.after
       → two_records.Stands after (context_at (one_key context) own) request (view_in own.after own.new)
-      → GoesOnBy (Wide wide_stage.Size walk) after (context_at (one_key context) own) (local t.subtx own.old.pages) (local own.after.subtx own.new.pages) request → WideStageOutcome (one_key context) request wide_stage.Size walk t own
+      → GoesOnBy (Wide WideStage.Size walk) after (context_at (one_key context) own) (local t.subtx own.old.pages) (local own.after.subtx own.new.pages) request → WideStageOutcome (one_key context) request WideStage.Size walk t own
   size_on walk t own going (First pair) s holds none = absurd none
   size_on walk t own going (Owing pair reply) s holds none = absurd none
-  size_on walk t own going (Wide wide_stage.Own next) s holds none = absurd none
-  size_on walk t own going (Wide wide_stage.Size next) s holds (turn, on) = elim on.walks [
+  size_on walk t own going (Wide WideStage.Own next) s holds none = absurd none
+  size_on walk t own going (Wide WideStage.Size next) s holds (turn, on) = elim on.walks [
     | inl near ↦ inr (inl (record {
       going = going;
       next = next;
@@ -204,15 +184,15 @@ module _ (context : WalkContext) (request : Request) where
         })))
   ]
 
-  tells_on : (on : WideStage) (walk : WalkFields) (own : OwnStep) → own.told ≡ answer.Going → IsReady own.after → (after : TwoRecordWalk) → TellsLast (Wide on walk) after → IsTellingNow on walk own
-  tells_on wide_stage.Own walk own going ready (Wide wide_stage.Own next) last = record { going = going; ready = ready; changed = inl last }
-  tells_on wide_stage.Size walk own going ready (Wide wide_stage.Size next) (inl last) = record { going = going; ready = ready; changed = inl last }
-  tells_on wide_stage.Size walk own going ready (Wide wide_stage.Size next) (inr behind) = record { going = going; ready = ready; changed = inr (refl, behind) }
+  tells_on : (on : WideStage) (walk : WalkFields) (own : OwnStep) → own.told ≡ Answer.Going → IsReady own.after → (after : TwoRecordWalk) → TellsLast (Wide on walk) after → IsTellingNow on walk own
+  tells_on WideStage.Own walk own going ready (Wide WideStage.Own next) last = record { going = going; ready = ready; changed = inl last }
+  tells_on WideStage.Size walk own going ready (Wide WideStage.Size next) (inl last) = record { going = going; ready = ready; changed = inl last }
+  tells_on WideStage.Size walk own going ready (Wide WideStage.Size next) (inr behind) = record { going = going; ready = ready; changed = inr (refl, behind) }
   tells_on on walk own going ready after none = absurd none
 
   goes_on_wide_stage : (on : WideStage) (walk : WalkFields) (t : Transaction) (own : OwnStep) → GoesAt (one_key context) request (Wide on walk) t own → WideStageOutcome (one_key context) request on walk t own
-  goes_on_wide_stage wide_stage.Own walk t own goes = own_on walk t own goes.going goes.after goes.stands goes.holds goes.how
-  goes_on_wide_stage wide_stage.Size walk t own goes = size_on walk t own goes.going goes.after goes.stands goes.holds goes.how
+  goes_on_wide_stage WideStage.Own walk t own goes = own_on walk t own goes.going goes.after goes.stands goes.holds goes.how
+  goes_on_wide_stage WideStage.Size walk t own goes = size_on walk t own goes.going goes.after goes.stands goes.holds goes.how
 
   -- **A step of a stage.**
   wide_stage_step : (on : WideStage) (walk : WalkFields) (t : Transaction) (own : OwnStep) → StandsAt request (Wide on walk) t → TellsOfTransaction (context_at (one_key context) own) t own.after own.old own.new own.told → WideStageOutcome (one_key context) request on walk t own
@@ -231,26 +211,26 @@ abbrev EndsWideStage : WalkContext → WideStage → (List OwnStep → Type 0) �
 EndsWideStage context on Then n steps =
     GoesThen n IsDoneOrBlocked (answers_of steps)
     ⊎ GoesUpTo n IsRefusal (answers_of steps)
-    ⊎ ((on ≡ wide_stage.Own) × GoesToTurn (one_key context) n (GoesOver Then) steps)
+    ⊎ ((on ≡ WideStage.Own) × GoesToTurn (one_key context) n (GoesOver Then) steps)
     ⊎ GoesToTurn (one_key context) n (BeginsSplitsOn (one_key context) on Then) steps
 
-ends_after_wait : (context : WalkContext) (on : WideStage) (Then : List OwnStep → Type 0) (n page by : ℕ) (step : OwnStep) (more : List OwnStep) → step.told ≡ answer.Waiting page by → EndsWideStage (one_key context) on Then n more → EndsWideStage (one_key context) on Then n (step ∷ more)
+ends_after_wait : (context : WalkContext) (on : WideStage) (Then : List OwnStep → Type 0) (n page by : ℕ) (step : OwnStep) (more : List OwnStep) → step.told ≡ Answer.Waiting page by → EndsWideStage (one_key context) on Then n more → EndsWideStage (one_key context) on Then n (step ∷ more)
 ends_after_wait context on Then n page by step more waits (inl then) = inl (then_after_wait step more n page by IsDoneOrBlocked waits then)
 ends_after_wait context on Then n page by step more waits (inr (inl away)) = inr (inl (up_to_after_wait step more n page by IsRefusal waits away))
 ends_after_wait context on Then n page by step more waits (inr (inr (inl (own, turn)))) = inr (inr (inl (own, turn_after_wait step more (one_key context) n page by (GoesOver Then) waits turn)))
 ends_after_wait context on Then n page by step more waits (inr (inr (inr turn))) = inr (inr (inr (turn_after_wait step more (one_key context) n page by (BeginsSplitsOn (one_key context) on Then) waits turn)))
 
-ends_after_going : (context : WalkContext) (on : WideStage) (Then : List OwnStep → Type 0) (n : ℕ) (step : OwnStep) (more : List OwnStep) → step.told ≡ answer.Going → EndsWideStage (one_key context) on Then n more → EndsWideStage (one_key context) on Then (suc n) (step ∷ more)
+ends_after_going : (context : WalkContext) (on : WideStage) (Then : List OwnStep → Type 0) (n : ℕ) (step : OwnStep) (more : List OwnStep) → step.told ≡ Answer.Going → EndsWideStage (one_key context) on Then n more → EndsWideStage (one_key context) on Then (suc n) (step ∷ more)
 ends_after_going context on Then n step more goes (inl then) = inl (then_after_going step more n IsDoneOrBlocked goes then)
 ends_after_going context on Then n step more goes (inr (inl away)) = inr (inl (up_to_after_going step more n IsRefusal goes away))
 ends_after_going context on Then n step more goes (inr (inr (inl (own, turn)))) = inr (inr (inl (own, turn_after_going step more (one_key context) n (GoesOver Then) goes turn)))
 ends_after_going context on Then n step more goes (inr (inr (inr turn))) = inr (inr (inr (turn_after_going step more (one_key context) n (BeginsSplitsOn (one_key context) on Then) goes turn)))
 
 module _ (context : WalkContext) (request : Request) (on : WideStage) (Then : List OwnStep → Type 0)
-    (over_then : (walk : WalkFields) (t : Transaction) (seen : View) (steps : List OwnStep) → on ≡ wide_stage.Own → StandsAt request (Wide wide_stage.Size walk) t → steps_to_bucket walk.phase ≡ 2 → AreOwnSteps (one_key context) t seen steps → Then steps)
-    (end_then : (t : Transaction) (seen : View) (steps : List OwnStep) → on ≡ wide_stage.Size → IsReady t → AreOwnSteps (one_key context) t seen steps → Then steps) where
+    (over_then : (walk : WalkFields) (t : Transaction) (seen : View) (steps : List OwnStep) → on ≡ WideStage.Own → StandsAt request (Wide WideStage.Size walk) t → steps_to_bucket walk.phase ≡ 2 → AreOwnSteps (one_key context) t seen steps → Then steps)
+    (end_then : (t : Transaction) (seen : View) (steps : List OwnStep) → on ≡ WideStage.Size → IsReady t → AreOwnSteps (one_key context) t seen steps → Then steps) where
   -- the record is put behind splits
-  puts_behind : (walk : WalkFields) (t : Transaction) (own : OwnStep) → StandsAt request (Wide on walk) t → own.told ≡ answer.Going → PutsBehind walk
+  puts_behind : (walk : WalkFields) (t : Transaction) (own : OwnStep) → StandsAt request (Wide on walk) t → own.told ≡ Answer.Going → PutsBehind walk
       → ((back : List OwnStep) → AreOwnSteps (one_key context) own.after (view_in own.after own.new) back → Then back) → PutsNow (one_key context) (PutsOn on Then) walk t own
   puts_behind walk t own s going (value, bucket, d, was) then = record {
     going = going;
@@ -339,7 +319,7 @@ module _ (context : WalkContext) (request : Request) (on : WideStage) (Then : Li
             walk = walk;
             after = over.next;
             is_at = subst (λ (l : WideStage). IsPendingAt (Wide l walk) t.at) over.is_own (pending_at request (Wide on walk) t s);
-            over = pending_at request (Wide wide_stage.Size over.next) step.after over.stands;
+            over = pending_at request (Wide WideStage.Size over.next) step.after over.stands;
             changed = over.changed;
             steps = over.steps;
             later = over_then over.next step.after (view_in step.after step.new) more over.is_own over.stands over.steps own.2;
@@ -359,10 +339,10 @@ abbrev IsEnd : List OwnStep → Type 0
 IsEnd back = GoesThen 0 IsDoneOrBlocked (answers_of back)
 
 -- **The stage to the key of the size.**
-sizes_wide_stage : (context : WalkContext) (request : Request) (walk : WalkFields) (t : Transaction) (seen : View) (steps : List OwnStep) → StandsAt request (Wide wide_stage.Size walk) t → steps_to_bucket walk.phase ≡ 2 → AreOwnSteps (one_key context) t seen steps → TakesSizesWideStage (one_key context) steps
+sizes_wide_stage : (context : WalkContext) (request : Request) (walk : WalkFields) (t : Transaction) (seen : View) (steps : List OwnStep) → StandsAt request (Wide WideStage.Size walk) t → steps_to_bucket walk.phase ≡ 2 → AreOwnSteps (one_key context) t seen steps → TakesSizesWideStage (one_key context) steps
 sizes_wide_stage context request walk t seen steps s two own =
     let none = put_on_way walk.phase context.root walk seen (omega (arith, two)) in
-    elim (to_change (one_key context) request wide_stage.Size IsEnd (λ w t' seen' back is s' steps rest. not_own is) (λ t' seen' back is ready rest. end_comes_of_two (one_key context) t' seen' back ready rest)
+    elim (to_change (one_key context) request WideStage.Size IsEnd (λ w t' seen' back is s' steps rest. not_own is) (λ t' seen' back is ready rest. end_comes_of_two (one_key context) t' seen' back ready rest)
     steps 2 walk t seen s (omega (arith, two, none)) (omega arith) (omega arith) own) [
       | inl then ↦ inl then
       | inr (inl away) ↦ inr (inl away)
@@ -370,13 +350,13 @@ sizes_wide_stage context request walk t seen steps s two own =
       | inr (inr (inr turn)) ↦ inr (inr turn)
     ]
   where
-    not_own : {A : Type 0} → wide_stage.Size ≡ wide_stage.Own → A
+    not_own : {A : Type 0} → WideStage.Size ≡ WideStage.Own → A
     not_own is = cc
 
 -- **A wide pass on two records.**
-pub wide_of_two : (context : WalkContext) (op : ObjOp) (t : Transaction) (seen : View) (steps : List OwnStep) → t.at ≡ at.Pending (started_wide (Do op)) → AreOwnSteps (one_key context) t seen steps → TakesWidePassOfTwo (one_key context) steps
+pub wide_of_two : (context : WalkContext) (op : ObjOp) (t : Transaction) (seen : View) (steps : List OwnStep) → t.at ≡ At.Pending (started_wide (Do op)) → AreOwnSteps (one_key context) t seen steps → TakesWidePassOfTwo (one_key context) steps
 wide_of_two context op t seen steps pending own =
-    elim (to_change (one_key context) (Do op) wide_stage.Own (TakesSizesWideStage (one_key context)) (λ w t' seen' back is s' two rest. sizes_wide_stage (one_key context) (Do op) w t' seen' back s' two rest) (λ t' seen' back is ready rest. not_size is)
+    elim (to_change (one_key context) (Do op) WideStage.Own (TakesSizesWideStage (one_key context)) (λ w t' seen' back is s' two rest. sizes_wide_stage (one_key context) (Do op) w t' seen' back s' two rest) (λ t' seen' back is ready rest. not_size is)
     steps 3 (wide_to (target_of (Do op)).0) t seen (record { o = started_wide (Do op); pending = pending; asked = refl; access_path = refl; untold = refl }) refl (omega arith) (omega arith) own) [
       | inl then ↦ inl then
       | inr (inl away) ↦ inr (inl away)
@@ -384,5 +364,5 @@ wide_of_two context op t seen steps pending own =
       | inr (inr (inr turn)) ↦ inr (inr (inr turn))
     ]
   where
-    not_size : {A : Type 0} → wide_stage.Own ≡ wide_stage.Size → A
+    not_size : {A : Type 0} → WideStage.Own ≡ WideStage.Size → A
     not_size is = cc

@@ -11,13 +11,12 @@ use Rattle.mlt_hash.specs.StepsLeft.{bucket_depth, directory_depth}
 use Rattle.mlt_hash.specs.Walks.{WalkContext, WalkFields}
 use Rattle.mlt_hash.specs.declared.pass.Pass.{Pass}
 use Rattle.mlt_hash.specs.declared.pass.Pass.TheVariants.{First, Narrow, Wide}
-use Rattle.mlt_hash.specs.declared.pass.Phase.TheVariants as phase
+use Rattle.mlt_hash.specs.declared.pass.Phase.{Phase}
 use Rattle.mlt_tx_operation.specs.Answers.{PutsBehindSplits, Restarts, SplitsFromHere}
 use Rattle.mlt_tx_operation.specs.Operating.{OperationFields, on_one}
 use Rattle.mlt_tx_operation.specs.Walking.{WalkingFields, walk_for, walking}
 use Rattle.mlt_event.specs.declared.answer.Answer.{Answer}
-use Rattle.mlt_event.specs.declared.answer.Answer.TheVariants as answer
-use Rattle.mlt_tx.specs.declared.transaction.At.TheVariants as at
+use Rattle.mlt_tx.specs.declared.transaction.At.{At}
 use Rattle.mlt_tx.specs.declared.transaction.Transaction.{Transaction}
 use Rattle.mlt_tx_step_counts.specs.Extra.{extra_of_splits}
 use Rattle.mlt_tx_step_counts.specs.OwnSteps.{GoesThen, GoesToTurn, GoesUpTo, OwnStep, answers_of, context_at, view_in}
@@ -29,19 +28,19 @@ started_in request next = on_one (walking request None (record (walk_for request
 
 -- it is told Done or Blocked
 abbrev pub IsDoneOrBlocked : Answer → Type 0
-IsDoneOrBlocked (answer.Done reply) = Unit {0}
-IsDoneOrBlocked (answer.Blocked by) = Unit {0}
+IsDoneOrBlocked (Answer.Done reply) = Unit {0}
+IsDoneOrBlocked (Answer.Blocked by) = Unit {0}
 IsDoneOrBlocked other = ⊥
 
 -- it is refused
 abbrev pub IsRefusal : Answer → Type 0
-IsRefusal (answer.Refused reason) = Unit {0}
+IsRefusal (Answer.Refused reason) = Unit {0}
 IsRefusal other = ⊥
 
 -- one operation is taken back, and perhaps it was the last
 abbrev pub IsTakenBack : Answer → Type 0
-IsTakenBack answer.Undone = Unit {0}
-IsTakenBack answer.Aborted = Unit {0}
+IsTakenBack Answer.Undone = Unit {0}
+IsTakenBack Answer.Aborted = Unit {0}
 IsTakenBack other = ⊥
 
 -- which pass may follow this one
@@ -56,10 +55,10 @@ pub record FindsNoRoom (context : WalkContext) (op : ObjOp) (in_pass : Pass)
     (Then : Pass → List OwnStep → Type 0) (before : Transaction) (step : OwnStep)
     (back : List OwnStep) : Type 0 where
   pub o : OperationFields
-  pub pending : before.at ≡ at.Pending o
+  pub pending : before.at ≡ At.Pending o
   pub next : Pass
   pub follows : MayFollow in_pass next
-  pub begins : step.after.at ≡ at.Pending (started_in (Do op) next)
+  pub begins : step.after.at ≡ At.Pending (started_in (Do op) next)
   pub restarts : Restarts (context_at context step) (local before.subtx step.old.pages)
       (local step.after.subtx step.new.pages) o (started_in (Do op) next)
   pub later : Then next back
@@ -68,7 +67,7 @@ pub record FindsNoRoom (context : WalkContext) (op : ObjOp) (in_pass : Pass)
 pub record IsToSplit (context : WalkContext) (seen : View) (walk : WalkFields) (l g d : ℕ) : Type 0 where
   pub value : ℕ
   pub bucket : ℕ
-  pub phase : walk.phase ≡ phase.Adding value bucket d true
+  pub phase : walk.phase ≡ Phase.Adding value bucket d true
   pub depth : bucket_depth seen bucket ≡ l
   pub directory : directory_depth seen context.root ≡ g
   pub deeper : l < d
@@ -79,8 +78,8 @@ pub record PutsRecord (l : ℕ) (before : Transaction) (step : OwnStep) (back : 
     : Type 0 where
   pub o : WalkingFields
   pub o' : WalkingFields
-  pub pending : before.at ≡ at.Pending (on_one o)
-  pub still : step.after.at ≡ at.Pending (on_one o')
+  pub pending : before.at ≡ At.Pending (on_one o)
+  pub still : step.after.at ≡ At.Pending (on_one o')
   pub puts : PutsBehindSplits o.walk o'.walk
   pub depth : bucket_depth (view_in before step.old) puts.bucket ≡ l
   pub ends : GoesThen 0 IsDoneOrBlocked (answers_of back)
@@ -107,8 +106,8 @@ pub record BeginsSplits (context : WalkContext) (before : Transaction) (step : O
     (back : List OwnStep) : Type 0 where
   pub o : WalkingFields
   pub o' : WalkingFields
-  pub pending : before.at ≡ at.Pending (on_one o)
-  pub still : step.after.at ≡ at.Pending (on_one o')
+  pub pending : before.at ≡ At.Pending (on_one o)
+  pub still : step.after.at ≡ At.Pending (on_one o')
   pub splits : SplitsFromHere (context_at context step) (local before.subtx step.old.pages)
       (local step.after.subtx step.new.pages) (on_one o) (on_one o')
   pub l : ℕ
@@ -147,7 +146,7 @@ TakesFirstPass context op steps =
 
 -- An operation of this transaction is to be taken back: its inverse has not taken a step.
 pub record IsToTakeBack (t : Transaction) (last : ObjOp × ObjReply) : Type 0 where
-  pub undoing : t.at ≡ at.Undoing None
+  pub undoing : t.at ≡ At.Undoing None
   pub front : List (ObjOp × ObjReply)
   pub entries : t.undo.entries ≡ front ++ last ∷ []
 

@@ -11,18 +11,16 @@ use Rattle.mlt_hash_pair.specs.Pairs.{PairFields}
 use Rattle.mlt_hash.specs.Steps.{steps_to_bucket}
 use Rattle.mlt_hash.specs.StepsLeft.{bucket_depth}
 use Rattle.mlt_hash.specs.Walks.{WalkContext, Before, WalkFields, context_after, one_key}
-use Rattle.mlt_hash.specs.declared.pass.Phase.TheVariants as phase
+use Rattle.mlt_hash.specs.declared.pass.Phase.{Phase}
 use Rattle.mlt_tx_two_records.specs.declared.two_records.TwoRecordWalk.{TwoRecordWalk}
 use Rattle.mlt_tx_two_records.specs.declared.two_records.TwoRecordWalk.TheVariants.{First, Owing, Wide}
 use Rattle.mlt_tx_two_records.specs.declared.two_records.WideStage.{WideStage}
-use Rattle.mlt_tx_two_records.specs.declared.two_records.WideStage.TheVariants as wide_stage
 use Rattle.mlt_tx_two_records.specs.FirstPass.{FindsNoRoom}
 use Rattle.mlt_tx_two_records.specs.WalkSteps.{BeginsToSplit}
 use Rattle.mlt_tx_two_records.specs.WidePass.{HasChangedNow, wide_to}
 use Rattle.mlt_tx_operation.specs.declared.access_path.AccessPath.TheVariants.{Two}
 use Rattle.mlt_tx_operation.specs.Operating.{OperationFields}
 use Rattle.mlt_tx.specs.declared.transaction.At.{At}
-use Rattle.mlt_tx.specs.declared.transaction.At.TheVariants as at
 use Rattle.mlt_tx.specs.declared.transaction.Transaction.{Transaction}
 use Rattle.mlt_tx_step_counts.specs.Counts.{IsDoneOrBlocked, IsRefusal, IsTakenBack, IsToSplit, SplitsAndPutsOrNot, TakesBackInFour, TakesFirstPass}
 use Rattle.mlt_tx_step_counts.specs.OwnSteps.{GoesBelow, GoesThen, GoesToTurn, GoesUpTo, OwnStep, answers_of, context_at, view_in}
@@ -32,20 +30,20 @@ abbrev pub started_wide : Request → OperationFields
 started_wide request = record {
   request = request;
   reply = None;
-  access_path = Two (Wide wide_stage.Own (wide_to (target_of request).0));
+  access_path = Two (Wide WideStage.Own (wide_to (target_of request).0));
 }
 
 -- an operation on two records is pending, and is here
 abbrev pub IsPendingAt : TwoRecordWalk → At → Type 0
-IsPendingAt two_records (at.Pending o) = o.access_path ≡ Two two_records
+IsPendingAt two_records (At.Pending o) = o.access_path ≡ Two two_records
 IsPendingAt two_records other = ⊥
 
 -- ---- the wide pass
 
 -- why a bucket has to be split, on the way to its own key, or to that of the size over what was written before
 abbrev pub BeginsToSplitOn : WideStage → WalkContext → LocalState → WalkFields → WalkFields → Type 0
-BeginsToSplitOn wide_stage.Own context new before after = BeginsToSplit (one_key context) new before after
-BeginsToSplitOn wide_stage.Size context new before after =
+BeginsToSplitOn WideStage.Own context new before after = BeginsToSplit (one_key context) new before after
+BeginsToSplitOn WideStage.Size context new before after =
     (since : Before) × BeginsToSplit (context_after since context) new before after
 
 -- At this step the record of a key is put behind splits, in a bucket of depth l: each split has made it one deeper. Of the steps
@@ -57,7 +55,7 @@ pub record PutsOn (on : WideStage) (Then : List OwnStep → Type 0) (l : ℕ) (b
   pub value : ℕ
   pub bucket : ℕ
   pub room_depth : ℕ
-  pub was : walk.phase ≡ phase.Adding value bucket room_depth false
+  pub was : walk.phase ≡ Phase.Adding value bucket room_depth false
   pub depth : bucket_depth (view_in before step.old) bucket ≡ l
   pub later : Then back
 
@@ -84,7 +82,7 @@ TakesSizesWideStage context steps =
     GoesThen 2 IsDoneOrBlocked (answers_of steps)
     ⊎ GoesUpTo 2 IsRefusal (answers_of steps)
     ⊎ GoesToTurn context 2
-    (BeginsSplitsOn context wide_stage.Size (λ back. GoesThen 0 IsDoneOrBlocked (answers_of back))) steps
+    (BeginsSplitsOn context WideStage.Size (λ back. GoesThen 0 IsDoneOrBlocked (answers_of back))) steps
 
 -- At this step the record of its own key is put in its bucket, and the pass goes on to the key of the size. Of the steps behind
 -- this is so.
@@ -92,8 +90,8 @@ pub record GoesOver (Then : List OwnStep → Type 0) (before : Transaction) (ste
     (back : List OwnStep) : Type 0 where
   pub walk : WalkFields
   pub after : WalkFields
-  pub is_at : IsPendingAt (Wide wide_stage.Own walk) before.at
-  pub over : IsPendingAt (Wide wide_stage.Size after) step.after.at
+  pub is_at : IsPendingAt (Wide WideStage.Own walk) before.at
+  pub over : IsPendingAt (Wide WideStage.Size after) step.after.at
   pub changed : HasChangedNow walk
   pub steps : steps_to_bucket after.phase ≡ 2
   pub later : Then back
@@ -106,7 +104,7 @@ TakesWidePassOfTwo context steps =
     GoesThen 3 IsDoneOrBlocked (answers_of steps)
     ⊎ GoesUpTo 3 IsRefusal (answers_of steps)
     ⊎ GoesToTurn context 3 (GoesOver (TakesSizesWideStage context)) steps
-    ⊎ GoesToTurn context 3 (BeginsSplitsOn context wide_stage.Own (TakesSizesWideStage context)) steps
+    ⊎ GoesToTurn context 3 (BeginsSplitsOn context WideStage.Own (TakesSizesWideStage context)) steps
 
 -- ---- the first pass
 
@@ -121,7 +119,7 @@ pub record OwesEarlier (step : OwnStep) (back : List OwnStep) : Type 0 where
 -- A bucket has no room. All is rolled back, and a wide pass begins; of its steps this is so.
 pub record FindsNoRoomForTwo (context : WalkContext) (op : ObjOp) (Then : List OwnStep → Type 0)
     (pair : PairFields) (before : Transaction) (step : OwnStep) (back : List OwnStep) : Type 0 where
-  pub begins : step.after.at ≡ at.Pending (started_wide (Do op))
+  pub begins : step.after.at ≡ At.Pending (started_wide (Do op))
   pub none : FindsNoRoom (context_at context step) (local before.subtx step.old.pages)
       (local step.after.subtx step.new.pages) (Do op) pair
   pub later : Then back

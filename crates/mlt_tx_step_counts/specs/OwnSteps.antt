@@ -6,7 +6,6 @@ use Rattle.mlt_hash_access.specs.LocalStates.{local}
 use Rattle.mlt_hash_access.specs.Views.{View, view_of}
 use Rattle.mlt_hash.specs.Walks.{WalkContext}
 use Rattle.mlt_event.specs.declared.answer.Answer.{Answer}
-use Rattle.mlt_event.specs.declared.answer.Answer.TheVariants as answer
 use Rattle.mlt_tx.specs.declared.shared.SharedState.{SharedState}
 use Rattle.mlt_tx.specs.declared.transaction.Transaction.{Transaction}
 use Rattle.mlt_tx.specs.Transactions.{TellsOfTransaction}
@@ -38,7 +37,7 @@ AreOwnSteps context t seen (step ∷ more) =
 
 -- an answer before these, unless it says to wait
 abbrev pub with_answer : Answer → List Answer → List Answer
-with_answer (answer.Waiting page by) more = more
+with_answer (Answer.Waiting page by) more = more
 with_answer told more = told ∷ more
 
 -- what steps are told, in order, those aside that wait
@@ -49,7 +48,7 @@ answers_of (step ∷ more) = with_answer step.told (answers_of more)
 -- so many answers, each that it goes on
 abbrev pub goings : ℕ → List Answer
 goings zero = []
-goings (suc n) = answer.Going ∷ goings n
+goings (suc n) = Answer.Going ∷ goings n
 
 -- of the first answer, if there is one, this is so
 abbrev pub IfFirst : (Answer → Type 0) → List Answer → Type 0
@@ -60,13 +59,13 @@ IfFirst Is (told ∷ more) = Is told
 abbrev pub GoesThen : ℕ → (Answer → Type 0) → List Answer → Type 0
 GoesThen zero Is answers = IfFirst Is answers
 GoesThen (suc n) Is [] = Unit {0}
-GoesThen (suc n) Is (told ∷ more) = (told ≡ answer.Going) × GoesThen n Is more
+GoesThen (suc n) Is (told ∷ more) = (told ≡ Answer.Going) × GoesThen n Is more
 
 -- Within n answers, as far as there are any, comes one of which this is so; and those before it say that it goes on.
 abbrev pub GoesUpTo : ℕ → (Answer → Type 0) → List Answer → Type 0
 GoesUpTo n Is [] = Unit {0}
 GoesUpTo zero Is (told ∷ more) = ⊥
-GoesUpTo (suc n) Is (told ∷ more) = Is told ⊎ ((told ≡ answer.Going) × GoesUpTo n Is more)
+GoesUpTo (suc n) Is (told ∷ more) = Is told ⊎ ((told ≡ Answer.Going) × GoesUpTo n Is more)
 
 -- All answers say that it goes on, and there are fewer than n.
 abbrev pub GoesBelow : ℕ → List Answer → Type 0

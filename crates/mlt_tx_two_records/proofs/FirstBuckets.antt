@@ -1,40 +1,15 @@
 -- What a first pass does once it has found both keys
-use Rattle.std.proofs.Common.{◌≡◌, ◌⊎◌, ℕ, Option, None, Some, is_some, refl, sym, ap, subst, ◌∙◌, inl, inr}
-use Rattle.std.specs.Prelude.{IsSome, position}
-use Rattle.std.proofs.lemmas.Bool.{false≢true}
-use Rattle.std.proofs.lemmas.Option.{none-some}
-use Rattle.mlt_page.specs.Slots.{is_ghost_of}
-use Rattle.mlt_page.specs.Values.{BucketFields}
-use Rattle.mlt_object_kinds.specs.declared.operation.ObjReply.{ObjReply}
-use Rattle.mlt_object_base.specs.declared.record.RecChange.{RecChange}
-use Rattle.mlt_object_base.specs.declared.record.RecChange.TheVariants.{Add, Set, ToGhost, Revive, Plus, Minus}
-use Rattle.mlt_object_base.specs.declared.request.Request.{Request}
-use Rattle.mlt_object_base.specs.Records.{CanChange}
-use Rattle.mlt_object_base.specs.Requests.{decision, size_decision, size_key_of}
-use Rattle.mlt_hash_form.specs.File.{FilePages, bucket_of, lead_of}
-use Rattle.mlt_hash_form.specs.Held.{Agrees, over, own_or_clean}
-use Rattle.mlt_hash_access.specs.LocalStates.{LocalState}
-use Rattle.mlt_hash_access.specs.PageTurns.{IsRolledBack}
-use Rattle.mlt_hash_access.specs.Views.{ReadsHeldBucket, view_of}
+use Rattle.std.proofs.Common.{◌≡◌, ◌⊎◌, ℕ, Option, None, Some, is_some, refl, sym, ap, subst, ◌∙◌, inl, inr, IsSome, position}
+use Rattle.mlt_tx_two_records.proofs.Names.{false≢true, none-some, is_ghost_of, BucketFields, ObjReply, RecChange, Add, Set, ToGhost, Revive, Plus, Minus, Request, CanChange, decision, size_decision, size_key_of, FilePages, bucket_of, lead_of, Agrees, over, own_or_clean, LocalState, IsRolledBack, ReadsHeldBucket, view_of, agrees, HasChanged, LeavesLeft, LeavesRight, MakesBoth, PairFields, later_page, FitsFound, found_of, RecordChange, holds_read, both_lead, WalkContext, nowhere_found, MayActOnBoth, Writes, HasGhostOn, AsksForBoth, AsksForNone, HasToldFirst, OwesOne, task_for, AddsElement, asked_of}
 use Rattle.mlt_hash_access.proofs.Leaving.{leaves_it}
-use Rattle.mlt_hash_access.proofs.Views.{agrees}
-use Rattle.mlt_hash_pair.specs.Changes.{FitsBoth, HasChanged, IsFull, IsFullBehind, LeavesLeft, LeavesRight, MakesBoth, TellsOfTwo, task_of}
-use Rattle.mlt_hash_pair.specs.Pairs.{PairFields, later_page}
-use Rattle.mlt_hash_pair.specs.Plans.{FitsFound, HasNoPlan}
-use Rattle.mlt_hash_pair.specs.Descents.{found_of, page_of}
-use Rattle.mlt_hash_pair.specs.declared.answer.ChangeAnswer.TheVariants as answer
+use Rattle.mlt_hash_pair.specs.Changes.{FitsBoth, IsFull, IsFullBehind, TellsOfTwo, task_of}
+use Rattle.mlt_hash_pair.specs.Plans.{HasNoPlan}
+use Rattle.mlt_hash_pair.specs.Descents.{page_of}
+use Rattle.mlt_hash_pair.specs.declared.answer.ChangeAnswer.{ChangeAnswer}
 use Rattle.mlt_hash_pair.specs.declared.answer.Side.{Side}
-use Rattle.mlt_hash_pair.specs.declared.answer.Side.TheVariants as side
 use Rattle.mlt_hash_pair.specs.declared.asked.PairChanges.{PairChanges}
-use Rattle.mlt_hash_pair.specs.declared.asked.RecordChange.{RecordChange}
-use Rattle.mlt_hash_pair.proofs.Laws.{holds_read}
-use Rattle.mlt_hash_pair.proofs.Records.{both_lead}
-use Rattle.mlt_hash.specs.Walks.{WalkContext}
-use Rattle.mlt_hash.proofs.Additions.{nowhere_found}
-use Rattle.mlt_tx_two_records.specs.AtBuckets.{MayActOnBoth, RollsBack, Writes}
-use Rattle.mlt_tx_two_records.specs.TwoRecordWalks.{HasGhostOn}
-use Rattle.mlt_tx_two_records.specs.FirstPass.{AsksForBoth, AsksForNone, HasFullBucket, HasToldFirst, OwesOne, changes_for, task_for}
-use Rattle.mlt_tx_two_records.specs.Performing.{AddsElement, asked_of}
+use Rattle.mlt_tx_two_records.specs.AtBuckets.{RollsBack}
+use Rattle.mlt_tx_two_records.specs.FirstPass.{HasFullBucket, changes_for}
 use Rattle.mlt_tx_two_records.proofs.Asking.{adds_by_own, adds_by_size, asked_fits, never_revives_size}
 use Rattle.mlt_tx_two_records.proofs.FirstChanges.{buckets_alone, makes_both, owes_one, told_both, told_none}
 use Rattle.mlt_tx_two_records.proofs.Planning.{GhostThere}
@@ -152,7 +127,7 @@ module _ (context : WalkContext) (old : LocalState) (request : Request) (pair : 
 
     module _ (new : LocalState) (after : PairFields) (changes : PairChanges) (left : changes.left ≡ Some (asked_of change own)) (right : changes.right ≡ Some (asked_of change' size)) where
       -- **Both changes are made,**
-      pub told_changed : TellsOfTwo (task_of context.active pair (page_of pair.left_descent) (page_of pair.right_descent) changes) old new pair after answer.Changed → context.tx ≡ old.running.tx → HasChanged context.bits context.root context.active context.tx after (view_of new)
+      pub told_changed : TellsOfTwo (task_of context.active pair (page_of pair.left_descent) (page_of pair.right_descent) changes) old new pair after ChangeAnswer.Changed → context.tx ≡ old.running.tx → HasChanged context.bits context.root context.active context.tx after (view_of new)
           → HasToldFirst context request after decided.0 (view_of new)
       told_changed tells tx changed =
           let made : MakesBoth (task_for context pair change change') context.tx (view_of old) (view_of new) =
@@ -168,7 +143,7 @@ module _ (context : WalkContext) (old : LocalState) (request : Request) (pair : 
           ⊎ LeavesRight (task_of context.active pair (page_of pair.left_descent) (page_of pair.right_descent) c) tx (view_of old) (view_of new) after.owed
 
       -- **or one of them, and the other is owed;**
-      pub told_one_left : TellsOfTwo (task_of context.active pair (page_of pair.left_descent) (page_of pair.right_descent) changes) old new pair after answer.OneLeft → context.tx ≡ old.running.tx → HasChanged context.bits context.root context.active context.tx after (view_of new)
+      pub told_one_left : TellsOfTwo (task_of context.active pair (page_of pair.left_descent) (page_of pair.right_descent) changes) old new pair after ChangeAnswer.OneLeft → context.tx ≡ old.running.tx → HasChanged context.bits context.root context.active context.tx after (view_of new)
           → OwesOne context request after decided.0 (view_of new)
       told_one_left tells tx changed =
           let left_over : Leaving asked context.tx = subst (Leaving asked) (sym tx) (subst (λ c. Leaving c old.running.tx) (asked_is changes left right) tells.0) in
@@ -177,17 +152,17 @@ module _ (context : WalkContext) (old : LocalState) (request : Request) (pair : 
           (owes_one context request pair (view_of old) ready.keys ready.finding ready.found decided.0 asks own_can size_can ghost (view_of new) after.owed still left_over)
 
       -- nothing has changed where there is no room
-      pub full_stays : (which : Side) → TellsOfTwo (task_of context.active pair (page_of pair.left_descent) (page_of pair.right_descent) changes) old new pair after (answer.Full which) → new ≡ old
-      full_stays side.Left tells = tells.1
-      full_stays side.Right tells = tells.1
+      pub full_stays : (which : Side) → TellsOfTwo (task_of context.active pair (page_of pair.left_descent) (page_of pair.right_descent) changes) old new pair after (ChangeAnswer.Full which) → new ≡ old
+      full_stays Side.Left tells = tells.1
+      full_stays Side.Right tells = tells.1
 
       -- **or there is no room.**
-      pub told_full : (which : Side) → TellsOfTwo (task_of context.active pair (page_of pair.left_descent) (page_of pair.right_descent) changes) old new pair after (answer.Full which) → context.tx ≡ old.running.tx → (then_ : LocalState) → IsRolledBack old then_
+      pub told_full : (which : Side) → TellsOfTwo (task_of context.active pair (page_of pair.left_descent) (page_of pair.right_descent) changes) old new pair after (ChangeAnswer.Full which) → context.tx ≡ old.running.tx → (then_ : LocalState) → IsRolledBack old then_
           → RollsBack context old then_ request pair
-      told_full side.Left tells tx then_ back =
+      told_full Side.Left tells tx then_ back =
           let full : FullLeft asked context.tx = subst (FullLeft asked) (sym tx) (subst (λ c. FullLeft c old.running.tx) (asked_is changes left right) tells.0) in
           rolled then_ back (own_adds change refl full.bucket full.reads (no_plan full.change (asked_of change (found_of pair.left_descent)) context.tx pair.left full.bucket full.asked_is full.none)) (inl full)
-      told_full side.Right tells tx then_ back =
+      told_full Side.Right tells tx then_ back =
           let full : FullRight asked context.tx = subst (FullRight asked) (sym tx) (subst (λ c. FullRight c old.running.tx) (asked_is changes left right) tells.0) in
           rolled then_ back (size_adds change' refl full.right.bucket (no_plan full.right.change (asked_of change' (found_of pair.right_descent)) context.tx pair.right full.right.bucket full.right.asked_is full.right.none)) (inr full)
 

@@ -1,23 +1,11 @@
 -- The changes of a first pass: both at once, or one with the other owed
-use Rattle.std.proofs.Common.{◌≡◌, ◌≢◌, ◌⊎◌, ℕ, Option, None, Some, refl, sym, ap, subst, ◌∙◌, inl, inr, arith}
-use Rattle.std.specs.Prelude.{◌==◌, if◌then◌else◌}
-use Rattle.std.proofs.lemmas.Bool.{cases_Bool, cases_eq, cond-false, cond-true, eq-eqb, ne_eqb}
-use Rattle.std.specs.Prelude.{nat_lt}
-use Rattle.mlt_page.specs.declared.page.Page.{Page}
-use Rattle.mlt_object_kinds.specs.declared.operation.ObjReply.{ObjReply}
-use Rattle.mlt_object_base.specs.declared.request.Request.{Request}
-use Rattle.mlt_object_base.specs.Records.{CanChange}
-use Rattle.mlt_hash_access.specs.Views.{ReadsHeldBucket, View, WritesPage, WritesSlot}
-use Rattle.mlt_hash_record.specs.Plans.{WriteFields, planned_page}
-use Rattle.mlt_hash_pair.specs.Changes.{HasChanged, IsHolding, LeavesLeft, LeavesRight, MakesBoth, Task, WritesBucketsAlone}
-use Rattle.mlt_hash_pair.specs.Pairs.{IsFinding, IsFound, PairFields, later_of, later_page}
-use Rattle.mlt_hash_pair.specs.Descents.{found_of, page_of}
-use Rattle.mlt_hash_pair.proofs.Laws.{holds_read}
-use Rattle.mlt_hash.specs.Walks.{WalkContext}
-use Rattle.mlt_hash.specs.declared.pass.Change.{Change}
-use Rattle.mlt_tx_two_records.specs.FirstPass.{AsksForBoth, AsksForNone, ChangesBoth, HasKeys, HasToldFirst, OwesEither, OwesOne, task_for}
-use Rattle.mlt_tx_two_records.specs.Performing.{asked_of}
-use Rattle.mlt_tx_two_records.specs.Records.{PlansRecord, WritesRecord}
+use Rattle.std.proofs.Common.{◌≡◌, ◌≢◌, ◌⊎◌, ℕ, Option, None, Some, refl, sym, ap, subst, ◌∙◌, inl, inr, arith, ◌==◌, if◌then◌else◌, eq-eqb, ne_eqb, nat_lt}
+use Rattle.mlt_tx_two_records.proofs.Names.{cases_eq, cond-false, cond-true, Page, ObjReply, Request, CanChange, ReadsHeldBucket, View, WritesPage, WriteFields, planned_page, HasChanged, IsHolding, LeavesLeft, LeavesRight, MakesBoth, IsFinding, IsFound, PairFields, later_page, found_of, holds_read, WalkContext, Change, AsksForBoth, AsksForNone, ChangesBoth, HasKeys, HasToldFirst, OwesEither, OwesOne, task_for, asked_of, PlansRecord, WritesRecord}
+use Rattle.std.proofs.lemmas.Bool.{cases_Bool}
+use Rattle.mlt_hash_access.specs.Views.{WritesSlot}
+use Rattle.mlt_hash_pair.specs.Changes.{Task, WritesBucketsAlone}
+use Rattle.mlt_hash_pair.specs.Pairs.{later_of}
+use Rattle.mlt_hash_pair.specs.Descents.{page_of}
 use Rattle.mlt_tx_two_records.proofs.Asking.{asked_fits, never_revives_size}
 use Rattle.mlt_tx_two_records.proofs.Planning.{FitsThere, GhostThere, IsMade, IsOwed, fits_beside, is_made, is_owed, planned_beside, planned_beside_before, way_fits}
 

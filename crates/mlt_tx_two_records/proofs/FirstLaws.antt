@@ -1,46 +1,26 @@
 -- What a first pass knows, whatever other transactions do
-use Rattle.std.proofs.Common.{◌≡◌, ℕ, true, List, length, None, Some, refl, sym, ap, subst, ◌∙◌, inl, inr, slice_index_or, slice_set}
-use Rattle.std.specs.Ordering.{nat_cmp}
+use Rattle.std.proofs.Common.{◌≡◌, ℕ, true, List, length, None, Some, refl, sym, ap, subst, ◌∙◌, inl, inr, slice_index_or, slice_set, nat_cmp, get_or-set_other, get_or-set_same}
 use Rattle.std.specs.FinSet as set
-use Rattle.std.proofs.lemmas.Bool.{cases_eq, cases_lt, false≢true}
-use Rattle.std.proofs.lemmas.List.{get_or-set_other, get_or-set_same, set_past}
-use Rattle.mlt_page.specs.Slots.{is_kept}
-use Rattle.mlt_page.specs.declared.page.Page.TheVariants as page
-use Rattle.mlt_page.specs.declared.slot.Slot.{Slot}
-use Rattle.mlt_page.specs.declared.slot.Slot.TheVariants.{Free}
-use Rattle.mlt_page.specs.Values.{BucketFields, with_slot}
-use Rattle.mlt_object_kinds.specs.declared.operation.ObjReply.{ObjReply}
-use Rattle.mlt_object_base.specs.declared.request.Request.{Request}
-use Rattle.mlt_hash_form.specs.File.{bucket_of}
-use Rattle.mlt_hash_form.specs.Held.{own_or_clean}
-use Rattle.mlt_hash_access.specs.Views.{ReadsHeldBucket, View}
-use Rattle.mlt_hash_record.specs.Plans.{WriteFields}
-use Rattle.mlt_hash_split.specs.Rests.{KeepsNoMore}
+use Rattle.mlt_tx_two_records.proofs.Names.{cases_eq, cases_lt, false≢true, is_kept, Page, Slot, Free, BucketFields, with_slot, ObjReply, Request, bucket_of, own_or_clean, ReadsHeldBucket, View, WriteFields, KeepsNoMore, PairFields, slot_after, WalkContext, StoodBefore, Change, ChangesBoth, HasToldFirst, OwesEither, OwesOne, PlansRecord, WritesRecord}
+use Rattle.std.proofs.lemmas.List.{set_past}
 use Rattle.mlt_page_subtx.proofs.ImageLaws.{not_true}
-use Rattle.mlt_hash_pair.specs.Pairs.{PairFields}
 use Rattle.mlt_hash_pair.specs.Descents.{page_of}
 use Rattle.mlt_hash_pair.proofs.Laws.{owners_close}
-use Rattle.mlt_hash.specs.Passes.{slot_after}
-use Rattle.mlt_hash.specs.Walks.{WalkContext, StoodBefore}
-use Rattle.mlt_hash.specs.declared.pass.Change.{Change}
-use Rattle.mlt_hash.specs.declared.pass.Change.TheVariants as change
-use Rattle.mlt_tx_two_records.specs.FirstPass.{ChangesBoth, HasToldFirst, OwesEither, OwesOne}
-use Rattle.mlt_tx_two_records.specs.Records.{PlansRecord, WritesRecord}
 use Rattle.mlt_tx_two_records.proofs.Planning.{reads_written}
 
 -- what stood in a slot is what stands there by those that are open now, if its room is not kept now where it was not before
 stood_fewer : (done : Change) (context : WalkContext) (fewer : set.FinSet nat_cmp) (key : ℕ) (slots : List Slot) (slot : Slot) → (is_kept fewer slot ≡ true → is_kept context.active slot ≡ true) → StoodBefore done context key slots slot → StoodBefore done (record context { active = fewer }) key slots slot
-stood_fewer (change.Put value) context fewer key slots slot kept was = (was.0, was.1, not_true (is_kept fewer slot) (λ is. false≢true (sym was.2 ∙ kept is)))
-stood_fewer (change.Revive value) context fewer key slots slot kept was = was
-stood_fewer (change.Set value) context fewer key slots slot kept was = was
-stood_fewer change.Remove context fewer key slots slot kept was = was
+stood_fewer (Change.Put value) context fewer key slots slot kept was = (was.0, was.1, not_true (is_kept fewer slot) (λ is. false≢true (sym was.2 ∙ kept is)))
+stood_fewer (Change.Revive value) context fewer key slots slot kept was = was
+stood_fewer (Change.Set value) context fewer key slots slot kept was = was
+stood_fewer Change.Remove context fewer key slots slot kept was = was
 
 -- the room of what a change writes is kept, as long as its transaction is open
 written_kept : (done : Change) (active : set.FinSet nat_cmp) (key tx : ℕ) → set.contains active tx ≡ true → is_kept active (slot_after done key tx) ≡ true
-written_kept (change.Put value) active key tx is_open = refl
-written_kept (change.Revive value) active key tx is_open = refl
-written_kept (change.Set value) active key tx is_open = refl
-written_kept change.Remove active key tx is_open = is_open
+written_kept (Change.Put value) active key tx is_open = refl
+written_kept (Change.Revive value) active key tx is_open = refl
+written_kept (Change.Set value) active key tx is_open = refl
+written_kept Change.Remove active key tx is_open = is_open
 
 module _ (context : WalkContext) (fewer : set.FinSet nat_cmp) (view : View) (no_more : KeepsNoMore context.active fewer view) (is_open : set.contains context.active context.tx ≡ true) where
   -- no slot of a bucket keeps its room now that did not before
@@ -50,7 +30,7 @@ module _ (context : WalkContext) (fewer : set.FinSet nat_cmp) (view : View) (no_
   -- neither of one that is not written,
   seen_fewer : (old : View) (q : ℕ) (bucket : BucketFields) → ((p : ℕ) → view.seen p ≡ old.seen p) → old.own q ≡ None → ReadsHeldBucket old q bucket → KeptFewer bucket
   seen_fewer old q bucket seen none reads i kept =
-      let first : reads.0 ≡ Some (page.Bucket bucket) = sym (ap (λ own. own_or_clean own reads.0) none) ∙ reads.2 in
+      let first : reads.0 ≡ Some (Page.Bucket bucket) = sym (ap (λ own. own_or_clean own reads.0) none) ∙ reads.2 in
       let same : bucket_of reads.0 ≡ bucket = ap bucket_of first in
       ap (λ (b : BucketFields). is_kept context.active (slice_index_or b.slots i Free)) (sym same)
       ∙ no_more q reads.0 (seen q ∙ reads.1) i (ap (λ (b : BucketFields). is_kept fewer (slice_index_or b.slots i Free)) same ∙ kept)
@@ -98,7 +78,7 @@ module _ (context : WalkContext) (fewer : set.FinSet nat_cmp) (view : View) (no_
   pub owes_fewer : (request : Request) (pair : PairFields) (reply : ObjReply) → OwesOne context request pair reply view → OwesOne (record context { active = fewer }) request pair reply view
   owes_fewer request pair reply owes = record {
     keys = owes.keys;
-    changed = owners_close context.bits context.root context.active fewer context.tx pair view owes.changed (λ q bucket sees. no_more q (Some (page.Bucket bucket)) sees);
+    changed = owners_close context.bits context.root context.active fewer context.tx pair view owes.changed (λ q bucket sees. no_more q (Some (Page.Bucket bucket)) sees);
     asks = owes.asks;
     own_done = owes.own_done;
     size_done = owes.size_done;

@@ -1,36 +1,16 @@
 -- The steps of a first pass, up to its last one
 use Rattle.std.proofs.Common.{◌≡◌, ℕ, ◌≤◌, Option, None, Some, refl, sym, ap, subst, ◌∙◌, inr, arith}
 use Rattle.std.specs.FinMap as map
-use Rattle.mlt_object_kinds.specs.declared.operation.ObjReply.{ObjReply}
-use Rattle.mlt_object_base.specs.declared.request.Request.{Request}
-use Rattle.mlt_object_base.specs.Records.{CanChange}
-use Rattle.mlt_object_base.specs.Requests.{IsPossible, decision, size_decision, target_of}
-use Rattle.mlt_page_locks.specs.LockTables.{page_count}
-use Rattle.mlt_hash_form.specs.File.{look_up}
-use Rattle.mlt_hash_form.specs.Held.{Agrees}
-use Rattle.mlt_hash_access.specs.LocalStates.{LocalState}
-use Rattle.mlt_hash_access.specs.PageSteps.{Leaves, LocksAtMost, WritesHeldSlot}
-use Rattle.mlt_hash_access.specs.PageTurns.{TakesTurn}
-use Rattle.mlt_hash_access.specs.Views.{view_of}
-use Rattle.mlt_hash_access.proofs.OwnSteps.{step_keeps_tx}
-use Rattle.mlt_hash_access.proofs.Turns.{lock_and_write_touch, step_turns}
-use Rattle.mlt_hash_access.proofs.Views.{agrees, write_writes}
-use Rattle.mlt_hash_record.specs.Plans.{WriteFields}
+use Rattle.mlt_tx_two_records.proofs.Names.{ObjReply, Request, CanChange, IsPossible, decision, size_decision, target_of, page_count, look_up, Agrees, LocalState, Leaves, LocksAtMost, TakesTurn, view_of, step_keeps_tx, lock_and_write_touch, step_turns, agrees, WriteFields, IsFound, PairFields, later_page, IsThere, found_of, Descent, both_there, holds_read, WalkContext, First, MayActOnBoth, Writes, HasGhostOn, MayGoOn, HasKeys, HasToldFirst, OwesOne}
+use Rattle.mlt_hash_access.specs.PageSteps.{WritesHeldSlot}
+use Rattle.mlt_hash_access.proofs.Views.{write_writes}
 use Rattle.mlt_hash_pair.specs.Changes.{HoldsOn}
-use Rattle.mlt_hash_pair.specs.Pairs.{IsFound, PairFields, later_page, least_steps, mode_next, most_steps}
+use Rattle.mlt_hash_pair.specs.Pairs.{least_steps, mode_next, most_steps}
 use Rattle.mlt_hash_pair.specs.Steps.{GoesOn, HasFound, TellsOfStep}
-use Rattle.mlt_hash_pair.specs.Descents.{IsThere, found_of}
-use Rattle.mlt_hash_pair.specs.declared.answer.PairAnswer.TheVariants as pair
-use Rattle.mlt_hash_pair.specs.declared.descent.Descent.{Descent}
-use Rattle.mlt_hash_pair.specs.declared.descent.Descent.TheVariants as way
-use Rattle.mlt_hash_pair.proofs.Laws.{both_there, holds_read}
-use Rattle.mlt_hash.specs.Walks.{WalkContext}
-use Rattle.mlt_tx_two_records.specs.declared.two_records.TwoRecordWalk.TheVariants.{First}
+use Rattle.mlt_hash_pair.specs.declared.answer.PairAnswer.{PairAnswer}
 use Rattle.mlt_tx_two_records.specs.declared.first.FirstAnswer.{FirstAnswer}
-use Rattle.mlt_tx_two_records.specs.declared.first.FirstAnswer.TheVariants as answer
-use Rattle.mlt_tx_two_records.specs.AtBuckets.{MayActOnBoth, TellsAtBuckets, Writes}
-use Rattle.mlt_tx_two_records.specs.TwoRecordWalks.{HasGhostOn, MayGoOn}
-use Rattle.mlt_tx_two_records.specs.FirstPass.{HasKeys, HasToldFirst, OwesOne, TellsOfFirst, WasLast}
+use Rattle.mlt_tx_two_records.specs.AtBuckets.{TellsAtBuckets}
+use Rattle.mlt_tx_two_records.specs.FirstPass.{TellsOfFirst, WasLast}
 use Rattle.mlt_tx_two_records.proofs.Asking.{revives_whatever}
 use Rattle.mlt_tx_two_records.proofs.FirstChanges.{owed_made, told_both}
 
@@ -40,19 +20,19 @@ few_pages old new tx few = subst (λ (t : ℕ). page_count new.locks t ≤ 300) 
 
 -- a way at its bucket, and what it found
 there_found : (at : Descent) (value : Option ℕ) → HasFound at value → IsThere at × (found_of at ≡ value)
-there_found (way.AtBucket dir bucket found) value is = (tt, is)
-there_found way.Start value is = absurd is
-there_found (way.Headed place dir row) value is = absurd is
-there_found (way.Placed dir bucket) value is = absurd is
+there_found (Descent.AtBucket dir bucket found) value is = (tt, is)
+there_found Descent.Start value is = absurd is
+there_found (Descent.Headed place dir row) value is = absurd is
+there_found (Descent.Placed dir bucket) value is = absurd is
 
 none_left : (left right : Descent) → IsThere left → IsThere right → (least_steps left right ≡ 0) × (most_steps left right ≡ 0)
-none_left (way.AtBucket dir bucket found) (way.AtBucket dir' bucket' found') there there' = (refl, refl)
-none_left (way.AtBucket dir bucket found) way.Start there there' = absurd there'
-none_left (way.AtBucket dir bucket found) (way.Headed place' dir' row') there there' = absurd there'
-none_left (way.AtBucket dir bucket found) (way.Placed dir' bucket') there there' = absurd there'
-none_left way.Start right there there' = absurd there
-none_left (way.Headed place dir row) right there there' = absurd there
-none_left (way.Placed dir bucket) right there there' = absurd there
+none_left (Descent.AtBucket dir bucket found) (Descent.AtBucket dir' bucket' found') there there' = (refl, refl)
+none_left (Descent.AtBucket dir bucket found) Descent.Start there there' = absurd there'
+none_left (Descent.AtBucket dir bucket found) (Descent.Headed place' dir' row') there there' = absurd there'
+none_left (Descent.AtBucket dir bucket found) (Descent.Placed dir' bucket') there there' = absurd there'
+none_left Descent.Start right there there' = absurd there
+none_left (Descent.Headed place dir row) right there there' = absurd there
+none_left (Descent.Placed dir bucket) right there there' = absurd there
 
 module _ (context : WalkContext) (old new : LocalState) (request : Request) (before after : PairFields) (may : MayGoOn context old request (First before)) (leaves : Leaves old new) where
   same_tx : new.running.tx ≡ old.running.tx
@@ -69,7 +49,7 @@ module _ (context : WalkContext) (old new : LocalState) (request : Request) (bef
   turn_of goes = step_turns old new leaves.touches (few_pages old new same_tx (holds_read context.bits context.root after (view_of new) goes.finding).few)
 
   -- **It goes on to both buckets,**
-  pub first_goes : TellsOfStep context.bits context.root old new before after pair.Going → TellsOfFirst context old new request before after answer.Going
+  pub first_goes : TellsOfStep context.bits context.root old new before after PairAnswer.Going → TellsOfFirst context old new request before after FirstAnswer.Going
   first_goes tells = (
     turn_of tells.0,
     record { least = tells.0.least; most = tells.0.most },
@@ -77,7 +57,7 @@ module _ (context : WalkContext) (old new : LocalState) (request : Request) (bef
   )
 
   -- **or has found both keys.**
-  module _ (own size : Option ℕ) (tells : TellsOfStep context.bits context.root old new before after (pair.Found own size)) where
+  module _ (own size : Option ℕ) (tells : TellsOfStep context.bits context.root old new before after (PairAnswer.Found own size)) where
     there : IsFound after
     there = ((there_found after.left_descent own tells.1).0, (there_found after.right_descent size tells.2).0)
 
@@ -121,9 +101,9 @@ module _ (context : WalkContext) (old new : LocalState) (request : Request) (bef
 
       -- **What it does then is what its step tells.**
       pub found_tells : (told : FirstAnswer) → TellsAtBuckets context new then_ request after end told → TellsOfFirst context old then_ request before end told
-      found_tells (answer.OneLeft reply) at_buckets = (turn_with at_buckets.0 at_buckets.1.changed.holding.few, last, at_buckets.1)
-      found_tells (answer.Told reply) at_buckets = (turn_with at_buckets.0 at_buckets.1.holding.few, last, at_buckets.1)
-      found_tells answer.Full at_buckets = record {
+      found_tells (FirstAnswer.OneLeft reply) at_buckets = (turn_with at_buckets.0 at_buckets.1.changed.holding.few, last, at_buckets.1)
+      found_tells (FirstAnswer.Told reply) at_buckets = (turn_with at_buckets.0 at_buckets.1.holding.few, last, at_buckets.1)
+      found_tells FirstAnswer.Full at_buckets = record {
         back = record { mid = new; turn = turn_of tells.0; back = at_buckets.back };
         start = at_buckets.start;
         adds = at_buckets.adds;
@@ -136,8 +116,8 @@ module _ (context : WalkContext) (old new : LocalState) (request : Request) (bef
         asks = at_buckets.asks;
         full = at_buckets.full;
       }
-      found_tells answer.Going at_buckets = absurd at_buckets
-      found_tells (answer.Waiting page by) at_buckets = absurd at_buckets
+      found_tells FirstAnswer.Going at_buckets = absurd at_buckets
+      found_tells (FirstAnswer.Waiting page by) at_buckets = absurd at_buckets
 
 -- **The last step of a first pass writes what is owed, and tells the reply.**
 pub owing_tells : (context : WalkContext) (old new : LocalState) (request : Request) (before after : PairFields) (reply : ObjReply) → OwesOne context request before reply (view_of old) → Leaves old new

@@ -1,46 +1,22 @@
 -- What an operation on two records leaves of the clean pages, and what it has found there
-use Rattle.std.proofs.Common.{◌≡◌, ◌≢◌, ℕ, ◌<◌, ◌≤◌, List, Option, None, Some, is_some, true, refl, sym, ap, subst, ◌∙◌, inl, inr, slice_index_or}
-use Rattle.std.specs.Prelude.{unwrap_or}
-use Rattle.std.proofs.lemmas.Bool.{cases_eq, false≢true}
-use Rattle.mlt_page.specs.declared.page.Page.{Page}
-use Rattle.mlt_page.specs.declared.page.Page.TheVariants as page
-use Rattle.mlt_page.specs.declared.slot.Slot.{Slot}
-use Rattle.mlt_page.specs.declared.slot.Slot.TheVariants.{Free, Live, Ghost}
-use Rattle.mlt_page.specs.Values.{BucketFields}
-use Rattle.mlt_object_kinds.specs.declared.operation.ObjReply.{ObjReply}
-use Rattle.mlt_object_base.specs.declared.record.RecChange.TheVariants as rec
-use Rattle.mlt_object_base.specs.declared.request.Request.{Request}
-use Rattle.mlt_object_base.specs.Requests.{decision, size_decision, target_of}
+use Rattle.std.proofs.Common.{◌≡◌, ◌≢◌, ℕ, ◌<◌, ◌≤◌, List, Option, None, Some, is_some, true, refl, sym, ap, subst, ◌∙◌, inl, inr, slice_index_or, unwrap_or}
+use Rattle.mlt_tx_two_records.proofs.Names.{cases_eq, false≢true, Page, Slot, Free, BucketFields, ObjReply, RecChange, Request, decision, size_decision, target_of, FilePages, HasForm, depth_of, header_of, lead_of, look_up, Agrees, over, own_or_clean, View, rebased, WriteFields, planned_page, IsHolding, PairFields, found_of, both_there, both_lead, slot_after, WalkContext, Before, IsChanged, Stands, StoodBefore, WalkFields, context_after, one_key, Change, Phase, found_still, TwoRecordWalk, First, Owing, Wide, WideStage, IsTold, ChangesBoth, HasToldFirst, Performs, WritesRecord, HasPutOwn, HasToldBoth, HasToldPresent}
+use Rattle.mlt_page.specs.declared.slot.Slot.TheVariants.{Live, Ghost}
 use Rattle.mlt_hash_form.specs.Changes.{ChangesRecord, IsHome, slot_change}
-use Rattle.mlt_hash_form.specs.File.{FilePages, GivesPseudokeys, HasForm, Writes, depth_of, header_of, lead_of, look_up}
-use Rattle.mlt_hash_form.specs.Held.{Agrees, RearrangesSlots, SeenPages, over, own_or_clean}
+use Rattle.mlt_hash_form.specs.File.{GivesPseudokeys, Writes}
+use Rattle.mlt_hash_form.specs.Held.{RearrangesSlots, SeenPages}
 use Rattle.mlt_hash_form.proofs.HeldPages.{kept_values, keeps_more}
 use Rattle.mlt_hash_form.proofs.SingleChanges.{put_changes, revive_changes, set_value_changes, to_ghost_changes}
-use Rattle.mlt_hash_access.specs.Views.{View, rebased, seen_with}
+use Rattle.mlt_hash_access.specs.Views.{seen_with}
 use Rattle.mlt_hash_access.proofs.Views.{writes_over_clean}
-use Rattle.mlt_hash_record.specs.Plans.{WriteFields, planned_page}
-use Rattle.mlt_hash_pair.specs.Changes.{IsHolding}
-use Rattle.mlt_hash_pair.specs.Pairs.{PairFields}
-use Rattle.mlt_hash_pair.specs.Descents.{found_of, page_of}
-use Rattle.mlt_hash_pair.proofs.Laws.{both_there}
+use Rattle.mlt_hash_pair.specs.Descents.{page_of}
 use Rattle.mlt_hash_pair.proofs.Readings.{read_still}
-use Rattle.mlt_hash_pair.proofs.Records.{both_lead}
-use Rattle.mlt_hash.specs.Passes.{slot_after, value_after}
-use Rattle.mlt_hash.specs.Walks.{WalkContext, Before, FoundBefore, IsAtBucket, IsChanged, Stands, StoodBefore, WalkFields, context_after, one_key}
-use Rattle.mlt_hash.specs.declared.pass.Change.{Change}
+use Rattle.mlt_hash.specs.Passes.{value_after}
+use Rattle.mlt_hash.specs.Walks.{FoundBefore, IsAtBucket}
 use Rattle.mlt_hash.specs.declared.pass.Change.TheVariants.{Put, Revive, Set, Remove}
-use Rattle.mlt_hash.specs.declared.pass.Phase.{Phase}
 use Rattle.mlt_hash.proofs.Passed.{read_at_bucket}
-use Rattle.mlt_hash.proofs.Standings.{found_still}
-use Rattle.mlt_tx_two_records.specs.declared.two_records.TwoRecordWalk.{TwoRecordWalk}
-use Rattle.mlt_tx_two_records.specs.declared.two_records.TwoRecordWalk.TheVariants.{First, Owing, Wide}
-use Rattle.mlt_tx_two_records.specs.declared.two_records.WideStage.TheVariants as wide_stage
-use Rattle.mlt_tx_two_records.specs.TwoRecordWalks.{IsTold}
-use Rattle.mlt_tx_two_records.specs.FirstPass.{ChangesBoth, ChangesNone, HasToldFirst}
+use Rattle.mlt_tx_two_records.specs.FirstPass.{ChangesNone}
 use Rattle.mlt_tx_two_records.specs.Leaving.{LeavesAll, LeavesAsTold, LeavesBoth, LeavesRecord}
-use Rattle.mlt_tx_two_records.specs.Performing.{Performs}
-use Rattle.mlt_tx_two_records.specs.Records.{WritesRecord}
-use Rattle.mlt_tx_two_records.specs.WidePass.{HasPutOwn, HasToldBoth, HasToldPresent}
 
 -- ---- one slot that is set
 
@@ -67,10 +43,10 @@ pub written_leaves : (context : WalkContext) (key q : ℕ) (done : Change) (old 
     → LeavesRecord context key done seen (over clean old.own) (over clean new.own)
 written_leaves context key q done old new clean seen bounded agree form leads shallow writes =
     let bucket = writes.plan.bucket in
-    let there : over clean old.own q ≡ Some (page.Bucket bucket) = ap (own_or_clean (old.own q)) (agree q writes.plan.reads.0 writes.plan.reads.1) ∙ writes.plan.reads.2 in
+    let there : over clean old.own q ≡ Some (Page.Bucket bucket) = ap (own_or_clean (old.own q)) (agree q writes.plan.reads.0 writes.plan.reads.1) ∙ writes.plan.reads.2 in
     let home : IsHome context.bits (over clean old.own) context.root key q bucket = record { bounded = bounded; form = form; leads = leads; found = there } in
     let not_here : context.root ≢ q = λ same.
-    let both : Some (page.Head (header_of (over clean old.own context.root))) ≡ Some (page.Bucket bucket) = sym form.head ∙ ap (over clean old.own) same ∙ there in
+    let both : Some (Page.Head (header_of (over clean old.own context.root))) ≡ Some (Page.Bucket bucket) = sym form.head ∙ ap (over clean old.own) same ∙ there in
     cc both
     in
     let head : over clean new.own context.root ≡ over clean old.own context.root = ap (λ own. own_or_clean own (clean context.root)) (writes.writes.others context.root not_here) in
@@ -103,8 +79,8 @@ module _ (context : WalkContext) (before : Before) (walk : WalkFields) (view : V
   pub walk_leaves : LeavesRecord context walk.key done more clean (over clean view.own)
   walk_leaves =
       let placed = changed.read.way.placed in
-      let head : over clean view.own context.root ≡ Some (page.Head changed.header) =
-      ap (own_or_clean (view.own context.root)) (agree_then context.root (Some (page.Head placed.header)) placed.head)
+      let head : over clean view.own context.root ≡ Some (Page.Head changed.header) =
+      ap (own_or_clean (view.own context.root)) (agree_then context.root (Some (Page.Head placed.header)) placed.head)
       ∙ sym (ap (λ (o : Option (Option Page)). own_or_clean (view.own context.root) (unwrap_or o None)) placed.head) ∙ changed.head
       in
       record {
@@ -223,7 +199,7 @@ module _ (context : WalkContext) (request : Request) (reply : ObjReply) (view : 
       )
 
   -- where a record is added none was found
-  none_found : (value : ℕ) (done : Change) (found : Option ℕ) → Performs (rec.Add value) None done → FoundBefore done found → found ≡ None
+  none_found : (value : ℕ) (done : Change) (found : Option ℕ) → Performs (RecChange.Add value) None done → FoundBefore done found → found ≡ None
   none_found value done found (inl put) fits = subst (λ d. FoundBefore d found) put fits
   none_found value done found (inr revived) fits = subst (λ d. FoundBefore d found) revived fits
 
@@ -306,12 +282,12 @@ module _ (context : WalkContext) (request : Request) (reply : ObjReply) (view : 
           walk.key,
           told.keys.size_is,
           inr (record {
-            change = rec.Add put.value;
-            decided = subst (λ f. decision request f ≡ (reply, Some (rec.Add put.value))) (none_there ∙ ap value_of key_is) (put.decided ∙ ap (λ r. (r, Some (rec.Add put.value))) (sym told.reply_is));
+            change = RecChange.Add put.value;
+            decided = subst (λ f. decision request f ≡ (reply, Some (RecChange.Add put.value))) (none_there ∙ ap value_of key_is) (put.decided ∙ ap (λ r. (r, Some (RecChange.Add put.value))) (sym told.reply_is));
             resize = told.resize;
             resized = subst (λ f. size_decision request reply f ≡ Some told.resize) size_found told.resized;
             own_done = put.done;
-            own_performs = subst (λ f. Performs (rec.Add put.value) f put.done) (none_there ∙ ap value_of key_is) put.performs;
+            own_performs = subst (λ f. Performs (RecChange.Add put.value) f put.done) (none_there ∙ ap value_of key_is) put.performs;
             size_done = told.done;
             size_performs = subst (λ f. Performs told.resize f told.done) size_found told.performs;
             written = own;
@@ -326,5 +302,5 @@ module _ (context : WalkContext) (request : Request) (reply : ObjReply) (view : 
   pub leaves_as_told : (two_records : TwoRecordWalk) → IsTold two_records context request reply view → LeavesAsTold context request reply view clean
   leaves_as_told (First pair) told = first_leaves pair told
   leaves_as_told (Owing pair was) told = first_leaves pair told
-  leaves_as_told (Wide wide_stage.Own walk) told = present_leaves walk told
-  leaves_as_told (Wide wide_stage.Size walk) told = both_leave walk told
+  leaves_as_told (Wide WideStage.Own walk) told = present_leaves walk told
+  leaves_as_told (Wide WideStage.Size walk) told = both_leave walk told

@@ -1,3 +1,4 @@
+mod Names
 pub mod Asking
 pub mod Performing
 pub mod Planning

@@ -1,17 +1,11 @@
 -- How the change of a record that is there is made. Other crates cite this module.
 use Rattle.std.proofs.Common.{◌≡◌, ℕ, Option, None, Some, refl, sym, subst}
-use Rattle.std.proofs.lemmas.Option.{none-some}
-use Rattle.mlt_object_base.specs.declared.record.RecChange.{RecChange}
-use Rattle.mlt_object_base.specs.declared.record.RecChange.TheVariants.{Add, Revive}
-use Rattle.mlt_object_base.specs.Records.{CanChange, record_after}
-use Rattle.mlt_hash.specs.declared.pass.Change.{Change}
-use Rattle.mlt_hash.specs.declared.pass.Change.TheVariants as change
-use Rattle.mlt_tx_two_records.specs.Performing.{Performs}
+use Rattle.mlt_tx_two_records.proofs.Names.{none-some, RecChange, Add, Revive, CanChange, record_after, Change, Performs}
 
 -- the change of the slot that leaves this record
 abbrev pub change_to : Option ℕ → Change
-change_to None = change.Remove
-change_to (Some v) = change.Set v
+change_to None = Change.Remove
+change_to (Some v) = Change.Set v
 
 performs : (decided : RecChange) (v : ℕ) → CanChange (Some decided) (Some v) → Performs decided (Some v) (change_to (record_after (Some decided) (Some v)))
 performs (Add w) v can = absurd (none-some v (sym can))

@@ -1,39 +1,17 @@
 -- What a pair plans and makes, as the change of a slot
-use Rattle.std.proofs.Common.{◌≡◌, ◌≢◌, ℕ, ◌<◌, Bool, true, false, Option, None, Some, refl, sym, ap, subst, ◌∙◌, inl, inr, slice_index_or}
-use Rattle.std.specs.Prelude.{position}
-use Rattle.std.specs.Option.{option_map}
-use Rattle.std.specs.Ordering.{nat_cmp}
+use Rattle.std.proofs.Common.{◌≡◌, ◌≢◌, ℕ, ◌<◌, Bool, true, false, Option, None, Some, refl, sym, ap, subst, ◌∙◌, inl, inr, slice_index_or, position, option_map, nat_cmp}
 use Rattle.std.specs.FinSet as set
-use Rattle.std.proofs.lemmas.Bool.{cases_eq, false≢true, not-true}
-use Rattle.std.proofs.lemmas.Option.{none-some}
-use Rattle.mlt_page.specs.Slots.{is_ghost_of, is_kept, is_live_of}
-use Rattle.mlt_page.specs.declared.page.Page.{Page}
-use Rattle.mlt_page.specs.declared.page.Page.TheVariants as page
-use Rattle.mlt_page.specs.declared.slot.Slot.{Slot}
-use Rattle.mlt_page.specs.declared.slot.Slot.TheVariants.{Free}
-use Rattle.mlt_page.specs.Values.{BucketFields, with_slot}
-use Rattle.mlt_object_base.specs.declared.record.RecChange.{RecChange}
-use Rattle.mlt_object_base.specs.declared.record.RecChange.TheVariants.{Add, Set, ToGhost, Revive, Plus, Minus}
-use Rattle.mlt_object_base.specs.Records.{CanChange}
+use Rattle.mlt_tx_two_records.proofs.Names.{cases_eq, false≢true, none-some, is_ghost_of, is_kept, Page, Slot, Free, BucketFields, with_slot, RecChange, Add, Set, ToGhost, Revive, Plus, Minus, CanChange, own_or_clean, ReadsHeldBucket, View, WritesPage, WriteFields, planned_page, FitsFound, IsThere, found_of, RecordChange, Descent, slot_after, WalkContext, StoodBefore, Change, nowhere_found, Performs, asked_of, PlansRecord, WritesRecord}
+use Rattle.std.proofs.lemmas.Bool.{not-true}
+use Rattle.mlt_page.specs.Slots.{is_live_of}
 use Rattle.mlt_hash_form.specs.Form.{slot_value, value_in}
-use Rattle.mlt_hash_form.specs.Held.{own_or_clean}
-use Rattle.mlt_hash_access.specs.Views.{IsUnwritten, ReadsHeldBucket, View, WritesPage}
-use Rattle.mlt_hash_record.specs.Plans.{IsNowhere, SetsFirst, WriteFields, has_room, planned_page}
+use Rattle.mlt_hash_access.specs.Views.{IsUnwritten}
+use Rattle.mlt_hash_record.specs.Plans.{IsNowhere, SetsFirst, has_room}
 use Rattle.mlt_hash_pair.specs.Changes.{MakesChange, OwesChange}
-use Rattle.mlt_hash_pair.specs.Plans.{FitsFound, FitsSlots, IsPlan}
-use Rattle.mlt_hash_pair.specs.Descents.{HasRead, IsThere, found_of, page_of}
-use Rattle.mlt_hash_pair.specs.declared.asked.RecordChange.{RecordChange}
-use Rattle.mlt_hash_pair.specs.declared.descent.Descent.{Descent}
-use Rattle.mlt_hash_pair.specs.declared.descent.Descent.TheVariants as way
+use Rattle.mlt_hash_pair.specs.Plans.{FitsSlots, IsPlan}
+use Rattle.mlt_hash_pair.specs.Descents.{HasRead, page_of}
 use Rattle.mlt_hash_pair.proofs.Makes.{one_reading}
 use Rattle.mlt_hash_pair.proofs.Slots.{absent_place, fits_after, fits_slots}
-use Rattle.mlt_hash.specs.Passes.{slot_after}
-use Rattle.mlt_hash.specs.Walks.{WalkContext, StoodBefore}
-use Rattle.mlt_hash.specs.declared.pass.Change.{Change}
-use Rattle.mlt_hash.specs.declared.pass.Change.TheVariants as change
-use Rattle.mlt_hash.proofs.Additions.{nowhere_found}
-use Rattle.mlt_tx_two_records.specs.Performing.{Performs, asked_of}
-use Rattle.mlt_tx_two_records.specs.Records.{PlansRecord, WritesRecord}
 
 -- what is asked of a key's record fits its bucket, as that reads
 abbrev pub FitsThere : Option RecordChange → ℕ → ℕ → View → Type 0
@@ -52,9 +30,9 @@ pub reads_beside_still : (old new : View) (q p : ℕ) (page : Page) (bucket : Bu
 reads_beside_still old new q p page bucket writes ne reads = (reads.0, writes.seen p ∙ reads.1, ap (λ own. own_or_clean own reads.0) (writes.others p ne) ∙ reads.2)
 
 -- and that one as it was written
-pub reads_written : (old new : View) (q : ℕ) (was is : BucketFields) → WritesPage old new q (page.Bucket is) → ReadsHeldBucket new q was → was ≡ is
+pub reads_written : (old new : View) (q : ℕ) (was is : BucketFields) → WritesPage old new q (Page.Bucket is) → ReadsHeldBucket new q was → was ≡ is
 reads_written old new q was is writes reads =
-    let pages : Some (page.Bucket is) ≡ Some (page.Bucket was) = sym (ap (λ own. own_or_clean own reads.0) writes.here) ∙ reads.2 in cc
+    let pages : Some (Page.Bucket is) ≡ Some (Page.Bucket was) = sym (ap (λ own. own_or_clean own reads.0) writes.here) ∙ reads.2 in cc
 
 -- **What fits the bucket of one key fits it once another key's change is made.**
 pub fits_beside : (asked : Option RecordChange) (done : RecordChange) (active : set.FinSet nat_cmp) (tx key other q p : ℕ) (old mid : View) → key ≢ other
@@ -71,8 +49,8 @@ fits_beside asked done active tx key other q p old mid apart fits makes bucket r
 
 -- **What fits what was found of a key fits its bucket.**
 pub way_fits : (bits : ℕ → ℕ) (root key : ℕ) (view : View) (asked : Option RecordChange) (at : Descent) → IsThere at → HasRead bits root key view at → IsUnwritten view → FitsFound asked (found_of at) → FitsThere asked key (page_of at) view
-way_fits bits root key view asked (way.AtBucket dir bucket found) there has none fits fields reads =
-    let same : has.fields ≡ fields = one_reading view bucket has.fields fields (Some (page.Bucket has.fields), has.at, ap (λ own. own_or_clean own (Some (page.Bucket has.fields))) (none bucket)) reads in
+way_fits bits root key view asked (Descent.AtBucket dir bucket found) there has none fits fields reads =
+    let same : has.fields ≡ fields = one_reading view bucket has.fields fields (Some (Page.Bucket has.fields), has.at, ap (λ own. own_or_clean own (Some (Page.Bucket has.fields))) (none bucket)) reads in
     fits_slots asked key fields.slots found (has.found_is ∙ ap (λ (b : BucketFields). value_in key b.slots) same) fits
 way_fits bits root key view asked at there has none fits fields reads = absurd there
 
@@ -95,34 +73,34 @@ module _ (context : WalkContext) (key q : ℕ) (view : View) (bucket : BucketFie
   abbrev pub IsPlanned : RecChange → Option ℕ → Type 0
   IsPlanned change found = (done : Change) × Performs change found done × PlansRecord context done key q view write
 
-  revives : (v : ℕ) → value_in key bucket.slots ≡ None → SetsFirst q bucket (is_ghost_of key context.tx) (slot_after (change.Revive v) key context.tx) write → PlansRecord context (change.Revive v) key q view write
-  revives v none sets = first_planned (change.Revive v) (is_ghost_of key context.tx) sets (λ slot is. (none, is))
+  revives : (v : ℕ) → value_in key bucket.slots ≡ None → SetsFirst q bucket (is_ghost_of key context.tx) (slot_after (Change.Revive v) key context.tx) write → PlansRecord context (Change.Revive v) key q view write
+  revives v none sets = first_planned (Change.Revive v) (is_ghost_of key context.tx) sets (λ slot is. (none, is))
 
-  puts : (v : ℕ) → value_in key bucket.slots ≡ None → IsNowhere (is_ghost_of key context.tx) bucket.slots → SetsFirst q bucket (has_room context.active) (slot_after (change.Put v) key context.tx) write → PlansRecord context (change.Put v) key q view write
-  puts v none nowhere sets = first_planned (change.Put v) (has_room context.active) sets
+  puts : (v : ℕ) → value_in key bucket.slots ≡ None → IsNowhere (is_ghost_of key context.tx) bucket.slots → SetsFirst q bucket (has_room context.active) (slot_after (Change.Put v) key context.tx) write → PlansRecord context (Change.Put v) key q view write
+  puts v none nowhere sets = first_planned (Change.Put v) (has_room context.active) sets
       (λ slot is. (none, nowhere_found (is_ghost_of key context.tx) bucket.slots (position (is_ghost_of key context.tx) bucket.slots) refl nowhere, not-true (is_kept context.active slot) is))
 
-  updates : (v : ℕ) → SetsFirst q bucket (is_live_of key) (slot_after (change.Set v) key context.tx) write → PlansRecord context (change.Set v) key q view write
-  updates v sets = first_planned (change.Set v) (is_live_of key) sets (λ slot is. is)
+  updates : (v : ℕ) → SetsFirst q bucket (is_live_of key) (slot_after (Change.Set v) key context.tx) write → PlansRecord context (Change.Set v) key q view write
+  updates v sets = first_planned (Change.Set v) (is_live_of key) sets (λ slot is. is)
 
   -- **A plan of what is asked for is the change of a slot.**
   pub is_planned : (change : RecChange) (found : Option ℕ) → CanChange (Some change) found → FitsSlots (Some (asked_of change found)) key bucket.slots → GhostThere context change key q view → IsPlan (asked_of change found) context.active context.tx key q bucket write → IsPlanned change found
   is_planned (Add v) found can fits ghost plan =
       elim plan [
-        | inl sets ↦ (change.Revive v, inr refl, revives v (no_value fits) sets)
-        | inr sets ↦ (change.Put v, inl refl, puts v (no_value fits) sets.0 sets.1)
+        | inl sets ↦ (Change.Revive v, inr refl, revives v (no_value fits) sets)
+        | inr sets ↦ (Change.Put v, inl refl, puts v (no_value fits) sets.0 sets.1)
       ]
-  is_planned (Set v) found can fits ghost plan = (change.Set v, refl, updates v plan)
-  is_planned ToGhost found can fits ghost plan = (change.Remove, refl, first_planned change.Remove (is_live_of key) plan (λ slot is. is))
+  is_planned (Set v) found can fits ghost plan = (Change.Set v, refl, updates v plan)
+  is_planned ToGhost found can fits ghost plan = (Change.Remove, refl, first_planned Change.Remove (is_live_of key) plan (λ slot is. is))
   is_planned Revive found can fits ghost plan =
       elim plan [
-        | inl sets ↦ (change.Revive 0, refl, revives 0 (no_value fits) sets)
+        | inl sets ↦ (Change.Revive 0, refl, revives 0 (no_value fits) sets)
         | inr sets ↦ absurd (let there = ghost refl bucket reads in none-some there.0 (sym (nowhere_found (is_ghost_of key context.tx) bucket.slots (position (is_ghost_of key context.tx) bucket.slots) refl sets.0) ∙ there.1))
       ]
   is_planned (Plus n) None can fits ghost plan = absurd (false≢true can)
-  is_planned (Plus n) (Some v) can fits ghost plan = (change.Set _, refl, updates _ plan)
+  is_planned (Plus n) (Some v) can fits ghost plan = (Change.Set _, refl, updates _ plan)
   is_planned (Minus n) None can fits ghost plan = absurd (false≢true can)
-  is_planned (Minus n) (Some v) can fits ghost plan = (change.Set _, refl, updates _ plan)
+  is_planned (Minus n) (Some v) can fits ghost plan = (Change.Set _, refl, updates _ plan)
 
 -- a change that is made, as the slot that is set
 pub record IsMade (context : WalkContext) (change : RecChange) (found : Option ℕ) (key q : ℕ) (old new : View) : Type 0 where

@@ -6,9 +6,7 @@ use Rattle.mlt_page_locks.specs.LockTables.{LockTable, pages_of}
 use Rattle.mlt_page_locks.specs.Requests.{released}
 use Rattle.mlt_page_locks.proofs.LockLaws.{pages_of-released}
 use Rattle.mlt_page_subtx.specs.Images.{Running, put_back, started}
-use Rattle.mlt_hash_access.specs.LocalStates.{LocalState}
-use Rattle.mlt_hash_access.specs.PageTurns.{IsRolledBack}
-use Rattle.mlt_hash_access.specs.Views.{view_of}
+use Rattle.mlt_tx_two_records.proofs.Names.{LocalState, IsRolledBack, view_of}
 use Rattle.mlt_hash.specs.Walks.{IsAtStart}
 use Rattle.mlt_hash.proofs.Laws.{at_start}
 

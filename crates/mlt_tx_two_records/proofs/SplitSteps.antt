@@ -1,9 +1,9 @@
 -- How many steps the splits of a pass take at most. Other crates cite this module.
-use Rattle.std.proofs.Common.{ℕ, zero, suc, ◌≡◌, ◌≤◌, ◌+◌, ◌*◌, ◌-◌, ◌^◌, nat_eq, nat_lt, if◌then◌else◌, refl, ap, ◌∙◌, inl, inr, arith}
+use Rattle.std.proofs.Common.{ℕ, zero, suc, ◌≡◌, ◌≤◌, ◌+◌, ◌*◌, ◌-◌, ◌^◌, nat_eq, nat_lt, if◌then◌else◌, refl, ap, ◌∙◌, inl, inr, arith, eq-eqb, le-ltb, lt-ltb, ne_eqb}
 use Rattle.std.proofs.Math.Nat.{pow-le-pow_right, pow-succ'}
-use Rattle.std.proofs.lemmas.Bool.{cases_eq, cases_lt, cond-false, cond-true, eq-eqb, le-ltb, lt-ltb, ne_eqb}
+use Rattle.mlt_tx_two_records.proofs.Names.{cases_eq, cases_lt, cond-false, cond-true, depth_after}
 use Rattle.mlt_hash_split.specs.Splits.{directory_steps}
-use Rattle.mlt_hash.specs.StepsLeft.{depth_after, steps_of_splits}
+use Rattle.mlt_hash.specs.StepsLeft.{steps_of_splits}
 
 -- a power of two is twice the one before
 twice : (a b : ℕ) → a ≡ suc b → 2 ^ a ≡ 2 * 2 ^ b

@@ -1,27 +1,11 @@
 -- Operations on two records come to an end
-use Rattle.std.proofs.Common.{ℕ, ◌≡◌, ◌≤◌, ◌<◌, ◌+◌, ◌-◌, true, nat_eq, ap, subst, ◌∙◌, inl, inr, arith}
-use Rattle.std.proofs.lemmas.Bool.{cases_lt, cond-false, cond-true, eq-eqb, ne_eqb}
-use Rattle.mlt_object_kinds.specs.declared.operation.ObjReply.{ObjReply}
-use Rattle.mlt_object_base.specs.declared.request.Request.{Request}
-use Rattle.mlt_hash_form.specs.File.{header_of}
-use Rattle.mlt_hash_access.specs.LocalStates.{LocalState}
-use Rattle.mlt_hash_access.specs.Views.{HasWritten, View, view_of}
-use Rattle.mlt_hash_access.proofs.Since.{nothing_written}
-use Rattle.mlt_hash.specs.Changes.{page_of}
-use Rattle.mlt_hash.specs.Steps.{steps_to_bucket}
-use Rattle.mlt_hash.specs.StepsLeft.{bucket_depth, directory_depth, steps_of_splits, steps_to_put, steps_to_put_at}
-use Rattle.mlt_hash.specs.Walks.{WalkContext, IsAdding, Stands, WalkFields, context_after, one_key, view_for}
-use Rattle.mlt_hash.specs.declared.pass.Pass.TheVariants as pass
-use Rattle.mlt_hash.specs.declared.pass.Phase.{Phase}
-use Rattle.mlt_hash.specs.declared.pass.Phase.TheVariants as at
-use Rattle.mlt_hash.proofs.StepsLeft.{put_is_left, put_on_way}
-use Rattle.mlt_tx_two_records.specs.declared.answer.TwoRecordAnswer.TheVariants as answer
-use Rattle.mlt_tx_two_records.specs.declared.two_records.TwoRecordWalk.{TwoRecordWalk}
-use Rattle.mlt_tx_two_records.specs.declared.two_records.TwoRecordWalk.TheVariants.{First, Owing, Wide}
-use Rattle.mlt_tx_two_records.specs.declared.two_records.WideStage.TheVariants as wide_stage
-use Rattle.mlt_tx_two_records.specs.Answers.{TellsOfTwoRecords}
+use Rattle.std.proofs.Common.{ℕ, ◌≡◌, ◌≤◌, ◌<◌, ◌+◌, ◌-◌, true, nat_eq, ap, subst, ◌∙◌, inl, inr, arith, eq-eqb, ne_eqb}
+use Rattle.mlt_tx_two_records.proofs.Names.{cases_lt, cond-false, cond-true, ObjReply, Request, header_of, LocalState, HasWritten, View, view_of, nothing_written, page_of, steps_to_bucket, bucket_depth, directory_depth, steps_to_put, steps_to_put_at, WalkContext, Stands, WalkFields, context_after, one_key, view_for, Pass, Phase, put_on_way, TwoRecordAnswer, TwoRecordWalk, First, Owing, Wide, WideStage, TellsOfTwoRecords, GoesNearer}
+use Rattle.mlt_hash.specs.StepsLeft.{steps_of_splits}
+use Rattle.mlt_hash.specs.Walks.{IsAdding}
+use Rattle.mlt_hash.proofs.StepsLeft.{put_is_left}
 use Rattle.mlt_tx_two_records.specs.TwoRecordWalks.{most_to_change, most_to_put, steps_of_two_records}
-use Rattle.mlt_tx_two_records.specs.WalkSteps.{BeginsToSplit, GoesNearer}
+use Rattle.mlt_tx_two_records.specs.WalkSteps.{BeginsToSplit}
 use Rattle.mlt_tx_two_records.specs.WidePass.{HasChangedNow, WalksOn}
 use Rattle.mlt_tx_two_records.proofs.SplitSteps.{few_splits}
 use Rattle.mlt_tx_two_records.proofs.WideDepths.{reads_alike}
@@ -63,11 +47,11 @@ same_depth : (context : WalkContext) (m : LocalState) → HasWritten context.bef
 same_depth context m written = ap (λ p. (header_of p).depth) (reads_alike context m written context.root)
 
 -- at a full bucket that it is to split: of the wide pass to either key
-splits : (context : WalkContext) (old : View) (new : LocalState) (before after : WalkFields) → context.max_depth ≤ 16 → HasWritten context.before.written (view_of new) → after.pass ≡ pass.Wide → BeginsToSplit context new before after
+splits : (context : WalkContext) (old : View) (new : LocalState) (before after : WalkFields) → context.max_depth ≤ 16 → HasWritten context.before.written (view_of new) → after.pass ≡ Pass.Wide → BeginsToSplit context new before after
     → most_to_change context.root after (view_of new) < most_to_change context.root before old
 splits context old new before after small written wide s =
-    let adding = s.needs.later (λ (first : s.walk.pass ≡ pass.First). not_first after wide (s.needs.same.pass ∙ first)) in
-    let phase : Phase = at.Adding s.value (page_of s.walk.phase) adding.0 true in
+    let adding = s.needs.later (λ (first : s.walk.pass ≡ Pass.First). not_first after wide (s.needs.same.pass ∙ first)) in
+    let phase : Phase = Phase.Adding s.value (page_of s.walk.phase) adding.0 true in
     let stands : IsAdding context after (view_for context new) (page_of s.walk.phase) adding.0 true = subst (λ (p : Phase). Stands p context after (view_for context new)) adding.1 s.needs.stands in
     let l = bucket_depth (view_of new) (page_of s.walk.phase) in
     let g = directory_depth (view_of new) context.root in
@@ -82,7 +66,7 @@ splits context old new before after small written wide s =
     let was = on_way context.root before old (omega (arith, last)) in
     omega (arith, few, left, is, last, was)
 
-walks_on : (context : WalkContext) (old new : LocalState) (before after : WalkFields) → context.max_depth ≤ 16 → HasWritten context.before.written (view_of new) → after.pass ≡ pass.Wide → WalksOn context old new before after
+walks_on : (context : WalkContext) (old new : LocalState) (before after : WalkFields) → context.max_depth ≤ 16 → HasWritten context.before.written (view_of new) → after.pass ≡ Pass.Wide → WalksOn context old new before after
     → most_to_change context.root after (view_of new) < most_to_change context.root before (view_of old)
 walks_on context old new before after small written wide (inl goes) = nearer context.root (view_of old) (view_of new) before after goes
 walks_on context old new before after small written wide (inr begins) = splits context (view_of old) new before after small written wide begins
@@ -105,37 +89,37 @@ change_is_left root walk view (inr behind) =
 -- ---- both records
 
 -- **Each step that goes on leaves fewer.**
-pub one_fewer_at_least : (context : WalkContext) (request : Request) (old new : LocalState) (before after : TwoRecordWalk) → context.max_depth ≤ 16 → TellsOfTwoRecords context old new before after request answer.Going
+pub one_fewer_at_least : (context : WalkContext) (request : Request) (old new : LocalState) (before after : TwoRecordWalk) → context.max_depth ≤ 16 → TellsOfTwoRecords context old new before after request TwoRecordAnswer.Going
     → steps_of_two_records context.root after (view_of new) < steps_of_two_records context.root before (view_of old)
 one_fewer_at_least context request old new (First pair) (First pair') small (stands, (turn, steps)) =
     let most = steps.most in
     omega (arith, most)
 one_fewer_at_least context request old new (First pair) (Owing pair' reply) small (stands, (turn, last)) = omega arith
-one_fewer_at_least context request old new (First pair) (Wide wide_stage.Own walk) small (stands, (full, again)) =
+one_fewer_at_least context request old new (First pair) (Wide WideStage.Own walk) small (stands, (full, again)) =
     let most = full.last.most in
     let three : steps_to_bucket walk.phase ≡ 3 = ap (λ (w : WalkFields). steps_to_bucket w.phase) again in
     let is = on_way context.root walk (view_of new) (omega (arith, three)) in
     omega (arith, most, three, is)
-one_fewer_at_least context request old new (Wide wide_stage.Own walk) (Wide wide_stage.Own walk') small (stands, (turn, on)) =
+one_fewer_at_least context request old new (Wide WideStage.Own walk) (Wide WideStage.Own walk') small (stands, (turn, on)) =
     let less = walks_on (one_key context) old new walk walk' small (nothing_written (view_of new)) stands.to_key.wide on in
     omega (arith, less)
-one_fewer_at_least context request old new (Wide wide_stage.Own walk) (Wide wide_stage.Size walk') small (stands, (turn, over)) =
+one_fewer_at_least context request old new (Wide WideStage.Own walk) (Wide WideStage.Size walk') small (stands, (turn, over)) =
     let some = change_is_left context.root walk (view_of old) over.changed in
     let two = over.steps in
     let is = on_way context.root walk' (view_of new) (omega (arith, two)) in
     omega (arith, some, two, is)
-one_fewer_at_least context request old new (Wide wide_stage.Size walk) (Wide wide_stage.Size walk') small (stands, (turn, on)) =
+one_fewer_at_least context request old new (Wide WideStage.Size walk) (Wide WideStage.Size walk') small (stands, (turn, on)) =
     let less = walks_on (context_after on.since context) old new walk walk' small on.put.written stands.to_key.wide on.walks in
     omega (arith, less)
 one_fewer_at_least context request old new other other' small (stands, never) = absurd never
 
 -- **The step that tells the reply leaves the end.**
-pub end_is_left : (context : WalkContext) (request : Request) (reply : ObjReply) (old new : LocalState) (before after : TwoRecordWalk) → TellsOfTwoRecords context old new before after request (answer.Told reply)
+pub end_is_left : (context : WalkContext) (request : Request) (reply : ObjReply) (old new : LocalState) (before after : TwoRecordWalk) → TellsOfTwoRecords context old new before after request (TwoRecordAnswer.Told reply)
     → 1 < steps_of_two_records context.root before (view_of old)
 end_is_left context request reply old new (First pair) after tells = omega arith
 end_is_left context request reply old new (Owing pair told) after tells = omega arith
-end_is_left context request reply old new (Wide wide_stage.Own walk) after tells = omega arith
-end_is_left context request reply old new (Wide wide_stage.Size walk) (Wide wide_stage.Size walk') (turn, changed, told) =
+end_is_left context request reply old new (Wide WideStage.Own walk) after tells = omega arith
+end_is_left context request reply old new (Wide WideStage.Size walk) (Wide WideStage.Size walk') (turn, changed, told) =
     let some = change_is_left context.root walk (view_of old) changed in
     omega (arith, some)
-end_is_left context request reply old new (Wide wide_stage.Size walk) other (turn, never, told) = absurd never
+end_is_left context request reply old new (Wide WideStage.Size walk) other (turn, never, told) = absurd never

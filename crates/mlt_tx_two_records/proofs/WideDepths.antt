@@ -1,20 +1,12 @@
 -- How a step of a walk that splits its bucket leaves the depths, over whatever was written before
-use Rattle.std.proofs.Common.{ℕ, ◌≡◌, ◌<◌, ◌+◌, ◌-◌, Bool, Option, Some, refl, sym, ◌∙◌, ap, subst, inl, inr}
-use Rattle.std.proofs.lemmas.Bool.{cases_eq, cond-false, cond-true, eq-eqb, ne_eqb}
-use Rattle.mlt_page.specs.declared.page.Page.{Page}
-use Rattle.mlt_hash_form.specs.File.{HasForm, bucket_of, header_of}
-use Rattle.mlt_hash_form.specs.Held.{Agrees}
-use Rattle.mlt_hash_access.specs.LocalStates.{LocalState}
-use Rattle.mlt_hash_access.specs.Views.{HasWritten, view_of}
+use Rattle.std.proofs.Common.{ℕ, ◌≡◌, ◌<◌, ◌+◌, ◌-◌, Bool, Option, Some, refl, sym, ◌∙◌, ap, subst, inl, inr, eq-eqb, ne_eqb}
+use Rattle.mlt_tx_two_records.proofs.Names.{cases_eq, cond-false, cond-true, Page, HasForm, bucket_of, header_of, Agrees, LocalState, HasWritten, view_of, TellsAt, IsPutting, bucket_depth, depth_after, directory_depth, steps_to_put_at, WalkContext, Stands, WalkFields, view_for, WalkAnswer, Phase}
 use Rattle.mlt_hash_access.proofs.Since.{read_over_writes}
 use Rattle.mlt_hash_split.specs.Rests.{held_page}
 use Rattle.mlt_hash_split.specs.Splits.{SplitFields}
-use Rattle.mlt_hash.specs.Splitting.{BeginsSplit, SplitCloses, SplitGoesOn, TellsAt, walk_step}
-use Rattle.mlt_hash.specs.StepsLeft.{IsPutting, bucket_depth, depth_after, directory_depth, steps_of_splits, steps_to_put_at}
-use Rattle.mlt_hash.specs.Walks.{WalkContext, IsSplitting, Stands, WalkFields, view_for}
-use Rattle.mlt_hash.specs.declared.answer.WalkAnswer.TheVariants as answer
-use Rattle.mlt_hash.specs.declared.pass.Phase.{Phase}
-use Rattle.mlt_hash.specs.declared.pass.Phase.TheVariants as at
+use Rattle.mlt_hash.specs.Splitting.{BeginsSplit, SplitCloses, SplitGoesOn, walk_step}
+use Rattle.mlt_hash.specs.StepsLeft.{steps_of_splits}
+use Rattle.mlt_hash.specs.Walks.{IsSplitting}
 use Rattle.mlt_hash.proofs.StepsLeft.{some_is_one}
 use Rattle.mlt_tx_two_records.specs.Depths.{GoesDown, depths_at, depths_with_split}
 
@@ -25,24 +17,24 @@ module _ (context : WalkContext) (m : LocalState) (written : HasWritten context.
   reads_alike q = read_over_writes (context.before.written q) ((view_of m).own q) ((view_of m).seen q) (λ some. (written q some).1)
 
   pub same_depths : (phase : Phase) (walk : WalkFields) → depths_at phase context.root walk (view_for context m) ≡ depths_at phase context.root walk (view_of m)
-  same_depths (at.Adding value bucket room_depth unsplit) walk = λ i. Some (record {
+  same_depths (Phase.Adding value bucket room_depth unsplit) walk = λ i. Some (record {
     room = room_depth;
     bucket = (bucket_of (reads_alike bucket i)).depth;
     directory = (header_of (reads_alike context.root i)).depth;
   })
-  same_depths (at.Splitting value room_depth) walk = refl
+  same_depths (Phase.Splitting value room_depth) walk = refl
   same_depths other walk = refl
 
   pub same_steps : (phase : Phase) (walk : WalkFields) → steps_to_put_at phase context.root walk (view_for context m) ≡ steps_to_put_at phase context.root walk (view_of m)
-  same_steps (at.Adding value bucket room_depth unsplit) walk = λ i. steps_of_splits (room_depth - (bucket_of (reads_alike bucket i)).depth) ((bucket_of (reads_alike bucket i)).depth) ((header_of (reads_alike context.root i)).depth)
-  same_steps (at.Splitting value room_depth) walk = refl
+  same_steps (Phase.Adding value bucket room_depth unsplit) walk = λ i. steps_of_splits (room_depth - (bucket_of (reads_alike bucket i)).depth) ((bucket_of (reads_alike bucket i)).depth) ((header_of (reads_alike context.root i)).depth)
+  same_steps (Phase.Splitting value room_depth) walk = refl
   same_steps other walk = refl
 
 -- ---- the steps of a split
 
 module _ (context : WalkContext) (old new : LocalState) (before after : WalkFields) where
   -- a split has begun
-  begins : (value n room_depth : ℕ) (unsplit : Bool) → before.phase ≡ at.Adding value n room_depth unsplit → BeginsSplit context (walk_step old new before after) value n room_depth
+  begins : (value n room_depth : ℕ) (unsplit : Bool) → before.phase ≡ Phase.Adding value n room_depth unsplit → BeginsSplit context (walk_step old new before after) value n room_depth
       → GoesDown context.root before after (view_for context old) (view_for context new)
   begins value n room_depth unsplit phase b =
       let l : bucket_depth (view_for context old) n ≡ b.split.depth = ap (λ p. (bucket_of p).depth) b.found ∙ sym b.depth in
@@ -56,7 +48,7 @@ module _ (context : WalkContext) (old new : LocalState) (before after : WalkFiel
       }
 
   -- it has gone on
-  goes_on : (value room_depth : ℕ) → before.phase ≡ at.Splitting value room_depth → SplitGoesOn context new before after value room_depth
+  goes_on : (value room_depth : ℕ) → before.phase ≡ Phase.Splitting value room_depth → SplitGoesOn context new before after value room_depth
       → GoesDown context.root before after (view_for context old) (view_for context new)
   goes_on value room_depth phase s = record {
     was = record { room = room_depth; bucket = s.was.depth; directory = s.was.directory_depth };
@@ -68,7 +60,7 @@ module _ (context : WalkContext) (old new : LocalState) (before after : WalkFiel
 
   -- and has closed
   closes : (clean : ℕ → Option Page) → Agrees (view_for context old).seen clean → HasForm context.bits clean context.root
-      → (value room_depth : ℕ) → before.phase ≡ at.Splitting value room_depth → IsSplitting context before (view_for context old) room_depth → SplitCloses context new before after value room_depth
+      → (value room_depth : ℕ) → before.phase ≡ Phase.Splitting value room_depth → IsSplitting context before (view_for context old) room_depth → SplitCloses context new before after value room_depth
       → GoesDown context.root before after (view_for context old) (view_for context new)
   closes clean agree form value room_depth phase stands s =
       let same : stands.split ≡ s.was = some_is_one stands.split s.was before.split stands.split_is s.was_is in
@@ -86,10 +78,10 @@ module _ (context : WalkContext) (old new : LocalState) (before after : WalkFiel
         by_one = inr (refl, deep);
       }
 
-  down_over : (clean : ℕ → Option Page) → Agrees (view_for context old).seen clean → HasForm context.bits clean context.root → (phase : Phase) → before.phase ≡ phase → Stands phase context before (view_for context old) → IsPutting phase → TellsAt phase context old new before after answer.Going
+  down_over : (clean : ℕ → Option Page) → Agrees (view_for context old).seen clean → HasForm context.bits clean context.root → (phase : Phase) → before.phase ≡ phase → Stands phase context before (view_for context old) → IsPutting phase → TellsAt phase context old new before after WalkAnswer.Going
       → GoesDown context.root before after (view_for context old) (view_for context new)
-  down_over clean agree form (at.Adding value bucket room_depth unsplit) is here putting told = begins value bucket room_depth unsplit is told
-  down_over clean agree form (at.Splitting value room_depth) is here putting told = elim told.1 [
+  down_over clean agree form (Phase.Adding value bucket room_depth unsplit) is here putting told = begins value bucket room_depth unsplit is told
+  down_over clean agree form (Phase.Splitting value room_depth) is here putting told = elim told.1 [
     | inl goes ↦ goes_on value room_depth is goes
     | inr close ↦ closes clean agree form value room_depth is here close
   ]
@@ -98,7 +90,7 @@ module _ (context : WalkContext) (old new : LocalState) (before after : WalkFiel
 -- **A step of the splits of a pass leaves the depths, or closes a split.**
 pub goes_down : (context : WalkContext) (old new : LocalState) (before after : WalkFields) → HasWritten context.before.written (view_of old) → HasWritten context.before.written (view_of new)
     → (clean : ℕ → Option Page) → Agrees (view_for context old).seen clean → HasForm context.bits clean context.root
-    → Stands before.phase context before (view_for context old) → IsPutting before.phase → TellsAt before.phase context old new before after answer.Going
+    → Stands before.phase context before (view_for context old) → IsPutting before.phase → TellsAt before.phase context old new before after WalkAnswer.Going
     → GoesDown context.root before after (view_of old) (view_of new)
 goes_down context old new before after was_written is_written clean agree form stands putting tells =
     let down = down_over context old new before after clean agree form before.phase refl stands putting tells in

@@ -1,19 +1,8 @@
 -- A wide pass that has put its own record goes on to the key of the size
 use Rattle.std.proofs.Common.{◌≡◌, ℕ, None, Some, refl, sym, ap, subst, ◌∙◌}
-use Rattle.mlt_types.specs.declared.mode.Mode.TheVariants.{Exclusive}
-use Rattle.mlt_object_base.specs.declared.request.Request.{Request}
-use Rattle.mlt_object_base.specs.Requests.{size_key_of, target_of}
-use Rattle.mlt_hash_access.specs.LocalStates.{LocalState}
-use Rattle.mlt_hash_access.specs.Views.{view_of}
-use Rattle.mlt_hash_access.proofs.Rebased.{same_some}
-use Rattle.mlt_hash.specs.Walks.{WalkContext, Before, IsChanged, MayWalk, SlotsStood, Stands, WalkFields, context_after, before_of, nothing_before, one_key}
-use Rattle.mlt_hash.specs.Splitting.{IsUnderWay}
+use Rattle.mlt_tx_two_records.proofs.Names.{Exclusive, Request, size_key_of, target_of, LocalState, view_of, same_some, WalkContext, Before, IsChanged, MayWalk, Stands, WalkFields, context_after, one_key, IsUnderWay, Phase, HasKeys, HasJustPut, HasPutOwn, IsGoingToSize, PutsSize, PutsThen}
+use Rattle.mlt_hash.specs.Walks.{SlotsStood, before_of, nothing_before}
 use Rattle.mlt_hash.specs.Changes.{IsChangedPhase}
-use Rattle.mlt_hash.specs.declared.pass.Phase.{Phase}
-use Rattle.mlt_hash.specs.declared.pass.Phase.TheVariants as at
-use Rattle.mlt_tx_two_records.specs.FirstPass.{HasKeys}
-use Rattle.mlt_tx_two_records.specs.AtWideBuckets.{HasJustPut}
-use Rattle.mlt_tx_two_records.specs.WidePass.{HasPutOwn, IsGoingToSize, PutsSize, PutsThen}
 
 module _ (context : WalkContext) (m : LocalState) (request : Request) (walk : WalkFields) (just : HasJustPut context m request walk) where
   -- It may go on,
@@ -31,11 +20,11 @@ module _ (context : WalkContext) (m : LocalState) (request : Request) (walk : Wa
   changed = subst (λ (p : Phase). Stands p (one_key context) walk (view_of m)) just.phase just.may.walks.stands
 
   -- **and goes to the key of the size.**
-  module _ (on : WalkFields) (size dir row depth : ℕ) (is : size_key_of request ≡ Some size) (goes : on ≡ record walk { key = size; mode = Exclusive; phase = at.Headed dir row depth; split = None }) (over : MayWalk (context_after all_of_it context) m on) (stood : SlotsStood (view_of m).own context.tx (view_of m)) where
+  module _ (on : WalkFields) (size dir row depth : ℕ) (is : size_key_of request ≡ Some size) (goes : on ≡ record walk { key = size; mode = Exclusive; phase = Phase.Headed dir row depth; split = None }) (over : MayWalk (context_after all_of_it context) m on) (stood : SlotsStood (view_of m).own context.tx (view_of m)) where
     key_is : on.key ≡ size
     key_is = ap (λ (w : WalkFields). w.key) goes
 
-    phase_is : on.phase ≡ at.Headed dir row depth
+    phase_is : on.phase ≡ Phase.Headed dir row depth
     phase_is = ap (λ (w : WalkFields). w.phase) goes
 
     keys : HasKeys request (target_of request).0 on.key

@@ -1,42 +1,18 @@
 -- What a wide pass does at the bucket of its own key
 use Rattle.std.proofs.Common.{◌≡◌, ℕ, Option, None, Some, refl, sym, ap, subst, ◌∙◌, inl, inr}
-use Rattle.mlt_types.specs.declared.refusal.Refusal.{Refusal}
-use Rattle.mlt_types.specs.declared.refusal.Refusal.TheVariants as refusal
-use Rattle.mlt_object_kinds.specs.declared.operation.ObjReply.{ObjReply}
-use Rattle.mlt_object_base.specs.declared.record.RecChange.{RecChange}
-use Rattle.mlt_object_base.specs.declared.record.RecChange.TheVariants.{Add}
-use Rattle.mlt_object_base.specs.declared.request.Request.{Request}
-use Rattle.mlt_object_base.specs.Requests.{decision, target_of}
-use Rattle.mlt_hash_access.specs.LocalStates.{LocalState}
-use Rattle.mlt_hash_access.specs.PageSteps.{Leaves}
-use Rattle.mlt_hash_access.specs.PageTurns.{IsRolledBack}
-use Rattle.mlt_hash_access.specs.Views.{view_of}
-use Rattle.mlt_hash.specs.Changes.{HasNoRoom, IsAtAbsent, Makes, MayChange, NeedsSplit, TellsOfAddition, page_of}
-use Rattle.mlt_hash.specs.Splitting.{IsUnderWay}
-use Rattle.mlt_hash.specs.Steps.{HasFound, IsSameWalk}
-use Rattle.mlt_hash.specs.Walks.{WalkContext, WalkFields, one_key}
-use Rattle.mlt_hash.specs.declared.answer.WalkAnswer.TheVariants as answer
-use Rattle.mlt_hash.specs.declared.pass.Change.{Change}
-use Rattle.mlt_hash.specs.declared.pass.Change.TheVariants as change
-use Rattle.mlt_hash.specs.declared.pass.Pass.TheVariants as pass
-use Rattle.mlt_hash.specs.declared.pass.Phase.{Phase}
-use Rattle.mlt_hash.specs.declared.pass.Phase.TheVariants as at
-use Rattle.mlt_tx_two_records.specs.declared.answer.TwoRecordAnswer.TheVariants as told
-use Rattle.mlt_tx_two_records.specs.declared.two_records.WideStage.TheVariants as wide_stage
-use Rattle.mlt_tx_two_records.specs.AtWideBuckets.{HasJustPut, IsToSplit, MayActOnOwn, MayWalkToOwn, TellsAtOwn}
-use Rattle.mlt_tx_two_records.specs.FirstPass.{HasKeys}
-use Rattle.mlt_tx_two_records.specs.Performing.{Performs}
-use Rattle.mlt_tx_two_records.specs.WidePass.{HasToldPresent, IsGoingToOwn, IsWideTo, PutsOwn, PutsThen}
+use Rattle.mlt_tx_two_records.proofs.Names.{Refusal, ObjReply, RecChange, Add, Request, decision, target_of, LocalState, Leaves, IsRolledBack, view_of, HasNoRoom, Makes, MayChange, NeedsSplit, TellsOfAddition, page_of, IsUnderWay, HasFound, IsSameWalk, WalkContext, WalkFields, one_key, WalkAnswer, Change, Pass, Phase, TwoRecordAnswer, WideStage, HasJustPut, MayActOnOwn, MayWalkToOwn, TellsAtOwn, HasKeys, Performs, HasToldPresent, IsGoingToOwn, IsWideTo, PutsOwn, PutsThen}
+use Rattle.mlt_hash.specs.Changes.{IsAtAbsent}
+use Rattle.mlt_tx_two_records.specs.AtWideBuckets.{IsToSplit}
 use Rattle.mlt_tx_two_records.proofs.WideDeciding.{own_change, own_present}
 use Rattle.mlt_tx_two_records.proofs.WideTurns.{walks_on}
 
 -- ---- a walk of a wide pass after a step or a change
 
-pub not_first : (walk : WalkFields) → walk.pass ≡ pass.Wide → walk.pass ≡ pass.First → ⊥
-not_first walk wide first = let both : pass.Wide ≡ pass.First = sym wide ∙ first in cc
+pub not_first : (walk : WalkFields) → walk.pass ≡ Pass.Wide → walk.pass ≡ Pass.First → ⊥
+not_first walk wide first = let both : Pass.Wide ≡ Pass.First = sym wide ∙ first in cc
 
-pub not_narrow : (walk : WalkFields) → walk.pass ≡ pass.Wide → walk.pass ≡ pass.Narrow → ⊥
-not_narrow walk wide narrow = let both : pass.Wide ≡ pass.Narrow = sym wide ∙ narrow in cc
+pub not_narrow : (walk : WalkFields) → walk.pass ≡ Pass.Wide → walk.pass ≡ Pass.Narrow → ⊥
+not_narrow walk wide narrow = let both : Pass.Wide ≡ Pass.Narrow = sym wide ∙ narrow in cc
 
 pub still_wide : (before after : WalkFields) (key : ℕ) → IsWideTo before key → IsSameWalk before after → IsWideTo after key
 still_wide before after key is same = record { key_is = same.key ∙ is.key_is; wide = same.pass ∙ is.wide; mode = same.mode ∙ is.mode }
@@ -45,12 +21,12 @@ pub same_keys : (request : Request) (before after : WalkFields) (size : ℕ) →
 same_keys request before after size keys same = subst (λ (k : ℕ). HasKeys request k size) (sym same.key) keys
 
 -- where it is, and what it has found
-pub at_bucket : (p : Phase) (found : Option ℕ) → HasFound p found → (bucket : ℕ) × (depth : ℕ) × (p ≡ at.AtBucket bucket depth found)
-at_bucket (at.AtBucket bucket depth f) found is = (bucket, depth, ap (at.AtBucket bucket depth) is)
+pub at_bucket : (p : Phase) (found : Option ℕ) → HasFound p found → (bucket : ℕ) × (depth : ℕ) × (p ≡ Phase.AtBucket bucket depth found)
+at_bucket (Phase.AtBucket bucket depth f) found is = (bucket, depth, ap (Phase.AtBucket bucket depth) is)
 at_bucket other found is = absurd is
 
 pub absent_at : (p : Phase) (found : Option ℕ) → HasFound p found → found ≡ None → IsAtAbsent p × HasFound p None
-absent_at (at.AtBucket bucket depth f) found is none = (is ∙ none, is ∙ none)
+absent_at (Phase.AtBucket bucket depth f) found is none = (is ∙ none, is ∙ none)
 absent_at other found is none = absurd is
 
 module _ (context : WalkContext) (m : LocalState) (request : Request) (walk : WalkFields) (found : Option ℕ) (ready : MayActOnOwn context m request walk found) where
@@ -79,7 +55,7 @@ module _ (context : WalkContext) (m : LocalState) (request : Request) (walk : Wa
         bucket = place.0;
         depth = place.1;
         value = present.0;
-        at_bucket = place.2 ∙ ap (at.AtBucket place.0 place.1) present.1;
+        at_bucket = place.2 ∙ ap (Phase.AtBucket place.0 place.1) present.1;
         stands = ready.may.walks.stands;
         decided = subst (λ (f : Option ℕ). decision request f ≡ (reply, None)) present.1 is;
         resized = present.2;
@@ -108,9 +84,9 @@ module _ (context : WalkContext) (m : LocalState) (request : Request) (walk : Wa
     }
 
     -- **It has put the record,**
-    pub just_put : Leaves m new → (reply : ObjReply) (value : ℕ) → decision request found ≡ (reply, Some (Add value)) → TellsOfAddition (one_key context) new walk after value answer.Changed → HasJustPut context new request after
-    just_put leaves reply value is (inl makes) = has_put leaves reply value is (change.Revive value) makes (inr refl)
-    just_put leaves reply value is (inr makes) = has_put leaves reply value is (change.Put value) makes (inl refl)
+    pub just_put : Leaves m new → (reply : ObjReply) (value : ℕ) → decision request found ≡ (reply, Some (Add value)) → TellsOfAddition (one_key context) new walk after value WalkAnswer.Changed → HasJustPut context new request after
+    just_put leaves reply value is (inl makes) = has_put leaves reply value is (Change.Revive value) makes (inr refl)
+    just_put leaves reply value is (inr makes) = has_put leaves reply value is (Change.Put value) makes (inl refl)
 
     -- **or is to split the bucket,**
     pub is_to_split : new ≡ m → (reply : ObjReply) (value : ℕ) → decision request found ≡ (reply, Some (Add value)) → NeedsSplit (one_key context) new walk after value
@@ -130,7 +106,7 @@ module _ (context : WalkContext) (m : LocalState) (request : Request) (walk : Wa
         )
 
     -- **or there is no room at any depth.**
-    pub no_room : (back : LocalState) → new ≡ m → (reply : ObjReply) (value : ℕ) → decision request found ≡ (reply, Some (Add value)) → (reason : Refusal) → TellsOfAddition (one_key context) new walk after value (answer.Refused reason) → IsRolledBack m back
-        → TellsAtOwn context m back request walk wide_stage.Own after (told.Refused reason)
-    no_room back stays reply value is refusal.NoRoom none rolled = (rolled, record { absent = (absent reply (Add value) is).1; after = after; none = subst (λ (n : LocalState). HasNoRoom (one_key context) n walk after) stays none })
+    pub no_room : (back : LocalState) → new ≡ m → (reply : ObjReply) (value : ℕ) → decision request found ≡ (reply, Some (Add value)) → (reason : Refusal) → TellsOfAddition (one_key context) new walk after value (WalkAnswer.Refused reason) → IsRolledBack m back
+        → TellsAtOwn context m back request walk WideStage.Own after (TwoRecordAnswer.Refused reason)
+    no_room back stays reply value is Refusal.NoRoom none rolled = (rolled, record { absent = (absent reply (Add value) is).1; after = after; none = subst (λ (n : LocalState). HasNoRoom (one_key context) n walk after) stays none })
     no_room back stays reply value is other lacks rolled = absurd (lacks.1 refl)

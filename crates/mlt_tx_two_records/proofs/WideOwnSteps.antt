@@ -1,38 +1,13 @@
 -- What a step of a wide pass to its own key tells
 use Rattle.std.proofs.Common.{◌≡◌, ℕ, Option, None, refl, sym, ap, subst, ◌∙◌, inl, inr}
-use Rattle.mlt_types.specs.declared.refusal.Refusal.{Refusal}
-use Rattle.mlt_types.specs.declared.refusal.Refusal.TheVariants as refusal
-use Rattle.mlt_object_kinds.specs.declared.operation.ObjReply.{ObjReply}
-use Rattle.mlt_object_base.specs.declared.request.Request.{Request}
-use Rattle.mlt_object_base.specs.Requests.{target_of}
-use Rattle.mlt_hash_access.specs.LocalStates.{LocalState}
-use Rattle.mlt_hash_access.specs.PageSteps.{Leaves, LocksAtMost}
-use Rattle.mlt_hash_access.specs.PageTurns.{IsRolledBack, TakesTurn}
-use Rattle.mlt_hash_access.specs.Views.{view_of}
-use Rattle.mlt_hash_access.proofs.Since.{nothing_written}
-use Rattle.mlt_hash.specs.Changes.{page_of}
-use Rattle.mlt_hash.specs.Splitting.{TellsAt}
-use Rattle.mlt_hash.specs.Steps.{GoesOn, HasFound, IsSameWalk, steps_to_bucket}
-use Rattle.mlt_hash.specs.Walks.{WalkContext, IsStanding, MayWalk, WalkFields, one_key}
-use Rattle.mlt_hash.specs.declared.answer.WalkAnswer.TheVariants as answer
-use Rattle.mlt_hash.specs.declared.pass.Change.TheVariants as change
-use Rattle.mlt_hash.specs.declared.pass.Phase.{Phase}
-use Rattle.mlt_tx_two_records.specs.declared.two_records.TwoRecordWalk.TheVariants.{Wide}
-use Rattle.mlt_tx_two_records.specs.declared.answer.TwoRecordAnswer.{TwoRecordAnswer}
-use Rattle.mlt_tx_two_records.specs.declared.answer.TwoRecordAnswer.TheVariants as told
-use Rattle.mlt_tx_two_records.specs.declared.two_records.WideStage.{WideStage}
-use Rattle.mlt_tx_two_records.specs.declared.two_records.WideStage.TheVariants as wide_stage
-use Rattle.mlt_tx_two_records.specs.Answers.{TellsOfTwoRecords}
-use Rattle.mlt_tx_two_records.specs.AtWideBuckets.{HasJustPut, MayActOnOwn, MayWalkToOwn, TellsAtOwn}
-use Rattle.mlt_tx_two_records.specs.TwoRecordWalks.{MayGoOn}
-use Rattle.mlt_tx_two_records.specs.WalkSteps.{ReachesBucket}
-use Rattle.mlt_tx_two_records.specs.WidePass.{CauseAtOwn, IsGoingToSize, OwnRefused, PutsOwn, PutsThen}
+use Rattle.mlt_tx_two_records.proofs.Names.{Refusal, ObjReply, Request, target_of, LocalState, Leaves, LocksAtMost, IsRolledBack, TakesTurn, view_of, nothing_written, page_of, TellsAt, GoesOn, HasFound, IsSameWalk, steps_to_bucket, WalkContext, IsStanding, MayWalk, WalkFields, one_key, WalkAnswer, Change, Phase, Wide, TwoRecordAnswer, WideStage, TellsOfTwoRecords, HasJustPut, MayActOnOwn, MayWalkToOwn, TellsAtOwn, MayGoOn, ReachesBucket, IsGoingToSize, PutsOwn, PutsThen}
+use Rattle.mlt_tx_two_records.specs.WidePass.{CauseAtOwn, OwnRefused}
 use Rattle.mlt_tx_two_records.proofs.WideGoing.{goes_further, puts_behind, puts_still}
 use Rattle.mlt_tx_two_records.proofs.WideOwn.{not_first, same_keys, still_wide}
 use Rattle.mlt_tx_two_records.proofs.WideTelling.{IsWhy, found_by_path, reaches, was_last}
 use Rattle.mlt_tx_two_records.proofs.WideTurns.{lock_and_write_turn, one_step_turns, walks_on}
 
-module _ (context : WalkContext) (old : LocalState) (request : Request) (before : WalkFields) (may : MayGoOn context old request (Wide wide_stage.Own before)) where
+module _ (context : WalkContext) (old : LocalState) (request : Request) (before : WalkFields) (may : MayGoOn context old request (Wide WideStage.Own before)) where
   -- **It may take its step.**
   pub may_walk : MayWalk (one_key context) old before
   may_walk = record {
@@ -59,7 +34,7 @@ module _ (context : WalkContext) (old : LocalState) (request : Request) (before 
     }
 
     -- **It goes on,**
-    pub goes_to_own : TellsAt before.phase (one_key context) old mid before walk answer.Going → TellsOfTwoRecords context old mid (Wide wide_stage.Own before) (Wide wide_stage.Own walk) request told.Going
+    pub goes_to_own : TellsAt before.phase (one_key context) old mid before walk WalkAnswer.Going → TellsOfTwoRecords context old mid (Wide WideStage.Own before) (Wide WideStage.Own walk) request TwoRecordAnswer.Going
     goes_to_own tells =
         let further = goes_further (one_key context) old mid before walk may_walk leaves tells in (
           record {
@@ -76,15 +51,15 @@ module _ (context : WalkContext) (old : LocalState) (request : Request) (before 
 
     -- **is refused,**
     cause_of : (reason : Refusal) → IsWhy reason (one_key context) old before → CauseAtOwn reason (one_key context) old mid before
-    cause_of refusal.NoRoom why = inr why
-    cause_of refusal.OutOfMemory why = why
+    cause_of Refusal.NoRoom why = inr why
+    cause_of Refusal.OutOfMemory why = why
     cause_of other why = absurd why
 
     pub is_refused : (new : LocalState) (reason : Refusal) → IsWhy reason (one_key context) old before → IsRolledBack mid new → OwnRefused context old new before reason
     is_refused new reason why back = record { back = record { mid = mid; turn = turn; back = back }; cause = cause_of reason why }
 
     -- **has put the record behind splits,**
-    module _ (tells : TellsAt before.phase (one_key context) old mid before walk answer.Changed) where
+    module _ (tells : TellsAt before.phase (one_key context) old mid before walk WalkAnswer.Changed) where
       pub has_put_behind : HasJustPut context mid request walk
       has_put_behind =
           let put = puts_behind before.phase (one_key context) old mid before walk refl tells in
@@ -92,7 +67,7 @@ module _ (context : WalkContext) (old : LocalState) (request : Request) (before 
           record {
             may = may_walk_on put.makes.same put.makes.stands;
             bucket = page_of before.phase;
-            done = change.Put put.value;
+            done = Change.Put put.value;
             phase = put.makes.phase;
             reply = decided.0;
             value = put.value;
@@ -100,13 +75,13 @@ module _ (context : WalkContext) (old : LocalState) (request : Request) (before 
             performs = inl refl;
           }
 
-      pub goes_over_behind : (after : WalkFields) → IsGoingToSize context request after (view_of mid) → steps_to_bucket after.phase ≡ 2 → TellsOfTwoRecords context old mid (Wide wide_stage.Own before) (Wide wide_stage.Size after) request told.Going
+      pub goes_over_behind : (after : WalkFields) → IsGoingToSize context request after (view_of mid) → steps_to_bucket after.phase ≡ 2 → TellsOfTwoRecords context old mid (Wide WideStage.Own before) (Wide WideStage.Size after) request TwoRecordAnswer.Going
       goes_over_behind after goes steps =
           let put = puts_behind before.phase (one_key context) old mid before walk refl tells in
           (goes, (turn, record { size = goes; changed = inr (put.value, put.bucket, put.room_depth, put.was); steps = steps }))
 
     -- **or has found its key.**
-    module _ (found : Option ℕ) (locks : LocksAtMost old mid (page_of walk.phase)) (tells : TellsAt before.phase (one_key context) old mid before walk (answer.Found found)) where
+    module _ (found : Option ℕ) (locks : LocksAtMost old mid (page_of walk.phase)) (tells : TellsAt before.phase (one_key context) old mid before walk (WalkAnswer.Found found)) where
       path : GoesOn (one_key context) mid before walk × HasFound walk.phase found
       path = found_by_path before.phase (one_key context) old mid before walk found tells
 
@@ -119,8 +94,8 @@ module _ (context : WalkContext) (old : LocalState) (request : Request) (before 
       reaches_now : (new : LocalState) → new ≡ mid → HasFound walk.phase None → ReachesBucket (one_key context) new before walk
       reaches_now new stays none = subst (λ (m : LocalState). ReachesBucket (one_key context) m before walk) (sym stays) (reaches (one_key context) mid before walk path.0 none)
 
-      pub tells_there : (new : LocalState) (next : WideStage) (after : WalkFields) (answer : TwoRecordAnswer) → TellsAtOwn context mid new request walk next after answer → TellsOfTwoRecords context old new (Wide wide_stage.Own before) (Wide next after) request answer
-      tells_there new wide_stage.Own after told.Going (splits, goes) = (
+      pub tells_there : (new : LocalState) (next : WideStage) (after : WalkFields) (answer : TwoRecordAnswer) → TellsAtOwn context mid new request walk next after answer → TellsOfTwoRecords context old new (Wide WideStage.Own before) (Wide next after) request answer
+      tells_there new WideStage.Own after TwoRecordAnswer.Going (splits, goes) = (
         goes,
         (
           subst (λ (m : LocalState). TakesTurn old m) (sym splits.stays) turn,
@@ -133,15 +108,15 @@ module _ (context : WalkContext) (old : LocalState) (request : Request) (before 
           }),
         ),
       )
-      tells_there new wide_stage.Size after told.Going (writes, goes, steps) = (
+      tells_there new WideStage.Size after TwoRecordAnswer.Going (writes, goes, steps) = (
         goes,
         (
           lock_and_write_turn (one_key context) old mid new before (page_of walk.phase) may_walk locks writes.writes,
           record { size = goes; changed = inl last; steps = steps },
         ),
       )
-      tells_there new wide_stage.Own after (told.Told reply) (stays, present) = (subst (λ (m : LocalState). TakesTurn old m) (sym stays) turn, last, present)
-      tells_there new wide_stage.Own after (told.Refused refusal.NoRoom) (back, none) = record {
+      tells_there new WideStage.Own after (TwoRecordAnswer.Told reply) (stays, present) = (subst (λ (m : LocalState). TakesTurn old m) (sym stays) turn, last, present)
+      tells_there new WideStage.Own after (TwoRecordAnswer.Refused Refusal.NoRoom) (back, none) = record {
         back = record { mid = mid; turn = turn; back = back };
         cause = inl (record { walk = walk; after = none.after; reaches = reaches (one_key context) mid before walk path.0 none.absent; none = none.none });
       }

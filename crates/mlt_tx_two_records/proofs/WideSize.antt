@@ -1,36 +1,12 @@
 -- What a wide pass does at the bucket of the size's key, over what it wrote for the own one
 use Rattle.std.proofs.Common.{◌≡◌, ℕ, None, Option, Some, refl, sym, ap, subst, ◌∙◌, inr}
-use Rattle.mlt_types.specs.declared.refusal.Refusal.{Refusal}
-use Rattle.mlt_types.specs.declared.refusal.Refusal.TheVariants as refusal
-use Rattle.mlt_page.specs.declared.page.Page.{Page}
-use Rattle.mlt_object_kinds.specs.declared.operation.ObjReply.{ObjReply}
-use Rattle.mlt_object_base.specs.declared.record.RecChange.{RecChange}
-use Rattle.mlt_object_base.specs.declared.record.RecChange.TheVariants.{Add, Plus}
-use Rattle.mlt_object_base.specs.declared.request.Request.{Request}
-use Rattle.mlt_object_base.specs.Requests.{decision, size_decision, target_of}
-use Rattle.mlt_hash_form.specs.File.{FilePages, look_up}
-use Rattle.mlt_hash_form.specs.Held.{Agrees}
-use Rattle.mlt_hash_access.specs.LocalStates.{MayStep, LocalState}
-use Rattle.mlt_hash_access.specs.PageSteps.{Leaves, TouchesOnePage}
-use Rattle.mlt_hash_access.specs.PageTurns.{IsRolledBack}
-use Rattle.mlt_hash_access.specs.Views.{View, rebased, view_of}
+use Rattle.mlt_tx_two_records.proofs.Names.{Refusal, Page, ObjReply, RecChange, Add, Plus, Request, decision, size_decision, target_of, FilePages, look_up, Agrees, LocalState, Leaves, TouchesOnePage, IsRolledBack, View, rebased, view_of, written_stays, HasNoRoom, MayChange, NeedsSplit, page_of, IsUnderWay, HasFound, IsSameWalk, WalkContext, Before, HasRead, IsChanged, Stands, WalkFields, context_after, WalkAnswer, Phase, read_of, found_still, TwoRecordAnswer, MayActOnSize, Raises, TellsAtSize, TellsOfRaise, HasKeys, HasPutOwn, HasToldBoth, IsWideTo, PutsSize, PutsThen}
+use Rattle.mlt_hash_access.specs.LocalStates.{MayStep}
 use Rattle.mlt_hash_access.proofs.OwnSteps.{own_step_sees_more}
-use Rattle.mlt_hash_access.proofs.Rebased.{written_stays}
-use Rattle.mlt_hash.specs.Changes.{HasNoRoom, MayChange, NeedsSplit, WritesIfChanged, page_of}
-use Rattle.mlt_hash.specs.Splitting.{IsUnderWay}
-use Rattle.mlt_hash.specs.Steps.{HasFound, IsSameWalk}
-use Rattle.mlt_hash.specs.Walks.{WalkContext, Before, HasRead, IsChanged, Stands, WalkFields, context_after}
-use Rattle.mlt_hash.specs.declared.answer.WalkAnswer.TheVariants as answer
-use Rattle.mlt_hash.specs.declared.pass.Phase.{Phase}
-use Rattle.mlt_hash.specs.declared.pass.Phase.TheVariants as at
+use Rattle.mlt_hash.specs.Changes.{WritesIfChanged}
 use Rattle.mlt_hash.proofs.Laws.{found_there}
-use Rattle.mlt_hash.proofs.Passed.{read_of}
-use Rattle.mlt_hash.proofs.Standings.{found_still}
 use Rattle.mlt_hash.proofs.Stood.{still_stood}
-use Rattle.mlt_tx_two_records.specs.declared.answer.TwoRecordAnswer.TheVariants as told
-use Rattle.mlt_tx_two_records.specs.AtWideBuckets.{IsMade, MayActOnSize, OfAddition, Raises, TellsAtSize, TellsOfRaise}
-use Rattle.mlt_tx_two_records.specs.FirstPass.{HasKeys}
-use Rattle.mlt_tx_two_records.specs.WidePass.{HasPutOwn, HasToldBoth, IsWideTo, PutsSize, PutsThen}
+use Rattle.mlt_tx_two_records.specs.AtWideBuckets.{IsMade, OfAddition}
 use Rattle.mlt_tx_two_records.proofs.WideDeciding.{raises_size}
 use Rattle.mlt_tx_two_records.proofs.WideOwn.{absent_at, not_first}
 use Rattle.mlt_tx_two_records.proofs.WideTurns.{agrees_after, clean_agrees, clean_over}
@@ -64,7 +40,7 @@ size_wide before after is same = record { key_is = refl; wide = same.pass ∙ is
 
 -- what the bucket had is what the clean pages have
 pub found_clean : (phase : Phase) (context : WalkContext) (walk : WalkFields) (view : View) (found : Option ℕ) (clean : ℕ → Option Page) → HasFound phase found → Stands phase context walk view → Agrees view.seen clean → look_up context.bits clean context.root walk.key ≡ found
-found_clean (at.AtBucket bucket depth f) context walk view found clean is stands agree = found_there context walk view bucket depth f clean stands agree ∙ is
+found_clean (Phase.AtBucket bucket depth f) context walk view found clean is stands agree = found_there context walk view bucket depth f clean stands agree ∙ is
 found_clean other context walk view found clean is stands agree = absurd is
 
 -- what is told to be raised was to be added, where nothing was found
@@ -142,11 +118,11 @@ module _ (context : WalkContext) (m : LocalState) (request : Request) (walk : Wa
         performs = made.performs;
       }
 
-      pub raised : WritesIfChanged m new (page_of walk.phase) answer.Changed → TellsAtSize context since m new request walk after (told.Told reply)
+      pub raised : WritesIfChanged m new (page_of walk.phase) WalkAnswer.Changed → TellsAtSize context since m new request walk after (TwoRecordAnswer.Told reply)
       raised writes = (record { leaves = leaves; writes = inr writes }, told_both)
 
     -- **is to be split for,**
-    splits_there : (after : WalkFields) (value : ℕ) → raise ≡ Add value → NeedsSplit over m walk after value → TellsAtSize context since m m request walk after told.Going
+    splits_there : (after : WalkFields) (value : ℕ) → raise ≡ Add value → NeedsSplit over m walk after value → TellsAtSize context since m m request walk after TwoRecordAnswer.Going
     splits_there after value added needs =
         let adding = needs.later (not_first walk ready.may.to_key.wide) in (
           record { stays = refl {a = m}; absent = absent value added; value = value; needs = needs },
@@ -162,16 +138,16 @@ module _ (context : WalkContext) (m : LocalState) (request : Request) (walk : Wa
           },
         )
 
-    pub splits_for_it : (new : LocalState) (after : WalkFields) → new ≡ m → TellsOfRaise over new walk after raise found answer.NeedSplit → TellsAtSize context since m new request walk after told.Going
+    pub splits_for_it : (new : LocalState) (after : WalkFields) → new ≡ m → TellsOfRaise over new walk after raise found WalkAnswer.NeedSplit → TellsAtSize context since m new request walk after TwoRecordAnswer.Going
     splits_for_it new after stays tells =
         let added = added_at raise (λ value. NeedsSplit over new walk after value) tells in
-        subst (λ (n : LocalState). TellsAtSize context since m n request walk after told.Going) (sym stays)
+        subst (λ (n : LocalState). TellsAtSize context since m n request walk after TwoRecordAnswer.Going) (sym stays)
         (splits_there after added.0 added.1 (subst (λ (n : LocalState). NeedsSplit over n walk after added.0) stays added.2))
 
     -- **or is refused.**
-    pub refused_there : (new back : LocalState) (after last : WalkFields) (reason : Refusal) → new ≡ m → TellsOfRaise over new walk after raise found (answer.Refused reason) → IsRolledBack m back → TellsAtSize context since m back request walk last (told.Refused reason)
-    refused_there new back after last refusal.NoRoom stays tells rolled =
+    pub refused_there : (new back : LocalState) (after last : WalkFields) (reason : Refusal) → new ≡ m → TellsOfRaise over new walk after raise found (WalkAnswer.Refused reason) → IsRolledBack m back → TellsAtSize context since m back request walk last (TwoRecordAnswer.Refused reason)
+    refused_there new back after last Refusal.NoRoom stays tells rolled =
         let added = added_at raise (λ value. HasNoRoom over new walk after) tells in
         (rolled, record { absent = absent added.0 added.1; after = after; none = subst (λ (n : LocalState). HasNoRoom over n walk after) stays added.2 })
-    refused_there new back after last refusal.OutOfMemory stays tells rolled = (rolled, tt)
-    refused_there new back after last other stays tells rolled = absurd (let only : other ≡ refusal.OutOfMemory = tells in cc)
+    refused_there new back after last Refusal.OutOfMemory stays tells rolled = (rolled, tt)
+    refused_there new back after last other stays tells rolled = absurd (let only : other ≡ Refusal.OutOfMemory = tells in cc)

@@ -1,39 +1,9 @@
 -- What a step of a wide pass to the size's key tells, over what it wrote for the own one
 use Rattle.std.proofs.Common.{◌≡◌, ℕ, ◌≤◌, None, Option, Some, true, is_some, refl, sym, ap, subst, ◌∙◌, inl, inr, arith}
-use Rattle.mlt_types.specs.declared.refusal.Refusal.{Refusal}
-use Rattle.mlt_types.specs.declared.refusal.Refusal.TheVariants as refusal
-use Rattle.mlt_page.specs.declared.page.Page.{Page}
-use Rattle.mlt_page.specs.declared.page.Page.TheVariants as page
-use Rattle.mlt_object_kinds.specs.declared.operation.ObjReply.{ObjReply}
-use Rattle.mlt_object_base.specs.declared.record.RecChange.{RecChange}
-use Rattle.mlt_object_base.specs.declared.record.RecChange.TheVariants.{Add}
-use Rattle.mlt_object_base.specs.declared.request.Request.{Request}
-use Rattle.mlt_object_base.specs.Requests.{decision, size_decision}
-use Rattle.mlt_hash_form.specs.File.{depth_of, header_of}
-use Rattle.mlt_hash_form.specs.Held.{Agrees, over}
-use Rattle.mlt_hash_access.specs.LocalStates.{LocalState}
-use Rattle.mlt_hash_access.specs.PageSteps.{Leaves, LocksAtMost}
-use Rattle.mlt_hash_access.specs.PageTurns.{IsRolledBack, TakesTurn}
-use Rattle.mlt_hash_access.specs.Views.{view_of}
-use Rattle.mlt_hash_access.proofs.Views.{agrees}
-use Rattle.mlt_hash.specs.Changes.{NeedsSplit, page_of}
-use Rattle.mlt_hash.specs.Splitting.{HasToMake, TellsAt}
-use Rattle.mlt_hash.specs.Steps.{GoesOn, HasFound, steps_to_bucket}
-use Rattle.mlt_hash.specs.Walks.{WalkContext, Before, HasRead, IsChanged, MayWalk, Stands, WalkFields, context_after, one_key, view_for}
-use Rattle.mlt_hash.specs.declared.answer.WalkAnswer.TheVariants as answer
-use Rattle.mlt_hash.specs.declared.pass.Change.TheVariants as change
-use Rattle.mlt_hash.specs.declared.pass.Phase.{Phase}
-use Rattle.mlt_hash.specs.declared.pass.Phase.TheVariants as at
-use Rattle.mlt_hash.proofs.Passed.{read_of}
+use Rattle.mlt_tx_two_records.proofs.Names.{Refusal, Page, ObjReply, RecChange, Add, Request, decision, size_decision, depth_of, header_of, Agrees, over, LocalState, Leaves, LocksAtMost, IsRolledBack, TakesTurn, view_of, agrees, NeedsSplit, page_of, HasToMake, TellsAt, GoesOn, HasFound, steps_to_bucket, WalkContext, Before, HasRead, IsChanged, MayWalk, Stands, WalkFields, context_after, one_key, view_for, WalkAnswer, Change, Phase, read_of, TwoRecordAnswer, Wide, WideStage, TellsOfTwoRecords, MayActOnSize, MayStepToSize, TellsAtSize, MayGoOn, HasPutOwn, PutsSize, PutsThen}
 use Rattle.mlt_hash_split.proofs.Closing.{held_page_over}
-use Rattle.mlt_tx_two_records.specs.declared.answer.TwoRecordAnswer.{TwoRecordAnswer}
-use Rattle.mlt_tx_two_records.specs.declared.answer.TwoRecordAnswer.TheVariants as told
-use Rattle.mlt_tx_two_records.specs.declared.two_records.TwoRecordWalk.TheVariants.{Wide}
-use Rattle.mlt_tx_two_records.specs.declared.two_records.WideStage.TheVariants as wide_stage
-use Rattle.mlt_tx_two_records.specs.Answers.{TellsOfTwoRecords}
-use Rattle.mlt_tx_two_records.specs.AtWideBuckets.{MayActOnSize, MayStepToSize, RefusesAt, TellsAtSize}
-use Rattle.mlt_tx_two_records.specs.TwoRecordWalks.{MayGoOn}
-use Rattle.mlt_tx_two_records.specs.WidePass.{CauseAtSize, HasPutOwn, PutsSize, PutsThen, SizeRefused, SizeWalksOn}
+use Rattle.mlt_tx_two_records.specs.AtWideBuckets.{RefusesAt}
+use Rattle.mlt_tx_two_records.specs.WidePass.{CauseAtSize, SizeRefused, SizeWalksOn}
 use Rattle.mlt_tx_two_records.proofs.WideGoing.{goes_further, puts_behind, puts_still}
 use Rattle.mlt_tx_two_records.proofs.WideOwn.{not_first}
 use Rattle.mlt_tx_two_records.proofs.WideOwners.{agreed_then, form_since}
@@ -43,7 +13,7 @@ use Rattle.mlt_tx_two_records.proofs.WideTurns.{lock_and_write_turn, one_step_tu
 
 -- ---- what the pass did before it went on to this key
 
-module _ (context : WalkContext) (m : LocalState) (request : Request) (walk : WalkFields) (may : MayGoOn context m request (Wide wide_stage.Size walk)) where
+module _ (context : WalkContext) (m : LocalState) (request : Request) (walk : WalkFields) (may : MayGoOn context m request (Wide WideStage.Size walk)) where
   abbrev since : Before
   since = may.stands.since
 
@@ -60,7 +30,7 @@ module _ (context : WalkContext) (m : LocalState) (request : Request) (walk : Wa
       let then_agrees = agreed_then context request (view_of m) since clean put agree may.file.form in
       let changed : IsChanged (one_key context) put.walk put.then_view put.bucket put.done = put.changed in
       let seen : is_some (put.then_view.seen context.root) ≡ true = ap is_some changed.read.way.placed.head in
-      let head : over clean put.then_view.own context.root ≡ Some (page.Head changed.header) = sym (held_page_over put.then_view clean context.root then_agrees seen) ∙ changed.head in
+      let head : over clean put.then_view.own context.root ≡ Some (Page.Head changed.header) = sym (held_page_over put.then_view clean context.root then_agrees seen) ∙ changed.head in
       let most : depth_of (over clean put.then_view.own) context.root ≤ context.max_depth = subst (λ (p : Option Page). (header_of p).depth ≤ context.max_depth) (sym head) changed.shallow in
       subst (λ (s : Before). depth_of (over clean s.written) context.root ≤ context.max_depth) (sym put.since_is) most
 
@@ -88,8 +58,8 @@ module _ (context : WalkContext) (m : LocalState) (request : Request) (walk : Wa
 
 -- at the last step of its way it makes no page
 no_page_made : (p : Phase) (context : WalkContext) (old : LocalState) (walk : WalkFields) → steps_to_bucket p ≡ 1 → HasToMake p context old walk → ⊥
-no_page_made (at.Adding value bucket depth unsplit) context old walk one makes = absurd (omega (arith, one))
-no_page_made (at.Splitting value depth) context old walk one makes = absurd (omega (arith, one))
+no_page_made (Phase.Adding value bucket depth unsplit) context old walk one makes = absurd (omega (arith, one))
+no_page_made (Phase.Splitting value depth) context old walk one makes = absurd (omega (arith, one))
 no_page_made other context old walk one makes = makes
 
 -- ---- its steps
@@ -102,7 +72,7 @@ module _ (context : WalkContext) (old : LocalState) (request : Request) (before 
   may_walk = ready.may.walks
 
   -- **It waits,**
-  pub waits_there : (new : LocalState) (after : WalkFields) (page by : ℕ) → TellsAt before.phase on old new before after (answer.Waiting page by) → TellsOfTwoRecords context old new (Wide wide_stage.Size before) (Wide wide_stage.Size after) request (told.Waiting page by)
+  pub waits_there : (new : LocalState) (after : WalkFields) (page by : ℕ) → TellsAt before.phase on old new before after (WalkAnswer.Waiting page by) → TellsOfTwoRecords context old new (Wide WideStage.Size before) (Wide WideStage.Size after) request (TwoRecordAnswer.Waiting page by)
   waits_there new after page by tells = record { since = since; put = ready.may.put; waits = waits on old new before after page by tells }
 
   module _ (mid : LocalState) (walk : WalkFields) (leaves : Leaves old mid) where
@@ -113,7 +83,7 @@ module _ (context : WalkContext) (old : LocalState) (request : Request) (before 
     put_now = put_still context request since old mid may_walk.may leaves.touches ready.may.put
 
     -- **goes on,**
-    pub goes_to_size : TellsAt before.phase on old mid before walk answer.Going → TellsOfTwoRecords context old mid (Wide wide_stage.Size before) (Wide wide_stage.Size walk) request told.Going
+    pub goes_to_size : TellsAt before.phase on old mid before walk WalkAnswer.Going → TellsOfTwoRecords context old mid (Wide WideStage.Size before) (Wide WideStage.Size walk) request TwoRecordAnswer.Going
     goes_to_size tells =
         let further = goes_further on old mid before walk may_walk leaves tells in (
           record {
@@ -131,20 +101,20 @@ module _ (context : WalkContext) (old : LocalState) (request : Request) (before 
 
     -- **is refused,**
     cause_of : (reason : Refusal) → IsWhy reason on old before → CauseAtSize reason on old mid before
-    cause_of refusal.NoRoom why = inr why
-    cause_of refusal.OutOfMemory why = let none = why.0 in (omega (arith, none), why.1)
+    cause_of Refusal.NoRoom why = inr why
+    cause_of Refusal.OutOfMemory why = let none = why.0 in (omega (arith, none), why.1)
     cause_of other why = absurd why
 
     pub is_refused : (new : LocalState) (reason : Refusal) → IsWhy reason on old before → IsRolledBack mid new → SizeRefused context old new request before reason
     is_refused new reason why back = record { back = record { mid = mid; turn = turn; back = back }; since = since; put = ready.may.put; cause = cause_of reason why }
 
     -- **has put the record behind splits,**
-    pub told_behind : (reply : ObjReply) → reply ≡ (decision request None).0 → TellsAt before.phase on old mid before walk answer.Changed → TellsOfTwoRecords context old mid (Wide wide_stage.Size before) (Wide wide_stage.Size walk) request (told.Told reply)
+    pub told_behind : (reply : ObjReply) → reply ≡ (decision request None).0 → TellsAt before.phase on old mid before walk WalkAnswer.Changed → TellsOfTwoRecords context old mid (Wide WideStage.Size before) (Wide WideStage.Size walk) request (TwoRecordAnswer.Told reply)
     told_behind reply is tells =
         let put = puts_behind before.phase on old mid before walk refl tells in
         let value_is : PutsSize request ready.may.put.reply put.value = subst (λ (p : Phase). PutsThen p (PutsSize request ready.may.put.reply)) put.was ready.puts in
         let reply_is : reply ≡ ready.may.put.reply = is ∙ ap (λ (r : ObjReply × Option RecChange). r.0) ready.may.put.decided in
-        let changed : IsChanged on walk (view_for on mid) (page_of before.phase) (change.Put put.value) = subst (λ (p : Phase). Stands p on walk (view_for on mid)) put.makes.phase put.makes.stands in
+        let changed : IsChanged on walk (view_for on mid) (page_of before.phase) (Change.Put put.value) = subst (λ (p : Phase). Stands p on walk (view_for on mid)) put.makes.phase put.makes.stands in
         let read : HasRead on walk.key (view_for on mid) None = read_of on walk.key (view_for on mid) changed.found None changed.fits changed.read in (
           turn,
           inr (put.value, put.bucket, put.room_depth, put.was),
@@ -156,7 +126,7 @@ module _ (context : WalkContext) (old : LocalState) (request : Request) (before 
             keys = size_keys request before walk ready.may.keys put.makes.same;
             to_key = size_wide before walk ready.may.to_key put.makes.same;
             bucket = page_of before.phase;
-            done = change.Put put.value;
+            done = Change.Put put.value;
             phase = put.makes.phase;
             stands = put.makes.stands;
             found = None;
@@ -168,7 +138,7 @@ module _ (context : WalkContext) (old : LocalState) (request : Request) (before 
         )
 
     -- **or has found its key.**
-    module _ (found : Option ℕ) (locks : LocksAtMost old mid (page_of walk.phase)) (tells : TellsAt before.phase on old mid before walk (answer.Found found)) where
+    module _ (found : Option ℕ) (locks : LocksAtMost old mid (page_of walk.phase)) (tells : TellsAt before.phase on old mid before walk (WalkAnswer.Found found)) where
       path : GoesOn on mid before walk × HasFound walk.phase found
       path = found_by_path before.phase on old mid before walk found tells
 
@@ -188,12 +158,12 @@ module _ (context : WalkContext) (old : LocalState) (request : Request) (before 
       }
 
       refused_at_bucket : (reason : Refusal) → RefusesAt reason on mid walk → CauseAtSize reason on old mid before
-      refused_at_bucket refusal.NoRoom none = inl (record { walk = walk; after = none.after; reaches = reaches on mid before walk path.0 none.absent; none = none.none })
-      refused_at_bucket refusal.OutOfMemory none = (omega (arith, last), λ lacks. no_page_made before.phase on old before last lacks.makes)
+      refused_at_bucket Refusal.NoRoom none = inl (record { walk = walk; after = none.after; reaches = reaches on mid before walk path.0 none.absent; none = none.none })
+      refused_at_bucket Refusal.OutOfMemory none = (omega (arith, last), λ lacks. no_page_made before.phase on old before last lacks.makes)
       refused_at_bucket other none = absurd none
 
-      pub tells_there : (new : LocalState) (after : WalkFields) (told : TwoRecordAnswer) → TellsAtSize context since mid new request walk after told → TellsOfTwoRecords context old new (Wide wide_stage.Size before) (Wide wide_stage.Size after) request told
-      tells_there new after told.Going (splits, goes) = (
+      pub tells_there : (new : LocalState) (after : WalkFields) (told : TwoRecordAnswer) → TellsAtSize context since mid new request walk after told → TellsOfTwoRecords context old new (Wide WideStage.Size before) (Wide WideStage.Size after) request told
+      tells_there new after TwoRecordAnswer.Going (splits, goes) = (
         goes,
         (
           subst (λ (m : LocalState). TakesTurn old m) (sym splits.stays) turn,
@@ -210,12 +180,12 @@ module _ (context : WalkContext) (old : LocalState) (request : Request) (before 
           }),
         ),
       )
-      tells_there new after (told.Told reply) (writes, both) = (
+      tells_there new after (TwoRecordAnswer.Told reply) (writes, both) = (
         lock_and_write_turn on old mid new before (page_of walk.phase) may_walk locks writes.writes,
         inl last,
         both,
       )
-      tells_there new after (told.Refused reason) (back, why) = record {
+      tells_there new after (TwoRecordAnswer.Refused reason) (back, why) = record {
         back = record { mid = mid; turn = turn; back = back };
         since = since;
         put = ready.may.put;

@@ -1,17 +1,9 @@
 -- What a step of a walk is, or one that locks its bucket and a write of it, seen as one turn: over whatever was written before
 use Rattle.std.proofs.Common.{ℕ, ◌<◌, arith}
-use Rattle.mlt_hash_form.specs.File.{FilePages}
-use Rattle.mlt_hash_form.specs.Held.{Agrees, over}
-use Rattle.mlt_page_locks.specs.LockTables.{page_count}
-use Rattle.mlt_hash_access.specs.LocalStates.{LocalState}
-use Rattle.mlt_hash_access.specs.PageSteps.{Leaves, LocksAtMost, TouchesOnePage, WritesAtMost}
-use Rattle.mlt_hash_access.specs.PageTurns.{TakesTurn}
-use Rattle.mlt_hash_access.proofs.Rebased.{written_stays}
+use Rattle.mlt_tx_two_records.proofs.Names.{FilePages, Agrees, over, page_count, LocalState, Leaves, LocksAtMost, TouchesOnePage, TakesTurn, written_stays, lock_and_write_touch, step_turns, WalkContext, IsStanding, MayWalk, WalkFields, view_for, standing_holds_few}
+use Rattle.mlt_hash_access.specs.PageSteps.{WritesAtMost}
 use Rattle.mlt_hash_access.proofs.Since.{agrees_over}
-use Rattle.mlt_hash_access.proofs.Turns.{lock_and_write_touch, step_turns}
 use Rattle.mlt_hash_subtx_laws.proofs.AllEvents.{step_adds_one_page}
-use Rattle.mlt_hash.specs.Walks.{WalkContext, IsStanding, MayWalk, WalkFields, view_for}
-use Rattle.mlt_hash.proofs.Standings.{standing_holds_few}
 
 -- the clean pages, with what was written before over them, agree with what is seen
 abbrev pub clean_over : (context : WalkContext) (m : LocalState) (walk : WalkFields) → MayWalk context m walk → FilePages

@@ -9,10 +9,9 @@ use Rattle.mlt_hash_access.specs.Views.{view_of}
 use Rattle.mlt_hash.specs.Steps.{steps_to_bucket}
 use Rattle.mlt_hash.specs.Walks.{WalkContext, one_key}
 use Rattle.mlt_tx_two_records.specs.declared.answer.TwoRecordAnswer.{TwoRecordAnswer}
-use Rattle.mlt_tx_two_records.specs.declared.answer.TwoRecordAnswer.TheVariants as answer
 use Rattle.mlt_tx_two_records.specs.declared.two_records.TwoRecordWalk.{TwoRecordWalk}
 use Rattle.mlt_tx_two_records.specs.declared.two_records.TwoRecordWalk.TheVariants.{First, Owing, Wide}
-use Rattle.mlt_tx_two_records.specs.declared.two_records.WideStage.TheVariants as wide_stage
+use Rattle.mlt_tx_two_records.specs.declared.two_records.WideStage.{WideStage}
 use Rattle.mlt_tx_two_records.specs.TwoRecordWalks.{IsTold, Stands}
 use Rattle.mlt_tx_two_records.specs.FirstPass.{FindsNoRoom, PairWaits, StepsToBuckets, WasLast}
 use Rattle.mlt_tx_two_records.specs.WalkSteps.{WalkWaits}
@@ -24,13 +23,13 @@ abbrev pub GoesOnBy : TwoRecordWalk → TwoRecordWalk → WalkContext → LocalS
 GoesOnBy (First pair) (First pair') context old new request =
     TakesTurn old new × StepsToBuckets pair pair'
 GoesOnBy (First pair) (Owing pair' reply) context old new request = TakesTurn old new × WasLast pair
-GoesOnBy (First pair) (Wide wide_stage.Own walk) context old new request =
+GoesOnBy (First pair) (Wide WideStage.Own walk) context old new request =
     FindsNoRoom context old new request pair × (walk ≡ wide_to (target_of request).0)
-GoesOnBy (Wide wide_stage.Own walk) (Wide wide_stage.Own walk') context old new request =
+GoesOnBy (Wide WideStage.Own walk) (Wide WideStage.Own walk') context old new request =
     TakesTurn old new × WalksOn (one_key context) old new walk walk'
-GoesOnBy (Wide wide_stage.Own walk) (Wide wide_stage.Size walk') context old new request =
+GoesOnBy (Wide WideStage.Own walk) (Wide WideStage.Size walk') context old new request =
     TakesTurn old new × GoesOver context new request walk walk'
-GoesOnBy (Wide wide_stage.Size walk) (Wide wide_stage.Size walk') context old new request =
+GoesOnBy (Wide WideStage.Size walk) (Wide WideStage.Size walk') context old new request =
     TakesTurn old new × SizeWalksOn context old new request walk walk'
 GoesOnBy other other' context old new request = ⊥
 
@@ -38,17 +37,17 @@ GoesOnBy other other' context old new request = ⊥
 abbrev pub TellsLast : TwoRecordWalk → TwoRecordWalk → Type 0
 TellsLast (First pair) (First pair') = WasLast pair
 TellsLast (Owing pair reply) (Owing pair' reply') = reply' ≡ reply
-TellsLast (Wide wide_stage.Own walk) (Wide wide_stage.Own walk') = steps_to_bucket walk.phase ≡ 1
-TellsLast (Wide wide_stage.Size walk) (Wide wide_stage.Size walk') = HasChangedNow walk
+TellsLast (Wide WideStage.Own walk) (Wide WideStage.Own walk') = steps_to_bucket walk.phase ≡ 1
+TellsLast (Wide WideStage.Size walk) (Wide WideStage.Size walk') = HasChangedNow walk
 TellsLast other other' = ⊥
 
 -- which page it waits for
 abbrev pub WaitsBy : TwoRecordWalk → TwoRecordWalk → WalkContext → LocalState → LocalState → Request → ℕ → ℕ → Type 0
 WaitsBy (First pair) (First pair') context old new request page by =
     PairWaits context.root old new pair pair' page by
-WaitsBy (Wide wide_stage.Own walk) (Wide wide_stage.Own walk') context old new request page by =
+WaitsBy (Wide WideStage.Own walk) (Wide WideStage.Own walk') context old new request page by =
     WalkWaits (one_key context) old new walk walk' page by
-WaitsBy (Wide wide_stage.Size walk) (Wide wide_stage.Size walk') context old new request page by =
+WaitsBy (Wide WideStage.Size walk) (Wide WideStage.Size walk') context old new request page by =
     SizeWaits context old new request walk walk' page by
 WaitsBy other other' context old new request page by = ⊥
 
@@ -56,18 +55,18 @@ WaitsBy other other' context old new request page by = ⊥
 abbrev pub RefusedBy : TwoRecordWalk → WalkContext → LocalState → LocalState → Request → Refusal → Type 0
 RefusedBy (First pair) context old new request reason = ⊥
 RefusedBy (Owing pair reply) context old new request reason = ⊥
-RefusedBy (Wide wide_stage.Own walk) context old new request reason = OwnRefused context old new walk reason
-RefusedBy (Wide wide_stage.Size walk) context old new request reason =
+RefusedBy (Wide WideStage.Own walk) context old new request reason = OwnRefused context old new walk reason
+RefusedBy (Wide WideStage.Size walk) context old new request reason =
     SizeRefused context old new request walk reason
 
 -- A step goes on, from one bucket or pass to the next; or tells the reply; or waits, and nothing
 -- has changed; or is refused, in a wide pass.
 abbrev pub TellsOfTwoRecords : WalkContext → LocalState → LocalState → TwoRecordWalk → TwoRecordWalk → Request → TwoRecordAnswer → Type 0
-TellsOfTwoRecords context old new before after request answer.Going =
+TellsOfTwoRecords context old new before after request TwoRecordAnswer.Going =
     Stands after context request (view_of new) × GoesOnBy before after context old new request
-TellsOfTwoRecords context old new before after request (answer.Waiting page by) =
+TellsOfTwoRecords context old new before after request (TwoRecordAnswer.Waiting page by) =
     WaitsBy before after context old new request page by
-TellsOfTwoRecords context old new before after request (answer.Told reply) =
+TellsOfTwoRecords context old new before after request (TwoRecordAnswer.Told reply) =
     TakesTurn old new × TellsLast before after × IsTold after context request reply (view_of new)
-TellsOfTwoRecords context old new before after request (answer.Refused reason) =
+TellsOfTwoRecords context old new before after request (TwoRecordAnswer.Refused reason) =
     RefusedBy before context old new request reason

@@ -14,7 +14,6 @@ use Rattle.mlt_hash_pair.specs.Pairs.{IsFinding, IsFound, PairFields, later_page
 use Rattle.mlt_hash_pair.specs.Descents.{found_of}
 use Rattle.mlt_hash.specs.Walks.{WalkContext, IsAtStart}
 use Rattle.mlt_tx_two_records.specs.declared.first.FirstAnswer.{FirstAnswer}
-use Rattle.mlt_tx_two_records.specs.declared.first.FirstAnswer.TheVariants as answer
 use Rattle.mlt_tx_two_records.specs.TwoRecordWalks.{HasGhostOn}
 use Rattle.mlt_tx_two_records.specs.FirstPass.{AsksForBoth, HasFullBucket, HasKeys, HasToldFirst, OwesOne, task_for}
 use Rattle.mlt_tx_two_records.specs.Performing.{AddsElement}
@@ -51,10 +50,10 @@ pub record RollsBack (context : WalkContext) (old new : LocalState) (request : R
 
 abbrev pub TellsAtBuckets : WalkContext → LocalState → LocalState → Request → PairFields → PairFields → FirstAnswer
     → Type 0
-TellsAtBuckets context old new request before after (answer.OneLeft reply) =
+TellsAtBuckets context old new request before after (FirstAnswer.OneLeft reply) =
     Writes old new (later_page before) × OwesOne context request after reply (view_of new)
-TellsAtBuckets context old new request before after (answer.Told reply) =
+TellsAtBuckets context old new request before after (FirstAnswer.Told reply) =
     Writes old new (later_page before) × HasToldFirst context request after reply (view_of new)
-TellsAtBuckets context old new request before after answer.Full =
+TellsAtBuckets context old new request before after FirstAnswer.Full =
     RollsBack context old new request before
 TellsAtBuckets context old new request before after other = ⊥

@@ -1,7 +1,6 @@
 -- What a wide pass does at the bucket of either key
 use Rattle.std.specs.Prelude.{ℕ, ◌≡◌, None, Option, Some}
 use Rattle.mlt_types.specs.declared.refusal.Refusal.{Refusal}
-use Rattle.mlt_types.specs.declared.refusal.Refusal.TheVariants as refusal
 use Rattle.mlt_object_kinds.specs.declared.operation.ObjReply.{ObjReply}
 use Rattle.mlt_object_base.specs.declared.record.RecChange.{RecChange}
 use Rattle.mlt_object_base.specs.declared.record.RecChange.TheVariants.{Add, Plus}
@@ -15,13 +14,10 @@ use Rattle.mlt_hash.specs.Splitting.{IsUnderWay}
 use Rattle.mlt_hash.specs.Steps.{HasFound, steps_to_bucket}
 use Rattle.mlt_hash.specs.Walks.{WalkContext, Before, MayWalk, WalkFields, context_after, one_key}
 use Rattle.mlt_hash.specs.declared.answer.WalkAnswer.{WalkAnswer}
-use Rattle.mlt_hash.specs.declared.answer.WalkAnswer.TheVariants as answer
 use Rattle.mlt_hash.specs.declared.pass.Change.{Change}
-use Rattle.mlt_hash.specs.declared.pass.Phase.TheVariants as at
+use Rattle.mlt_hash.specs.declared.pass.Phase.{Phase}
 use Rattle.mlt_tx_two_records.specs.declared.answer.TwoRecordAnswer.{TwoRecordAnswer}
-use Rattle.mlt_tx_two_records.specs.declared.answer.TwoRecordAnswer.TheVariants as told
 use Rattle.mlt_tx_two_records.specs.declared.two_records.WideStage.{WideStage}
-use Rattle.mlt_tx_two_records.specs.declared.two_records.WideStage.TheVariants as wide_stage
 use Rattle.mlt_tx_two_records.specs.AtBuckets.{Writes}
 use Rattle.mlt_tx_two_records.specs.FirstPass.{HasKeys}
 use Rattle.mlt_tx_two_records.specs.Performing.{AddsElement, Performs}
@@ -48,7 +44,7 @@ pub record HasJustPut (context : WalkContext) (m : LocalState) (request : Reques
   pub may : MayWalkToOwn context m request walk
   pub bucket : ℕ
   pub done : Change
-  pub phase : walk.phase ≡ at.Changed bucket done
+  pub phase : walk.phase ≡ Phase.Changed bucket done
   pub reply : ObjReply
   pub value : ℕ
   pub decided : PutsOwn request reply value
@@ -70,15 +66,15 @@ pub record HasNoRoomThere (context : WalkContext) (old : LocalState) (before : W
 -- what it tells there, by the stage that follows
 abbrev pub TellsAtOwn : WalkContext → LocalState → LocalState → Request → WalkFields → WideStage → WalkFields
     → TwoRecordAnswer → Type 0
-TellsAtOwn context old new request before wide_stage.Own after told.Going =
+TellsAtOwn context old new request before WideStage.Own after TwoRecordAnswer.Going =
     IsToSplit (one_key context) old new before after
     × IsGoingToOwn context request after (view_of new)
-TellsAtOwn context old new request before wide_stage.Size after told.Going =
+TellsAtOwn context old new request before WideStage.Size after TwoRecordAnswer.Going =
     Writes old new (page_of before.phase) × IsGoingToSize context request after (view_of new)
     × (steps_to_bucket after.phase ≡ 2)
-TellsAtOwn context old new request before wide_stage.Own after (told.Told reply) =
+TellsAtOwn context old new request before WideStage.Own after (TwoRecordAnswer.Told reply) =
     (new ≡ old) × HasToldPresent context request after reply (view_of new)
-TellsAtOwn context old new request before wide_stage.Own after (told.Refused refusal.NoRoom) =
+TellsAtOwn context old new request before WideStage.Own after (TwoRecordAnswer.Refused Refusal.NoRoom) =
     IsRolledBack old new × HasNoRoomThere (one_key context) old before
 TellsAtOwn context old new request before other after other' = ⊥
 
@@ -126,29 +122,29 @@ OfAddition other Is = ⊥
 -- what a change tells that raises the size: only where the record is added may there be no room
 abbrev pub TellsOfRaise : WalkContext → LocalState → WalkFields → WalkFields → RecChange → Option ℕ
     → WalkAnswer → Type 0
-TellsOfRaise context new before after decided found answer.Changed =
+TellsOfRaise context new before after decided found WalkAnswer.Changed =
     IsMade context new before after decided found
-TellsOfRaise context new before after decided found answer.NeedSplit =
+TellsOfRaise context new before after decided found WalkAnswer.NeedSplit =
     OfAddition decided (λ value. NeedsSplit context new before after value)
-TellsOfRaise context new before after decided found (answer.Refused refusal.NoRoom) =
+TellsOfRaise context new before after decided found (WalkAnswer.Refused Refusal.NoRoom) =
     OfAddition decided (λ value. HasNoRoom context new before after)
-TellsOfRaise context new before after decided found (answer.Refused reason) =
-    reason ≡ refusal.OutOfMemory
+TellsOfRaise context new before after decided found (WalkAnswer.Refused reason) =
+    reason ≡ Refusal.OutOfMemory
 TellsOfRaise context new before after decided found other = ⊥
 
 -- It is refused there: there is no room at any depth, or memory was refused to keep the page as it was.
 abbrev pub RefusesAt : Refusal → WalkContext → LocalState → WalkFields → Type 0
-RefusesAt refusal.NoRoom context old before = HasNoRoomThere context old before
-RefusesAt refusal.OutOfMemory context old before = Unit {0}
+RefusesAt Refusal.NoRoom context old before = HasNoRoomThere context old before
+RefusesAt Refusal.OutOfMemory context old before = Unit {0}
 RefusesAt other context old before = ⊥
 
 abbrev pub TellsAtSize : WalkContext → Before → LocalState → LocalState → Request → WalkFields → WalkFields
     → TwoRecordAnswer → Type 0
-TellsAtSize context since old new request before after told.Going =
+TellsAtSize context since old new request before after TwoRecordAnswer.Going =
     IsToSplit (context_after since context) old new before after
     × IsGoingToSize context request after (view_of new)
-TellsAtSize context since old new request before after (told.Told reply) =
+TellsAtSize context since old new request before after (TwoRecordAnswer.Told reply) =
     Writes old new (page_of before.phase) × HasToldBoth context request after reply (view_of new)
-TellsAtSize context since old new request before after (told.Refused reason) =
+TellsAtSize context since old new request before after (TwoRecordAnswer.Refused reason) =
     IsRolledBack old new × RefusesAt reason (context_after since context) old before
 TellsAtSize context since old new request before after other = ⊥

@@ -5,7 +5,6 @@ use Rattle.mlt_hash_split.specs.Splits.{SplitFields}
 use Rattle.mlt_hash.specs.StepsLeft.{bucket_depth, depth_after, directory_depth}
 use Rattle.mlt_hash.specs.Walks.{WalkFields}
 use Rattle.mlt_hash.specs.declared.pass.Phase.{Phase}
-use Rattle.mlt_hash.specs.declared.pass.Phase.TheVariants as at
 
 -- Down to which depth a walk splits its bucket. And how deep the bucket is, and the directory: before the split that is under
 -- way, where one is.
@@ -21,12 +20,12 @@ depths_with_split (Some split) room_depth =
 
 -- of a walk that splits its bucket, or is to split it or to put its record
 abbrev pub depths_at : Phase → ℕ → WalkFields → View → Option Depths
-depths_at (at.Adding value bucket room_depth unsplit) root walk view = Some (record {
+depths_at (Phase.Adding value bucket room_depth unsplit) root walk view = Some (record {
   room = room_depth;
   bucket = bucket_depth view bucket;
   directory = directory_depth view root;
 })
-depths_at (at.Splitting value room_depth) root walk view = depths_with_split walk.split room_depth
+depths_at (Phase.Splitting value room_depth) root walk view = depths_with_split walk.split room_depth
 depths_at other root walk view = None
 
 -- once the bucket is split

@@ -16,7 +16,6 @@ use Rattle.mlt_hash_pair.specs.declared.asked.PairChanges.{PairChanges}
 use Rattle.mlt_hash.specs.Walks.{WalkContext, IsAtStart}
 use Rattle.mlt_hash.specs.declared.pass.Change.{Change}
 use Rattle.mlt_tx_two_records.specs.declared.first.FirstAnswer.{FirstAnswer}
-use Rattle.mlt_tx_two_records.specs.declared.first.FirstAnswer.TheVariants as answer
 use Rattle.mlt_tx_two_records.specs.Performing.{AddsElement, Performs, asked_of}
 use Rattle.mlt_tx_two_records.specs.Records.{PlansRecord, WritesRecord}
 
@@ -158,14 +157,14 @@ pub record PairWaits (root : ℕ) (old new : LocalState) (before after : PairFie
 -- what a step of the first pass tells, up to the one that finds both keys
 abbrev pub TellsOfFirst : WalkContext → LocalState → LocalState → Request → PairFields → PairFields → FirstAnswer
     → Type 0
-TellsOfFirst context old new request before after answer.Going =
+TellsOfFirst context old new request before after FirstAnswer.Going =
     TakesTurn old new × StepsToBuckets before after
     × IsFindingBoth context request after (view_of new)
-TellsOfFirst context old new request before after (answer.Waiting page by) =
+TellsOfFirst context old new request before after (FirstAnswer.Waiting page by) =
     PairWaits context.root old new before after page by
-TellsOfFirst context old new request before after (answer.OneLeft reply) =
+TellsOfFirst context old new request before after (FirstAnswer.OneLeft reply) =
     TakesTurn old new × WasLast before × OwesOne context request after reply (view_of new)
-TellsOfFirst context old new request before after (answer.Told reply) =
+TellsOfFirst context old new request before after (FirstAnswer.Told reply) =
     TakesTurn old new × WasLast before × HasToldFirst context request after reply (view_of new)
-TellsOfFirst context old new request before after answer.Full =
+TellsOfFirst context old new request before after FirstAnswer.Full =
     FindsNoRoom context old new request before

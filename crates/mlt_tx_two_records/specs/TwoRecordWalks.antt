@@ -15,7 +15,7 @@ use Rattle.mlt_hash.specs.StepsLeft.{steps_to_put}
 use Rattle.mlt_hash.specs.Walks.{WalkContext, WalkFields}
 use Rattle.mlt_tx_two_records.specs.declared.two_records.TwoRecordWalk.{TwoRecordWalk}
 use Rattle.mlt_tx_two_records.specs.declared.two_records.TwoRecordWalk.TheVariants.{First, Owing, Wide}
-use Rattle.mlt_tx_two_records.specs.declared.two_records.WideStage.TheVariants as wide_stage
+use Rattle.mlt_tx_two_records.specs.declared.two_records.WideStage.{WideStage}
 use Rattle.mlt_tx_two_records.specs.FirstPass.{HasToldFirst, IsFindingBoth, OwesOne}
 use Rattle.mlt_tx_two_records.specs.WidePass.{HasToldBoth, HasToldPresent, IsGoingToOwn, IsGoingToSize}
 
@@ -33,15 +33,15 @@ IsFirst (Wide to walk) = ⊥
 abbrev pub Stands : TwoRecordWalk → WalkContext → Request → View → Type 0
 Stands (First pair) context request view = IsFindingBoth context request pair view
 Stands (Owing pair reply) context request view = OwesOne context request pair reply view
-Stands (Wide wide_stage.Own walk) context request view = IsGoingToOwn context request walk view
-Stands (Wide wide_stage.Size walk) context request view = IsGoingToSize context request walk view
+Stands (Wide WideStage.Own walk) context request view = IsGoingToOwn context request walk view
+Stands (Wide WideStage.Size walk) context request view = IsGoingToSize context request walk view
 
 -- where it stands with its reply told: all is written, and its next step is its end
 abbrev pub IsTold : TwoRecordWalk → WalkContext → Request → ObjReply → View → Type 0
 IsTold (First pair) context request reply view = HasToldFirst context request pair reply view
 IsTold (Owing pair told) context request reply view = HasToldFirst context request pair reply view
-IsTold (Wide wide_stage.Own walk) context request reply view = HasToldPresent context request walk reply view
-IsTold (Wide wide_stage.Size walk) context request reply view = HasToldBoth context request walk reply view
+IsTold (Wide WideStage.Own walk) context request reply view = HasToldPresent context request walk reply view
+IsTold (Wide WideStage.Size walk) context request reply view = HasToldBoth context request walk reply view
 
 -- the transaction's own ghost of the key stands in its bucket
 abbrev pub HasGhostOn : WalkContext → FilePages → ℕ → Type 0
@@ -89,5 +89,5 @@ abbrev pub steps_of_two_records : ℕ → TwoRecordWalk → View → ℕ
 steps_of_two_records root (First pair) view =
     most_steps pair.left_descent pair.right_descent + (3 + most_to_put + 2 + most_to_put + 1)
 steps_of_two_records root (Owing pair reply) view = 2
-steps_of_two_records root (Wide wide_stage.Own walk) view = most_to_change root walk view + (2 + most_to_put + 1)
-steps_of_two_records root (Wide wide_stage.Size walk) view = most_to_change root walk view + 1
+steps_of_two_records root (Wide WideStage.Own walk) view = most_to_change root walk view + (2 + most_to_put + 1)
+steps_of_two_records root (Wide WideStage.Size walk) view = most_to_change root walk view + 1

@@ -13,7 +13,6 @@ use Rattle.mlt_hash.specs.StepsLeft.{steps_to_put}
 use Rattle.mlt_hash.specs.Splitting.{HasToMake, OfSplit}
 use Rattle.mlt_hash.specs.Changes.{HasNoRoom, NeedsSplit}
 use Rattle.mlt_hash.specs.declared.pass.Phase.{Phase}
-use Rattle.mlt_hash.specs.declared.pass.Phase.TheVariants as at
 use Rattle.mlt_tx_two_records.specs.Depths.{GoesDown}
 
 -- How many steps are left up to the change of the key's record, as far as is known: to the bucket, and then of its splits.
@@ -43,10 +42,10 @@ pub record BeginsToSplit (context : WalkContext) (new : LocalState) (before afte
 
 -- the lock that its next step asks for: of which page, and in which mode
 abbrev pub AsksForAt : Phase → WalkContext → View → WalkFields → ℕ → Mode → Type 0
-AsksForAt (at.Splitting value room_depth) context view walk page mode =
+AsksForAt (Phase.Splitting value room_depth) context view walk page mode =
     OfSplit walk (λ split. IsNextPage split.phase (split_target context walk room_depth) view page)
     × (mode ≡ Exclusive)
-AsksForAt (at.Adding value bucket room_depth unsplit) context view walk page mode = ⊥
+AsksForAt (Phase.Adding value bucket room_depth unsplit) context view walk page mode = ⊥
 AsksForAt other context view walk page mode =
     (page ≡ next_page context.root other) × (mode ≡ next_mode walk other)
 

@@ -2,7 +2,6 @@
 use Rattle.std.specs.Prelude.{ℕ, ◌≡◌, ◌≤◌, ◌⊎◌, false, Option, None, Some}
 use Rattle.mlt_types.specs.declared.mode.Mode.TheVariants.{Exclusive}
 use Rattle.mlt_types.specs.declared.refusal.Refusal.{Refusal}
-use Rattle.mlt_types.specs.declared.refusal.Refusal.TheVariants as refusal
 use Rattle.mlt_page.specs.declared.page.Page.{Page}
 use Rattle.mlt_object_kinds.specs.declared.operation.ObjReply.{ObjReply}
 use Rattle.mlt_object_base.specs.declared.record.RecChange.{RecChange}
@@ -16,9 +15,8 @@ use Rattle.mlt_hash.specs.Walks.{WalkContext, Before, HasRead, IsChanged, IsStan
 use Rattle.mlt_hash.specs.Splitting.{IsUnderWay}
 use Rattle.mlt_hash.specs.Steps.{steps_to_bucket}
 use Rattle.mlt_hash.specs.declared.pass.Change.{Change}
-use Rattle.mlt_hash.specs.declared.pass.Pass.TheVariants as pass
+use Rattle.mlt_hash.specs.declared.pass.Pass.{Pass}
 use Rattle.mlt_hash.specs.declared.pass.Phase.{Phase}
-use Rattle.mlt_hash.specs.declared.pass.Phase.TheVariants as at
 use Rattle.mlt_tx_two_records.specs.FirstPass.{HasKeys}
 use Rattle.mlt_tx_two_records.specs.Performing.{AddsElement, Performs}
 use Rattle.mlt_tx_two_records.specs.WalkSteps.{BeginsToSplit, GoesNearer, LacksPage, LacksRoom, WalkWaits}
@@ -30,21 +28,21 @@ abbrev pub wide_to : ℕ → WalkFields
 wide_to key = record {
   key = key;
   mode = Exclusive;
-  pass = pass.Wide;
-  phase = at.Start;
+  pass = Pass.Wide;
+  phase = Phase.Start;
   split = None;
 }
 
 -- a walk to this key in a wide pass, which locks all exclusively
 pub record IsWideTo (walk : WalkFields) (key : ℕ) : Type 0 where
   pub key_is : walk.key ≡ key
-  pub wide : walk.pass ≡ pass.Wide
+  pub wide : walk.pass ≡ Pass.Wide
   pub mode : walk.mode ≡ Exclusive
 
 -- of the value of the record that it is to put behind its splits this is so
 abbrev pub PutsThen : Phase → (ℕ → Type 0) → Type 0
-PutsThen (at.Adding value bucket room_depth unsplit) Is = Is value
-PutsThen (at.Splitting value room_depth) Is = Is value
+PutsThen (Phase.Adding value bucket room_depth unsplit) Is = Is value
+PutsThen (Phase.Splitting value room_depth) Is = Is value
 PutsThen other Is = Unit {0}
 
 -- The own record, of which there was none, is put with this value.
@@ -74,7 +72,7 @@ pub record HasPutOwn (context : WalkContext) (request : Request) (view : View) (
   pub then_view : View
   pub bucket : ℕ
   pub done : Change
-  pub phase : walk.phase ≡ at.Changed bucket done
+  pub phase : walk.phase ≡ Phase.Changed bucket done
   pub changed : IsChanged (one_key context) walk then_view bucket done
   pub reply : ObjReply
   pub value : ℕ
@@ -107,7 +105,7 @@ pub record HasToldPresent (context : WalkContext) (request : Request) (walk : Wa
   pub bucket : ℕ
   pub depth : ℕ
   pub value : ℕ
-  pub at_bucket : walk.phase ≡ at.AtBucket bucket depth (Some value)
+  pub at_bucket : walk.phase ≡ Phase.AtBucket bucket depth (Some value)
   pub stands : IsStanding (one_key context) walk view
   pub decided : decision request (Some value) ≡ (reply, None)
   pub resized : (found : Option ℕ) → size_decision request reply found ≡ None
@@ -123,7 +121,7 @@ pub record HasToldBoth (context : WalkContext) (request : Request) (walk : WalkF
   pub to_key : IsWideTo walk walk.key
   pub bucket : ℕ
   pub done : Change
-  pub phase : walk.phase ≡ at.Changed bucket done
+  pub phase : walk.phase ≡ Phase.Changed bucket done
   pub stands : IsStanding (context_after since context) walk (rebased since.written view)
   pub found : Option ℕ
   pub read : HasRead (context_after since context) walk.key (rebased since.written view) found
@@ -135,7 +133,7 @@ pub record HasToldBoth (context : WalkContext) (request : Request) (walk : WalkF
 
 -- it had split its bucket, and there was room
 abbrev pub PutsBehind : WalkFields → Type 0
-PutsBehind walk = (value bucket room_depth : ℕ) × (walk.phase ≡ at.Adding value bucket room_depth false)
+PutsBehind walk = (value bucket room_depth : ℕ) × (walk.phase ≡ Phase.Adding value bucket room_depth false)
 
 -- The step changed the key's record: at the bucket, or behind splits.
 abbrev pub HasChangedNow : WalkFields → Type 0
@@ -144,14 +142,14 @@ HasChangedNow before = (steps_to_bucket before.phase ≡ 1) ⊎ PutsBehind befor
 -- Why it is refused: no split makes room, or it lacks a page, or memory, to make a page or to keep an image. The record of its
 -- own key takes none where no bucket is split.
 abbrev pub CauseAtOwn : Refusal → WalkContext → LocalState → LocalState → WalkFields → Type 0
-CauseAtOwn refusal.NoRoom context old mid before = LacksRoom context mid before ⊎ LacksPage context old before
-CauseAtOwn refusal.OutOfMemory context old mid before =
+CauseAtOwn Refusal.NoRoom context old mid before = LacksRoom context mid before ⊎ LacksPage context old before
+CauseAtOwn Refusal.OutOfMemory context old mid before =
     (steps_to_bucket before.phase ≡ 0) × (LacksPage context old before → ⊥)
 CauseAtOwn other context old mid before = ⊥
 
 abbrev pub CauseAtSize : Refusal → WalkContext → LocalState → LocalState → WalkFields → Type 0
-CauseAtSize refusal.NoRoom context old mid before = LacksRoom context mid before ⊎ LacksPage context old before
-CauseAtSize refusal.OutOfMemory context old mid before =
+CauseAtSize Refusal.NoRoom context old mid before = LacksRoom context mid before ⊎ LacksPage context old before
+CauseAtSize Refusal.OutOfMemory context old mid before =
     (steps_to_bucket before.phase ≤ 1) × (LacksPage context old before → ⊥)
 CauseAtSize other context old mid before = ⊥
 

@@ -1,9 +1,7 @@
 -- What scripts are refused with at desks over a lock
-use Rattle.std.proofs.Common.{ℕ, List, [], ◌∷◌, Result, Ok, Err, inl, inr, sym, subst}
-use Rattle.std.specs.Prelude.{All}
+use Rattle.std.proofs.Common.{ℕ, List, [], ◌∷◌, Result, Ok, Err, inl, inr, sym, subst, All}
 use Rattle.std.proofs.lemmas.List.Elements.{All-cons, All-nil}
 use Rattle.mlt_types.specs.declared.refusal.Refusal.{Refusal}
-use Rattle.mlt_types.specs.declared.refusal.Refusal.TheVariants as refusal
 use Rattle.mlt_object_kinds.specs.Bases.{Transcript}
 use Rattle.mlt_script_tree.specs.declared.statement.Ending.{Ending}
 use Rattle.mlt_script_tree.specs.declared.statement.Ending.TheVariants.{Commit, Abort}
@@ -20,25 +18,25 @@ use Rattle.mlt_work_desk.specs.Refusals.{IsOfBegin, IsOfCommit, IsOfOperation}
 use Rattle.mlt_work_clients.specs.Places.{IsScriptEnd, IsScriptRefusal}
 
 begin_refuses : (r : Refusal) → IsOfBegin r → IsScriptRefusal r
-begin_refuses refusal.TooManyOpen h = tt
-begin_refuses refusal.IdsSpent h = tt
-begin_refuses refusal.OutOfMemory h = tt
+begin_refuses Refusal.TooManyOpen h = tt
+begin_refuses Refusal.IdsSpent h = tt
+begin_refuses Refusal.OutOfMemory h = tt
 begin_refuses other h = absurd h
 
 operation_refuses : (r : Refusal) → IsOfOperation r → IsScriptRefusal (refusal_of_script r)
-operation_refuses refusal.NoSuchTx h = tt
-operation_refuses refusal.Undoing h = tt
-operation_refuses refusal.Running h = tt
-operation_refuses refusal.LogFull h = tt
-operation_refuses refusal.NoRoom h = tt
-operation_refuses refusal.OutOfMemory h = tt
-operation_refuses refusal.GaveUp h = tt
+operation_refuses Refusal.NoSuchTx h = tt
+operation_refuses Refusal.Undoing h = tt
+operation_refuses Refusal.Running h = tt
+operation_refuses Refusal.LogFull h = tt
+operation_refuses Refusal.NoRoom h = tt
+operation_refuses Refusal.OutOfMemory h = tt
+operation_refuses Refusal.GaveUp h = tt
 operation_refuses other h = absurd h
 
 commit_refuses : (r : Refusal) → IsOfCommit r → IsScriptRefusal (refusal_of_script r)
-commit_refuses refusal.NoSuchTx h = tt
-commit_refuses refusal.Undoing h = tt
-commit_refuses refusal.Running h = tt
+commit_refuses Refusal.NoSuchTx h = tt
+commit_refuses Refusal.Undoing h = tt
+commit_refuses Refusal.Running h = tt
 commit_refuses other h = absurd h
 
 -- an outcome ends as a script may

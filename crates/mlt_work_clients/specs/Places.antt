@@ -4,7 +4,6 @@ use Rattle.std.specs.Global.{Vec}
 use Rattle.mlt_script_tree.specs.declared.script.Script.{Script}
 use Rattle.mlt_script_tree.specs.Scripts.{ScriptForm}
 use Rattle.mlt_types.specs.declared.refusal.Refusal.{Refusal}
-use Rattle.mlt_types.specs.declared.refusal.Refusal.TheVariants as refusal
 use Rattle.mlt_script_serial.specs.declared.outcome.End.{End}
 use Rattle.mlt_script_serial.specs.declared.outcome.End.TheVariants.{Refused}
 use Rattle.mlt_script_serial.specs.declared.outcome.Outcome.{Outcome}
@@ -22,12 +21,12 @@ place_of run = run.place
 
 -- what a script may be refused with
 abbrev pub IsScriptRefusal : Refusal → Type 0
-IsScriptRefusal refusal.OutOfMemory = Unit {0}
-IsScriptRefusal refusal.NoRoom = Unit {0}
-IsScriptRefusal refusal.TooManyOpen = Unit {0}
-IsScriptRefusal refusal.LogFull = Unit {0}
-IsScriptRefusal refusal.IdsSpent = Unit {0}
-IsScriptRefusal refusal.GaveUp = Unit {0}
+IsScriptRefusal Refusal.OutOfMemory = Unit {0}
+IsScriptRefusal Refusal.NoRoom = Unit {0}
+IsScriptRefusal Refusal.TooManyOpen = Unit {0}
+IsScriptRefusal Refusal.LogFull = Unit {0}
+IsScriptRefusal Refusal.IdsSpent = Unit {0}
+IsScriptRefusal Refusal.GaveUp = Unit {0}
 IsScriptRefusal other = ⊥
 
 -- where a script is refused, it is so

@@ -1,21 +1,13 @@
 -- What an event adds to the history.
 use Rattle.std.proofs.Common.{◌≡◌, ◌∙◌, ℕ, List, ◌++◌, Option, None, Some, ap}
 use Rattle.std.specs.FinMap as map
-use Rattle.mlt_object_kinds.specs.declared.operation.ObjOp.{ObjOp}
+use Rattle.mlt_work_desk.proofs.Names.{ObjOp, TraceItem, Event, Told, counted, Meets, ManagerFields, AddsItems, CalledOps}
 use Rattle.mlt_object_base.specs.declared.request.Request.{Request}
 use Rattle.mlt_object_base.specs.declared.request.Request.TheVariants.{Do}
-use Rattle.mlt_trace.specs.declared.item.TraceItem.{TraceItem}
-use Rattle.mlt_event.specs.declared.event.Event.{Event}
-use Rattle.mlt_event.specs.declared.told.Told.{Told}
 use Rattle.mlt_tx.specs.declared.transaction.At.{At}
-use Rattle.mlt_tx.specs.declared.transaction.At.TheVariants as at
 use Rattle.mlt_tx.specs.declared.transaction.Transaction.{Transaction}
 use Rattle.mlt_tx_open.specs.Tables.{Table}
-use Rattle.mlt_manager.specs.Answers.{counted}
 use Rattle.mlt_manager.specs.Bases.{IsPendingWith}
-use Rattle.mlt_manager.specs.Events.{Meets}
-use Rattle.mlt_manager.specs.Managers.{ManagerFields}
-use Rattle.mlt_manager.specs.Tolds.{AddsItems, CalledOps}
 use Rattle.mlt_manager.proofs.Tolds.{event_tells}
 
 -- the operation that is pending, if one is
@@ -24,7 +16,7 @@ asked_op (Do op) = Some op
 asked_op other = None
 
 op_at : At → Option ObjOp
-op_at (at.Pending o) = asked_op o.request
+op_at (At.Pending o) = asked_op o.request
 op_at other = None
 
 op_of : Option Transaction → Option ObjOp
@@ -36,9 +28,9 @@ pending_in txs tx = op_of (map.get txs tx)
 
 is_op_at : (a : At) (op : ObjOp) → IsPendingWith op a → op_at a ≡ Some op
 unfolding op_at asked_op
-is_op_at (at.Pending o) op is = ap asked_op is
-is_op_at at.Idle op none = absurd none
-is_op_at (at.Undoing inverting) op none = absurd none
+is_op_at (At.Pending o) op is = ap asked_op is
+is_op_at At.Idle op none = absurd none
+is_op_at (At.Undoing inverting) op none = absurd none
 
 -- what an event was told is what it adds to the history
 pub event_adds : {P : Type 0} (bits_of : P → ℕ → ℕ) (e : Event) (t : Told) (m m' : ManagerFields P) → Meets bits_of e t (counted m) m'

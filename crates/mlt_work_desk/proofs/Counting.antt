@@ -1,18 +1,8 @@
 -- An event changes neither what a manager is made with nor the count of events: that counts it before.
 use Rattle.std.proofs.Common.{◌≡◌, ℕ, List, [], ◌∷◌, Bool, true, false, Ok, Err, ap, ◌∙◌}
-use Rattle.mlt_types.specs.declared.refusal.Refusal.{Refusal}
-use Rattle.mlt_types.specs.declared.refusal.Refusal.TheVariants as refusal
-use Rattle.mlt_object_kinds.specs.declared.operation.ObjOp.{ObjOp}
-use Rattle.mlt_event.specs.declared.answer.Answer.{Answer}
-use Rattle.mlt_event.specs.declared.answer.Answer.TheVariants as answer
-use Rattle.mlt_event.specs.declared.event.Event.{Event}
-use Rattle.mlt_event.specs.declared.event.Event.TheVariants as event
-use Rattle.mlt_event.specs.declared.told.Told.{Told}
-use Rattle.mlt_event.specs.declared.told.Told.TheVariants as told
-use Rattle.mlt_manager.specs.Answers.{AnswersAbort, AnswersCall, ChangesOpen, HasStepped, counted, next_count}
+use Rattle.mlt_work_desk.proofs.Names.{Refusal, ObjOp, Answer, Event, Told, counted, Meets, ManagerFields}
+use Rattle.mlt_manager.specs.Answers.{AnswersAbort, AnswersCall, ChangesOpen, HasStepped, next_count}
 use Rattle.mlt_manager.specs.Chains.{StepsBy, StepsUpTo}
-use Rattle.mlt_manager.specs.Events.{Meets}
-use Rattle.mlt_manager.specs.Managers.{ManagerFields}
 use Rattle.mlt_manager.specs.Wholes.{DropsIfItStands}
 use Rattle.mlt_work_desk.specs.Makings.{Making, making_of}
 
@@ -28,7 +18,7 @@ module _ {P : Type 0} where
   open_kept m m' changes = ap kept changes
 
   call_kept : (m m' : ManagerFields P) (tx : ℕ) (op : ObjOp) (reason : Refusal) → AnswersCall m m' tx op (Err reason) → kept m' ≡ kept m
-  call_kept m m' tx op refusal.OutOfMemory (may, calls, changes) = open_kept m m' changes
+  call_kept m m' tx op Refusal.OutOfMemory (may, calls, changes) = open_kept m m' changes
   call_kept m m' tx op other h = same_kept m m' h.1
 
   step_kept : (bits_of : P → ℕ → ℕ) (m m' : ManagerFields P) (tx : ℕ) (answer : Answer) → HasStepped bits_of m m' tx answer → kept m' ≡ kept m
@@ -43,8 +33,8 @@ module _ {P : Type 0} where
   up_to_kept bits_of GoesOn Stops m m' tx answer s = step_kept bits_of s.before m' tx answer s.ends ∙ steps_kept bits_of GoesOn m s.steps s.before tx s.goes
 
   dropped_kept : (m m' : ManagerFields P) (tx : ℕ) (answer : Answer) → DropsIfItStands answer m m' tx → kept m' ≡ kept m
-  dropped_kept m m' tx (answer.Waiting page by) d = open_kept m m' d.rest
-  dropped_kept m m' tx (answer.Blocked by) d = open_kept m m' d.rest
+  dropped_kept m m' tx (Answer.Waiting page by) d = open_kept m m' d.rest
+  dropped_kept m m' tx (Answer.Blocked by) d = open_kept m m' d.rest
   dropped_kept m m' tx other same = same_kept m m' same
 
   abort_kept : (m m' : ManagerFields P) (tx : ℕ) (closed : Bool) → AnswersAbort m m' tx (Ok closed) → kept m' ≡ kept m
@@ -52,31 +42,31 @@ module _ {P : Type 0} where
   abort_kept m m' tx false a = ap kept a.rest
 
   event_kept : (bits_of : P → ℕ → ℕ) (e : Event) (t : Told) (m m' : ManagerFields P) → Meets bits_of e t m m' → kept m' ≡ kept m
-  event_kept bits_of event.Begin (told.Begun tx) m m' a = ap kept a.rest
-  event_kept bits_of event.Begin (told.Refused reason) m m' a = same_kept m m' a.1
-  event_kept bits_of (event.Call tx op) told.Called m m' a = open_kept m m' a.rest
-  event_kept bits_of (event.Call tx op) (told.Refused reason) m m' a = call_kept m m' tx op reason a
-  event_kept bits_of (event.Step tx) (told.Answered answer) m m' (a, leaves, named) = step_kept bits_of m m' tx answer a
-  event_kept bits_of (event.Step tx) (told.Refused reason) m m' a = same_kept m m' a.1
-  event_kept bits_of (event.Cancel tx) told.Cancelled m m' ((pending, cancels, changes), keeps) = open_kept m m' changes
-  event_kept bits_of (event.Cancel tx) (told.Refused reason) m m' a = same_kept m m' a.1
-  event_kept bits_of (event.Commit tx) (told.Committed number) m m' a = ap kept a.rest
-  event_kept bits_of (event.Commit tx) (told.Refused reason) m m' a = same_kept m m' a.1
-  event_kept bits_of (event.Abort tx) (told.Aborting closed) m m' a = abort_kept m m' tx closed a
-  event_kept bits_of (event.Abort tx) (told.Refused reason) m m' a = same_kept m m' a.1
-  event_kept bits_of (event.Whole tx op) (told.Answered answer) m m' (a, leaves, named) =
+  event_kept bits_of Event.Begin (Told.Begun tx) m m' a = ap kept a.rest
+  event_kept bits_of Event.Begin (Told.Refused reason) m m' a = same_kept m m' a.1
+  event_kept bits_of (Event.Call tx op) Told.Called m m' a = open_kept m m' a.rest
+  event_kept bits_of (Event.Call tx op) (Told.Refused reason) m m' a = call_kept m m' tx op reason a
+  event_kept bits_of (Event.Step tx) (Told.Answered answer) m m' (a, leaves, named) = step_kept bits_of m m' tx answer a
+  event_kept bits_of (Event.Step tx) (Told.Refused reason) m m' a = same_kept m m' a.1
+  event_kept bits_of (Event.Cancel tx) Told.Cancelled m m' ((pending, cancels, changes), keeps) = open_kept m m' changes
+  event_kept bits_of (Event.Cancel tx) (Told.Refused reason) m m' a = same_kept m m' a.1
+  event_kept bits_of (Event.Commit tx) (Told.Committed number) m m' a = ap kept a.rest
+  event_kept bits_of (Event.Commit tx) (Told.Refused reason) m m' a = same_kept m m' a.1
+  event_kept bits_of (Event.Abort tx) (Told.Aborting closed) m m' a = abort_kept m m' tx closed a
+  event_kept bits_of (Event.Abort tx) (Told.Refused reason) m m' a = same_kept m m' a.1
+  event_kept bits_of (Event.Whole tx op) (Told.Answered answer) m m' (a, leaves, named) =
       dropped_kept a.runs.stopped m' tx answer a.runs.drops ∙ up_to_kept bits_of _ _ a.called a.runs.stopped tx answer a.runs.steps ∙ open_kept m a.called a.calls.rest
-  event_kept bits_of (event.Whole tx op) (told.Refused reason) m m' a = call_kept m m' tx op reason a
-  event_kept bits_of (event.WholeUndo tx) (told.Answered answer) m m' (a, leaves, named) = up_to_kept bits_of _ _ m m' tx answer a.1
-  event_kept bits_of (event.WholeUndo tx) (told.Refused reason) m m' a = same_kept m m' a.1
-  event_kept bits_of event.Begin other m m' none = absurd none
-  event_kept bits_of (event.Call tx op) other m m' none = absurd none
-  event_kept bits_of (event.Step tx) other m m' none = absurd none
-  event_kept bits_of (event.Cancel tx) other m m' none = absurd none
-  event_kept bits_of (event.Commit tx) other m m' none = absurd none
-  event_kept bits_of (event.Abort tx) other m m' none = absurd none
-  event_kept bits_of (event.Whole tx op) other m m' none = absurd none
-  event_kept bits_of (event.WholeUndo tx) other m m' none = absurd none
+  event_kept bits_of (Event.Whole tx op) (Told.Refused reason) m m' a = call_kept m m' tx op reason a
+  event_kept bits_of (Event.WholeUndo tx) (Told.Answered answer) m m' (a, leaves, named) = up_to_kept bits_of _ _ m m' tx answer a.1
+  event_kept bits_of (Event.WholeUndo tx) (Told.Refused reason) m m' a = same_kept m m' a.1
+  event_kept bits_of Event.Begin other m m' none = absurd none
+  event_kept bits_of (Event.Call tx op) other m m' none = absurd none
+  event_kept bits_of (Event.Step tx) other m m' none = absurd none
+  event_kept bits_of (Event.Cancel tx) other m m' none = absurd none
+  event_kept bits_of (Event.Commit tx) other m m' none = absurd none
+  event_kept bits_of (Event.Abort tx) other m m' none = absurd none
+  event_kept bits_of (Event.Whole tx op) other m m' none = absurd none
+  event_kept bits_of (Event.WholeUndo tx) other m m' none = absurd none
 
   -- **Each event counts once.**
   pub one_event : (bits_of : P → ℕ → ℕ) (e : Event) (t : Told) (m m' : ManagerFields P) → Meets bits_of e t (counted m) m' → m'.events ≡ next_count m.events

@@ -1,12 +1,7 @@
 -- How many wait once locks were given back
 use Rattle.std.proofs.Common.{◌≡◌, ◌≤◌, List, [], ◌∷◌, true, false, not, cond, length, refl, arith}
-use Rattle.mlt_work_waits.specs.declared.wait.Awaited.{Awaited}
-use Rattle.mlt_work_waits.specs.declared.wait.Awaited.TheVariants as awaited
-use Rattle.mlt_work_waits.specs.declared.wait.Waiting.{Waiting}
-use Rattle.mlt_work_waits.specs.declared.wait.Whose.{Whose}
-use Rattle.mlt_work_waits.specs.declared.wait.Whose.TheVariants as whose
-use Rattle.mlt_work_waits.specs.Waits.{Waits, is_for, nobody_waits, others_in, released}
-use Rattle.mlt_work_desk.specs.Waits.{waiting}
+use Rattle.mlt_work_desk.proofs.Names.{Awaited, Waiting, Whose, Waits, is_for, others_in, released, waiting}
+use Rattle.mlt_work_waits.specs.Waits.{nobody_waits}
 
 fewer_in : (given : Whose) (waits : List Waiting) → length (others_in given waits) ≤ length waits
 fewer_in given [] = omega arith
@@ -18,12 +13,12 @@ fewer_in given (wait ∷ waits) =
     ]
 
 pub fewer_wait : (kind : Awaited) (given : Whose) (waits : Waits) → waiting (released kind given waits) ≤ waiting waits
-fewer_wait awaited.Objects given waits = omega (arith, fewer_in given waits.objects)
-fewer_wait awaited.Pages given waits = omega (arith, fewer_in given waits.pages)
+fewer_wait Awaited.Objects given waits = omega (arith, fewer_in given waits.objects)
+fewer_wait Awaited.Pages given waits = omega (arith, fewer_in given waits.pages)
 
-none_left : (waits : List Waiting) → others_in whose.All waits ≡ []
+none_left : (waits : List Waiting) → others_in Whose.All waits ≡ []
 none_left [] = refl
 none_left (wait ∷ waits) = none_left waits
 
-pub nobody_left : (waits : Waits) → released awaited.Pages whose.All (released awaited.Objects whose.All waits) ≡ nobody_waits
+pub nobody_left : (waits : Waits) → released Awaited.Pages Whose.All (released Awaited.Objects Whose.All waits) ≡ nobody_waits
 nobody_left waits = λ i. record { objects = none_left waits.objects i; pages = none_left waits.pages i }

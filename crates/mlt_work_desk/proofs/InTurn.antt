@@ -1,15 +1,10 @@
 -- Who waits for its turn waits for one that stands in the queue
-use Rattle.std.proofs.Common.{◌≡◌, ◌∙◌, ◌⊎◌, ℕ, ◌==◌, ◌&&◌, ◌||◌, Bool, true, false, not, cond, nat_lt, is_none, is_some, List, [], ◌∷◌, ◌++◌, length, Option, None, Some, refl, sym, subst, ap, inl, inr}
+use Rattle.std.proofs.Common.{◌≡◌, ◌∙◌, ◌⊎◌, ℕ, ◌==◌, ◌&&◌, ◌||◌, Bool, true, false, not, cond, nat_lt, is_none, is_some, List, [], ◌∷◌, ◌++◌, length, Option, None, Some, refl, sym, subst, ap, inl, inr, eq-eqb, eqb-true}
 use Rattle.std.specs.List.{list_all}
 use Rattle.std.specs.Option.{option_or}
-use Rattle.std.proofs.lemmas.Bool.{eq-eqb, eqb-true, false≢true}
-use Rattle.mlt_object_kinds.specs.declared.operation.ObjOp.{ObjOp}
-use Rattle.mlt_work_waits.specs.declared.wait.Waiting.{Waiting}
-use Rattle.mlt_work_waits.specs.declared.wait.Whose.{Whose}
-use Rattle.mlt_work_waits.specs.declared.wait.Whose.TheVariants as whose
-use Rattle.mlt_work_waits.specs.Waits.{is_for, others_in}
+use Rattle.mlt_work_desk.proofs.Names.{false≢true, ObjOp, Waiting, Whose, is_for, others_in, with_blocked, without}
 use Rattle.mlt_work_queue.specs.declared.blocked_queue.Blocked.{Blocked}
-use Rattle.mlt_work_queue.specs.Queues.{last_before, may_clash, stands, with_blocked, without}
+use Rattle.mlt_work_queue.specs.Queues.{last_before, may_clash, stands}
 use Rattle.mlt_work_desk.specs.Waits.{AreInTurn, waits_in_turn}
 
 -- the same by cases
@@ -117,10 +112,10 @@ also_with [] x op queue were = tt
 also_with (wait ∷ more) x op queue (first, rest) = (λ none. stands_with wait.holder x op queue (first none), also_with more x op queue rest)
 
 -- Where those who wait for a turn behind one are awake, it can leave,
-turn_left : (x : ℕ) (waits : List Waiting) (queue : List Blocked) → WaitInTurn waits queue → WaitInTurn (others_in (whose.Turn x) waits) (without x queue)
+turn_left : (x : ℕ) (waits : List Waiting) (queue : List Blocked) → WaitInTurn waits queue → WaitInTurn (others_in (Whose.Turn x) waits) (without x queue)
 turn_left x [] queue were = tt
 turn_left x (wait ∷ more) queue (first, rest) =
-    elim (is_for (whose.Turn x) wait) as (λ b. is_for (whose.Turn x) wait ≡ b → WaitInTurn (cond (not b) (wait ∷ others_in (whose.Turn x) more) (others_in (whose.Turn x) more)) (without x queue)) [
+    elim (is_for (Whose.Turn x) wait) as (λ b. is_for (Whose.Turn x) wait ≡ b → WaitInTurn (cond (not b) (wait ∷ others_in (Whose.Turn x) more) (others_in (Whose.Turn x) more)) (without x queue)) [
       | true ↦ λ _. turn_left x more queue rest
       | false ↦ λ not_its. (
         λ none. still_stands wait.holder x queue (not_both (wait.holder == x) wait.timestamp none not_its) (first none),
@@ -129,10 +124,10 @@ turn_left x (wait ∷ more) queue (first, rest) =
     ] refl
 
 -- as where all are who wait for it
-holder_left : (x : ℕ) (waits : List Waiting) (queue : List Blocked) → WaitInTurn waits queue → WaitInTurn (others_in (whose.One x) waits) (without x queue)
+holder_left : (x : ℕ) (waits : List Waiting) (queue : List Blocked) → WaitInTurn waits queue → WaitInTurn (others_in (Whose.One x) waits) (without x queue)
 holder_left x [] queue were = tt
 holder_left x (wait ∷ more) queue (first, rest) =
-    elim (wait.holder == x) as (λ b. (wait.holder == x) ≡ b → WaitInTurn (cond (not b) (wait ∷ others_in (whose.One x) more) (others_in (whose.One x) more)) (without x queue)) [
+    elim (wait.holder == x) as (λ b. (wait.holder == x) ≡ b → WaitInTurn (cond (not b) (wait ∷ others_in (Whose.One x) more) (others_in (Whose.One x) more)) (without x queue)) [
       | true ↦ λ _. holder_left x more queue rest
       | false ↦ λ other. (λ none. still_stands wait.holder x queue other (first none), holder_left x more queue rest)
     ] refl
@@ -159,11 +154,11 @@ pub turns_with : (waits : List Waiting) (x : ℕ) (op : ObjOp) (queue : List Blo
 turns_with waits x op queue were = all_of waits (with_blocked x op queue) (also_with waits x op queue (each_of waits queue were))
 
 -- **Where those who wait for a turn behind one are awake, or all who wait for it, it can leave.**
-pub turn_is_left : (x : ℕ) (waits : List Waiting) (queue : List Blocked) → AreInTurn waits queue → AreInTurn (others_in (whose.Turn x) waits) (without x queue)
-turn_is_left x waits queue were = all_of (others_in (whose.Turn x) waits) (without x queue) (turn_left x waits queue (each_of waits queue were))
+pub turn_is_left : (x : ℕ) (waits : List Waiting) (queue : List Blocked) → AreInTurn waits queue → AreInTurn (others_in (Whose.Turn x) waits) (without x queue)
+turn_is_left x waits queue were = all_of (others_in (Whose.Turn x) waits) (without x queue) (turn_left x waits queue (each_of waits queue were))
 
-pub holder_is_left : (x : ℕ) (waits : List Waiting) (queue : List Blocked) → AreInTurn waits queue → AreInTurn (others_in (whose.One x) waits) (without x queue)
-holder_is_left x waits queue were = all_of (others_in (whose.One x) waits) (without x queue) (holder_left x waits queue (each_of waits queue were))
+pub holder_is_left : (x : ℕ) (waits : List Waiting) (queue : List Blocked) → AreInTurn waits queue → AreInTurn (others_in (Whose.One x) waits) (without x queue)
+holder_is_left x waits queue were = all_of (others_in (Whose.One x) waits) (without x queue) (holder_left x waits queue (each_of waits queue were))
 
 pub same_turns : (before after : List Waiting) (was is : List Blocked) → after ≡ before → is ≡ was → AreInTurn before was → AreInTurn after is
 same_turns before after was is waits queue all = subst (AreInTurn after) (sym queue) (subst (λ w. AreInTurn w was) (sym waits) all)

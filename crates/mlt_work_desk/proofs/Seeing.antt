@@ -1,24 +1,10 @@
 -- What desks see of the history.
-use Rattle.std.proofs.Common.{◌≡◌, ◌∙◌, ℕ, List, [], ◌∷◌, ◌++◌, length, sym, ap, subst, refl, inl, inr, true, arith}
-use Rattle.std.specs.Prelude.{Contains}
-use Rattle.std.proofs.lemmas.List.{append_assoc, append-nil, length-append}
+use Rattle.std.proofs.Common.{◌≡◌, ◌∙◌, ℕ, List, [], ◌∷◌, ◌++◌, length, sym, ap, subst, refl, inl, inr, true, arith, Contains, append_assoc, append-nil, length-append}
 use Rattle.std.proofs.lemmas.List.Elements.{Contains-append_right}
-use Rattle.mlt_types.specs.declared.refusal.Refusal.{Refusal}
-use Rattle.mlt_object_kinds.specs.declared.operation.ObjOp.{ObjOp}
-use Rattle.mlt_object_kinds.specs.declared.operation.ObjReply.{ObjReply}
-use Rattle.mlt_trace.specs.declared.item.TraceItem.{TraceItem}
-use Rattle.mlt_trace.specs.declared.item.TraceItem.TheVariants as trace
-use Rattle.mlt_event.specs.declared.answer.Answer.TheVariants as answer
-use Rattle.mlt_event.specs.declared.event.Event.{Event}
-use Rattle.mlt_event.specs.declared.event.Event.TheVariants as event
-use Rattle.mlt_event.specs.declared.told.Told.{Told}
-use Rattle.mlt_event.specs.declared.told.Told.TheVariants as told
+use Rattle.mlt_work_desk.proofs.Names.{Refusal, ObjOp, ObjReply, TraceItem, Answer, Event, Told, Replied, Aborted, DeskCall, StartsWith, EndsWithOp, IsToldTo, SeesAnswer, SeesEvent}
 use Rattle.mlt_script_cursor.specs.declared.call.DeskAnswer.{DeskAnswer}
-use Rattle.mlt_script_cursor.specs.declared.call.DeskAnswer.TheVariants.{Begun, Replied, Committed, Aborted, Refused}
-use Rattle.mlt_script_cursor.specs.declared.call.DeskCall.{DeskCall}
-use Rattle.mlt_script_cursor.specs.declared.call.DeskCall.TheVariants as call
-use Rattle.mlt_work_log.specs.Prefixes.{StartsWith}
-use Rattle.mlt_work_desk.specs.Holds.{EndsWithOp, HaveAnswer, IsOfAbort, IsToldTo, SeesAnswer, SeesEvent}
+use Rattle.mlt_script_cursor.specs.declared.call.DeskAnswer.TheVariants.{Begun, Committed, Refused}
+use Rattle.mlt_work_desk.specs.Holds.{HaveAnswer, IsOfAbort}
 
 -- the last ones of two lists that are the same
 same_last : {X : Type 0} (xs ys : List X) (x y : X) → xs ++ x ∷ [] ≡ ys ++ y ∷ [] → x ≡ y
@@ -42,83 +28,83 @@ with_item before e t after sees item is =
     (more.0, more.1, subst (λ xs. Contains (sees.between ++ xs) item) (sym is) (last_of sees.between item))
 
 op_of : TraceItem → ObjOp → ObjOp
-op_of (trace.Op tx done) other = done.0
+op_of (TraceItem.Op tx done) other = done.0
 op_of item other = other
 
-op_is : (tx last : ℕ) (op asked : ObjOp) (reply given : ObjReply) → trace.Op tx (op, reply) ≡ trace.Op last (asked, given) → op ≡ asked
+op_is : (tx last : ℕ) (op asked : ObjOp) (reply given : ObjReply) → TraceItem.Op tx (op, reply) ≡ TraceItem.Op last (asked, given) → op ≡ asked
 unfolding op_of
 op_is tx last op asked reply given is = ap (λ item. op_of item asked) is
 
 module _ {P : Type 0} (bits_of : P → ℕ → ℕ) (before : List TraceItem) where
   -- what it answers to a begin, a commit and an operation
-  pub sees_begun : (tx : ℕ) (after : List TraceItem) → SeesEvent before event.Begin (told.Begun tx) after → SeesAnswer bits_of before call.Begin (Begun tx) after
-  sees_begun tx after sees = let one = with_item before _ _ after sees (trace.Begin tx) sees.adds in record { more = one.0; whole = one.1; have = one.2 }
+  pub sees_begun : (tx : ℕ) (after : List TraceItem) → SeesEvent before Event.Begin (Told.Begun tx) after → SeesAnswer bits_of before DeskCall.Begin (Begun tx) after
+  sees_begun tx after sees = let one = with_item before _ _ after sees (TraceItem.Begin tx) sees.adds in record { more = one.0; whole = one.1; have = one.2 }
 
-  pub sees_committed : (tx number : ℕ) (after : List TraceItem) → SeesEvent before (event.Commit tx) (told.Committed number) after
-      → SeesAnswer bits_of before (call.Commit tx) (Committed number) after
-  sees_committed tx number after sees = let one = with_item before _ _ after sees (trace.Commit tx number) sees.adds in record { more = one.0; whole = one.1; have = one.2 }
+  pub sees_committed : (tx number : ℕ) (after : List TraceItem) → SeesEvent before (Event.Commit tx) (Told.Committed number) after
+      → SeesAnswer bits_of before (DeskCall.Commit tx) (Committed number) after
+  sees_committed tx number after sees = let one = with_item before _ _ after sees (TraceItem.Commit tx number) sees.adds in record { more = one.0; whole = one.1; have = one.2 }
 
   pub sees_replied : (tx : ℕ) (asked : ObjOp) (reply : ObjReply) (after : List TraceItem) → EndsWithOp after asked
-      → SeesEvent before (event.Step tx) (told.Answered (answer.Done reply)) after → SeesAnswer bits_of before (call.Operation tx asked) (Replied reply) after
+      → SeesEvent before (Event.Step tx) (Told.Answered (Answer.Done reply)) after → SeesAnswer bits_of before (DeskCall.Operation tx asked) (Replied reply) after
   sees_replied tx asked reply after ends sees =
       let op = sees.adds.0 in
-      let here : after ≡ (before ++ sees.between) ++ trace.Op tx (op, reply) ∷ [] = sees.whole ∙ ap (λ xs. (before ++ sees.between) ++ xs) sees.adds.2 in
-      let last = same_last (before ++ sees.between) ends.front (trace.Op tx (op, reply)) ends.last (sym here ∙ ends.whole) in
+      let here : after ≡ (before ++ sees.between) ++ TraceItem.Op tx (op, reply) ∷ [] = sees.whole ∙ ap (λ xs. (before ++ sees.between) ++ xs) sees.adds.2 in
+      let last = same_last (before ++ sees.between) ends.front (TraceItem.Op tx (op, reply)) ends.last (sym here ∙ ends.whole) in
       let same : op ≡ asked = op_is tx ends.tells.0 op asked reply ends.tells.1 (last ∙ ends.tells.2) in
-      let one = with_item before _ _ after sees (trace.Op tx (asked, reply)) (sees.adds.2 ∙ ap (λ o. trace.Op tx (o, reply) ∷ []) same) in
+      let one = with_item before _ _ after sees (TraceItem.Op tx (asked, reply)) (sees.adds.2 ∙ ap (λ o. TraceItem.Op tx (o, reply) ∷ []) same) in
       record { more = one.0; whole = one.1; have = one.2 }
 
   -- a refusal stands nowhere
   have_refusal : (items : List TraceItem) (c : DeskCall) (reason : Refusal) → HaveAnswer bits_of items c (Refused reason)
-  have_refusal items call.Begin reason = tt
-  have_refusal items (call.Operation tx op) reason = tt
-  have_refusal items (call.Commit tx) reason = tt
-  have_refusal items (call.Abort tx) reason = tt
+  have_refusal items DeskCall.Begin reason = tt
+  have_refusal items (DeskCall.Operation tx op) reason = tt
+  have_refusal items (DeskCall.Commit tx) reason = tt
+  have_refusal items (DeskCall.Abort tx) reason = tt
 
   pub sees_refused : (c : DeskCall) (reason : Refusal) (after : List TraceItem) → StartsWith after before → SeesAnswer bits_of before c (Refused reason) after
   sees_refused c reason after more = record { more = more.0; whole = more.1; have = have_refusal more.0 c reason }
 
   -- the end of an abort: its transaction had done nothing, the last operation was taken back, or the desk may not act for it
-  pub sees_closed : (tx : ℕ) (after : List TraceItem) → SeesEvent before (event.Abort tx) (told.Aborting true) after → SeesAnswer bits_of before (call.Abort tx) Aborted after
-  sees_closed tx after sees = let one = with_item before _ _ after sees (trace.Abort tx) sees.adds in record { more = one.0; whole = one.1; have = inl one.2 }
+  pub sees_closed : (tx : ℕ) (after : List TraceItem) → SeesEvent before (Event.Abort tx) (Told.Aborting true) after → SeesAnswer bits_of before (DeskCall.Abort tx) Aborted after
+  sees_closed tx after sees = let one = with_item before _ _ after sees (TraceItem.Abort tx) sees.adds in record { more = one.0; whole = one.1; have = inl one.2 }
 
-  pub sees_aborted : (tx : ℕ) (after : List TraceItem) → SeesEvent before (event.Step tx) (told.Answered answer.Aborted) after → SeesAnswer bits_of before (call.Abort tx) Aborted after
+  pub sees_aborted : (tx : ℕ) (after : List TraceItem) → SeesEvent before (Event.Step tx) (Told.Answered Answer.Aborted) after → SeesAnswer bits_of before (DeskCall.Abort tx) Aborted after
   unfolding sees_more
   sees_aborted tx after sees =
       let more = sees_more before _ _ after sees in
       record {
         more = more.0;
         whole = more.1;
-        have = inl (subst (λ xs. Contains (sees.between ++ xs) (trace.Abort tx)) (sym sees.adds) (Contains-append_right sees.between (trace.Back tx ∷ trace.Abort tx ∷ []) (trace.Abort tx) (1, omega arith, refl)));
+        have = inl (subst (λ xs. Contains (sees.between ++ xs) (TraceItem.Abort tx)) (sym sees.adds) (Contains-append_right sees.between (TraceItem.Back tx ∷ TraceItem.Abort tx ∷ []) (TraceItem.Abort tx) (1, omega arith, refl)));
       }
 
-  pub sees_refused_abort : (tx : ℕ) (e : Event) (reason : Refusal) (after : List TraceItem) → IsOfAbort tx e → IsToldTo bits_of e (told.Refused reason) → StartsWith after before
-      → SeesAnswer bits_of before (call.Abort tx) Aborted after
+  pub sees_refused_abort : (tx : ℕ) (e : Event) (reason : Refusal) (after : List TraceItem) → IsOfAbort tx e → IsToldTo bits_of e (Told.Refused reason) → StartsWith after before
+      → SeesAnswer bits_of before (DeskCall.Abort tx) Aborted after
   sees_refused_abort tx e reason after of told more = record { more = more.0; whole = more.1; have = inr (e, reason, of, told) }
 
   -- what stands in the last items stands in more of them
   pub have_later : (items : List TraceItem) (c : DeskCall) (a : DeskAnswer) → HaveAnswer bits_of items c a → HaveAnswer bits_of (before ++ items) c a
-  have_later items call.Begin (Begun tx) have = Contains-append_right before items (trace.Begin tx) have
-  have_later items call.Begin (Replied reply) have = tt
-  have_later items call.Begin (Committed number) have = tt
-  have_later items call.Begin Aborted have = tt
-  have_later items call.Begin (Refused reason) have = tt
-  have_later items (call.Operation tx op) (Begun x) have = tt
-  have_later items (call.Operation tx op) (Replied reply) have = Contains-append_right before items (trace.Op tx (op, reply)) have
-  have_later items (call.Operation tx op) (Committed number) have = tt
-  have_later items (call.Operation tx op) Aborted have = tt
-  have_later items (call.Operation tx op) (Refused reason) have = tt
-  have_later items (call.Commit tx) (Begun x) have = tt
-  have_later items (call.Commit tx) (Replied reply) have = tt
-  have_later items (call.Commit tx) (Committed number) have = Contains-append_right before items (trace.Commit tx number) have
-  have_later items (call.Commit tx) Aborted have = tt
-  have_later items (call.Commit tx) (Refused reason) have = tt
-  have_later items (call.Abort tx) (Begun x) have = tt
-  have_later items (call.Abort tx) (Replied reply) have = tt
-  have_later items (call.Abort tx) (Committed number) have = tt
-  have_later items (call.Abort tx) Aborted (inl stands) = inl (Contains-append_right before items (trace.Abort tx) stands)
-  have_later items (call.Abort tx) Aborted (inr refused) = inr refused
-  have_later items (call.Abort tx) (Refused reason) have = tt
+  have_later items DeskCall.Begin (Begun tx) have = Contains-append_right before items (TraceItem.Begin tx) have
+  have_later items DeskCall.Begin (Replied reply) have = tt
+  have_later items DeskCall.Begin (Committed number) have = tt
+  have_later items DeskCall.Begin Aborted have = tt
+  have_later items DeskCall.Begin (Refused reason) have = tt
+  have_later items (DeskCall.Operation tx op) (Begun x) have = tt
+  have_later items (DeskCall.Operation tx op) (Replied reply) have = Contains-append_right before items (TraceItem.Op tx (op, reply)) have
+  have_later items (DeskCall.Operation tx op) (Committed number) have = tt
+  have_later items (DeskCall.Operation tx op) Aborted have = tt
+  have_later items (DeskCall.Operation tx op) (Refused reason) have = tt
+  have_later items (DeskCall.Commit tx) (Begun x) have = tt
+  have_later items (DeskCall.Commit tx) (Replied reply) have = tt
+  have_later items (DeskCall.Commit tx) (Committed number) have = Contains-append_right before items (TraceItem.Commit tx number) have
+  have_later items (DeskCall.Commit tx) Aborted have = tt
+  have_later items (DeskCall.Commit tx) (Refused reason) have = tt
+  have_later items (DeskCall.Abort tx) (Begun x) have = tt
+  have_later items (DeskCall.Abort tx) (Replied reply) have = tt
+  have_later items (DeskCall.Abort tx) (Committed number) have = tt
+  have_later items (DeskCall.Abort tx) Aborted (inl stands) = inl (Contains-append_right before items (TraceItem.Abort tx) stands)
+  have_later items (DeskCall.Abort tx) Aborted (inr refused) = inr refused
+  have_later items (DeskCall.Abort tx) (Refused reason) have = tt
 
 -- and after what was seen before
 pub sees_later : {P : Type 0} (bits_of : P → ℕ → ℕ) (first before : List TraceItem) (c : DeskCall) (a : DeskAnswer) (after : List TraceItem) → StartsWith before first

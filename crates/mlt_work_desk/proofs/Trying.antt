@@ -1,6 +1,7 @@
 -- What the waits of an operation spend.
 use Rattle.std.proofs.Common.{◌≡◌, ◌∙◌, ◌+◌, ◌-◌, ◌^◌, Bool, min, ap, refl, arith}
-use Rattle.mlt_work_desk.specs.Tries.{SpendsByWaits, tries_spent}
+use Rattle.mlt_work_desk.proofs.Names.{SpendsByWaits}
+use Rattle.mlt_work_desk.specs.Tries.{tries_spent}
 use Rattle.mlt_work_desk.specs.declared.tries.TriesLeft.{TriesLeft}
 
 -- no try is spent

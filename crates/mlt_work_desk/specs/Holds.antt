@@ -1,20 +1,15 @@
 -- What a hold of the lock tells, and what a desk sees of the history by it.
 use Rattle.std.specs.Prelude.{ℕ, ◌≡◌, ◌⊎◌, Bool, true, false, List, [], ◌∷◌, ◌++◌, Contains}
 use Rattle.mlt_types.specs.declared.refusal.Refusal.{Refusal}
-use Rattle.mlt_types.specs.declared.refusal.Refusal.TheVariants as refusal
 use Rattle.mlt_object_kinds.specs.declared.operation.ObjOp.{ObjOp}
 use Rattle.mlt_script_cursor.specs.declared.call.DeskAnswer.{DeskAnswer}
 use Rattle.mlt_script_cursor.specs.declared.call.DeskAnswer.TheVariants.{Begun, Replied, Committed, Aborted, Refused}
 use Rattle.mlt_script_cursor.specs.declared.call.DeskCall.{DeskCall}
-use Rattle.mlt_script_cursor.specs.declared.call.DeskCall.TheVariants as call
-use Rattle.mlt_event.specs.declared.answer.Answer.TheVariants as answer
+use Rattle.mlt_event.specs.declared.answer.Answer.{Answer}
 use Rattle.mlt_event.specs.declared.event.Event.{Event}
-use Rattle.mlt_event.specs.declared.event.Event.TheVariants as event
 use Rattle.mlt_event.specs.declared.told.Told.{Told}
-use Rattle.mlt_event.specs.declared.told.Told.TheVariants as told
 use Rattle.mlt_trace.specs.Items.{TellsOf}
 use Rattle.mlt_trace.specs.declared.item.TraceItem.{TraceItem}
-use Rattle.mlt_trace.specs.declared.item.TraceItem.TheVariants as trace
 use Rattle.mlt_manager.specs.Answers.{counted}
 use Rattle.mlt_manager.specs.Events.{Meets}
 use Rattle.mlt_manager.specs.Managers.{IsManager, ManagerFields}
@@ -37,13 +32,13 @@ pub record IsToldTo {P : Type 0} (bits_of : P → ℕ → ℕ) (event : Event) (
 
 -- told this, an operation goes on: nothing of the history, of waits or of the queue has changed
 abbrev pub goes_on : Told → Bool
-goes_on told.Called = true
-goes_on (told.Answered answer.Going) = true
+goes_on Told.Called = true
+goes_on (Told.Answered Answer.Going) = true
 goes_on other = false
 
 -- told this, it is done
 abbrev pub is_done : Told → Bool
-is_done (told.Answered (answer.Done reply)) = true
+is_done (Told.Answered (Answer.Done reply)) = true
 is_done other = false
 
 -- the last item tells that some transaction did this operation
@@ -56,10 +51,10 @@ pub record EndsWithOp (items : List TraceItem) (op : ObjOp) : Type 0 where
 -- what comes only where another desk acts for the transaction: a reply, where the history does not end with this operation; or that the
 -- transaction is taken back, or runs no operation
 abbrev pub ComesOfAnother : Told → List TraceItem → ObjOp → Type 0
-ComesOfAnother (told.Answered (answer.Done reply)) items op = EndsWithOp items op → ⊥
-ComesOfAnother (told.Answered answer.Undone) items op = Unit {0}
-ComesOfAnother (told.Answered answer.Aborted) items op = Unit {0}
-ComesOfAnother (told.Refused refusal) items op = Unit {0}
+ComesOfAnother (Told.Answered (Answer.Done reply)) items op = EndsWithOp items op → ⊥
+ComesOfAnother (Told.Answered Answer.Undone) items op = Unit {0}
+ComesOfAnother (Told.Answered Answer.Aborted) items op = Unit {0}
+ComesOfAnother (Told.Refused refusal) items op = Unit {0}
 ComesOfAnother other items op = ⊥
 
 -- What a desk had seen of the history before an event of it was told this, and what it has seen then: what others have added between,
@@ -78,12 +73,12 @@ pub record IsOfAnother {P : Type 0} (bits_of : P → ℕ → ℕ) (tx : ℕ) (op
   pub told : Told
   pub before : List TraceItem
   pub comes : ComesOfAnother told history op
-  pub stepped : IsToldTo bits_of (event.Step tx) told
-  pub sees : SeesEvent before (event.Step tx) told history
+  pub stepped : IsToldTo bits_of (Event.Step tx) told
+  pub sees : SeesEvent before (Event.Step tx) told history
 
 -- of an event that is a step with a reply
 abbrev pub IfReply : Event → Told → Type 0 → Type 0
-IfReply (event.Step tx) (told.Answered (answer.Done reply)) X = X
+IfReply (Event.Step tx) (Told.Answered (Answer.Done reply)) X = X
 IfReply event told X = Unit {0}
 
 -- what a desk has seen of the history, and its tries
@@ -99,60 +94,60 @@ pub record IsGivenUp {P : Type 0} (bits_of : P → ℕ → ℕ) (tx : ℕ) (trie
   pub told : Told
   pub cancelled : Told
   pub to_wait : is_to_wait told ≡ true
-  pub stepped : IsToldTo bits_of (event.Step tx) told
-  pub cancels : IsToldTo bits_of (event.Cancel tx) cancelled
+  pub stepped : IsToldTo bits_of (Event.Step tx) told
+  pub cancels : IsToldTo bits_of (Event.Cancel tx) cancelled
   pub reason : GivesUp tx tries
 
 -- Why an operation is refused: its call was, or a step of it; another desk acts for its transaction; or it gave up.
 abbrev pub WhyRefused : {P : Type 0} → (P → ℕ → ℕ) → ℕ → ObjOp → Refusal → DeskView → Type 0
 WhyRefused bits_of tx op reason after =
-    IsToldTo bits_of (event.Call tx op) (told.Refused reason)
-    ⊎ IsToldTo bits_of (event.Step tx) (told.Answered (answer.Refused reason))
-    ⊎ ((reason ≡ refusal.NoSuchTx) × IsOfAnother bits_of tx op after.history)
-    ⊎ ((reason ≡ refusal.GaveUp) × IsGivenUp bits_of tx after.tries)
+    IsToldTo bits_of (Event.Call tx op) (Told.Refused reason)
+    ⊎ IsToldTo bits_of (Event.Step tx) (Told.Answered (Answer.Refused reason))
+    ⊎ ((reason ≡ Refusal.NoSuchTx) × IsOfAnother bits_of tx op after.history)
+    ⊎ ((reason ≡ Refusal.GaveUp) × IsGivenUp bits_of tx after.tries)
 
 -- what an operation may answer: a reply that a step answered, or one of its refusals
 abbrev pub MayAnswerOperation : {P : Type 0} → (P → ℕ → ℕ) → ℕ → ObjOp → DeskAnswer → DeskView
     → Type 0
 MayAnswerOperation bits_of tx op (Replied reply) after =
-    IsToldTo bits_of (event.Step tx) (told.Answered (answer.Done reply))
+    IsToldTo bits_of (Event.Step tx) (Told.Answered (Answer.Done reply))
 MayAnswerOperation bits_of tx op (Refused refusal) after =
     IsOfOperation refusal × WhyRefused bits_of tx op refusal after
 MayAnswerOperation bits_of tx op other after = ⊥
 
 -- what a call may answer: a number or a reply that an event answered, or one of its refusals, for its reason
 abbrev pub MayAnswer : {P : Type 0} → (P → ℕ → ℕ) → DeskCall → DeskAnswer → DeskView → Type 0
-MayAnswer bits_of call.Begin (Begun tx) after = IsToldTo bits_of event.Begin (told.Begun tx)
-MayAnswer bits_of call.Begin (Refused refusal) after =
-    IsOfBegin refusal × IsToldTo bits_of event.Begin (told.Refused refusal)
-MayAnswer bits_of (call.Operation tx op) given after = MayAnswerOperation bits_of tx op given after
-MayAnswer bits_of (call.Commit tx) (Committed number) after =
-    IsToldTo bits_of (event.Commit tx) (told.Committed number)
-MayAnswer bits_of (call.Commit tx) (Refused refusal) after =
-    IsOfCommit refusal × IsToldTo bits_of (event.Commit tx) (told.Refused refusal)
-MayAnswer bits_of (call.Abort tx) Aborted after = Unit {0}
+MayAnswer bits_of DeskCall.Begin (Begun tx) after = IsToldTo bits_of Event.Begin (Told.Begun tx)
+MayAnswer bits_of DeskCall.Begin (Refused refusal) after =
+    IsOfBegin refusal × IsToldTo bits_of Event.Begin (Told.Refused refusal)
+MayAnswer bits_of (DeskCall.Operation tx op) given after = MayAnswerOperation bits_of tx op given after
+MayAnswer bits_of (DeskCall.Commit tx) (Committed number) after =
+    IsToldTo bits_of (Event.Commit tx) (Told.Committed number)
+MayAnswer bits_of (DeskCall.Commit tx) (Refused refusal) after =
+    IsOfCommit refusal × IsToldTo bits_of (Event.Commit tx) (Told.Refused refusal)
+MayAnswer bits_of (DeskCall.Abort tx) Aborted after = Unit {0}
 MayAnswer bits_of asked given after = ⊥
 
 -- an event of the transaction that takes it back, or a step of that
 abbrev pub IsOfAbort : ℕ → Event → Type 0
-IsOfAbort tx (event.Abort x) = x ≡ tx
-IsOfAbort tx (event.Step x) = x ≡ tx
+IsOfAbort tx (Event.Abort x) = x ≡ tx
+IsOfAbort tx (Event.Step x) = x ≡ tx
 IsOfAbort tx other = ⊥
 
 -- these items tell that the transaction was aborted, or its desk was refused to do so: then another one acts for it
 abbrev pub HaveAbort : {P : Type 0} → (P → ℕ → ℕ) → List TraceItem → ℕ → Type 0
-HaveAbort bits_of items tx = Contains items (trace.Abort tx)
-    ⊎ ((e : Event) × (reason : Refusal) × IsOfAbort tx e × IsToldTo bits_of e (told.Refused reason))
+HaveAbort bits_of items tx = Contains items (TraceItem.Abort tx)
+    ⊎ ((e : Event) × (reason : Refusal) × IsOfAbort tx e × IsToldTo bits_of e (Told.Refused reason))
 
 -- these items have what a call was answered: that the transaction has begun, has committed under this number or was aborted, or did the
 -- operation with this reply
 abbrev pub HaveAnswer : {P : Type 0} → (P → ℕ → ℕ) → List TraceItem → DeskCall → DeskAnswer → Type 0
-HaveAnswer bits_of items call.Begin (Begun tx) = Contains items (trace.Begin tx)
-HaveAnswer bits_of items (call.Operation tx op) (Replied reply) =
-    Contains items (trace.Op tx (op, reply))
-HaveAnswer bits_of items (call.Commit tx) (Committed number) =
-    Contains items (trace.Commit tx number)
-HaveAnswer bits_of items (call.Abort tx) Aborted = HaveAbort bits_of items tx
+HaveAnswer bits_of items DeskCall.Begin (Begun tx) = Contains items (TraceItem.Begin tx)
+HaveAnswer bits_of items (DeskCall.Operation tx op) (Replied reply) =
+    Contains items (TraceItem.Op tx (op, reply))
+HaveAnswer bits_of items (DeskCall.Commit tx) (Committed number) =
+    Contains items (TraceItem.Commit tx number)
+HaveAnswer bits_of items (DeskCall.Abort tx) Aborted = HaveAbort bits_of items tx
 HaveAnswer bits_of items asked given = Unit {0}
 
 -- What a desk had seen of the history before it gave this answer to a call, and what it has seen then: more items, which have the answer.

@@ -1,7 +1,6 @@
 -- How the tries of a desk are spent, and why an operation gives up.
 use Rattle.std.specs.Prelude.{ℕ, ◌≡◌, ◌+◌, ◌-◌, ◌^◌, ◌<◌, ◌⊎◌, min, true, false}
 use Rattle.mlt_script_cursor.specs.declared.call.DeskCall.{DeskCall}
-use Rattle.mlt_script_cursor.specs.declared.call.DeskCall.TheVariants as call
 use Rattle.mlt_work_waits.specs.Waits.{Waits, IsYoungest}
 use Rattle.mlt_work_waits.specs.declared.wait.Waiting.{Waiting}
 use Rattle.mlt_work_desk.specs.declared.tries.Tries.{Tries}
@@ -44,10 +43,10 @@ pub record SpendsByWaits (before after : TriesLeft) : Type 0 where
 
 -- what a call does to the tries
 abbrev pub SpendsTries : TriesLeft → DeskCall → TriesLeft → Type 0
-SpendsTries before call.Begin after = after ≡ tries_begun before
-SpendsTries before (call.Operation tx op) after = SpendsByWaits (tries_called before) after
-SpendsTries before (call.Commit tx) after = after ≡ before
-SpendsTries before (call.Abort tx) after = after ≡ before
+SpendsTries before DeskCall.Begin after = after ≡ tries_begun before
+SpendsTries before (DeskCall.Operation tx op) after = SpendsByWaits (tries_called before) after
+SpendsTries before (DeskCall.Commit tx) after = after ≡ before
+SpendsTries before (DeskCall.Abort tx) after = after ≡ before
 
 -- The transaction is the youngest of a cycle of waits, which its own wait would close.
 pub record IsYoungestOfCycle (tx : ℕ) : Type 0 where

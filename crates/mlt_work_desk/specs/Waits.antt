@@ -2,46 +2,40 @@
 use Rattle.std.specs.Prelude.{ℕ, ◌≡◌, ◌==◌, ◌+◌, ◌<◌, ◌≤◌, ◌⊎◌, nat_lt, length, if◌then◌else◌, Bool, true, false, List, [], ◌++◌, ◌||◌, is_some, Option, None, Some}
 use Rattle.std.specs.List.{list_all}
 use Rattle.mlt_event.specs.declared.answer.Answer.{Answer}
-use Rattle.mlt_event.specs.declared.answer.Answer.TheVariants as answer
 use Rattle.mlt_event.specs.declared.event.Event.{Event}
-use Rattle.mlt_event.specs.declared.event.Event.TheVariants as event
 use Rattle.mlt_event.specs.declared.told.Told.{Told}
-use Rattle.mlt_event.specs.declared.told.Told.TheVariants as told
 use Rattle.mlt_work_waits.specs.Waits.{Waits, CanJoin, CantJoin, Deadlocks, IsYoungest, joined, nobody_waits, released, wakers_in}
 use Rattle.mlt_work_waits.specs.declared.wait.Awaited.{Awaited}
-use Rattle.mlt_work_waits.specs.declared.wait.Awaited.TheVariants as awaited
 use Rattle.mlt_work_waits.specs.declared.wait.Waker.{Waker}
 use Rattle.mlt_work_waits.specs.declared.wait.Waiting.{Waiting}
-use Rattle.mlt_work_waits.specs.declared.wait.Whose.TheVariants as whose
+use Rattle.mlt_work_waits.specs.declared.wait.Whose.{Whose}
 use Rattle.mlt_work_queue.specs.declared.blocked_queue.Blocked.{Blocked}
 use Rattle.mlt_work_queue.specs.Queues.{stands, with_blocked, without}
 use Rattle.mlt_work_desk.specs.declared.turn.GivenBack.{GivenBack}
-use Rattle.mlt_work_desk.specs.declared.turn.GivenBack.TheVariants as given
 use Rattle.mlt_work_desk.specs.declared.turn.SleepingThread.{SleepingThread}
 use Rattle.mlt_work_desk.specs.declared.turn.Turn.{Turn}
-use Rattle.mlt_work_desk.specs.declared.turn.Turn.TheVariants as turn
 
 -- whose locks a step of x has given back, by its answer
 abbrev pub given_back_by_step : ℕ → Answer → GivenBack
-given_back_by_step x answer.Aborted = given.All x
-given_back_by_step x (answer.Done reply) = given.Operation x
-given_back_by_step x (answer.Refused reason) = given.Operation x
-given_back_by_step x (answer.Blocked by) = given.Pages x
-given_back_by_step x answer.Undone = given.Pages x
-given_back_by_step x other = given.Nothing
+given_back_by_step x Answer.Aborted = GivenBack.All x
+given_back_by_step x (Answer.Done reply) = GivenBack.Operation x
+given_back_by_step x (Answer.Refused reason) = GivenBack.Operation x
+given_back_by_step x (Answer.Blocked by) = GivenBack.Pages x
+given_back_by_step x Answer.Undone = GivenBack.Pages x
+given_back_by_step x other = GivenBack.Nothing
 
 -- whose locks an event has given back, by what it was told
 abbrev pub given_back_by : Event → Told → GivenBack
-given_back_by (event.Commit x) (told.Committed number) = given.All x
-given_back_by (event.Abort x) (told.Aborting true) = given.All x
-given_back_by (event.Step x) (told.Answered answer) = given_back_by_step x answer
-given_back_by (event.Cancel x) told.Cancelled = given.Operation x
-given_back_by other another = given.Nothing
+given_back_by (Event.Commit x) (Told.Committed number) = GivenBack.All x
+given_back_by (Event.Abort x) (Told.Aborting true) = GivenBack.All x
+given_back_by (Event.Step x) (Told.Answered answer) = given_back_by_step x answer
+given_back_by (Event.Cancel x) Told.Cancelled = GivenBack.Operation x
+given_back_by other another = GivenBack.Nothing
 
 -- whether one that was told this is to wait
 abbrev pub is_to_wait : Told → Bool
-is_to_wait (told.Answered (answer.Waiting page by)) = true
-is_to_wait (told.Answered (answer.Blocked by)) = true
+is_to_wait (Told.Answered (Answer.Waiting page by)) = true
+is_to_wait (Told.Answered (Answer.Blocked by)) = true
 is_to_wait other = false
 
 -- the wait of a sleeping thread for a lock of y
@@ -59,8 +53,8 @@ turn_behind thread y = record (wait_for thread y) { timestamp = None }
 
 -- the wait of a sleeping thread that was told this, if it is to wait
 abbrev pub wait_of : Told → SleepingThread → Option (Awaited × Waiting)
-wait_of (told.Answered (answer.Waiting page by)) thread = Some (awaited.Pages, wait_for thread by)
-wait_of (told.Answered (answer.Blocked by)) thread = Some (awaited.Objects, wait_for thread by)
+wait_of (Told.Answered (Answer.Waiting page by)) thread = Some (Awaited.Pages, wait_for thread by)
+wait_of (Told.Answered (Answer.Blocked by)) thread = Some (Awaited.Objects, wait_for thread by)
 wait_of other thread = None
 
 -- and if it may sleep
@@ -70,30 +64,30 @@ wait_if false told thread = None
 
 -- who still waits once locks were given back: those who wait for others
 abbrev pub waits_after : GivenBack → Waits → Waits
-waits_after (given.All x) waits =
-    released awaited.Pages (whose.One x) (released awaited.Objects (whose.One x) waits)
-waits_after (given.Operation x) waits =
-    released awaited.Pages (whose.One x) (released awaited.Objects (whose.Turn x) waits)
-waits_after (given.Pages x) waits = released awaited.Pages (whose.One x) waits
-waits_after given.Nothing waits = waits
+waits_after (GivenBack.All x) waits =
+    released Awaited.Pages (Whose.One x) (released Awaited.Objects (Whose.One x) waits)
+waits_after (GivenBack.Operation x) waits =
+    released Awaited.Pages (Whose.One x) (released Awaited.Objects (Whose.Turn x) waits)
+waits_after (GivenBack.Pages x) waits = released Awaited.Pages (Whose.One x) waits
+waits_after GivenBack.Nothing waits = waits
 
 -- who is woken then: all who waited for what was given back
 abbrev pub woken_by : GivenBack → Waits → List Waker
-woken_by (given.All x) waits =
-    wakers_in (whose.One x) waits.objects ++ wakers_in (whose.One x) waits.pages
-woken_by (given.Operation x) waits =
-    wakers_in (whose.Turn x) waits.objects ++ wakers_in (whose.One x) waits.pages
-woken_by (given.Pages x) waits = wakers_in (whose.One x) waits.pages
-woken_by given.Nothing waits = []
+woken_by (GivenBack.All x) waits =
+    wakers_in (Whose.One x) waits.objects ++ wakers_in (Whose.One x) waits.pages
+woken_by (GivenBack.Operation x) waits =
+    wakers_in (Whose.Turn x) waits.objects ++ wakers_in (Whose.One x) waits.pages
+woken_by (GivenBack.Pages x) waits = wakers_in (Whose.One x) waits.pages
+woken_by GivenBack.Nothing waits = []
 
 -- who still waits once x waits no longer
 abbrev pub waits_without : ℕ → Waits → Waits
 waits_without x waits =
-    released awaited.Pages (whose.Of x) (released awaited.Objects (whose.Of x) waits)
+    released Awaited.Pages (Whose.Of x) (released Awaited.Objects (Whose.Of x) waits)
 
 -- and who is woken then
 abbrev pub woken_of : ℕ → Waits → List Waker
-woken_of x waits = wakers_in (whose.Of x) waits.objects ++ wakers_in (whose.Of x) waits.pages
+woken_of x waits = wakers_in (Whose.Of x) waits.objects ++ wakers_in (Whose.Of x) waits.pages
 
 -- how many desks wait
 abbrev pub waiting : Waits → ℕ
@@ -106,7 +100,7 @@ waits_of_others count waits = if nat_lt (waiting waits + 1) count then waits els
 -- and who is woken then
 abbrev pub woken_by_end : ℕ → Waits → List Waker
 woken_by_end count waits =
-    if nat_lt (waiting waits + 1) count then [] else wakers_in whose.All waits.objects ++ wakers_in whose.All waits.pages
+    if nat_lt (waiting waits + 1) count then [] else wakers_in Whose.All waits.objects ++ wakers_in Whose.All waits.pages
 
 -- another of so many desks is awake, and the wait can join
 abbrev pub CanSleep : ℕ → Awaited → Waiting → Waits → Type 0
@@ -124,11 +118,11 @@ pub record GivesWay (wait : Waiting) (before : Waits) (one : Waiting) : Type 0 w
 -- who waits once the youngest, if one is to, has given way
 abbrev pub cleared : Option Waiting → Waits → Waits
 cleared None waits = waits
-cleared (Some one) waits = released awaited.Objects (whose.Of one.waiter) waits
+cleared (Some one) waits = released Awaited.Objects (Whose.Of one.waiter) waits
 
 abbrev pub woken_first : Option Waiting → Waits → List Waker
 woken_first None waits = []
-woken_first (Some one) waits = wakers_in (whose.Of one.waiter) waits.objects
+woken_first (Some one) waits = wakers_in (Whose.Of one.waiter) waits.objects
 
 -- no cycle would be closed, or this one gives way
 abbrev pub IsCleared : Waiting → Waits → Option Waiting → Type 0
@@ -137,16 +131,16 @@ IsCleared wait before (Some one) = GivesWay wait before one
 
 -- what becomes of the desk once the cycle is gone: it sleeps if it can, and else tries at once
 abbrev pub SleepsIfItCan : ℕ → Waiting → Waits → Turn → Waits → Type 0
-SleepsIfItCan count wait before turn.Sleeps after =
-    CanSleep count awaited.Objects wait before × (after ≡ joined awaited.Objects wait before)
-SleepsIfItCan count wait before turn.Goes after =
-    CantSleep count awaited.Objects wait before × (after ≡ before)
-SleepsIfItCan count wait before turn.Deadlock after = ⊥
+SleepsIfItCan count wait before Turn.Sleeps after =
+    CanSleep count Awaited.Objects wait before × (after ≡ joined Awaited.Objects wait before)
+SleepsIfItCan count wait before Turn.Goes after =
+    CantSleep count Awaited.Objects wait before × (after ≡ before)
+SleepsIfItCan count wait before Turn.Deadlock after = ⊥
 
 -- Who waits, and who is woken, after one that was to wait for an object has taken its turn, of so many desks. It gives up if its
 -- transaction is the youngest of a cycle; else the youngest gives way, if a cycle would be closed.
 abbrev pub ObjectTurns : ℕ → Waiting → Waits → Turn → Waits → List Waker → Type 0
-ObjectTurns count wait before turn.Deadlock after woken =
+ObjectTurns count wait before Turn.Deadlock after woken =
     ((one : Waiting) × IsYoungest wait before one × (one.waiter ≡ wait.waiter))
     × (after ≡ before) × (woken ≡ [])
 ObjectTurns count wait before taken after woken =
@@ -155,22 +149,22 @@ ObjectTurns count wait before taken after woken =
 
 -- The same for a page. It sleeps if it can; else it tries at once, and so do all others that want one.
 abbrev pub PageTurns : ℕ → Waiting → Waits → Turn → Waits → List Waker → Type 0
-PageTurns count wait before turn.Sleeps after woken =
-    CanSleep count awaited.Pages wait before × (after ≡ joined awaited.Pages wait before)
+PageTurns count wait before Turn.Sleeps after woken =
+    CanSleep count Awaited.Pages wait before × (after ≡ joined Awaited.Pages wait before)
     × (woken ≡ [])
-PageTurns count wait before turn.Goes after woken =
-    CantSleep count awaited.Pages wait before × (after ≡ released awaited.Pages whose.All before)
-    × (woken ≡ wakers_in whose.All before.pages)
-PageTurns count wait before turn.Deadlock after woken = ⊥
+PageTurns count wait before Turn.Goes after woken =
+    CantSleep count Awaited.Pages wait before × (after ≡ released Awaited.Pages Whose.All before)
+    × (woken ≡ wakers_in Whose.All before.pages)
+PageTurns count wait before Turn.Deadlock after woken = ⊥
 
 -- its turn, where it may be that it is not to wait, or may not sleep
 abbrev pub TurnsIfWaits
     : ℕ → Option (Awaited × Waiting) → Waits → Turn → Waits → List Waker → Type 0
 TurnsIfWaits count None before taken after woken =
-    (taken ≡ turn.Goes) × (after ≡ before) × (woken ≡ [])
-TurnsIfWaits count (Some (awaited.Objects, wait)) before taken after woken =
+    (taken ≡ Turn.Goes) × (after ≡ before) × (woken ≡ [])
+TurnsIfWaits count (Some (Awaited.Objects, wait)) before taken after woken =
     ObjectTurns count wait before taken after woken
-TurnsIfWaits count (Some (awaited.Pages, wait)) before taken after woken =
+TurnsIfWaits count (Some (Awaited.Pages, wait)) before taken after woken =
     PageTurns count wait before taken after woken
 
 -- it waits for a lock, or for its turn behind one that stands in the queue
@@ -183,13 +177,13 @@ AreInTurn waits queue = list_all (waits_in_turn queue) waits ≡ true
 
 -- who is blocked once locks were given back: no longer one whose operation has ended
 abbrev pub queue_after : GivenBack → List Blocked → List Blocked
-queue_after (given.All x) queue = without x queue
-queue_after (given.Operation x) queue = without x queue
+queue_after (GivenBack.All x) queue = without x queue
+queue_after (GivenBack.Operation x) queue = without x queue
 queue_after other queue = queue
 
 -- who is blocked once a sleeping thread was told this
 abbrev pub queue_with : Told → SleepingThread → List Blocked → List Blocked
-queue_with (told.Answered (answer.Blocked by)) thread queue =
+queue_with (Told.Answered (Answer.Blocked by)) thread queue =
     with_blocked thread.tx thread.op queue
 queue_with other thread queue = queue
 
@@ -200,14 +194,14 @@ queue_if false told thread queue = queue
 
 -- who has precedence once locks were given back: no longer one that did so
 abbrev pub precedence_after : GivenBack → Option ℕ → Option ℕ
-precedence_after (given.All x) (Some y) = if x == y then None else Some y
-precedence_after (given.Operation x) (Some y) = if x == y then None else Some y
-precedence_after (given.Pages x) (Some y) = if x == y then None else Some y
+precedence_after (GivenBack.All x) (Some y) = if x == y then None else Some y
+precedence_after (GivenBack.Operation x) (Some y) = if x == y then None else Some y
+precedence_after (GivenBack.Pages x) (Some y) = if x == y then None else Some y
 precedence_after other before = before
 
 -- who has precedence once a sleeping thread was told this: one that waits for pages and takes it, if nobody has it yet
 abbrev pub precedence_with : Told → SleepingThread → Option ℕ → Option ℕ
-precedence_with (told.Answered (answer.Waiting page by)) thread None =
+precedence_with (Told.Answered (Answer.Waiting page by)) thread None =
     if thread.takes_precedence then Some thread.tx else None
 precedence_with other thread before = before
 

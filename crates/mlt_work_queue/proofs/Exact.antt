@@ -1,6 +1,5 @@
 -- The table of those that may clash has exactly these
-use Rattle.std.proofs.Common.{◌≡◌, Bool, true, false, not, ◌&&◌, ◌==◌, refl}
-use Rattle.std.specs.Bool.{MatchBool}
+use Rattle.std.proofs.Common.{◌≡◌, Bool, true, false, not, ◌&&◌, ◌==◌, refl, MatchBool}
 use Rattle.mlt_object_kinds.specs.declared.account.AccountOp.{AccountOp}
 use Rattle.mlt_object_kinds.specs.declared.account.AccountOp.TheVariants.{Open, Close, Deposit, Withdraw, Balance}
 use Rattle.mlt_object_kinds.specs.declared.counter.CounterOp.{CounterOp}
@@ -10,7 +9,6 @@ use Rattle.mlt_object_kinds.specs.declared.element.ElementOp.TheVariants.{Add, R
 use Rattle.mlt_object_kinds.specs.declared.operation.ObjOp.{ObjOp}
 use Rattle.mlt_object_kinds.specs.declared.operation.ObjOp.TheVariants.{Account, Element, Counter, Size}
 use Rattle.mlt_object_kinds.specs.declared.operation.ObjReply.{ObjReply}
-use Rattle.mlt_object_kinds.specs.declared.operation.ObjReply.TheVariants as reply
 use Rattle.mlt_object_conflicts.specs.AccountTable.{account_class, account_marks}
 use Rattle.mlt_object_conflicts.specs.CounterTable.{counter_class, counter_marks}
 use Rattle.mlt_object_conflicts.specs.ElementTable.{element_class, element_marks}
@@ -35,64 +33,64 @@ abbrev account_marked : AccountOp → AccountOp → ObjReply → ObjReply → Bo
 account_marked op other r s = marked_classes account_marks (account_class op r) (account_class other s)
 
 balances_pass : PassAll (account_marked Balance Balance)
-balances_pass reply.Missing reply.Missing = refl
-balances_pass reply.Missing (reply.Is v) = refl
-balances_pass reply.Missing other = refl
-balances_pass (reply.Is v) reply.Missing = refl
-balances_pass (reply.Is v) (reply.Is w) = refl
-balances_pass (reply.Is v) other = refl
+balances_pass ObjReply.Missing ObjReply.Missing = refl
+balances_pass ObjReply.Missing (ObjReply.Is v) = refl
+balances_pass ObjReply.Missing other = refl
+balances_pass (ObjReply.Is v) ObjReply.Missing = refl
+balances_pass (ObjReply.Is v) (ObjReply.Is w) = refl
+balances_pass (ObjReply.Is v) other = refl
 balances_pass other s = refl
 
 accounts : (op other : AccountOp)
     → MatchBool (not (reads_account op && reads_account other)) (AreMarked (account_marked op other)) (PassAll (account_marked op other))
-accounts Open Open = (reply.Opened, reply.Exists, refl)
-accounts Open Close = (reply.Opened, reply.Closed, refl)
-accounts Open (Deposit n) = (reply.Opened, reply.Done, refl)
-accounts Open (Withdraw n) = (reply.Opened, reply.Done, refl)
-accounts Open Balance = (reply.Opened, reply.Is 0, refl)
-accounts Close Open = (reply.Closed, reply.Opened, refl)
-accounts Close Close = (reply.Closed, reply.Missing, refl)
-accounts Close (Deposit n) = (reply.Closed, reply.Missing, refl)
-accounts Close (Withdraw n) = (reply.Closed, reply.Missing, refl)
-accounts Close Balance = (reply.Closed, reply.Missing, refl)
-accounts (Deposit n) Open = (reply.Missing, reply.Opened, refl)
-accounts (Deposit n) Close = (reply.Done, reply.Closed, refl)
-accounts (Deposit n) (Deposit m) = (reply.Done, reply.Over, refl)
-accounts (Deposit n) (Withdraw m) = (reply.Done, reply.Done, refl)
-accounts (Deposit n) Balance = (reply.Done, reply.Is 0, refl)
-accounts (Withdraw n) Open = (reply.Missing, reply.Opened, refl)
-accounts (Withdraw n) Close = (reply.Done, reply.Closed, refl)
-accounts (Withdraw n) (Deposit m) = (reply.Done, reply.Done, refl)
-accounts (Withdraw n) (Withdraw m) = (reply.Done, reply.Short, refl)
-accounts (Withdraw n) Balance = (reply.Done, reply.Is 0, refl)
-accounts Balance Open = (reply.Missing, reply.Opened, refl)
-accounts Balance Close = (reply.Is 0, reply.Closed, refl)
-accounts Balance (Deposit n) = (reply.Is 0, reply.Done, refl)
-accounts Balance (Withdraw n) = (reply.Is 0, reply.Done, refl)
+accounts Open Open = (ObjReply.Opened, ObjReply.Exists, refl)
+accounts Open Close = (ObjReply.Opened, ObjReply.Closed, refl)
+accounts Open (Deposit n) = (ObjReply.Opened, ObjReply.Done, refl)
+accounts Open (Withdraw n) = (ObjReply.Opened, ObjReply.Done, refl)
+accounts Open Balance = (ObjReply.Opened, ObjReply.Is 0, refl)
+accounts Close Open = (ObjReply.Closed, ObjReply.Opened, refl)
+accounts Close Close = (ObjReply.Closed, ObjReply.Missing, refl)
+accounts Close (Deposit n) = (ObjReply.Closed, ObjReply.Missing, refl)
+accounts Close (Withdraw n) = (ObjReply.Closed, ObjReply.Missing, refl)
+accounts Close Balance = (ObjReply.Closed, ObjReply.Missing, refl)
+accounts (Deposit n) Open = (ObjReply.Missing, ObjReply.Opened, refl)
+accounts (Deposit n) Close = (ObjReply.Done, ObjReply.Closed, refl)
+accounts (Deposit n) (Deposit m) = (ObjReply.Done, ObjReply.Over, refl)
+accounts (Deposit n) (Withdraw m) = (ObjReply.Done, ObjReply.Done, refl)
+accounts (Deposit n) Balance = (ObjReply.Done, ObjReply.Is 0, refl)
+accounts (Withdraw n) Open = (ObjReply.Missing, ObjReply.Opened, refl)
+accounts (Withdraw n) Close = (ObjReply.Done, ObjReply.Closed, refl)
+accounts (Withdraw n) (Deposit m) = (ObjReply.Done, ObjReply.Done, refl)
+accounts (Withdraw n) (Withdraw m) = (ObjReply.Done, ObjReply.Short, refl)
+accounts (Withdraw n) Balance = (ObjReply.Done, ObjReply.Is 0, refl)
+accounts Balance Open = (ObjReply.Missing, ObjReply.Opened, refl)
+accounts Balance Close = (ObjReply.Is 0, ObjReply.Closed, refl)
+accounts Balance (Deposit n) = (ObjReply.Is 0, ObjReply.Done, refl)
+accounts Balance (Withdraw n) = (ObjReply.Is 0, ObjReply.Done, refl)
 accounts Balance Balance = balances_pass
 
 abbrev element_marked : ElementOp → ElementOp → ObjReply → ObjReply → Bool
 element_marked op other r s = marked_classes element_marks (element_class op r) (element_class other s)
 
 looks_pass : PassAll (element_marked Has Has)
-looks_pass reply.Yes reply.Yes = refl
-looks_pass reply.Yes reply.No = refl
-looks_pass reply.Yes other = refl
-looks_pass reply.No reply.Yes = refl
-looks_pass reply.No reply.No = refl
-looks_pass reply.No other = refl
+looks_pass ObjReply.Yes ObjReply.Yes = refl
+looks_pass ObjReply.Yes ObjReply.No = refl
+looks_pass ObjReply.Yes other = refl
+looks_pass ObjReply.No ObjReply.Yes = refl
+looks_pass ObjReply.No ObjReply.No = refl
+looks_pass ObjReply.No other = refl
 looks_pass other s = refl
 
 elements : (op other : ElementOp)
     → MatchBool (not (reads_element op && reads_element other)) (AreMarked (element_marked op other)) (PassAll (element_marked op other))
-elements Add Add = (reply.Added, reply.Present, refl)
-elements Add Remove = (reply.Added, reply.Removed, refl)
-elements Add Has = (reply.Added, reply.Yes, refl)
-elements Remove Add = (reply.Removed, reply.Added, refl)
-elements Remove Remove = (reply.Removed, reply.Absent, refl)
-elements Remove Has = (reply.Removed, reply.No, refl)
-elements Has Add = (reply.No, reply.Added, refl)
-elements Has Remove = (reply.Yes, reply.Removed, refl)
+elements Add Add = (ObjReply.Added, ObjReply.Present, refl)
+elements Add Remove = (ObjReply.Added, ObjReply.Removed, refl)
+elements Add Has = (ObjReply.Added, ObjReply.Yes, refl)
+elements Remove Add = (ObjReply.Removed, ObjReply.Added, refl)
+elements Remove Remove = (ObjReply.Removed, ObjReply.Absent, refl)
+elements Remove Has = (ObjReply.Removed, ObjReply.No, refl)
+elements Has Add = (ObjReply.No, ObjReply.Added, refl)
+elements Has Remove = (ObjReply.Yes, ObjReply.Removed, refl)
 elements Has Has = looks_pass
 
 abbrev counter_marked : CounterOp → CounterOp → ObjReply → ObjReply → Bool
@@ -100,13 +98,13 @@ counter_marked op other r s = marked_classes counter_marks (counter_class op r) 
 
 -- by any two of these changes
 ups_pass : PassAll (counter_marked (Up 0) (Up 0))
-ups_pass reply.Done reply.Done = refl
-ups_pass reply.Done other = refl
+ups_pass ObjReply.Done ObjReply.Done = refl
+ups_pass ObjReply.Done other = refl
 ups_pass other s = refl
 
 reads_pass : PassAll (counter_marked Read Read)
-reads_pass (reply.Is v) (reply.Is w) = refl
-reads_pass (reply.Is v) other = refl
+reads_pass (ObjReply.Is v) (ObjReply.Is w) = refl
+reads_pass (ObjReply.Is v) other = refl
 reads_pass other s = refl
 
 counters : (op other : CounterOp)
@@ -115,30 +113,30 @@ counters (Up n) (Up m) = ups_pass
 counters (Up n) (Down m) = ups_pass
 counters (Down n) (Up m) = ups_pass
 counters (Down n) (Down m) = ups_pass
-counters (Up n) Read = (reply.Done, reply.Is 0, refl)
-counters (Down n) Read = (reply.Done, reply.Is 0, refl)
-counters Read (Up m) = (reply.Is 0, reply.Done, refl)
-counters Read (Down m) = (reply.Is 0, reply.Done, refl)
+counters (Up n) Read = (ObjReply.Done, ObjReply.Is 0, refl)
+counters (Down n) Read = (ObjReply.Done, ObjReply.Is 0, refl)
+counters Read (Up m) = (ObjReply.Is 0, ObjReply.Done, refl)
+counters Read (Down m) = (ObjReply.Is 0, ObjReply.Done, refl)
 counters Read Read = reads_pass
 
 abbrev size_marked : ElementOp → ObjReply → ObjReply → Bool
 size_marked op r s = changes_told (element_class op r) s
 
 looks_keep : PassAll (size_marked Has)
-looks_keep reply.Yes (reply.Is n) = refl
-looks_keep reply.Yes other = refl
-looks_keep reply.No (reply.Is n) = refl
-looks_keep reply.No other = refl
+looks_keep ObjReply.Yes (ObjReply.Is n) = refl
+looks_keep ObjReply.Yes other = refl
+looks_keep ObjReply.No (ObjReply.Is n) = refl
+looks_keep ObjReply.No other = refl
 looks_keep other s = refl
 
 sizes : (op : ElementOp) → MatchBool (not (reads_element op)) (AreMarked (size_marked op)) (PassAll (size_marked op))
-sizes Add = (reply.Added, reply.Is 0, refl)
-sizes Remove = (reply.Removed, reply.Is 0, refl)
+sizes Add = (ObjReply.Added, ObjReply.Is 0, refl)
+sizes Remove = (ObjReply.Removed, ObjReply.Is 0, refl)
 sizes Has = looks_keep
 
 sizes_turned : (op : ElementOp) → MatchBool (not (reads_element op)) (AreMarked (λ s r. size_marked op r s)) (PassAll (λ s r. size_marked op r s))
-sizes_turned Add = (reply.Is 0, reply.Added, refl)
-sizes_turned Remove = (reply.Is 0, reply.Removed, refl)
+sizes_turned Add = (ObjReply.Is 0, ObjReply.Added, refl)
+sizes_turned Remove = (ObjReply.Is 0, ObjReply.Removed, refl)
 sizes_turned Has = λ s r. looks_keep r s
 
 -- **They may clash exactly where the table says so.**

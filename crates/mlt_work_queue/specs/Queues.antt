@@ -1,13 +1,10 @@
 -- Operations that were blocked, in order, and which may clash.
-use Rattle.std.specs.Prelude.{ℕ, ◌≡◌, ◌==◌, ◌&&◌, not, nat_lt, Bool, true, false, List, [], ◌∷◌, ◌++◌, length, if◌then◌else◌, Option, None, Some}
-use Rattle.std.specs.List.{filter, list_any}
+use Rattle.std.specs.Prelude.{ℕ, ◌≡◌, ◌==◌, ◌&&◌, not, nat_lt, Bool, true, false, List, [], ◌∷◌, ◌++◌, length, if◌then◌else◌, Option, None, Some, filter}
+use Rattle.std.specs.List.{list_any}
 use Rattle.std.specs.Option.{option_or}
 use Rattle.mlt_object_kinds.specs.declared.account.AccountOp.{AccountOp}
-use Rattle.mlt_object_kinds.specs.declared.account.AccountOp.TheVariants as account
 use Rattle.mlt_object_kinds.specs.declared.counter.CounterOp.{CounterOp}
-use Rattle.mlt_object_kinds.specs.declared.counter.CounterOp.TheVariants as counter
 use Rattle.mlt_object_kinds.specs.declared.element.ElementOp.{ElementOp}
-use Rattle.mlt_object_kinds.specs.declared.element.ElementOp.TheVariants as element
 use Rattle.mlt_object_kinds.specs.declared.operation.ObjOp.{ObjOp}
 use Rattle.mlt_object_kinds.specs.declared.operation.ObjOp.TheVariants.{Account, Element, Counter, Size}
 use Rattle.mlt_object_kinds.specs.declared.operation.ObjReply.{ObjReply}
@@ -26,15 +23,15 @@ NeverClash held requested =
 
 -- what only reads
 abbrev pub reads_account : AccountOp → Bool
-reads_account account.Balance = true
+reads_account AccountOp.Balance = true
 reads_account other = false
 
 abbrev pub reads_element : ElementOp → Bool
-reads_element element.Has = true
+reads_element ElementOp.Has = true
 reads_element other = false
 
 abbrev pub reads_counter : CounterOp → Bool
-reads_counter counter.Read = true
+reads_counter CounterOp.Read = true
 reads_counter other = false
 
 -- exactly one of the two

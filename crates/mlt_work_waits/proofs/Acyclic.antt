@@ -1,7 +1,6 @@
 -- What one more wait adds to the ways along waits, and what fewer waits leave
 use Rattle.std.proofs.Common.{◌≡◌, ℕ, ◌⊎◌, true, false, not, cond, List, [], ◌∷◌, ◌++◌, sym, subst, ◌∙◌, inl, inr}
 use Rattle.mlt_work_waits.specs.declared.wait.Awaited.{Awaited}
-use Rattle.mlt_work_waits.specs.declared.wait.Awaited.TheVariants as awaited
 use Rattle.mlt_work_waits.specs.declared.wait.Waiting.{Waiting}
 use Rattle.mlt_work_waits.specs.declared.wait.Whose.{Whose}
 use Rattle.mlt_work_waits.specs.Waits.{IsAcyclic, IsAmong, IsFor, LeadsBy, LeadsTo, Waits, for_objects, is_for, joined, nobody_waits, others_in, released}
@@ -14,10 +13,10 @@ among_one_more (first ∷ more) one x y (inl is) = inl (inl is)
 among_one_more (first ∷ more) one x y (inr later) = elim (among_one_more more one x y later) [ inl among ↦ inl (inr among) | inr is ↦ inr is ]
 
 for_one_more : (which : Awaited) (one : Waiting) (waits : Waits) (x y : ℕ) → IsFor (joined which one waits) x y → IsFor waits x y ⊎ ((one.waiter ≡ x) × (one.holder ≡ y))
-for_one_more awaited.Objects one waits x y (inl among) = elim (among_one_more waits.objects one x y among) [ inl old ↦ inl (inl old) | inr is ↦ inr is ]
-for_one_more awaited.Objects one waits x y (inr among) = inl (inr among)
-for_one_more awaited.Pages one waits x y (inl among) = inl (inl among)
-for_one_more awaited.Pages one waits x y (inr among) = elim (among_one_more waits.pages one x y among) [ inl old ↦ inl (inr old) | inr is ↦ inr is ]
+for_one_more Awaited.Objects one waits x y (inl among) = elim (among_one_more waits.objects one x y among) [ inl old ↦ inl (inl old) | inr is ↦ inr is ]
+for_one_more Awaited.Objects one waits x y (inr among) = inl (inr among)
+for_one_more Awaited.Pages one waits x y (inl among) = inl (inl among)
+for_one_more Awaited.Pages one waits x y (inr among) = elim (among_one_more waits.pages one x y among) [ inl old ↦ inl (inr old) | inr is ↦ inr is ]
 
 -- one way after another
 pub leads_on : (waits : Waits) (x y z : ℕ) (path : List ℕ) → LeadsBy waits x path y → LeadsTo waits y z → LeadsTo waits x z
@@ -89,10 +88,10 @@ among_others given (first ∷ more) x y among =
     ] among
 
 are_among : (which : Awaited) (given : Whose) (waits : Waits) → AreAmong (released which given waits) waits
-are_among awaited.Objects given waits x y (inl among) = inl (among_others given waits.objects x y among)
-are_among awaited.Objects given waits x y (inr among) = inr among
-are_among awaited.Pages given waits x y (inl among) = inl among
-are_among awaited.Pages given waits x y (inr among) = inr (among_others given waits.pages x y among)
+are_among Awaited.Objects given waits x y (inl among) = inl (among_others given waits.objects x y among)
+are_among Awaited.Objects given waits x y (inr among) = inr among
+are_among Awaited.Pages given waits x y (inl among) = inl among
+are_among Awaited.Pages given waits x y (inr among) = inr (among_others given waits.pages x y among)
 
 pub fewer_are_acyclic : (which : Awaited) (given : Whose) (waits : Waits) → IsAcyclic waits → IsAcyclic (released which given waits)
 fewer_are_acyclic which given waits was = acyclic_fewer (released which given waits) waits (are_among which given waits) was

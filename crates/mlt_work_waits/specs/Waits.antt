@@ -1,13 +1,10 @@
 -- Which transactions wait for which.
-use Rattle.std.specs.Prelude.{ℕ, ◌≡◌, ◌==◌, ◌<◌, ◌⊎◌, ◌&&◌, nat_lt, Bool, true, false, not, List, [], ◌∷◌, ◌++◌, length, map, find, Option, None, Some, is_none}
-use Rattle.std.specs.List.{filter}
-use Rattle.std.specs.Option.{option_map, option_or}
+use Rattle.std.specs.Prelude.{ℕ, ◌≡◌, ◌==◌, ◌<◌, ◌⊎◌, ◌&&◌, nat_lt, Bool, true, false, not, List, [], ◌∷◌, ◌++◌, length, map, find, Option, None, Some, is_none, filter, option_map}
+use Rattle.std.specs.Option.{option_or}
 use Rattle.mlt_work_waits.specs.declared.wait.Awaited.{Awaited}
-use Rattle.mlt_work_waits.specs.declared.wait.Awaited.TheVariants as awaited
 use Rattle.mlt_work_waits.specs.declared.wait.Waker.{Waker}
 use Rattle.mlt_work_waits.specs.declared.wait.Waiting.{Waiting}
 use Rattle.mlt_work_waits.specs.declared.wait.Whose.{Whose}
-use Rattle.mlt_work_waits.specs.declared.wait.Whose.TheVariants as whose
 
 -- who waits for a lock of an object, and who for a lock of a page
 pub record Waits : Type 0 where
@@ -18,20 +15,20 @@ abbrev pub nobody_waits : Waits
 nobody_waits = record { objects = []; pages = [] }
 
 abbrev pub waits_of : Awaited → Waits → List Waiting
-waits_of awaited.Objects waits = waits.objects
-waits_of awaited.Pages waits = waits.pages
+waits_of Awaited.Objects waits = waits.objects
+waits_of Awaited.Pages waits = waits.pages
 
 -- one more waits for such a lock
 abbrev pub joined : Awaited → Waiting → Waits → Waits
-joined awaited.Objects wait waits = record waits { objects = waits.objects ++ wait ∷ [] }
-joined awaited.Pages wait waits = record waits { pages = waits.pages ++ wait ∷ [] }
+joined Awaited.Objects wait waits = record waits { objects = waits.objects ++ wait ∷ [] }
+joined Awaited.Pages wait waits = record waits { pages = waits.pages ++ wait ∷ [] }
 
 -- the wait is one of these
 abbrev pub is_for : Whose → Waiting → Bool
-is_for (whose.One tx) wait = wait.holder == tx
-is_for (whose.Turn tx) wait = wait.holder == tx && is_none wait.timestamp
-is_for (whose.Of tx) wait = wait.waiter == tx
-is_for whose.All wait = true
+is_for (Whose.One tx) wait = wait.holder == tx
+is_for (Whose.Turn tx) wait = wait.holder == tx && is_none wait.timestamp
+is_for (Whose.Of tx) wait = wait.waiter == tx
+is_for Whose.All wait = true
 
 -- who has the one timestamp is younger than who has the other: without one it waits for its turn alone
 abbrev pub is_later : Option ℕ → Option ℕ → Bool
@@ -53,8 +50,8 @@ wakers_in given waits = map (λ wait. wait.waker) (filter (is_for given) waits)
 
 -- these waits for such locks end
 abbrev pub released : Awaited → Whose → Waits → Waits
-released awaited.Objects given waits = record waits { objects = others_in given waits.objects }
-released awaited.Pages given waits = record waits { pages = others_in given waits.pages }
+released Awaited.Objects given waits = record waits { objects = others_in given waits.objects }
+released Awaited.Pages given waits = record waits { pages = others_in given waits.pages }
 
 -- one of these is a wait of x for y
 abbrev pub IsAmong : List Waiting → ℕ → ℕ → Type 0

@@ -1,6 +1,6 @@
 use Rattle.std.proofs.Common.{◌∙◌, ap, ap₂}
-use Rattle.std.proofs.lemmas.Result.{IfOk-weaker}
-use Rattle.clap.specs.Words.{App, with_subcommand}
+use Rattle.mlt_cli.proofs.Names.{IfOk-weaker, App}
+use Rattle.clap.specs.Words.{with_subcommand}
 use Rattle.mlt_cli.proofs.commands.mltx_command.Goals as goal
 
 pub returns : goal.returns

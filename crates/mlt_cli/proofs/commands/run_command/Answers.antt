@@ -1,8 +1,5 @@
-use Rattle.std.proofs.Common.{◌≡◌, ◌∙◌, ap₂, false}
-use Rattle.std.specs.Prelude.{◌||◌}
-use Rattle.std.proofs.lemmas.Result.{IfOk-weaker}
-use Rattle.clap.specs.Words.{with_rule}
-use Rattle.clap.specs.declared.builder.command.Command.TheViews.{out-Command}
+use Rattle.std.proofs.Common.{◌≡◌, ◌∙◌, ap₂, false, ◌||◌}
+use Rattle.mlt_cli.proofs.Names.{IfOk-weaker, with_rule, out-Command}
 use Rattle.mlt_cli.proofs.commands.run_command.Goals as goal
 
 pub returns-clause-app : goal.returns-clause-app

@@ -1,6 +1,6 @@
 use Rattle.std.proofs.Common.{rules, ◌≡◌, ◌∙◌, ap, ap₂, codes, Some}
-use Rattle.std.proofs.lemmas.Result.{IfOk-weaker}
-use Rattle.clap.specs.Words.{app_of, new_app, new_rule, rule_of, with_rule}
+use Rattle.mlt_cli.proofs.Names.{IfOk-weaker, app_of, rule_of, with_rule}
+use Rattle.clap.specs.Words.{new_app, new_rule}
 use Rattle.mlt_cli.specs.CommandLine.{table_rule, verbose_rule}
 use Rattle.mlt_cli.proofs.Asked.{with_parser}
 use Rattle.mlt_cli.proofs.commands.tables_command.Goals as goal

@@ -1,4 +1,4 @@
-use Rattle.std.proofs.lemmas.Result.{IfOk-weaker}
+use Rattle.mlt_cli.proofs.Names.{IfOk-weaker}
 use Rattle.mlt_cli.proofs.Asked.{adds_three, three_are_local}
 use Rattle.mlt_cli.proofs.commands.with_times.Goals as goal
 

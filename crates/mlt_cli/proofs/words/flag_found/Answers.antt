@@ -1,8 +1,6 @@
-use Rattle.std.proofs.Common.{Bool, Option, false, codes, ap, ◌∙◌}
+use Rattle.std.proofs.Common.{Bool, Option, false, codes, ap, ◌∙◌, bytes_eq}
 use Rattle.std.specs.Option.{option_map_or}
-use Rattle.std.specs.Str.{bytes_eq}
-use Rattle.clap.specs.Words.{Text, found_of}
-use Rattle.clap.proofs.WalkLemmas.{first_value-rows}
+use Rattle.mlt_cli.proofs.Names.{Text, found_of, first_value-rows}
 use Rattle.mlt_cli.proofs.words.flag_found.Goals as goal
 
 abbrev is_told : Option Text → Bool

@@ -1,5 +1,4 @@
-use Rattle.std.proofs.Common.{◌∙◌, ap₂, is_some}
-use Rattle.std.specs.Prelude.{◌&&◌}
+use Rattle.std.proofs.Common.{◌∙◌, ap₂, is_some, ◌&&◌}
 use Rattle.mlt_cli.proofs.words.has_both.Goals as goal
 
 pub returns : goal.returns

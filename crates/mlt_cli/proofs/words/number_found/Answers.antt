@@ -1,6 +1,5 @@
 use Rattle.std.proofs.Common.{◌∙◌, ap}
-use Rattle.clap.specs.Words.{found_of}
-use Rattle.clap.proofs.WalkLemmas.{first_value-rows}
+use Rattle.mlt_cli.proofs.Names.{found_of, first_value-rows}
 use Rattle.mlt_cli.specs.CommandLine.{number_named}
 use Rattle.mlt_cli.proofs.words.number_found.Goals as goal
 

@@ -1,8 +1,8 @@
-use Rattle.std.proofs.Common.{rules, ◌≡◌, ◌≢◌, [], Some, None, map, option_map, ap, ap₂, sym, ◌∙◌}
+use Rattle.std.proofs.Common.{rules, ◌≡◌, ◌≢◌, [], Some, None, map, option_map, ap, ap₂, sym, ◌∙◌, string_bytes}
 use Rattle.std.proofs.lemmas.Result.{err_from_is_err_and}
-use Rattle.std.specs.String.{string_bytes}
-use Rattle.clap.specs.Words.{app_of, is_simple, is_simple_and_free, subcommand_of, subcommand_rows_of}
-use Rattle.mlt_cli.specs.CommandLine.{AreNames, asked_in, asked_of, is_verbose_in, kind_of_want, mltx_app, names_of}
+use Rattle.mlt_cli.proofs.Names.{app_of, is_simple, is_simple_and_free, subcommand_of, AreNames, asked_in, asked_of, is_verbose_in, kind_of_want, mltx_app}
+use Rattle.clap.specs.Words.{subcommand_rows_of}
+use Rattle.mlt_cli.specs.CommandLine.{names_of}
 use Rattle.mlt_cli.proofs.Asked.{asks, fails_by_kind, fails_by_want, fails_for_memory, mltx_is_free, mltx_is_simple, not_empty, says_verbose}
 use Rattle.mlt_cli.proofs.words.read_job.Goals as goal
 

@@ -1,7 +1,6 @@
-use Rattle.std.proofs.Common.{map}
-use Rattle.std.proofs.lemmas.Result.{IfErr-weaker, IfOk-weaker}
-use Rattle.std.specs.String.{string_bytes}
-use Rattle.mlt_cli.specs.CommandLine.{asked_of}
+use Rattle.std.proofs.Common.{map, string_bytes}
+use Rattle.mlt_cli.proofs.Names.{IfOk-weaker, asked_of}
+use Rattle.std.proofs.lemmas.Result.{IfErr-weaker}
 use Rattle.mlt_cli.proofs.Asked.{asked_with_input, fails_with_input}
 use Rattle.mlt_cli.proofs.words.read_words.Goals as goal
 

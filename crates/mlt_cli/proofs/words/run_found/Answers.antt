@@ -1,8 +1,6 @@
-use Rattle.std.proofs.Common.{◌∙◌, ap, codes, option_map, sym}
-use Rattle.std.specs.String.{string_bytes}
-use Rattle.clap.specs.Words.{found_of, rows_of}
-use Rattle.clap.proofs.WalkLemmas.{first_value-rows}
-use Rattle.mlt_cli.specs.CommandLine.{hash_named}
+use Rattle.std.proofs.Common.{◌∙◌, ap, codes, option_map, sym, string_bytes}
+use Rattle.mlt_cli.proofs.Names.{found_of, first_value-rows, hash_named}
+use Rattle.clap.specs.Words.{rows_of}
 use Rattle.mlt_cli.proofs.Asked.{no_hash, run_is}
 use Rattle.mlt_cli.proofs.words.run_found.Goals as goal
 

@@ -1,6 +1,5 @@
 use Rattle.std.proofs.Common.{rules, ◌≡◌, Some, option_map, codes, ap, ◌∙◌}
-use Rattle.clap.specs.Words.{found_of}
-use Rattle.clap.proofs.WalkLemmas.{first_value-rows}
+use Rattle.mlt_cli.proofs.Names.{found_of, first_value-rows}
 use Rattle.mlt_cli.specs.CommandLine.{table_named, table_of}
 use Rattle.mlt_cli.proofs.words.tables_found.Goals as goal
 

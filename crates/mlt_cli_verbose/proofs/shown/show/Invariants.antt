@@ -1,5 +1,4 @@
-use Rattle.std.proofs.Common.{◌≡◌, take}
-use Rattle.std.specs.String.{string_bytes}
+use Rattle.std.proofs.Common.{◌≡◌, take, string_bytes}
 use Rattle.mlt_cli_verbose.specs.Shown.{shown}
 use Rattle.mlt_cli_verbose.proofs.shown.show.Given as goal
 

@@ -1,7 +1,5 @@
-use Rattle.std.proofs.Common.{◌≡◌, ◌≤◌, ℕ, List, true, length, take, sym, arith, le-leb, ◌∙◌}
-use Rattle.std.proofs.lemmas.List.{append-nil, length-take, take_all}
+use Rattle.std.proofs.Common.{◌≡◌, ◌≤◌, ℕ, List, true, length, take, sym, arith, le-leb, ◌∙◌, append-nil, length-take, take_all, nat_le}
 use Rattle.std.proofs.lemmas.Result.{IfOk-weaker}
-use Rattle.std.specs.Prelude.{nat_le}
 use Rattle.mlt_cli_verbose.specs.Shown.{shown, shown_front}
 use Rattle.mlt_cli_verbose.proofs.shown.show_front.Goals as goal
 

@@ -1,6 +1,5 @@
-use Rattle.std.proofs.Common.{ℕ, List, [], ◌∷◌, ◌++◌, ap, ap₂, codes, ◌∙◌}
+use Rattle.std.proofs.Common.{ℕ, List, [], ◌∷◌, ◌++◌, ap, ap₂, codes, ◌∙◌, decimal}
 use Rattle.std.proofs.lemmas.Result.{IfOk-weaker}
-use Rattle.std.specs.Fmt.{decimal}
 use Rattle.mlt_cli_verbose.specs.Shown.{shown}
 use Rattle.mlt_cli_verbose.specs.Verbose.{faulty_line, faulty_text}
 use Rattle.mlt_cli_verbose.proofs.verbose.text_of_line.Goals as goal

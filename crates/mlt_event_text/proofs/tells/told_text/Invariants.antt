@@ -1,5 +1,4 @@
-use Rattle.std.proofs.Common.{◌≡◌, take}
-use Rattle.std.specs.String.{string_bytes}
+use Rattle.std.proofs.Common.{◌≡◌, take, string_bytes}
 use Rattle.mlt_event_text.specs.TellTexts.{told_text}
 use Rattle.mlt_event_text.proofs.tells.told_text.Given as goal
 

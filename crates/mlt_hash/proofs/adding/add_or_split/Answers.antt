@@ -1,21 +1,7 @@
-use Rattle.std.proofs.Common.{◌≡◌, ◌<◌, ◌⊎◌, false, true, Some, refl, ap, sym, subst, ◌∙◌, inl, inr}
-use Rattle.std.specs.Prelude.{Err}
-use Rattle.std.specs.Ordering.{nat_cmp}
+use Rattle.std.proofs.Common.{◌≡◌, ◌<◌, ◌⊎◌, false, true, Some, refl, ap, sym, subst, ◌∙◌, inl, inr, Err, nat_cmp}
 use Rattle.std.specs.FinSet as set
-use Rattle.mlt_types.specs.declared.refusal.Refusal.TheVariants as refusal
-use Rattle.mlt_page.specs.Slots.{is_live_of}
-use Rattle.mlt_page.specs.declared.page.Page.TheVariants as page
-use Rattle.mlt_page.specs.declared.slot.Slot.TheVariants.{Live}
-use Rattle.mlt_hash_access.specs.LocalStates.{HasFileOver, LocalState, local}
-use Rattle.mlt_hash_access.specs.Views.{view_over}
-use Rattle.mlt_hash_record.specs.Plans.{IsNowhere, SetsFirst, has_room}
-use Rattle.mlt_hash_split.specs.Splits.{HasHalves, IsUnderWay, MayBegin}
-use Rattle.mlt_hash_split.specs.Rests.{SplitTarget, IsAtRest}
+use Rattle.mlt_hash.proofs.Names.{Refusal, is_live_of, Page, Live, HasFileOver, LocalState, local, view_over, IsNowhere, SetsFirst, has_room, HasHalves, IsUnderWay, MayBegin, SplitTarget, IsAtRest, WalkContext, WalkFields, split_target, context_in, view_for, TellsOfAdding, walk_step, Phase, WalkAnswer}
 use Rattle.mlt_hash_split.proofs.HeldPages.{clean_now}
-use Rattle.mlt_hash.specs.Walks.{WalkContext, WalkFields, split_target, context_in, view_for}
-use Rattle.mlt_hash.specs.Splitting.{TellsOfAdding, walk_step}
-use Rattle.mlt_hash.specs.declared.pass.Phase.TheVariants as at
-use Rattle.mlt_hash.specs.declared.answer.WalkAnswer.TheVariants as answer
 use Rattle.mlt_hash.proofs.Puts.{adding_at, adding_plans, target_is, begin_is_refused, begins_split, begun_alike, found_below, full_is_shallow, has_to_split, may_begin, may_put, need_not_split, nowhere, put_has_room, put_tells}
 use Rattle.mlt_hash.proofs.adding.add_or_split.Goals as goal
 
@@ -25,7 +11,7 @@ plan_to_put-requires-clause-found g c =
     let walk : WalkFields = c.args.walk.now in
     let old : LocalState = local c.args.subtx.now c.args.pages.now in
     let adds = adding_at context walk old c.args.value c.args.number c.args.room_depth c.args.unsplit c.requires.1.1.1.0 c.requires.1.1.1.1.stands in
-    (adds.fields, found_below context old c.args.number (Some (page.Bucket adds.fields)) c.requires.1.1.1.1.written adds.rest.found, nowhere (is_live_of walk.key) adds.fields.slots adds.rest.absent)
+    (adds.fields, found_below context old c.args.number (Some (Page.Bucket adds.fields)) c.requires.1.1.1.1.written adds.rest.found, nowhere (is_live_of walk.key) adds.fields.slots adds.rest.absent)
 
 pub write_change-requires-clause-held : goal.write_change-requires-clause-held
 write_change-requires-clause-held g c =
@@ -33,7 +19,7 @@ write_change-requires-clause-held g c =
     let walk : WalkFields = c.args.walk.now in
     let old : LocalState = local c.args.subtx.now c.args.pages.now in
     let adds = adding_at context walk old c.args.value c.args.number c.args.room_depth c.args.unsplit c.requires.1.1.1.0 c.requires.1.1.1.1.stands in
-    let planned = c.in-Some.ensures adds.fields (found_below context old c.args.number (Some (page.Bucket adds.fields)) c.requires.1.1.1.1.written adds.rest.found) in
+    let planned = c.in-Some.ensures adds.fields (found_below context old c.args.number (Some (Page.Bucket adds.fields)) c.requires.1.1.1.1.written adds.rest.found) in
     may_put context walk old c.args.number c.args.room_depth c.args.unsplit adds (has_room c.args.environment.now.active.now) (Live walk.key c.args.value) c.in-Some.write planned.1
 
 pub write_change-requires-clause-planned : goal.write_change-requires-clause-planned
@@ -42,7 +28,7 @@ write_change-requires-clause-planned g c =
     let walk : WalkFields = c.args.walk.now in
     let old : LocalState = local c.args.subtx.now c.args.pages.now in
     let adds = adding_at context walk old c.args.value c.args.number c.args.room_depth c.args.unsplit c.requires.1.1.1.0 c.requires.1.1.1.1.stands in
-    let planned = c.in-Some.ensures adds.fields (found_below context old c.args.number (Some (page.Bucket adds.fields)) c.requires.1.1.1.1.written adds.rest.found) in
+    let planned = c.in-Some.ensures adds.fields (found_below context old c.args.number (Some (Page.Bucket adds.fields)) c.requires.1.1.1.1.written adds.rest.found) in
     adding_plans context walk old c.args.number c.args.room_depth c.args.unsplit c.requires.1.1.1.1.written adds (has_room c.args.environment.now.active.now) (Live walk.key c.args.value) c.in-Some.write planned.1
 
 pub returns-in-Some-clause-tells : goal.returns-in-Some-clause-tells
@@ -51,10 +37,10 @@ returns-in-Some-clause-tells g c =
     let walk : WalkFields = c.args.walk.now in
     let old : LocalState = local c.args.subtx.now c.args.pages.now in
     let adds = adding_at context walk old c.args.value c.args.number c.args.room_depth c.args.unsplit c.requires.1.1.1.0 c.requires.1.1.1.1.stands in
-    let planned = c.in-Some.ensures adds.fields (found_below context old c.args.number (Some (page.Bucket adds.fields)) c.requires.1.1.1.1.written adds.rest.found) in
-    let phase = c.requires.1.1.1.0 ∙ ap (at.Adding c.args.value c.args.number c.args.room_depth) planned.0 in
+    let planned = c.in-Some.ensures adds.fields (found_below context old c.args.number (Some (Page.Bucket adds.fields)) c.requires.1.1.1.1.written adds.rest.found) in
+    let phase = c.requires.1.1.1.0 ∙ ap (Phase.Adding c.args.value c.args.number c.args.room_depth) planned.0 in
     let split = adding_at context walk old c.args.value c.args.number c.args.room_depth false phase c.requires.1.1.1.1.stands in
-    let again = c.in-Some.ensures split.fields (found_below context old c.args.number (Some (page.Bucket split.fields)) c.requires.1.1.1.1.written split.rest.found) in
+    let again = c.in-Some.ensures split.fields (found_below context old c.args.number (Some (Page.Bucket split.fields)) c.requires.1.1.1.1.written split.rest.found) in
     put_tells context walk c.write_change.new.walk old (local c.write_change.new.subtx c.write_change.new.pages) c.args.value c.args.number c.args.room_depth phase split c.in-Some.write (subst (λ (o : set.FinSet nat_cmp). SetsFirst c.args.number split.fields (has_room o) (Live walk.key c.args.value) c.in-Some.write) (ap (λ (b : WalkContext). b.active) c.requires.1.1.0) again.1) (clean_now (split_target context walk c.args.room_depth) old c.requires.1.1.1.1.may c.requires.1.1.1.1.file) c.requires.1.1.1.1.written c.write_change.result c.write_change.ensures.tells
 
 pub begin-requires : goal.begin-requires
@@ -65,7 +51,7 @@ begin-requires g c κs within =
     let adds = adding_at context walk old c.args.value c.args.number c.args.room_depth c.args.unsplit c.requires.1.1.1.0 c.requires.1.1.1.1.stands in
     let target : SplitTarget = split_target context walk c.args.room_depth in
     let clean = clean_now target old c.requires.1.1.1.1.may c.requires.1.1.1.1.file in
-    let shallow : adds.fields.depth < c.args.room_depth = elim (subst (λ (o : set.FinSet nat_cmp). (c.args.unsplit ≡ true) ⊎ IsNowhere (has_room o) adds.fields.slots) (ap (λ (b : WalkContext). b.active) c.requires.1.1.0) (c.in_default.ensures adds.fields (found_below context old c.args.number (Some (page.Bucket adds.fields)) c.requires.1.1.1.1.written adds.rest.found))) [
+    let shallow : adds.fields.depth < c.args.room_depth = elim (subst (λ (o : set.FinSet nat_cmp). (c.args.unsplit ≡ true) ⊎ IsNowhere (has_room o) adds.fields.slots) (ap (λ (b : WalkContext). b.active) c.requires.1.1.0) (c.in_default.ensures adds.fields (found_below context old c.args.number (Some (Page.Bucket adds.fields)) c.requires.1.1.1.1.written adds.rest.found))) [
       | inl unsplit ↦ adds.unsplit_is unsplit
       | inr full ↦ full_is_shallow target (view_for context old) c.args.number adds.header adds.fields adds.rest clean full
     ] in
@@ -82,7 +68,7 @@ returns-in-Ok-clause-tells g c =
     let old : LocalState = local c.args.subtx.now c.args.pages.now in
     let adds = adding_at context walk old c.args.value c.args.number c.args.room_depth c.args.unsplit c.requires.1.1.1.0 c.requires.1.1.1.1.stands in
     let new : LocalState = local c.begin.new.subtx c.begin.new.pages in
-    let needed = has_to_split context walk old c.args.value c.args.number c.args.room_depth c.args.unsplit c.requires.1.1.1.0 adds (subst (λ (o : set.FinSet nat_cmp). (c.args.unsplit ≡ true) ⊎ IsNowhere (has_room o) adds.fields.slots) (ap (λ (b : WalkContext). b.active) c.requires.1.1.0) (c.in_default.ensures adds.fields (found_below context old c.args.number (Some (page.Bucket adds.fields)) c.requires.1.1.1.1.written adds.rest.found))) in
+    let needed = has_to_split context walk old c.args.value c.args.number c.args.room_depth c.args.unsplit c.requires.1.1.1.0 adds (subst (λ (o : set.FinSet nat_cmp). (c.args.unsplit ≡ true) ⊎ IsNowhere (has_room o) adds.fields.slots) (ap (λ (b : WalkContext). b.active) c.requires.1.1.0) (c.in_default.ensures adds.fields (found_below context old c.args.number (Some (Page.Bucket adds.fields)) c.requires.1.1.1.1.written adds.rest.found))) in
     let key : c.walk.inside.key ≡ walk.key = ap (λ (w : WalkFields). w.key) c.walk.view_is in
     let same = target_is (context_in g.P.Pseudo.bits_of c.args.environment.now c.args.subtx.now.tx) context c.requires.1.1.0 walk c.walk.inside.key g.given.1 c.args.room_depth key c.requires.1.0 in
     let under_way = subst (λ (a : SplitTarget). IsUnderWay a (view_over a.before new) c.in-Ok.split) same c.in-Ok.ensures.under_way in
@@ -102,7 +88,7 @@ returns-in-Some-clause-no_room g c =
     let walk : WalkFields = c.args.walk.now in
     let old : LocalState = local c.args.subtx.now c.args.pages.now in
     let adds = adding_at context walk old c.args.value c.args.number c.args.room_depth c.args.unsplit c.requires.1.1.1.0 c.requires.1.1.1.1.stands in
-    let planned = c.in-Some.ensures adds.fields (found_below context old c.args.number (Some (page.Bucket adds.fields)) c.requires.1.1.1.1.written adds.rest.found) in
+    let planned = c.in-Some.ensures adds.fields (found_below context old c.args.number (Some (Page.Bucket adds.fields)) c.requires.1.1.1.1.written adds.rest.found) in
     let clean = clean_now (split_target context walk c.args.room_depth) old c.requires.1.1.1.1.may c.requires.1.1.1.1.file in (
       λ is. absurd (put_has_room old (local c.write_change.new.subtx c.write_change.new.pages) walk c.write_change.new.walk c.in-Some.write c.args.value c.write_change.result c.write_change.ensures.tells is),
       λ both. absurd (need_not_split context walk old c.args.value c.args.number c.args.room_depth c.args.unsplit c.requires.1.1.1.0 adds (Live walk.key c.args.value) c.in-Some.write clean planned.0 (subst (λ (o : set.FinSet nat_cmp). SetsFirst c.args.number adds.fields (has_room o) (Live walk.key c.args.value) c.in-Some.write) (ap (λ (b : WalkContext). b.active) c.requires.1.1.0) planned.1) both.0),
@@ -111,8 +97,8 @@ returns-in-Some-clause-no_room g c =
 pub returns-in-Ok-clause-no_room : goal.returns-in-Ok-clause-no_room
 returns-in-Ok-clause-no_room g c = (
   λ is. elim c.keep_split.ensures.told [
-    | inl going ↦ let both : answer.Refused refusal.NoRoom ≡ answer.Going = sym is ∙ going in cc
-    | inr memory ↦ let both : answer.Refused refusal.NoRoom ≡ answer.Refused refusal.OutOfMemory = sym is ∙ memory in cc
+    | inl going ↦ let both : WalkAnswer.Refused Refusal.NoRoom ≡ WalkAnswer.Going = sym is ∙ going in cc
+    | inr memory ↦ let both : WalkAnswer.Refused Refusal.NoRoom ≡ WalkAnswer.Refused Refusal.OutOfMemory = sym is ∙ memory in cc
   ],
   λ both. let none = sym c.in-Ok.is ∙ c.begin.ensures.no_room.1 both.1 in cc,
 )
@@ -123,7 +109,7 @@ returns-in-Err-clause-no_room g c =
     let walk : WalkFields = c.args.walk.now in
     let old : LocalState = local c.args.subtx.now c.args.pages.now in
     let adds = adding_at context walk old c.args.value c.args.number c.args.room_depth c.args.unsplit c.requires.1.1.1.0 c.requires.1.1.1.1.stands in
-    let needed = has_to_split context walk old c.args.value c.args.number c.args.room_depth c.args.unsplit c.requires.1.1.1.0 adds (subst (λ (o : set.FinSet nat_cmp). (c.args.unsplit ≡ true) ⊎ IsNowhere (has_room o) adds.fields.slots) (ap (λ (b : WalkContext). b.active) c.requires.1.1.0) (c.in_default.ensures adds.fields (found_below context old c.args.number (Some (page.Bucket adds.fields)) c.requires.1.1.1.1.written adds.rest.found))) in
+    let needed = has_to_split context walk old c.args.value c.args.number c.args.room_depth c.args.unsplit c.requires.1.1.1.0 adds (subst (λ (o : set.FinSet nat_cmp). (c.args.unsplit ≡ true) ⊎ IsNowhere (has_room o) adds.fields.slots) (ap (λ (b : WalkContext). b.active) c.requires.1.1.0) (c.in_default.ensures adds.fields (found_below context old c.args.number (Some (Page.Bucket adds.fields)) c.requires.1.1.1.1.written adds.rest.found))) in
     let alike = begun_alike c.begin.result c.in-Err.refusal c.in-Err.is in
     (λ is. (needed, c.begin.ensures.no_room.0 (alike.1 is)), λ both. alike.0 (c.begin.ensures.no_room.1 both.1))
 
@@ -133,6 +119,6 @@ returns-in-Err-clause-tells g c =
     let walk : WalkFields = c.args.walk.now in
     let old : LocalState = local c.args.subtx.now c.args.pages.now in
     let adds = adding_at context walk old c.args.value c.args.number c.args.room_depth c.args.unsplit c.requires.1.1.1.0 c.requires.1.1.1.1.stands in
-    let needed = has_to_split context walk old c.args.value c.args.number c.args.room_depth c.args.unsplit c.requires.1.1.1.0 adds (subst (λ (o : set.FinSet nat_cmp). (c.args.unsplit ≡ true) ⊎ IsNowhere (has_room o) adds.fields.slots) (ap (λ (b : WalkContext). b.active) c.requires.1.1.0) (c.in_default.ensures adds.fields (found_below context old c.args.number (Some (page.Bucket adds.fields)) c.requires.1.1.1.1.written adds.rest.found))) in
+    let needed = has_to_split context walk old c.args.value c.args.number c.args.room_depth c.args.unsplit c.requires.1.1.1.0 adds (subst (λ (o : set.FinSet nat_cmp). (c.args.unsplit ≡ true) ⊎ IsNowhere (has_room o) adds.fields.slots) (ap (λ (b : WalkContext). b.active) c.requires.1.1.0) (c.in_default.ensures adds.fields (found_below context old c.args.number (Some (Page.Bucket adds.fields)) c.requires.1.1.1.1.written adds.rest.found))) in
     begin_is_refused context walk _ old (local c.begin.new.subtx c.begin.new.pages) c.args.value c.args.number c.args.room_depth c.in-Err.refusal c.walk.view_is needed
     (λ room. c.begin.ensures.no_room.0 (c.in-Err.is ∙ ap Err room)) c.in-Err.ensures.refusal

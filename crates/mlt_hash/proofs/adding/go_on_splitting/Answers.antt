@@ -1,12 +1,5 @@
 use Rattle.std.proofs.Common.{◌≡◌, false, Option, Some, ap, sym, subst, ◌∙◌, inl, inr}
-use Rattle.mlt_hash_access.specs.LocalStates.{local}
-use Rattle.mlt_hash_access.specs.Views.{view_over}
-use Rattle.mlt_hash_split.specs.Rests.{SplitTarget}
-use Rattle.mlt_hash_split.specs.Splits.{MayAdvance, SplitFields, steps_left}
-use Rattle.mlt_hash_split.specs.Steps.{IsDone, IsNextPage}
-use Rattle.mlt_hash_split.specs.Tells.{GoesOn, Rests}
-use Rattle.mlt_hash.specs.Walks.{WalkContext, WalkFields}
-use Rattle.mlt_hash.specs.declared.pass.Phase.TheVariants as at
+use Rattle.mlt_hash.proofs.Names.{local, view_over, SplitTarget, MayAdvance, SplitFields, steps_left, IsDone, IsNextPage, GoesOn, Rests, WalkContext, WalkFields, Phase}
 use Rattle.mlt_hash.proofs.Splittings.{may_advance, no_room_in_split, refused_alike, split_closes_walk, split_goes_on, split_is_refused}
 use Rattle.mlt_hash.proofs.adding.go_on_splitting.Goals as goal
 
@@ -41,7 +34,7 @@ returns-in-Closed-clause-tells g c =
     let done = subst (λ (target : SplitTarget). IsDone c.deref_mut.result.now.phase target old new c.deref_mut.result.now) c.requires.1.0 c.in-Closed.ensures.steps in (
       (c.deref_mut.result.now, was, done),
       inr (split_closes_walk context walk _ old new c.args.value c.args.room_depth c.deref_mut.result.now c.requires.1.1.1.0 c.requires.1.1.1.1.stands was c.requires.1.1.1.1.may c.requires.1.1.1.1.file c.in-Closed.ensures.leaves.touches done c.in-Closed.bucket (Some c.advance.new.self)
-          (ap (λ (w : WalkFields). record w { phase = at.Adding c.args.value c.in-Closed.bucket c.args.room_depth false; split = Some c.advance.new.self }) c.walk.view_is) tells.0 tells.1),
+          (ap (λ (w : WalkFields). record w { phase = Phase.Adding c.args.value c.in-Closed.bucket c.args.room_depth false; split = Some c.advance.new.self }) c.walk.view_is) tells.0 tells.1),
     )
 
 pub returns-in-Waiting-clause-tells : goal.returns-in-Waiting-clause-tells

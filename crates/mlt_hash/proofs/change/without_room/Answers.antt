@@ -1,11 +1,5 @@
 use Rattle.std.proofs.Common.{◌≡◌, is_some, true, ap, refl, sym, ◌∙◌}
-use Rattle.std.proofs.lemmas.Bool.{false≢true}
-use Rattle.mlt_page.specs.Values.{BucketFields}
-use Rattle.mlt_hash_access.specs.LocalStates.{LocalState, local}
-use Rattle.mlt_hash.specs.Walks.{WalkFields, context_in, view_for}
-use Rattle.mlt_hash.specs.Changes.{IsFull, directory_depth_of}
-use Rattle.mlt_hash.specs.declared.pass.Pass.TheVariants as pass
-use Rattle.mlt_hash.specs.declared.pass.Phase.TheVariants as at
+use Rattle.mlt_hash.proofs.Names.{false≢true, BucketFields, LocalState, local, WalkFields, context_in, view_for, IsFull, directory_depth_of, Pass, Phase}
 use Rattle.mlt_hash.proofs.InPlace.{absent_at, at_bucket_without, holds_bucket, reads_bucket}
 use Rattle.mlt_hash.proofs.Resting.{TellsNext, adding_tells, few_at_bucket, first_is_not_wide, first_tells, full_bucket, no_room_tells, narrow_is_not_wide, shallow, tells_next, tells_next_by, widen_tells, within_limit}
 use Rattle.mlt_hash.proofs.change.without_room.Given.{Over}
@@ -47,7 +41,7 @@ returns-in-First-clause-tells g c =
     let m = before g s.After-held_bucket-number in
     let first = sym (own g s.After-next_pass-next) ∙ c.in-First.is in
     first_tells g.context c.args.walk.now _ m _ _ _ c.args.value (full g s.After-held_bucket-number) (told g s.After-next_pass-next) (few_at_bucket g.context c.args.walk.now (view_for g.context m) c.requires.1.1.1.0 c.requires.1.1.0.walks.stands (λ wide. first_is_not_wide (sym first ∙ wide))) first
-    (ap (λ (w : WalkFields). record w { phase = at.Full c.next_pass-next.result.0 }) c.walk.view_is)
+    (ap (λ (w : WalkFields). record w { phase = Phase.Full c.next_pass-next.result.0 }) c.walk.view_is)
 
 pub returns-then-must_widen-clause-tells : goal.returns-then-must_widen-clause-tells
 returns-then-must_widen-clause-tells g c =
@@ -56,7 +50,7 @@ returns-then-must_widen-clause-tells g c =
     let both = c.if-must_widen.ensures.0 refl in
     let narrow = sym (own g s.After-next_pass-next) ∙ both.0 in
     widen_tells g.context c.args.walk.now _ m _ _ _ c.args.value (full g s.After-held_bucket-number) (told g s.After-next_pass-next) (few_at_bucket g.context c.args.walk.now (view_for g.context m) c.requires.1.1.1.0 c.requires.1.1.0.walks.stands (λ wide. narrow_is_not_wide (sym narrow ∙ wide))) narrow both.1
-    (ap (λ (w : WalkFields). record w { phase = at.Full pass.Wide }) c.walk.view_is)
+    (ap (λ (w : WalkFields). record w { phase = Phase.Full Pass.Wide }) c.walk.view_is)
 
 pub returns-in_default-least-clause-tells : goal.returns-in_default-least-clause-tells
 returns-in_default-least-clause-tells g c =
@@ -76,4 +70,4 @@ returns-clause-tells g c =
     adding_tells g.context c.args.walk.now _ (before g s.After-held_bucket-number) _ _ _ c.args.value (full g s.After-held_bucket-number) (told g s.After-next_pass-next)
     (λ first. c.in_default-pass.not-First (own ∙ first)) (λ narrow wide. false≢true (sym c.if-must_widen.false ∙ c.must_widen.ensures.1 (own ∙ narrow, wide)))
     number c.requires.1.1.0.walks.bounded c.requires.1.1.0.walks.may c.requires.1.1.0.walks.file c.requires.1.1.1.0 c.requires.1.1.0.walks.stands c.requires.1.1.0.exclusive c.requires.1.1.0.walks.small c.held_bucket-number.ensures.number c.in-Some.room_depth c.in-Some.is
-    (ap (λ (w : WalkFields). record w { phase = at.Adding c.args.value number c.in-Some.room_depth true }) c.walk.view_is)
+    (ap (λ (w : WalkFields). record w { phase = Phase.Adding c.args.value number c.in-Some.room_depth true }) c.walk.view_is)

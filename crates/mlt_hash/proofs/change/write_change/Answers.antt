@@ -1,9 +1,5 @@
 use Rattle.std.proofs.Common.{subst}
-use Rattle.mlt_page.specs.Pages.{page_with_slot}
-use Rattle.mlt_hash_access.specs.LocalStates.{LocalState, local}
-use Rattle.mlt_hash_access.specs.PageSteps.{WritesHeldSlot}
-use Rattle.mlt_hash_record.specs.Plans.{WriteFields}
-use Rattle.mlt_hash.specs.declared.pass.Phase.TheVariants as at
+use Rattle.mlt_hash.proofs.Names.{page_with_slot, LocalState, local, WritesHeldSlot, WriteFields, Phase}
 use Rattle.mlt_hash.proofs.change.write_change.Goals as goal
 
 pub returns-in-Ok-clause-writes : goal.returns-in-Ok-clause-writes
@@ -19,5 +15,5 @@ returns-in-Ok-clause-tells c =
     let old : LocalState = local c.args.subtx.now c.args.pages.now in
     let new : LocalState = local c.write_slot.new.subtx c.write_slot.new.pages in (
       subst (λ (w : WriteFields). WritesHeldSlot old new w.number w.at w.slot) c.write.view_is c.in-Ok.ensures.writes,
-      λ i. record (c.walk.view_is i) { phase = at.Changed (c.write.view_is i).number c.args.done },
+      λ i. record (c.walk.view_is i) { phase = Phase.Changed (c.write.view_is i).number c.args.done },
     )

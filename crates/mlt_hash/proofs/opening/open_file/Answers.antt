@@ -1,6 +1,6 @@
 use Rattle.std.proofs.Common.{◌∙◌, Err, ap, arith}
 use Rattle.std.specs.FinMap as map
-use Rattle.mlt_page.specs.declared.page.Page.TheVariants as page
+use Rattle.mlt_hash.proofs.Names.{Page}
 use Rattle.mlt_hash.proofs.OpenedFiles.{IsMade, no_pages, one_more, only_memory, active, same_limit}
 use Rattle.mlt_hash.proofs.opening.open_file.Goals as goal
 
@@ -35,9 +35,9 @@ returns-clause-opening c =
       c.in_ok-dir.dir,
       c.in_ok-bucket.bucket,
       active c.args.store.now c.grow.new.self c.grow-2.new.self c.grow-3.new.self c.in_ok-bucket.bucket c.in_ok-dir.dir c.in_ok-head.head _ _ _ c.requires.no_page first second third
-          (λ i. page.Head (record { depth = c.new-2.ensures.depth i; dirs = c.new-2.ensures.dirs i }))
-          (ap page.Dir c.new.ensures)
-          (λ i. page.Bucket (record { depth = c.empty.ensures.depth i; slots = c.empty.ensures.slots i })),
+          (λ i. Page.Head (record { depth = c.new-2.ensures.depth i; dirs = c.new-2.ensures.dirs i }))
+          (ap Page.Dir c.new.ensures)
+          (λ i. Page.Bucket (record { depth = c.empty.ensures.depth i; slots = c.empty.ensures.slots i })),
     )
 
 pub returns-clause-pages : goal.returns-clause-pages

@@ -1,15 +1,5 @@
 use Rattle.std.proofs.Common.{◌≡◌, ◌+◌, Some, is_some, sym, ap, ◌∙◌, arith}
-use Rattle.mlt_page.specs.Values.{BucketFields}
-use Rattle.mlt_page.specs.declared.page.Page.TheVariants as page
-use Rattle.mlt_hash_access.specs.LocalStates.{LocalState, local}
-use Rattle.mlt_hash_access.specs.Views.{ReadsPage, view_of}
-use Rattle.mlt_hash_access.proofs.Rebased.{rebased_reads_page}
-use Rattle.mlt_hash_access.proofs.Views.{reads_held_after, reads_seen}
-use Rattle.mlt_hash_form.specs.Form.{value_in}
-use Rattle.mlt_hash_form.specs.Held.{over}
-use Rattle.mlt_hash.specs.Passes.{bucket_mode}
-use Rattle.mlt_hash.specs.Walks.{IsPlaced, MayWalk, WalkFields, view_for}
-use Rattle.mlt_hash.specs.declared.pass.Phase.TheVariants as at
+use Rattle.mlt_hash.proofs.Names.{BucketFields, Page, LocalState, local, ReadsPage, view_of, rebased_reads_page, reads_held_after, reads_seen, value_in, over, bucket_mode, IsPlaced, MayWalk, WalkFields, view_for, Phase}
 use Rattle.mlt_hash.proofs.Beside.{few_before, few_beside}
 use Rattle.mlt_hash.proofs.Paths.{arrived, bucket_there}
 use Rattle.mlt_hash.proofs.Readings.{is_there, reads_clean}
@@ -25,7 +15,7 @@ abbrev ready : (g : Over) (c : Start g) → MayWalk g.context (before g c) c.arg
 ready g c = c.requires.1.1.1.1.1
 
 stands : (g : Over) (c : Start g) → IsPlaced g.context c.args.walk.now (view_for g.context (before g c)) c.args.number c.args.depth
-stands g c = stands_at g.context c.args.walk.now (view_for g.context (before g c)) (at.Placed c.args.number c.args.depth) c.requires.1.1.1.1.0 (ready g c).stands
+stands g c = stands_at g.context c.args.walk.now (view_for g.context (before g c)) (Phase.Placed c.args.number c.args.depth) c.requires.1.1.1.1.0 (ready g c).stands
 
 pub lock-requires-clause-few : goal.lock-requires-clause-few
 lock-requires-clause-few g c =
@@ -36,7 +26,7 @@ lock-requires-clause-few g c =
     few_beside (view_for g.context (before g s)) at.header (g.context.before.buckets + 1) (omega (arith, few_before s.args.walk.now.pass g.context.before at.goes_after)) (omega (arith, shallow, small)) at.among
 
 -- the bucket is there
-bucket : (g : Over) (s : Start g) → (bucket : BucketFields) × (over (ready g s).file.clean g.context.before.written s.args.number ≡ Some (page.Bucket bucket))
+bucket : (g : Over) (s : Start g) → (bucket : BucketFields) × (over (ready g s).file.clean g.context.before.written s.args.number ≡ Some (Page.Bucket bucket))
 bucket g s = bucket_there g.context s.args.walk.now (before g s) (ready g s).file.clean ((ready g s).bounded s.args.walk.now.key) (ready g s).may (ready g s).file.is_clean (ready g s).file.form s.args.number s.args.depth (stands g s)
 
 pub lock-requires-clause-there : goal.lock-requires-clause-there
@@ -51,7 +41,7 @@ read_held_bucket-bucket-requires-clause-bucket g c =
     let sees = c.in_default.ensures.view in
     let reads = rebased_reads_page g.context.before.written (view_of (before g s)) (view_of after) (ready g s).written c.args.number c.bucket_mode-mode.result sees.0 sees.1 in
     let read = reads_clean g.context.before.written (before g s) after c.args.number c.bucket_mode-mode.result sees.0 (ready g s).file.clean c.lock.ensures.leaves.may (c.lock.ensures.leaves.clean (ready g s).file.clean (ready g s).file.is_clean) (stands g s).unwritten reads in
-    ((bucket g s).0, reads_held_after (view_of (before g s)) (view_of after) c.args.number c.bucket_mode-mode.result (page.Bucket (bucket g s).0) sees (sym read ∙ (bucket g s).1))
+    ((bucket g s).0, reads_held_after (view_of (before g s)) (view_of after) c.args.number c.bucket_mode-mode.result (Page.Bucket (bucket g s).0) sees (sym read ∙ (bucket g s).1))
 
 pub returns-clause-tells : goal.returns-clause-tells
 returns-clause-tells g c =
@@ -61,7 +51,7 @@ returns-clause-tells g c =
     let key : c.walk.inside.key ≡ walk.key = ap (λ (w : WalkFields). w.key) c.walk.view_is in
     let mode : c.bucket_mode-mode.result ≡ bucket_mode walk.pass walk.mode = c.bucket_mode-mode.ensures ∙ (λ i. bucket_mode (c.walk.view_is i).pass (c.walk.view_is i).mode) in
     let bucket : BucketFields = c.read_held_bucket-bucket.result.now in
-    let reads : ReadsPage (view_for g.context (before g s)) (view_for g.context after) c.args.number c.bucket_mode-mode.result (Some (page.Bucket bucket)) =
-    rebased_reads_page g.context.before.written (view_of (before g s)) (view_of after) (ready g s).written c.args.number c.bucket_mode-mode.result (Some (page.Bucket bucket))
-    (reads_seen (view_of (before g s)) (view_of after) c.args.number c.bucket_mode-mode.result (page.Bucket bucket) c.in_default.ensures.view c.read_held_bucket-bucket.ensures.reads) in
-    arrived g.context walk _ (before g s) after c.bucket_mode-mode.result c.args.number c.args.depth bucket c.value_in-found.result (stands g s) mode reads (c.value_in-found.ensures ∙ ap (λ k. value_in k bucket.slots) key) c.requires.1.1.1.1.0 (ap (λ (w : WalkFields). record w { phase = at.AtBucket c.args.number c.args.depth c.value_in-found.result }) c.walk.view_is)
+    let reads : ReadsPage (view_for g.context (before g s)) (view_for g.context after) c.args.number c.bucket_mode-mode.result (Some (Page.Bucket bucket)) =
+    rebased_reads_page g.context.before.written (view_of (before g s)) (view_of after) (ready g s).written c.args.number c.bucket_mode-mode.result (Some (Page.Bucket bucket))
+    (reads_seen (view_of (before g s)) (view_of after) c.args.number c.bucket_mode-mode.result (Page.Bucket bucket) c.in_default.ensures.view c.read_held_bucket-bucket.ensures.reads) in
+    arrived g.context walk _ (before g s) after c.bucket_mode-mode.result c.args.number c.args.depth bucket c.value_in-found.result (stands g s) mode reads (c.value_in-found.ensures ∙ ap (λ k. value_in k bucket.slots) key) c.requires.1.1.1.1.0 (ap (λ (w : WalkFields). record w { phase = Phase.AtBucket c.args.number c.args.depth c.value_in-found.result }) c.walk.view_is)

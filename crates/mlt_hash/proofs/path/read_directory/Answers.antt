@@ -1,13 +1,5 @@
 use Rattle.std.proofs.Common.{◌≡◌, ℕ, List, ◌+◌, Some, is_some, sym, ap, ◌∙◌, arith}
-use Rattle.mlt_page.specs.declared.page.Page.TheVariants as page
-use Rattle.mlt_hash_access.specs.LocalStates.{LocalState, local}
-use Rattle.mlt_hash_access.specs.Views.{ReadsPage, view_of}
-use Rattle.mlt_hash_access.proofs.Rebased.{rebased_reads_page}
-use Rattle.mlt_hash_access.proofs.Views.{reads_held_after, reads_seen}
-use Rattle.mlt_hash_form.specs.Held.{over}
-use Rattle.mlt_hash.specs.Passes.{directory_mode}
-use Rattle.mlt_hash.specs.Walks.{IsHeaded, MayWalk, WalkFields, view_for}
-use Rattle.mlt_hash.specs.declared.pass.Phase.TheVariants as at
+use Rattle.mlt_hash.proofs.Names.{Page, LocalState, local, ReadsPage, view_of, rebased_reads_page, reads_held_after, reads_seen, over, directory_mode, IsHeaded, MayWalk, WalkFields, view_for, Phase}
 use Rattle.mlt_hash.proofs.Beside.{few_before, few_beside}
 use Rattle.mlt_hash.proofs.Paths.{dir_there, placed}
 use Rattle.mlt_hash.proofs.Readings.{is_there, reads_clean}
@@ -23,7 +15,7 @@ abbrev ready : (g : Over) (c : Start g) → MayWalk g.context (before g c) c.arg
 ready g c = c.requires.1.1.1.1.1
 
 stands : (g : Over) (c : Start g) → IsHeaded g.context c.args.walk.now (view_for g.context (before g c)) c.args.number c.args.row c.args.depth
-stands g c = stands_at g.context c.args.walk.now (view_for g.context (before g c)) (at.Headed c.args.number c.args.row c.args.depth) c.requires.1.1.1.1.0 (ready g c).stands
+stands g c = stands_at g.context c.args.walk.now (view_for g.context (before g c)) (Phase.Headed c.args.number c.args.row c.args.depth) c.requires.1.1.1.1.0 (ready g c).stands
 
 pub lock-requires-clause-few : goal.lock-requires-clause-few
 lock-requires-clause-few g c =
@@ -34,7 +26,7 @@ lock-requires-clause-few g c =
     few_beside (view_for g.context (before g s)) at.header (g.context.before.buckets + 1) (omega (arith, few_before s.args.walk.now.pass g.context.before at.goes_after)) (omega (arith, shallow, small)) at.among
 
 -- the directory page is there
-dir : (g : Over) (s : Start g) → (dir : List ℕ) × (over (ready g s).file.clean g.context.before.written s.args.number ≡ Some (page.Dir dir))
+dir : (g : Over) (s : Start g) → (dir : List ℕ) × (over (ready g s).file.clean g.context.before.written s.args.number ≡ Some (Page.Dir dir))
 dir g s = dir_there g.context s.args.walk.now (before g s) (ready g s).file.clean ((ready g s).bounded s.args.walk.now.key) (ready g s).may (ready g s).file.is_clean (ready g s).file.form s.args.number s.args.row s.args.depth (stands g s)
 
 pub lock-requires-clause-there : goal.lock-requires-clause-there
@@ -49,7 +41,7 @@ read_held_dir-dir-requires-clause-dir g c =
     let sees = c.in_default.ensures.view in
     let reads = rebased_reads_page g.context.before.written (view_of (before g s)) (view_of after) (ready g s).written c.args.number c.directory_mode.result sees.0 sees.1 in
     let read = reads_clean g.context.before.written (before g s) after c.args.number c.directory_mode.result sees.0 (ready g s).file.clean c.lock.ensures.leaves.may (c.lock.ensures.leaves.clean (ready g s).file.clean (ready g s).file.is_clean) (stands g s).unwritten reads in
-    ((dir g s).0, reads_held_after (view_of (before g s)) (view_of after) c.args.number c.directory_mode.result (page.Dir (dir g s).0) sees (sym read ∙ (dir g s).1))
+    ((dir g s).0, reads_held_after (view_of (before g s)) (view_of after) c.args.number c.directory_mode.result (Page.Dir (dir g s).0) sees (sym read ∙ (dir g s).1))
 
 pub returns-clause-tells : goal.returns-clause-tells
 returns-clause-tells g c =
@@ -57,9 +49,9 @@ returns-clause-tells g c =
     let after = local c.args.subtx.now c.lock.new.pages in
     let walk : WalkFields = c.args.walk.now in
     let mode : c.directory_mode.result ≡ directory_mode walk.pass = c.directory_mode.ensures ∙ (λ i. directory_mode (c.walk.view_is i).pass) in
-    let reads : ReadsPage (view_for g.context (before g s)) (view_for g.context after) c.args.number c.directory_mode.result (Some (page.Dir c.read_held_dir-dir.result.now)) =
-    rebased_reads_page g.context.before.written (view_of (before g s)) (view_of after) (ready g s).written c.args.number c.directory_mode.result (Some (page.Dir c.read_held_dir-dir.result.now))
-    (reads_seen (view_of (before g s)) (view_of after) c.args.number c.directory_mode.result (page.Dir c.read_held_dir-dir.result.now) c.in_default.ensures.view c.read_held_dir-dir.ensures.reads) in (
-      placed g.context walk _ (before g s) after c.directory_mode.result c.args.number c.args.depth c.args.row c.entry.result c.read_held_dir-dir.result.now ((ready g s).bounded walk.key) (ready g s).small (stands g s) mode reads c.entry.ensures c.requires.1.1.1.1.0 (ap (λ (w : WalkFields). record w { phase = at.Placed c.entry.result c.args.depth }) c.walk.view_is),
+    let reads : ReadsPage (view_for g.context (before g s)) (view_for g.context after) c.args.number c.directory_mode.result (Some (Page.Dir c.read_held_dir-dir.result.now)) =
+    rebased_reads_page g.context.before.written (view_of (before g s)) (view_of after) (ready g s).written c.args.number c.directory_mode.result (Some (Page.Dir c.read_held_dir-dir.result.now))
+    (reads_seen (view_of (before g s)) (view_of after) c.args.number c.directory_mode.result (Page.Dir c.read_held_dir-dir.result.now) c.in_default.ensures.view c.read_held_dir-dir.ensures.reads) in (
+      placed g.context walk _ (before g s) after c.directory_mode.result c.args.number c.args.depth c.args.row c.entry.result c.read_held_dir-dir.result.now ((ready g s).bounded walk.key) (ready g s).small (stands g s) mode reads c.entry.ensures c.requires.1.1.1.1.0 (ap (λ (w : WalkFields). record w { phase = Phase.Placed c.entry.result c.args.depth }) c.walk.view_is),
       omega arith,
     )

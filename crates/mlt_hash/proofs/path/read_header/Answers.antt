@@ -1,14 +1,5 @@
 use Rattle.std.proofs.Common.{◌≡◌, ℕ, ◌/◌, ◌%◌, slice_index, Some, refl, sym, ap, subst, ◌∙◌, arith}
-use Rattle.mlt_page.specs.Bits.{first_bits}
-use Rattle.mlt_page.specs.Values.{HeadFields}
-use Rattle.mlt_page.specs.declared.page.Page.TheVariants as page
-use Rattle.mlt_hash_access.specs.LocalStates.{HasCleanFile, LocalState, local, no_writes}
-use Rattle.mlt_hash_access.specs.Views.{ReadsPage, view_of}
-use Rattle.mlt_hash_access.proofs.Since.{unwritten_anew}
-use Rattle.mlt_hash_access.proofs.Views.{reads_held_after, reads_seen}
-use Rattle.mlt_hash.specs.Passes.{header_mode}
-use Rattle.mlt_hash.specs.Walks.{Before, IsAtStart, MayWalk, WalkFields, context_after, nothing_before, one_key, view_for}
-use Rattle.mlt_hash.specs.declared.pass.Phase.TheVariants as at
+use Rattle.mlt_hash.proofs.Names.{first_bits, HeadFields, Page, HasCleanFile, LocalState, local, no_writes, ReadsPage, view_of, unwritten_anew, reads_held_after, reads_seen, header_mode, Before, IsAtStart, MayWalk, WalkFields, context_after, nothing_before, one_key, view_for, Phase}
 use Rattle.mlt_hash.proofs.Paths.{head_there, headed, header_there}
 use Rattle.mlt_hash.proofs.Readings.{few_held, is_there, none_held, reads_clean}
 use Rattle.mlt_hash.proofs.Standing.{stands_at}
@@ -21,7 +12,7 @@ before g c = local c.args.subtx.now c.args.pages.now
 
 -- the key is the walk's first, so nothing was done before
 anew : (g : Over) (c : Start g) → g.context.before ≡ nothing_before
-anew g c = (stands_at g.context c.args.walk.now (view_for g.context (before g c)) at.Start c.requires.1.1.1.1.0 c.requires.1.1.1.1.1.stands).1
+anew g c = (stands_at g.context c.args.walk.now (view_for g.context (before g c)) Phase.Start c.requires.1.1.1.1.0 c.requires.1.1.1.1.1.stands).1
 
 ready : (g : Over) (c : Start g) → MayWalk (one_key g.context) (before g c) c.args.walk.now
 ready g c = subst (λ (b : Before). MayWalk (context_after b g.context) (before g c) c.args.walk.now) (anew g c) c.requires.1.1.1.1.1
@@ -30,7 +21,7 @@ file : (g : Over) (c : Start g) → HasCleanFile g.context.bits g.context.root (
 file g c = (ready g c).file
 
 start : (g : Over) (c : Start g) → IsAtStart (view_of (before g c))
-start g c = (stands_at (one_key g.context) c.args.walk.now (view_of (before g c)) at.Start c.requires.1.1.1.1.0 (ready g c).stands).0
+start g c = (stands_at (one_key g.context) c.args.walk.now (view_of (before g c)) Phase.Start c.requires.1.1.1.1.0 (ready g c).stands).0
 
 pub lock-requires-clause-few : goal.lock-requires-clause-few
 lock-requires-clause-few g c = let s = (goal.at.lock-requires-clause-few g c).Start in few_held (before g s) 0 (none_held _ (start g s).unheld) (omega arith)
@@ -47,7 +38,7 @@ read_held_head-header-requires-clause-head g c =
     let sees = c.in_default.ensures.view in
     let read = reads_clean no_writes (before g s) after c.args.root.now.page c.header_mode.result sees.0 (file g s).clean c.lock.ensures.leaves.may (c.lock.ensures.leaves.clean (file g s).clean (file g s).is_clean) (unwritten_anew (view_of (before g s)) (start g s).unwritten) sees.1 in
     let head = head_there g.context.bits (file g s).clean g.context.root (file g s).form in
-    (head.0, reads_held_after (view_of (before g s)) (view_of after) c.args.root.now.page c.header_mode.result (page.Head head.0) sees (sym read ∙ ap (file g s).clean s.requires.1.1.0 ∙ head.1))
+    (head.0, reads_held_after (view_of (before g s)) (view_of after) c.args.root.now.page c.header_mode.result (Page.Head head.0) sees (sym read ∙ ap (file g s).clean s.requires.1.1.0 ∙ head.1))
 
 pub returns-clause-tells : goal.returns-clause-tells
 unfolding file ready
@@ -58,12 +49,12 @@ returns-clause-tells g c =
     let key : c.walk.inside.key ≡ c.args.walk.now.key = ap (λ (w : WalkFields). w.key) c.walk.view_is in
     let pass : c.walk.inside.pass ≡ c.args.walk.now.pass = ap (λ (w : WalkFields). w.pass) c.walk.view_is in
     let bits : c.bits.result ≡ g.context.bits c.args.walk.now.key = c.bits.ensures ∙ (λ i. c.requires.1.1.1.0 i (key i)) in
-    let read : ReadsPage (view_of (before g s)) (view_of after) c.args.root.now.page c.header_mode.result (Some (page.Head c.read_held_head-header.result.now)) = reads_seen (view_of (before g s)) (view_of after) c.args.root.now.page c.header_mode.result (page.Head c.read_held_head-header.result.now) c.in_default.ensures.view c.read_held_head-header.ensures.reads in
-    let reads : ReadsPage (view_of (before g s)) (view_of after) g.context.root c.header_mode.result (Some (page.Head header)) =
-    subst (λ (h : HeadFields). ReadsPage (view_of (before g s)) (view_of after) g.context.root c.header_mode.result (Some (page.Head h))) (sym c.header.view_is)
-    (subst (λ (q : ℕ). ReadsPage (view_of (before g s)) (view_of after) q c.header_mode.result (Some (page.Head c.read_held_head-header.result.now))) c.requires.1.1.0 read) in (
+    let read : ReadsPage (view_of (before g s)) (view_of after) c.args.root.now.page c.header_mode.result (Some (Page.Head c.read_held_head-header.result.now)) = reads_seen (view_of (before g s)) (view_of after) c.args.root.now.page c.header_mode.result (Page.Head c.read_held_head-header.result.now) c.in_default.ensures.view c.read_held_head-header.ensures.reads in
+    let reads : ReadsPage (view_of (before g s)) (view_of after) g.context.root c.header_mode.result (Some (Page.Head header)) =
+    subst (λ (h : HeadFields). ReadsPage (view_of (before g s)) (view_of after) g.context.root c.header_mode.result (Some (Page.Head h))) (sym c.header.view_is)
+    (subst (λ (q : ℕ). ReadsPage (view_of (before g s)) (view_of after) q c.header_mode.result (Some (Page.Head c.read_held_head-header.result.now))) c.requires.1.1.0 read) in (
       headed g.context c.args.walk.now _ (before g s) after c.header_mode.result header c.dir.result c.of-place.result.entry c.header.inside.depth (anew g s) (file g s) (ready g s).shallow c.lock.ensures.leaves.may c.lock.ensures.leaves.clean (start g s) (c.header_mode.ensures ∙ ap header_mode pass) reads
           (c.dir.ensures ∙ ap (λ (h : HeadFields). slice_index h.dirs c.of-place.result.dir) (sym c.header.view_is) ∙ ap (slice_index c.header.inside.dirs) c.of-place.ensures.dir ∙ ap (λ x. slice_index c.header.inside.dirs (first_bits c.header.inside.depth x / 256)) bits)
-          (c.of-place.ensures.entry ∙ ap (λ x. first_bits c.header.inside.depth x % 256) bits) refl c.requires.1.1.1.1.0 (ap (λ (w : WalkFields). record w { phase = at.Headed c.dir.result c.of-place.result.entry c.header.inside.depth }) c.walk.view_is),
+          (c.of-place.ensures.entry ∙ ap (λ x. first_bits c.header.inside.depth x % 256) bits) refl c.requires.1.1.1.1.0 (ap (λ (w : WalkFields). record w { phase = Phase.Headed c.dir.result c.of-place.result.entry c.header.inside.depth }) c.walk.view_is),
       omega arith,
     )

@@ -1,6 +1,5 @@
 use Rattle.std.proofs.Common.{subst}
-use Rattle.mlt_hash_access.specs.Views.{View}
-use Rattle.mlt_hash.specs.Walks.{IsStanding}
+use Rattle.mlt_hash.proofs.Names.{View, IsStanding}
 use Rattle.mlt_hash.proofs.Laws.{same_view}
 use Rattle.mlt_hash.proofs.walk_laws.same_view_keeps_the_walk.Goals as goal
 

@@ -1,8 +1,5 @@
 use Rattle.std.proofs.Common.{ap, refl}
-use Rattle.mlt_page_store.specs.Stores.{page_at}
-use Rattle.mlt_hash_form.proofs.HeldPages.{seen_as}
-use Rattle.mlt_hash_access.specs.LocalStates.{LocalState, local}
-use Rattle.mlt_hash_access.specs.PageSteps.{LocksPage}
+use Rattle.mlt_hash_access.proofs.Names.{page_at, seen_as, LocalState, local, LocksPage}
 use Rattle.mlt_hash_access.proofs.Leaving.{leaves_by_locking, leaves_it}
 use Rattle.mlt_hash_access.proofs.Results.{lock_granted}
 use Rattle.mlt_hash_access.proofs.Views.{lock_reads}

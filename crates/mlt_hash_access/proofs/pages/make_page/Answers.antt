@@ -1,4 +1,4 @@
-use Rattle.mlt_hash_access.specs.LocalStates.{LocalState, local}
+use Rattle.mlt_hash_access.proofs.Names.{LocalState, local}
 use Rattle.mlt_hash_access.proofs.Results.{MakeTold, leaves_after_make_told, make_told, view_after_make_told}
 use Rattle.mlt_hash_access.proofs.pages.make_page.Goals as goal
 

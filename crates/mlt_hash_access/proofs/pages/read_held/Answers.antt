@@ -1,5 +1,5 @@
 use Rattle.std.proofs.Common.{sym}
-use Rattle.mlt_hash_access.specs.LocalStates.{local}
+use Rattle.mlt_hash_access.proofs.Names.{local}
 use Rattle.mlt_hash_access.proofs.Results.{read_in_view}
 use Rattle.mlt_hash_access.proofs.pages.read_held.Goals as goal
 

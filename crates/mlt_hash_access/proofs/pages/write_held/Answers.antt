@@ -1,4 +1,4 @@
-use Rattle.mlt_hash_access.specs.LocalStates.{LocalState, local}
+use Rattle.mlt_hash_access.proofs.Names.{LocalState, local}
 use Rattle.mlt_hash_access.proofs.Results.{WriteTold, leaves_after_write_told, view_after_write_told, write_told}
 use Rattle.mlt_hash_access.proofs.pages.write_held.Goals as goal
 

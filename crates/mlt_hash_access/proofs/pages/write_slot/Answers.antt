@@ -1,4 +1,4 @@
-use Rattle.mlt_hash_access.specs.LocalStates.{LocalState, local}
+use Rattle.mlt_hash_access.proofs.Names.{LocalState, local}
 use Rattle.mlt_hash_access.proofs.Results.{bucket_there, slot_leaves, slot_writes, slot_writes_in_view}
 use Rattle.mlt_hash_access.proofs.pages.write_slot.Goals as goal
 

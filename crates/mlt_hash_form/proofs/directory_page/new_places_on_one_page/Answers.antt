@@ -1,5 +1,4 @@
-use Rattle.mlt_hash_form.specs.File.{header_of, buckets_of}
-use Rattle.mlt_hash_form.specs.Splits.{prefix_of}
+use Rattle.mlt_hash_form.proofs.Names.{header_of, buckets_of, prefix_of}
 use Rattle.mlt_hash_form.proofs.InPlace.{one_page}
 use Rattle.mlt_hash_form.proofs.directory_page.new_places_on_one_page.Goals as goal
 

@@ -1,7 +1,5 @@
-use Rattle.std.proofs.Common.{sym, ap, ◌∙◌}
-use Rattle.std.specs.List.{position}
-use Rattle.mlt_page.specs.Slots.{is_live_of}
-use Rattle.mlt_page.specs.Values.{BucketFields}
+use Rattle.std.proofs.Common.{sym, ap, ◌∙◌, position}
+use Rattle.mlt_hash_form.proofs.Names.{is_live_of, BucketFields}
 use Rattle.mlt_hash_form.proofs.Slots.{finds_record}
 use Rattle.mlt_hash_form.proofs.look_up.value_in.Goals as goal
 

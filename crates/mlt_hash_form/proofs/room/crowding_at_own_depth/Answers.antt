@@ -1,4 +1,4 @@
-use Rattle.mlt_hash_form.specs.File.{buckets_of, lead_of}
+use Rattle.mlt_hash_form.proofs.Names.{buckets_of, lead_of}
 use Rattle.mlt_hash_form.proofs.Crowd.{crowded_at_own_depth}
 use Rattle.mlt_hash_form.proofs.room.crowding_at_own_depth.Goals as goal
 

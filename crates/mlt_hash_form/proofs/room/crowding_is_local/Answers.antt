@@ -1,4 +1,4 @@
-use Rattle.mlt_hash_form.specs.File.{buckets_of, lead_of}
+use Rattle.mlt_hash_form.proofs.Names.{buckets_of, lead_of}
 use Rattle.mlt_hash_form.proofs.Crowd.{crowded_test}
 use Rattle.mlt_hash_form.proofs.room.crowding_is_local.Goals as goal
 

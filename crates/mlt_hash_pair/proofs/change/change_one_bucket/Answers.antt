@@ -1,16 +1,6 @@
-use Rattle.std.proofs.Common.{◌≡◌, ℕ, Option, ap, refl, subst, sym, ◌∙◌, inl, inr}
+use Rattle.std.proofs.Common.{◌≡◌, ℕ, Option, ap, refl, subst, sym, ◌∙◌, inl, inr, nat_cmp}
 use Rattle.std.specs.FinSet as set
-use Rattle.std.specs.Ordering.{nat_cmp}
-use Rattle.mlt_page.specs.declared.page.Page.TheVariants as page
-use Rattle.mlt_page.specs.Values.{BucketFields}
-use Rattle.mlt_hash_access.specs.LocalStates.{LocalState, local}
-use Rattle.mlt_hash_access.specs.Views.{WritesPage, view_of}
-use Rattle.mlt_hash_access.proofs.Leaving.{leaves_it}
-use Rattle.mlt_hash_pair.specs.Plans.{FitsSlots, IsPlanned, bucket_after}
-use Rattle.mlt_hash_pair.specs.declared.asked.RecordChange.{RecordChange}
-use Rattle.mlt_hash_pair.specs.declared.plan.SlotPlan.{SlotPlan}
-use Rattle.mlt_hash_pair.specs.declared.plan.SlotPlan.TheVariants as plan
-use Rattle.mlt_hash_access.proofs.Unwritten.{first_write_is_not_third}
+use Rattle.mlt_hash_pair.proofs.Names.{Page, BucketFields, LocalState, local, WritesPage, view_of, leaves_it, FitsSlots, IsPlanned, bucket_after, RecordChange, SlotPlan, first_write_is_not_third}
 use Rattle.mlt_hash_pair.proofs.Makes.{fits_between, one_changed, one_full, one_reading}
 use Rattle.mlt_hash_pair.proofs.change.change_one_bucket.Goals as goal
 
@@ -35,8 +25,8 @@ plan_in-right_plan-requires c =
 pub returns-in-Full-right_plan : goal.returns-in-Full-right_plan
 returns-in-Full-right_plan c =
     let m : LocalState = local c.args.subtx.now c.args.pages.now in
-    let full = subst (λ (b : BucketFields). IsPlanned plan.Full c.args.changes.now.right c.args.active.now c.args.subtx.now.tx c.args.right.now c.args.number b) c.bucket_after-between.ensures
-    (owned plan.Full c.args.changes.now.right c.args.active.now c.tx-owner.result c.args.subtx.now.tx c.args.right.now c.args.number c.bucket_after-between.result c.tx-owner.ensures c.in-Full-right_plan.ensures.planned) in
+    let full = subst (λ (b : BucketFields). IsPlanned SlotPlan.Full c.args.changes.now.right c.args.active.now c.args.subtx.now.tx c.args.right.now c.args.number b) c.bucket_after-between.ensures
+    (owned SlotPlan.Full c.args.changes.now.right c.args.active.now c.tx-owner.result c.args.subtx.now.tx c.args.right.now c.args.number c.bucket_after-between.result c.tx-owner.ensures c.in-Full-right_plan.ensures.planned) in
     record {
       writes = inl refl;
       leaves = leaves_it m m c.requires.may refl;
@@ -55,8 +45,8 @@ returns c =
     (owned c.plan_in-right_plan.result c.args.changes.now.right c.args.active.now c.tx-owner.result c.args.subtx.now.tx c.args.right.now c.args.number c.bucket_after-between.result c.tx-owner.ensures c.plan_in-right_plan.ensures.planned) in
     let after : c.bucket_after-after.result ≡ bucket_after between c.plan_in-right_plan.result = c.bucket_after-after.ensures ∙ ap (λ b. bucket_after b c.plan_in-right_plan.result) c.bucket_after-between.ensures in
     record {
-      writes = inr (page.Bucket c.bucket_after-after.result, c.in-Ok.ensures.writes);
+      writes = inr (Page.Bucket c.bucket_after-after.result, c.in-Ok.ensures.writes);
       leaves = c.write_held.ensures.leaves;
       tells = one_changed c.args.active.now m c.args.left.now c.args.right.now c.args.number c.args.changes.now c.read_held_bucket-bucket.result.now c.read_held_bucket-bucket.ensures.reads c.plan_in-left_plan.result c.in_default.not-Full (owned c.plan_in-left_plan.result c.args.changes.now.left c.args.active.now c.tx-owner.result c.args.subtx.now.tx c.args.left.now c.args.number c.read_held_bucket-bucket.result.now c.tx-owner.ensures c.plan_in-left_plan.ensures.planned) new c.plan_in-right_plan.result c.in_default-right_plan.not-Full planned c.requires.asked
-          (subst (λ (b : BucketFields). WritesPage (view_of m) (view_of new) c.args.number (page.Bucket b)) after c.in-Ok.ensures.view);
+          (subst (λ (b : BucketFields). WritesPage (view_of m) (view_of new) c.args.number (Page.Bucket b)) after c.in-Ok.ensures.view);
     }

@@ -1,8 +1,5 @@
 use Rattle.std.proofs.Common.{◌≡◌, ◌<◌, ap, refl, inl, arith}
-use Rattle.mlt_hash_access.specs.LocalStates.{LocalState, local}
-use Rattle.mlt_hash_access.specs.Views.{view_of}
-use Rattle.mlt_hash_access.proofs.Leaving.{leaves_it}
-use Rattle.mlt_hash_pair.specs.Pairs.{PairFields}
+use Rattle.mlt_hash_pair.proofs.Names.{LocalState, local, view_of, leaves_it, PairFields}
 use Rattle.mlt_hash_pair.proofs.Makes.{may_write_plan, plan_for, right_full, tells_left_later, tells_right_later, writes_left_later, writes_right_later}
 use Rattle.mlt_hash_pair.proofs.change.change_two_buckets.Goals as goal
 

@@ -1,14 +1,5 @@
-use Rattle.std.proofs.Common.{◌≡◌, inl, inr, refl, subst, sym}
-use Rattle.std.specs.Prelude.{true}
-use Rattle.mlt_page.specs.Values.{BucketFields}
-use Rattle.mlt_page_locks.specs.LockTables.{can_write}
-use Rattle.mlt_hash_access.specs.LocalStates.{LocalState, local}
-use Rattle.mlt_hash_access.specs.Views.{ReadsHeldBucket, view_of}
-use Rattle.mlt_hash_access.proofs.Leaving.{leaves_it}
-use Rattle.mlt_hash_record.specs.Plans.{WriteFields}
-use Rattle.mlt_hash_pair.specs.Writing.{MayWrite, WritesPlan}
-use Rattle.mlt_hash_pair.specs.declared.plan.SlotPlan.TheVariants as plan
-use Rattle.mlt_hash_access.proofs.Unwritten.{first_write_is_not_third}
+use Rattle.std.proofs.Common.{◌≡◌, inl, inr, refl, subst, sym, true}
+use Rattle.mlt_hash_pair.proofs.Names.{BucketFields, can_write, LocalState, local, ReadsHeldBucket, view_of, leaves_it, WriteFields, MayWrite, WritesPlan, SlotPlan, first_write_is_not_third}
 use Rattle.mlt_hash_pair.proofs.change.write_plan.Goals as goal
 
 pub write_slot-requires-clause-held : goal.write_slot-requires-clause-held
@@ -29,7 +20,7 @@ returns-in-Ok-clause-writes c =
     let old : LocalState = local c.args.subtx.now c.args.pages.now in
     let new : LocalState = local c.write_slot.new.subtx c.write_slot.new.pages in
     subst (λ this. WritesPlan this old new) (sym c.in-Set.is)
-    (subst (λ (w : WriteFields). WritesPlan (plan.Set w) old new) c.write.view_is (c.in-Ok.ensures.writes, c.in-Ok.ensures.view))
+    (subst (λ (w : WriteFields). WritesPlan (SlotPlan.Set w) old new) c.write.view_is (c.in-Ok.ensures.writes, c.in-Ok.ensures.view))
 
 pub returns-in-Nothing : goal.returns-in-Nothing
 returns-in-Nothing c =

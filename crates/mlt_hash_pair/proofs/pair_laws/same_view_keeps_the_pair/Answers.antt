@@ -1,6 +1,5 @@
 use Rattle.std.proofs.Common.{subst}
-use Rattle.mlt_hash_pair.specs.Changes.{HasChanged, IsHolding}
-use Rattle.mlt_hash_pair.specs.Pairs.{IsFinding}
+use Rattle.mlt_hash_pair.proofs.Names.{HasChanged, IsHolding, IsFinding}
 use Rattle.mlt_hash_pair.proofs.Laws.{one_view}
 use Rattle.mlt_hash_pair.proofs.pair_laws.same_view_keeps_the_pair.Goals as goal
 

@@ -1,5 +1,5 @@
 use Rattle.std.proofs.Common.{Some, subst}
-use Rattle.mlt_hash_pair.specs.Plans.{FitsSlots}
+use Rattle.mlt_hash_pair.proofs.Names.{FitsSlots}
 use Rattle.mlt_hash_pair.proofs.Slots.{absent_place}
 use Rattle.mlt_hash_pair.proofs.plan.plan_of.Goals as goal
 

@@ -1,20 +1,7 @@
-use Rattle.std.proofs.Math.Nat.{pow-le-pow_right}
-use Rattle.mlt_types.specs.declared.mode.Mode.TheVariants.{Exclusive}
+use Rattle.mlt_hash_split.proofs.Names.{pow-le-pow_right, Exclusive, Page, IsDoubled, LocalState, local, LocksPage, SplitPhase, SplitFields, view_of, first_bits, the_view, reads_held_after, reads_seen, rebased_reads_page, rebased_writes_page, leaves_by_locking, leaves_by_rewriting, leaves_it, same_local}
 use Rattle.std.proofs.Common.{◌≡◌, ℕ, ◌+◌, ◌*◌, ◌≤◌, ◌<◌, ◌^◌, Some, ap, sym, subst, refl, arith}
-use Rattle.mlt_page.specs.declared.page.Page.TheVariants as page
-use Rattle.mlt_hash_form.specs.Splits.{IsDoubled}
-use Rattle.mlt_hash_access.specs.LocalStates.{LocalState, local}
-use Rattle.mlt_hash_access.specs.PageSteps.{LocksPage}
 use Rattle.mlt_hash_split.proofs.HeldPages.{agrees_later, clean_now, file_is_there, header_as_read, reads_held}
-use Rattle.mlt_hash_split.specs.declared.phase.SplitPhase.TheVariants as at
 use Rattle.mlt_hash_split.proofs.Steps.{done_at, left_at, next_page_at}
-use Rattle.mlt_hash_split.specs.Splits.{SplitFields}
-use Rattle.mlt_hash_access.specs.Views.{view_of}
-use Rattle.mlt_page.specs.Bits.{first_bits}
-use Rattle.mlt_hash_split.specs.contracts.split.Split.{the_view}
-use Rattle.mlt_hash_access.proofs.Views.{reads_held_after, reads_seen}
-use Rattle.mlt_hash_access.proofs.Rebased.{rebased_reads_page, rebased_writes_page}
-use Rattle.mlt_hash_access.proofs.Leaving.{leaves_by_locking, leaves_by_rewriting, leaves_it, same_local}
 use Rattle.mlt_hash_split.proofs.Later.{locked_may_be_written}
 use Rattle.mlt_hash_split.proofs.Doubling.{IsRewrite, depth_of_double, few_at_double, goes_on_to_the_only_header, goes_on_to_the_second_half, next_is_read, next_is_there, place_of_double}
 use Rattle.mlt_hash_split.proofs.double.double_page.Given.{Over}
@@ -36,7 +23,7 @@ pub read_held_head-header-requires-clause-head : goal.read_held_head-header-requ
 read_held_head-header-requires-clause-head g c =
     let old = local c.args.subtx.now c.args.pages.now in
     let under = c.requires.1.1.under_way in
-    (under.header, reads_held g.target.before old c.args.root g.target.root (page.Head under.header) c.requires.1.0 c.requires.1.1.written under.head_held under.head)
+    (under.header, reads_held g.target.before old c.args.root g.target.root (Page.Head under.header) c.requires.1.0 c.requires.1.1.written under.head_held under.head)
 
 pub dir-number-requires : goal.dir-number-requires
 dir-number-requires g c = let place = place g (goal.at.dir-number-requires g c).Start in omega (arith, place)
@@ -60,7 +47,7 @@ read_held_dir-dir-requires-clause-dir g c =
     let sees = c.in_default.ensures.view in
     let agreed = agrees_later g.target old mid c.requires.1.1.may c.lock.ensures.leaves.may c.requires.1.1.file (c.lock.ensures.leaves.clean c.requires.1.1.file.clean c.requires.1.1.file.is_clean) in
     let next = next_is_read g.target old c.args.split.now c.args.place c.dir-number.result c.read_held_head-header.result.now c.requires.0 c.requires.1.1.may (clean_now g.target old c.requires.1.1.may c.requires.1.1.file) c.requires.1.1.under_way read c.dir-number.ensures mid sees.0 agreed (rebased_reads_page g.target.before (view_of old) (view_of mid) c.requires.1.1.written c.dir-number.result Exclusive sees.0 sees.1) in
-    (next.0, reads_held_after (view_of old) (view_of mid) c.dir-number.result Exclusive (page.Dir next.0) sees next.1)
+    (next.0, reads_held_after (view_of old) (view_of mid) c.dir-number.result Exclusive (Page.Dir next.0) sees next.1)
 
 pub returns-in-Err-clause-leaves : goal.returns-in-Err-clause-leaves
 returns-in-Err-clause-leaves g c =
@@ -76,7 +63,7 @@ pub returns-in-Err-clause-tells : goal.returns-in-Err-clause-tells
 returns-in-Err-clause-tells g c =
     let old = local c.args.subtx.now c.args.pages.now in
     let read = header_as_read g.target.before old c.args.root g.target.root c.read_held_head-header.result.now c.requires.1.0 c.requires.1.1.written c.read_held_head-header.ensures.reads in
-    (next_page_at g.target old old c.args.split.now (at.Double c.args.place) c.requires.0 c.dir-number.result (c.read_held_head-header.result.now, read, c.dir-number.ensures), c.in-Err.ensures.waits.0, same_local _ _ _ _ refl c.in-Err.ensures.waits.1, refl)
+    (next_page_at g.target old old c.args.split.now (SplitPhase.Double c.args.place) c.requires.0 c.dir-number.result (c.read_held_head-header.result.now, read, c.dir-number.ensures), c.in-Err.ensures.waits.0, same_local _ _ _ _ refl c.in-Err.ensures.waits.1, refl)
 
 pub first_bits-requires : goal.first_bits-requires
 first_bits-requires g c =
@@ -130,7 +117,7 @@ returns-in-Err-write_held-clause-steps g c =
     let new = local c.write_held.new.subtx c.write_held.new.pages in
     let read = header_as_read g.target.before old c.args.root g.target.root c.read_held_head-header.result.now c.requires.1.0 c.requires.1.1.written c.read_held_head-header.ensures.reads in
     let same : new ≡ mid = same_local _ _ _ _ c.in-Err-write_held.ensures.err.0 c.in-Err-write_held.ensures.err.1 in
-    left_at g.target old new c.args.split.now (at.Double c.args.place) c.requires.0 (c.dir-number.result, (c.read_held_head-header.result.now, read, c.dir-number.ensures), subst (λ (n : LocalState). LocksPage old n c.dir-number.result Exclusive) (sym same) c.in_default.ensures.locks)
+    left_at g.target old new c.args.split.now (SplitPhase.Double c.args.place) c.requires.0 (c.dir-number.result, (c.read_held_head-header.result.now, read, c.dir-number.ensures), subst (λ (n : LocalState). LocksPage old n c.dir-number.result Exclusive) (sym same) c.in_default.ensures.locks)
 
 pub returns-clause-steps : goal.returns-clause-steps
 returns-clause-steps g c =
@@ -138,7 +125,7 @@ returns-clause-steps g c =
     let mid = local c.args.subtx.now c.lock.new.pages in
     let new = local c.write_held.new.subtx c.write_held.new.pages in
     let read = header_as_read g.target.before old c.args.root g.target.root c.read_held_head-header.result.now c.requires.1.0 c.requires.1.1.written c.read_held_head-header.ensures.reads in
-    done_at g.target old new c.args.split.now (at.Double c.args.place) c.requires.0 (c.dir-number.result, (c.read_held_head-header.result.now, read, c.dir-number.ensures), (mid, c.in_default.ensures.locks, (_, c.in_default-write_held.ensures.writes)))
+    done_at g.target old new c.args.split.now (SplitPhase.Double c.args.place) c.requires.0 (c.dir-number.result, (c.read_held_head-header.result.now, read, c.dir-number.ensures), (mid, c.in_default.ensures.locks, (_, c.in_default-write_held.ensures.writes)))
 
 pub returns-clause-leaves : goal.returns-clause-leaves
 returns-clause-leaves g c =
@@ -157,8 +144,8 @@ returns-clause-tells g c =
     let step : IsRewrite g.target old mid new split c.args.place c.dir-number.result c.read_held_head-header.result.now c.read_held_dir-dir.result.now c.doubled_page-first.result c.doubled_page-second.result = record {
       read = header_as_read g.target.before old c.args.root g.target.root c.read_held_head-header.result.now c.requires.1.0 c.requires.1.1.written c.read_held_head-header.ensures.reads;
       listed = c.dir-number.ensures;
-      reads = rebased_reads_page g.target.before (view_of old) (view_of mid) c.requires.1.1.written c.dir-number.result Exclusive (Some (page.Dir c.read_held_dir-dir.result.now)) (reads_seen (view_of old) (view_of mid) c.dir-number.result Exclusive (page.Dir c.read_held_dir-dir.result.now) c.in_default.ensures.view c.read_held_dir-dir.ensures.reads);
-      writes = rebased_writes_page g.target.before (view_of mid) (view_of new) c.dir-number.result (page.Dir c.doubled_page-first.result) c.in_default-write_held.ensures.view;
+      reads = rebased_reads_page g.target.before (view_of old) (view_of mid) c.requires.1.1.written c.dir-number.result Exclusive (Some (Page.Dir c.read_held_dir-dir.result.now)) (reads_seen (view_of old) (view_of mid) c.dir-number.result Exclusive (Page.Dir c.read_held_dir-dir.result.now) c.in_default.ensures.view c.read_held_dir-dir.ensures.reads);
+      writes = rebased_writes_page g.target.before (view_of mid) (view_of new) c.dir-number.result (Page.Dir c.doubled_page-first.result) c.in_default-write_held.ensures.view;
       one = record { size = one.size; entries = subst (λ (k : ℕ). IsDoubled c.read_held_dir-dir.result.now c.doubled_page-first.result (2 * c.args.place) k split.new_page) place one.entries };
       two = record { size = two.size; entries = subst (λ (k : ℕ). IsDoubled c.read_held_dir-dir.result.now c.doubled_page-second.result (2 * c.args.place + 1) k split.new_page) place two.entries };
       sized = c.name_page.ensures.places;

@@ -1,15 +1,9 @@
 use Rattle.std.proofs.Common.{◌≡◌, ◌<◌, ◌-◌, ◌*◌, ◌%◌, ◌^◌, ap, arith}
 use Rattle.std.proofs.lemmas.Nat.{one_shl}
-use Rattle.mlt_hash_access.specs.LocalStates.{local}
+use Rattle.mlt_hash_split.proofs.Names.{local, SplitFields, SplitPhase, the_view, Page, view_of, rebased_makes_page, leaves_it, same_local}
 use Rattle.mlt_hash_split.proofs.HeldPages.{clean_now}
-use Rattle.mlt_hash_split.specs.Splits.{SplitFields}
-use Rattle.mlt_hash_split.specs.declared.phase.SplitPhase.TheVariants as at
 use Rattle.mlt_hash_split.proofs.Steps.{done_at, left_at, makes_second_half}
-use Rattle.mlt_hash_split.specs.contracts.split.Split.{the_view}
-use Rattle.mlt_page.specs.declared.page.Page.TheVariants as page
-use Rattle.mlt_hash_access.specs.Views.{view_of}
-use Rattle.mlt_hash_access.proofs.Rebased.{rebased_makes_page}
-use Rattle.mlt_hash_access.proofs.Leaving.{leaves_by_making, leaves_it, same_local}
+use Rattle.mlt_hash_access.proofs.Leaving.{leaves_by_making}
 use Rattle.mlt_hash_split.proofs.Later.{refused_to_make}
 use Rattle.mlt_hash_split.proofs.SecondHalf.{depth_of_second_half, few_at_second_half, place_of_second_half, goes_on_to_another_page, goes_on_to_the_header}
 use Rattle.mlt_hash_split.proofs.double.make_second_half.Given.{Over}
@@ -35,7 +29,7 @@ pub returns-in-Err-clause-steps : goal.returns-in-Err-clause-steps
 returns-in-Err-clause-steps g c =
     let old = local c.args.subtx.now c.args.pages.now in
     let new = local c.make_page.new.subtx c.make_page.new.pages in
-    left_at g.target old new c.args.split.now (at.SecondHalf c.args.place) c.requires.0 (same_local _ _ _ _ c.in-Err.ensures.err.0 c.in-Err.ensures.err.1)
+    left_at g.target old new c.args.split.now (SplitPhase.SecondHalf c.args.place) c.requires.0 (same_local _ _ _ _ c.in-Err.ensures.err.0 c.in-Err.ensures.err.1)
 
 pub returns-in-Err-clause-tells : goal.returns-in-Err-clause-tells
 returns-in-Err-clause-tells g c =
@@ -78,7 +72,7 @@ pub returns-clause-steps : goal.returns-clause-steps
 returns-clause-steps g c =
     let old = local c.args.subtx.now c.args.pages.now in
     let new = local c.make_page.new.subtx c.make_page.new.pages in
-    done_at g.target old new c.args.split.now (at.SecondHalf c.args.place) c.requires.0 (c.in-Ok.number, _, c.in-Ok.ensures.makes)
+    done_at g.target old new c.args.split.now (SplitPhase.SecondHalf c.args.place) c.requires.0 (c.in-Ok.number, _, c.in-Ok.ensures.makes)
 
 pub returns-clause-tells : goal.returns-clause-tells
 returns-clause-tells g c =
@@ -92,8 +86,8 @@ returns-clause-tells g c =
     elim c.if-place-split.branch [
       | then-place-split w ↦
           goes_on_to_another_page g.target old new split c.args.split.now c.args.place c.in-Ok.number c.name_page.new.made c.if-place-split.split c.split.view_is c.requires.0 c.requires.1.may (clean_now g.target old c.requires.1.may c.requires.1.file) c.requires.1.under_way
-          (rebased_makes_page g.target.before (view_of old) (view_of new) c.requires.1.written c.in-Ok.number (page.Dir c.split.inside.second) c.in-Ok.ensures.view) sized (omega (arith, pages, w.if-place-split.true)) c.name_page.ensures.named w.split-is
+          (rebased_makes_page g.target.before (view_of old) (view_of new) c.requires.1.written c.in-Ok.number (Page.Dir c.split.inside.second) c.in-Ok.ensures.view) sized (omega (arith, pages, w.if-place-split.true)) c.name_page.ensures.named w.split-is
       | else-place-split w ↦
           goes_on_to_the_header g.target old new split c.args.split.now c.args.place c.in-Ok.number c.name_page.new.made c.if-place-split.split c.split.view_is c.requires.0 c.requires.1.may (clean_now g.target old c.requires.1.may c.requires.1.file) c.requires.1.under_way
-          (rebased_makes_page g.target.before (view_of old) (view_of new) c.requires.1.written c.in-Ok.number (page.Dir c.split.inside.second) c.in-Ok.ensures.view) sized (omega (arith, pages, w.if-place-split.false)) c.name_page.ensures.named w.split-is
+          (rebased_makes_page g.target.before (view_of old) (view_of new) c.requires.1.written c.in-Ok.number (Page.Dir c.split.inside.second) c.in-Ok.ensures.view) sized (omega (arith, pages, w.if-place-split.false)) c.name_page.ensures.named w.split-is
     ]

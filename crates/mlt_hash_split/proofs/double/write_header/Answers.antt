@@ -1,16 +1,8 @@
 use Rattle.std.proofs.Common.{◌≡◌, ℕ, true, sym, ap, subst, arith}
-use Rattle.mlt_page.specs.Values.{HeadFields}
-use Rattle.mlt_page.specs.declared.page.Page.TheVariants as page
-use Rattle.mlt_page_locks.specs.LockTables.{can_write}
+use Rattle.mlt_hash_split.proofs.Names.{HeadFields, Page, can_write, SplitFields, WritesPage, view_of, local, SplitPhase, rebased_writes_page, leaves_by_writing, leaves_it, same_local}
 use Rattle.mlt_hash_split.proofs.HeldPages.{clean_now}
-use Rattle.mlt_hash_split.specs.Splits.{SplitFields}
-use Rattle.mlt_hash_access.specs.Views.{WritesPage, view_of}
-use Rattle.mlt_hash_access.specs.LocalStates.{local}
-use Rattle.mlt_hash_split.specs.declared.phase.SplitPhase.TheVariants as at
 use Rattle.mlt_hash_split.proofs.Steps.{done_at, header_is_written, left_at}
 use Rattle.mlt_hash_split.proofs.Header.{depth_of_header, header_may_be_written, rests_at_header}
-use Rattle.mlt_hash_access.proofs.Rebased.{rebased_writes_page}
-use Rattle.mlt_hash_access.proofs.Leaving.{leaves_by_writing, leaves_it, same_local}
 use Rattle.mlt_hash_split.proofs.double.write_header.Goals as goal
 
 pub write_held-requires-clause-held : goal.write_held-requires-clause-held
@@ -32,15 +24,15 @@ pub returns-in-Ok-clause-steps : goal.returns-in-Ok-clause-steps
 returns-in-Ok-clause-steps g c =
     let old = local c.args.subtx.now c.args.pages.now in
     let new = local c.write_held.new.subtx c.write_held.new.pages in
-    done_at g.target old new c.args.split.now at.Header c.requires.0 (header_is_written old new c.args.root g.target.root _ c.requires.1.0 c.in-Ok.ensures.writes)
+    done_at g.target old new c.args.split.now SplitPhase.Header c.requires.0 (header_is_written old new c.args.root g.target.root _ c.requires.1.0 c.in-Ok.ensures.writes)
 
 pub returns-in-Ok-clause-tells : goal.returns-in-Ok-clause-tells
 returns-in-Ok-clause-tells g c =
     let old = local c.args.subtx.now c.args.pages.now in
     let new = local c.write_held.new.subtx c.write_held.new.pages in
-    let writes : WritesPage (view_of old) (view_of new) g.target.root (page.Head c.args.split.now.made) =
-    subst (λ (p : ℕ × HeadFields). WritesPage (view_of old) (view_of new) p.0 (page.Head p.1)) (λ i. (c.requires.1.0 i, ap (λ (s : SplitFields). s.made) c.split.view_is i)) c.in-Ok.ensures.view in
-    rests_at_header g.target old new c.args.split.now c.key_bucket.result c.requires.0 c.requires.1.1.may (clean_now g.target old c.requires.1.1.may c.requires.1.1.file) c.requires.1.1.under_way (rebased_writes_page g.target.before (view_of old) (view_of new) g.target.root (page.Head c.args.split.now.made) writes) c.key_bucket.ensures
+    let writes : WritesPage (view_of old) (view_of new) g.target.root (Page.Head c.args.split.now.made) =
+    subst (λ (p : ℕ × HeadFields). WritesPage (view_of old) (view_of new) p.0 (Page.Head p.1)) (λ i. (c.requires.1.0 i, ap (λ (s : SplitFields). s.made) c.split.view_is i)) c.in-Ok.ensures.view in
+    rests_at_header g.target old new c.args.split.now c.key_bucket.result c.requires.0 c.requires.1.1.may (clean_now g.target old c.requires.1.1.may c.requires.1.1.file) c.requires.1.1.under_way (rebased_writes_page g.target.before (view_of old) (view_of new) g.target.root (Page.Head c.args.split.now.made) writes) c.key_bucket.ensures
 
 pub returns-in-Err-clause-leaves : goal.returns-in-Err-clause-leaves
 returns-in-Err-clause-leaves g c =
@@ -51,4 +43,4 @@ pub returns-in-Err-clause-steps : goal.returns-in-Err-clause-steps
 returns-in-Err-clause-steps g c =
     let old = local c.args.subtx.now c.args.pages.now in
     let new = local c.write_held.new.subtx c.write_held.new.pages in
-    left_at g.target old new c.args.split.now at.Header c.requires.0 (same_local _ _ _ _ c.in-Err.ensures.err.0 c.in-Err.ensures.err.1)
+    left_at g.target old new c.args.split.now SplitPhase.Header c.requires.0 (same_local _ _ _ _ c.in-Err.ensures.err.0 c.in-Err.ensures.err.1)

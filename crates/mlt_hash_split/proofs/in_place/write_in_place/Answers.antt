@@ -1,28 +1,17 @@
 use Rattle.std.proofs.Common.{◌≡◌, ◌≤◌, ◌<◌, ◌+◌, ◌^◌, Some, refl, sym, ap, subst, arith}
-use Rattle.std.proofs.Math.Nat.{pow-le-pow_right}
-use Rattle.mlt_types.specs.declared.mode.Mode.TheVariants.{Exclusive}
-use Rattle.mlt_page.specs.declared.page.Page.TheVariants as page
-use Rattle.mlt_hash_access.specs.LocalStates.{LocalState, local}
-use Rattle.mlt_hash_access.specs.PageSteps.{LocksPage}
-use Rattle.mlt_hash_access.specs.Views.{view_over, ReadsPage, view_of}
-use Rattle.mlt_hash_split.specs.Splits.{SplitFields}
-use Rattle.mlt_hash_split.specs.Tells.{GoesOn}
-use Rattle.mlt_hash_split.specs.declared.phase.SplitPhase.TheVariants as at
+use Rattle.mlt_hash_split.proofs.Names.{pow-le-pow_right, Exclusive, Page, LocalState, local, LocksPage, view_over, ReadsPage, view_of, SplitFields, GoesOn, SplitPhase, rebased_reads_page, rebased_writes_page, leaves_by_locking, leaves_by_rewriting, leaves_it, same_local, reads_held_after, reads_seen}
 use Rattle.mlt_hash_split.proofs.HeldPages.{agrees_later, clean_later, clean_now, file_is_there, header_as_read, reads_held}
 use Rattle.mlt_hash_split.proofs.Closing.{HasClean}
-use Rattle.mlt_hash_access.proofs.Rebased.{rebased_reads_page, rebased_writes_page}
-use Rattle.mlt_hash_access.proofs.Leaving.{leaves_by_locking, leaves_by_rewriting, leaves_it, same_local}
 use Rattle.mlt_hash_split.proofs.Later.{locked_may_be_written}
 use Rattle.mlt_hash_split.proofs.InPlace.{AreNewPlaces, IsMadeInPlace, depths_here, end_is_small, few_are_held_here, in_place_goes_on, in_place_rests, next_is_dir, next_is_there, place_before_end, place_is_small}
 use Rattle.mlt_hash_split.proofs.Steps.{done_at, left_at, next_page_at}
-use Rattle.mlt_hash_access.proofs.Views.{reads_held_after, reads_seen}
 use Rattle.mlt_hash_split.proofs.in_place.write_in_place.Goals as goal
 
 pub read_held_head-header-requires-clause-head : goal.read_held_head-header-requires-clause-head
 read_held_head-header-requires-clause-head g c =
     let m = local c.args.subtx.now c.args.pages.now in
     let under = c.requires.1.1.under_way in
-    (under.header, reads_held g.target.before m c.args.root g.target.root (page.Head under.header) c.requires.1.0 c.requires.1.1.written under.head_held under.head)
+    (under.header, reads_held g.target.before m c.args.root g.target.root (Page.Head under.header) c.requires.1.0 c.requires.1.1.written under.head_held under.head)
 
 pub dir-number-requires : goal.dir-number-requires
 dir-number-requires g c =
@@ -48,7 +37,7 @@ read_held_dir-dir-requires-clause-dir g c =
     let sees = c.in_default.ensures.view in
     let agreed = agrees_later g.target m mid c.requires.1.1.may c.lock.ensures.leaves.may c.requires.1.1.file (c.lock.ensures.leaves.clean c.requires.1.1.file.clean c.requires.1.1.file.is_clean) in
     let next = next_is_dir g.target m c.args.split.now c.args.place c.args.end c.requires.1.1.may (clean_now g.target m c.requires.1.1.may c.requires.1.1.file) c.requires.1.1.under_way c.requires.0 c.read_held_head-header.result.now head c.dir-number.result c.dir-number.ensures (view_over g.target.before mid) sees.0 (rebased_reads_page g.target.before (view_of m) (view_of mid) c.requires.1.1.written c.dir-number.result Exclusive sees.0 sees.1) agreed in
-    (next.0, reads_held_after (view_of m) (view_of mid) c.dir-number.result Exclusive (page.Dir next.0) sees next.1)
+    (next.0, reads_held_after (view_of m) (view_of mid) c.dir-number.result Exclusive (Page.Dir next.0) sees next.1)
 
 pub returns-in-Err-clause-leaves : goal.returns-in-Err-clause-leaves
 returns-in-Err-clause-leaves g c =
@@ -63,7 +52,7 @@ pub returns-in-Err-clause-tells : goal.returns-in-Err-clause-tells
 returns-in-Err-clause-tells g c =
     let m = local c.args.subtx.now c.args.pages.now in
     let head = header_as_read g.target.before m c.args.root g.target.root c.read_held_head-header.result.now c.requires.1.0 c.requires.1.1.written c.read_held_head-header.ensures.reads in
-    (next_page_at g.target m m c.args.split.now (at.InPlace c.args.place c.args.end) c.requires.0 c.dir-number.result (c.read_held_head-header.result.now, head, c.dir-number.ensures), c.in-Err.ensures.waits.0, same_local _ _ _ _ refl c.in-Err.ensures.waits.1, refl)
+    (next_page_at g.target m m c.args.split.now (SplitPhase.InPlace c.args.place c.args.end) c.requires.0 c.dir-number.result (c.read_held_head-header.result.now, head, c.dir-number.ensures), c.in-Err.ensures.waits.0, same_local _ _ _ _ refl c.in-Err.ensures.waits.1, refl)
 
 pub of-places-requires : goal.of-places-requires
 of-places-requires g c =
@@ -107,7 +96,7 @@ returns-in-Err-write_held-clause-steps g c =
     let new = local c.write_held.new.subtx c.write_held.new.pages in
     let head = header_as_read g.target.before m c.args.root g.target.root c.read_held_head-header.result.now c.requires.1.0 c.requires.1.1.written c.read_held_head-header.ensures.reads in
     let same : new ≡ mid = same_local _ _ _ _ c.in-Err-write_held.ensures.err.0 c.in-Err-write_held.ensures.err.1 in
-    left_at g.target m new c.args.split.now (at.InPlace c.args.place c.args.end) c.requires.0 (c.dir-number.result, (c.read_held_head-header.result.now, head, c.dir-number.ensures), subst (λ (n : LocalState). LocksPage m n c.dir-number.result Exclusive) (sym same) c.in_default.ensures.locks)
+    left_at g.target m new c.args.split.now (SplitPhase.InPlace c.args.place c.args.end) c.requires.0 (c.dir-number.result, (c.read_held_head-header.result.now, head, c.dir-number.ensures), subst (λ (n : LocalState). LocksPage m n c.dir-number.result Exclusive) (sym same) c.in_default.ensures.locks)
 
 pub overflow_add-place : goal.overflow_add-place
 overflow_add-place g c =
@@ -134,7 +123,7 @@ returns-then-place-end-clause-steps g c =
     let mid = local c.args.subtx.now c.lock.new.pages in
     let new = local c.write_held.new.subtx c.write_held.new.pages in
     let head = header_as_read g.target.before m c.args.root g.target.root c.read_held_head-header.result.now c.requires.1.0 c.requires.1.1.written c.read_held_head-header.ensures.reads in
-    done_at g.target m new c.args.split.now (at.InPlace c.args.place c.args.end) c.requires.0 (c.dir-number.result, (c.read_held_head-header.result.now, head, c.dir-number.ensures), (mid, c.in_default.ensures.locks, (_, c.in_default-write_held.ensures.writes)))
+    done_at g.target m new c.args.split.now (SplitPhase.InPlace c.args.place c.args.end) c.requires.0 (c.dir-number.result, (c.read_held_head-header.result.now, head, c.dir-number.ensures), (mid, c.in_default.ensures.locks, (_, c.in_default-write_held.ensures.writes)))
 
 pub returns-then-place-end-clause-tells : goal.returns-then-place-end-clause-tells
 returns-then-place-end-clause-tells g c =
@@ -144,8 +133,8 @@ returns-then-place-end-clause-tells g c =
     let head = header_as_read g.target.before m c.args.root g.target.root c.read_held_head-header.result.now c.requires.1.0 c.requires.1.1.written c.read_held_head-header.ensures.reads in
     let places : AreNewPlaces c.args.split.now c.of-places.result.first c.of-places.result.count = subst (λ (s : SplitFields). AreNewPlaces s c.of-places.result.first c.of-places.result.count) c.split.view_is (record { first_is = c.of-places.ensures.first; count_is = c.of-places.ensures.count }) in
     let has : IsMadeInPlace c.read_held_dir-dir.result.now c.page_with_new_places-page.result c.args.place c.of-places.result.first c.of-places.result.count c.args.split.now.new_page = subst (λ (s : SplitFields). IsMadeInPlace c.read_held_dir-dir.result.now c.page_with_new_places-page.result c.args.place c.of-places.result.first c.of-places.result.count s.new_page) c.split.view_is (record { size = c.page_with_new_places-page.ensures.size; entries = c.page_with_new_places-page.ensures.entries }) in
-    let reads : ReadsPage (view_over g.target.before m) (view_over g.target.before mid) c.dir-number.result Exclusive (Some (page.Dir c.read_held_dir-dir.result.now)) = rebased_reads_page g.target.before (view_of m) (view_of mid) c.requires.1.1.written c.dir-number.result Exclusive (Some (page.Dir c.read_held_dir-dir.result.now)) (reads_seen (view_of m) (view_of mid) c.dir-number.result Exclusive (page.Dir c.read_held_dir-dir.result.now) c.in_default.ensures.view c.read_held_dir-dir.ensures.reads) in
-    let writes = rebased_writes_page g.target.before (view_of mid) (view_of new) c.dir-number.result (page.Dir c.page_with_new_places-page.result) c.in_default-write_held.ensures.view in
+    let reads : ReadsPage (view_over g.target.before m) (view_over g.target.before mid) c.dir-number.result Exclusive (Some (Page.Dir c.read_held_dir-dir.result.now)) = rebased_reads_page g.target.before (view_of m) (view_of mid) c.requires.1.1.written c.dir-number.result Exclusive (Some (Page.Dir c.read_held_dir-dir.result.now)) (reads_seen (view_of m) (view_of mid) c.dir-number.result Exclusive (Page.Dir c.read_held_dir-dir.result.now) c.in_default.ensures.view c.read_held_dir-dir.ensures.reads) in
+    let writes = rebased_writes_page g.target.before (view_of mid) (view_of new) c.dir-number.result (Page.Dir c.page_with_new_places-page.result) c.in_default-write_held.ensures.view in
     let file = c.requires.1.1.file in
     let clean : HasClean g.target (view_over g.target.before new) = clean_later g.target m new c.write_held.ensures.leaves.may file (c.write_held.ensures.leaves.clean file.clean (c.lock.ensures.leaves.clean file.clean file.is_clean)) in
     in_place_rests g.target m c.args.split.now c.args.place c.args.end c.requires.1.1.may (clean_now g.target m c.requires.1.1.may c.requires.1.1.file) c.requires.1.1.under_way c.requires.0 c.read_held_head-header.result.now head c.dir-number.result c.dir-number.ensures new (view_over g.target.before mid) c.read_held_dir-dir.result.now c.page_with_new_places-page.result c.of-places.result.first c.of-places.result.count places has reads writes c.key_bucket.result c.if-place-end.true clean c.key_bucket.ensures
@@ -169,7 +158,7 @@ returns-clause-steps g c =
     let mid = local c.args.subtx.now c.lock.new.pages in
     let new = local c.write_held.new.subtx c.write_held.new.pages in
     let head = header_as_read g.target.before m c.args.root g.target.root c.read_held_head-header.result.now c.requires.1.0 c.requires.1.1.written c.read_held_head-header.ensures.reads in
-    done_at g.target m new c.args.split.now (at.InPlace c.args.place c.args.end) c.requires.0 (c.dir-number.result, (c.read_held_head-header.result.now, head, c.dir-number.ensures), (mid, c.in_default.ensures.locks, (_, c.in_default-write_held.ensures.writes)))
+    done_at g.target m new c.args.split.now (SplitPhase.InPlace c.args.place c.args.end) c.requires.0 (c.dir-number.result, (c.read_held_head-header.result.now, head, c.dir-number.ensures), (mid, c.in_default.ensures.locks, (_, c.in_default-write_held.ensures.writes)))
 
 pub returns-clause-tells : goal.returns-clause-tells
 returns-clause-tells g c =
@@ -179,9 +168,9 @@ returns-clause-tells g c =
     let head = header_as_read g.target.before m c.args.root g.target.root c.read_held_head-header.result.now c.requires.1.0 c.requires.1.1.written c.read_held_head-header.ensures.reads in
     let places : AreNewPlaces c.args.split.now c.of-places.result.first c.of-places.result.count = subst (λ (s : SplitFields). AreNewPlaces s c.of-places.result.first c.of-places.result.count) c.split.view_is (record { first_is = c.of-places.ensures.first; count_is = c.of-places.ensures.count }) in
     let has : IsMadeInPlace c.read_held_dir-dir.result.now c.page_with_new_places-page.result c.args.place c.of-places.result.first c.of-places.result.count c.args.split.now.new_page = subst (λ (s : SplitFields). IsMadeInPlace c.read_held_dir-dir.result.now c.page_with_new_places-page.result c.args.place c.of-places.result.first c.of-places.result.count s.new_page) c.split.view_is (record { size = c.page_with_new_places-page.ensures.size; entries = c.page_with_new_places-page.ensures.entries }) in
-    let reads : ReadsPage (view_over g.target.before m) (view_over g.target.before mid) c.dir-number.result Exclusive (Some (page.Dir c.read_held_dir-dir.result.now)) = rebased_reads_page g.target.before (view_of m) (view_of mid) c.requires.1.1.written c.dir-number.result Exclusive (Some (page.Dir c.read_held_dir-dir.result.now)) (reads_seen (view_of m) (view_of mid) c.dir-number.result Exclusive (page.Dir c.read_held_dir-dir.result.now) c.in_default.ensures.view c.read_held_dir-dir.ensures.reads) in
-    let writes = rebased_writes_page g.target.before (view_of mid) (view_of new) c.dir-number.result (page.Dir c.page_with_new_places-page.result) c.in_default-write_held.ensures.view in
+    let reads : ReadsPage (view_over g.target.before m) (view_over g.target.before mid) c.dir-number.result Exclusive (Some (Page.Dir c.read_held_dir-dir.result.now)) = rebased_reads_page g.target.before (view_of m) (view_of mid) c.requires.1.1.written c.dir-number.result Exclusive (Some (Page.Dir c.read_held_dir-dir.result.now)) (reads_seen (view_of m) (view_of mid) c.dir-number.result Exclusive (Page.Dir c.read_held_dir-dir.result.now) c.in_default.ensures.view c.read_held_dir-dir.ensures.reads) in
+    let writes = rebased_writes_page g.target.before (view_of mid) (view_of new) c.dir-number.result (Page.Dir c.page_with_new_places-page.result) c.in_default-write_held.ensures.view in
     let before = place_before_end g.target m c.args.split.now c.args.place c.args.end c.requires.1.1.may (clean_now g.target m c.requires.1.1.may c.requires.1.1.file) c.requires.1.1.under_way c.requires.0 in
     let more : c.args.place + 1 < c.args.end = omega (arith, before, c.if-place-end.false) in
     let goes = in_place_goes_on g.target m c.args.split.now c.args.place c.args.end c.requires.1.1.may (clean_now g.target m c.requires.1.1.may c.requires.1.1.file) c.requires.1.1.under_way c.requires.0 c.read_held_head-header.result.now head c.dir-number.result c.dir-number.ensures new (view_over g.target.before mid) c.read_held_dir-dir.result.now c.page_with_new_places-page.result c.of-places.result.first c.of-places.result.count places has reads writes more in
-    subst (λ (s : SplitFields). GoesOn g.target new c.args.split.now (record s { phase = at.InPlace (c.args.place + 1) c.args.end })) (sym c.split.view_is) goes
+    subst (λ (s : SplitFields). GoesOn g.target new c.args.split.now (record s { phase = SplitPhase.InPlace (c.args.place + 1) c.args.end })) (sym c.split.view_is) goes

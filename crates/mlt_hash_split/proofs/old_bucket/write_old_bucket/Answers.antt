@@ -1,15 +1,6 @@
 use Rattle.std.proofs.Common.{◌≡◌, sym, ◌∙◌, ap, subst}
-use Rattle.mlt_page.specs.declared.page.Page.TheVariants as page
-use Rattle.mlt_hash_access.proofs.Rebased.{rebased_writes_page}
+use Rattle.mlt_hash_split.proofs.Names.{Page, rebased_writes_page, IsFirstPhase, local, WritesHeldPage, view_over, view_of, IsUnderWay, SplitFields, GoesOn, SplitPhase, leaves_by_writing, leaves_it, same_local}
 use Rattle.mlt_hash_split.proofs.HeldPages.{clean_now}
-use Rattle.mlt_hash_split.specs.FirstPhases.{IsFirstPhase}
-use Rattle.mlt_hash_access.specs.LocalStates.{local}
-use Rattle.mlt_hash_access.specs.PageSteps.{WritesHeldPage}
-use Rattle.mlt_hash_access.specs.Views.{view_over, view_of}
-use Rattle.mlt_hash_split.specs.Splits.{IsUnderWay, SplitFields}
-use Rattle.mlt_hash_split.specs.Tells.{GoesOn}
-use Rattle.mlt_hash_split.specs.declared.phase.SplitPhase.TheVariants as at
-use Rattle.mlt_hash_access.proofs.Leaving.{leaves_by_writing, leaves_it, same_local}
 use Rattle.mlt_hash_split.proofs.Later.{begins_now}
 use Rattle.mlt_hash_split.proofs.Steps.{done_at, left_at}
 use Rattle.mlt_hash_split.proofs.OldBucket.{depths_are_small, old_bucket_step}
@@ -29,16 +20,16 @@ pub returns-in-Err-clause-steps : goal.returns-in-Err-clause-steps
 returns-in-Err-clause-steps g c =
     let m = local c.args.subtx.now c.args.pages.now in
     let new = local c.write_held.new.subtx c.write_held.new.pages in
-    left_at g.target m new c.args.split.now at.OldBucket c.requires.0 (same_local _ _ _ _ c.in-Err.ensures.err.0 c.in-Err.ensures.err.1)
+    left_at g.target m new c.args.split.now SplitPhase.OldBucket c.requires.0 (same_local _ _ _ _ c.in-Err.ensures.err.0 c.in-Err.ensures.err.1)
 
 pub returns-clause-steps : goal.returns-clause-steps
 returns-clause-steps g c =
     let m = local c.args.subtx.now c.args.pages.now in
     let new = local c.write_held.new.subtx c.write_held.new.pages in
-    done_at g.target m new c.args.split.now at.OldBucket c.requires.0 (page.Bucket c.split.inside.zeros, subst (λ (s : SplitFields). WritesHeldPage m new s.old_page (page.Bucket c.split.inside.zeros)) c.split.view_is c.in_default.ensures.writes)
+    done_at g.target m new c.args.split.now SplitPhase.OldBucket c.requires.0 (Page.Bucket c.split.inside.zeros, subst (λ (s : SplitFields). WritesHeldPage m new s.old_page (Page.Bucket c.split.inside.zeros)) c.split.view_is c.in_default.ensures.writes)
 
 pub returns-clause-leaves : goal.returns-clause-leaves
-returns-clause-leaves g c = leaves_by_writing _ _ c.split.inside.old_page (page.Bucket c.split.inside.zeros) c.requires.1.may c.in_default.ensures.writes
+returns-clause-leaves g c = leaves_by_writing _ _ c.split.inside.old_page (Page.Bucket c.split.inside.zeros) c.requires.1.may c.in_default.ensures.writes
 
 pub returns-clause-tells : goal.returns-clause-tells
 returns-clause-tells g c =
@@ -49,6 +40,6 @@ returns-clause-tells g c =
     let is : split ≡ c.args.split.now = c.split.view_is in
     let way : IsUnderWay g.target (view_over g.target.before m) split = subst (λ (s : SplitFields). IsUnderWay g.target (view_over g.target.before m) s) (sym is) c.requires.1.under_way in
     let first : IsFirstPhase split phase = subst (λ (s : SplitFields). IsFirstPhase s phase) (sym is) c.first_directory_step-split-inside.ensures in
-    let at_old : split.phase ≡ at.OldBucket = ap (λ (s : SplitFields). s.phase) is ∙ c.requires.0 in
+    let at_old : split.phase ≡ SplitPhase.OldBucket = ap (λ (s : SplitFields). s.phase) is ∙ c.requires.0 in
     subst (λ (s : SplitFields). GoesOn g.target new s (record split { phase = phase })) is
-    (old_bucket_step g.target m new split phase c.requires.1.may (clean_now g.target m c.requires.1.may c.requires.1.file) way at_old (rebased_writes_page g.target.before (view_of m) (view_of new) split.old_page (page.Bucket split.zeros) c.in_default.ensures.view) first)
+    (old_bucket_step g.target m new split phase c.requires.1.may (clean_now g.target m c.requires.1.may c.requires.1.file) way at_old (rebased_writes_page g.target.before (view_of m) (view_of new) split.old_page (Page.Bucket split.zeros) c.in_default.ensures.view) first)

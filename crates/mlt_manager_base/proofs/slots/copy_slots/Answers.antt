@@ -1,5 +1,4 @@
-use Rattle.std.proofs.Common.{List, subst, arith}
-use Rattle.std.proofs.lemmas.List.{take_all}
+use Rattle.std.proofs.Common.{List, subst, arith, take_all}
 use Rattle.mlt_page.specs.declared.slot.Slot.{Slot}
 use Rattle.mlt_manager_base.specs.Copies.{CopiesSlots}
 use Rattle.mlt_manager_base.proofs.OneByOne.{nothing_copied, one_of_slots, went_on}

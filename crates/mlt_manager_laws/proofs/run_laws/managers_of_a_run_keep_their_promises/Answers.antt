@@ -1,4 +1,4 @@
-use Rattle.mlt_manager.proofs.Promises.{promises_kept}
+use Rattle.mlt_manager_laws.proofs.Names.{promises_kept}
 use Rattle.mlt_manager_laws.proofs.Runs.{cut_run, reached}
 use Rattle.mlt_manager_laws.proofs.run_laws.managers_of_a_run_keep_their_promises.Goals as goal
 

@@ -1,5 +1,5 @@
 use Rattle.std.proofs.Common.{◌+◌, List, ℕ, ap, subst, sym, ◌∙◌, Some}
-use Rattle.mlt_manager_reasons.specs.Tables.{table_of}
+use Rattle.mlt_manager_reasons.proofs.Names.{table_of}
 use Rattle.mlt_manager_reasons.proofs.Linking.{IsLinked, is_cycle, no_cycle, no_more_links, one_more_link}
 use Rattle.mlt_manager_reasons.proofs.cycles.cycle.Goals as goal
 

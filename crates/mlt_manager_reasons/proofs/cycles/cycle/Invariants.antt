@@ -1,4 +1,4 @@
-use Rattle.mlt_manager_reasons.specs.Tables.{table_of}
+use Rattle.mlt_manager_reasons.proofs.Names.{table_of}
 use Rattle.mlt_manager_reasons.proofs.Linking.{IsLinked}
 use Rattle.mlt_manager_reasons.proofs.cycles.cycle.Given as goal
 

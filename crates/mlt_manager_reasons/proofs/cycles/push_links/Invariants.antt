@@ -1,7 +1,5 @@
-use Rattle.std.proofs.Common.{◌≡◌, ◌++◌, take}
-use Rattle.std.specs.List.{flat_map}
-use Rattle.std.specs.String.{string_bytes}
-use Rattle.mlt_manager_reasons.specs.Reasons.{next_link}
+use Rattle.std.proofs.Common.{◌≡◌, ◌++◌, take, flat_map, string_bytes}
+use Rattle.mlt_manager_reasons.proofs.Names.{next_link}
 use Rattle.mlt_manager_reasons.proofs.cycles.push_links.Given as goal
 
 abbrev pub invariant-loop-link : goal.invariant-loop-link

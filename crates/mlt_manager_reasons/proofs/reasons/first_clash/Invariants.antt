@@ -1,5 +1,5 @@
 use Rattle.std.proofs.Common.{◌≡◌, drop}
-use Rattle.mlt_manager_reasons.specs.Reasons.{first_clash}
+use Rattle.mlt_manager_reasons.proofs.Names.{first_clash}
 use Rattle.mlt_manager_reasons.proofs.reasons.first_clash.Given as goal
 
 abbrev pub invariant-loop-one : goal.invariant-loop-one

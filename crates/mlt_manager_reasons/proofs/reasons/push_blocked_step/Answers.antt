@@ -1,8 +1,6 @@
 use Rattle.std.proofs.Common.{◌≡◌, ◌++◌, List, Option, ℕ, append_assoc, refl, sym, subst}
-use Rattle.mlt_object_kinds.specs.declared.operation.ObjOp.{ObjOp}
-use Rattle.mlt_manager_reasons.specs.Cycles.{cycle_of}
-use Rattle.mlt_manager_reasons.specs.Reasons.{AreBlockLines, IsInTheWay, cycle_line}
-use Rattle.mlt_manager_reasons.specs.Tables.{table_of}
+use Rattle.mlt_manager_reasons.proofs.Names.{ObjOp, cycle_of, cycle_line, table_of}
+use Rattle.mlt_manager_reasons.specs.Reasons.{AreBlockLines, IsInTheWay}
 use Rattle.mlt_manager_reasons.proofs.reasons.push_blocked_step.Goals as goal
 
 -- two texts are appended

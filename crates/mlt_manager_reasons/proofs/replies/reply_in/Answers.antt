@@ -2,14 +2,12 @@ use Rattle.std.proofs.Common.{◌≡◌, ℕ, Bool, Option, sym, subst}
 use Rattle.mlt_object_kinds.specs.declared.account.AccountOp.{AccountOp}
 use Rattle.mlt_object_kinds.specs.declared.counter.CounterOp.{CounterOp}
 use Rattle.mlt_object_kinds.specs.declared.element.ElementOp.{ElementOp}
-use Rattle.mlt_object_kinds.specs.declared.operation.ObjOp.{ObjOp}
-use Rattle.mlt_object_kinds.specs.declared.operation.ObjOp.TheVariants as op
-use Rattle.mlt_object_kinds.specs.declared.operation.ObjReply.{ObjReply}
+use Rattle.mlt_manager_reasons.proofs.Names.{ObjOp, ObjReply, Base, Step}
 use Rattle.mlt_object_kinds.specs.declared.operation.ObjReply.TheVariants.{Is}
 use Rattle.mlt_object_kinds.specs.Accounts.{AccountStep}
 use Rattle.mlt_object_kinds.specs.Counters.{CounterStep}
 use Rattle.mlt_object_kinds.specs.Elements.{ElementStep}
-use Rattle.mlt_object_kinds.specs.Bases.{Base, Step, TellsSize, account_at, counter_at, element_at, size_at, state_at, with_state}
+use Rattle.mlt_object_kinds.specs.Bases.{TellsSize, account_at, counter_at, element_at, size_at, state_at, with_state}
 use Rattle.mlt_object_kinds.specs.Cells.{CellState, CellStep}
 use Rattle.mlt_object_kinds.specs.Cells.CellState.{AccountState, CounterState, ElementState, NoState}
 use Rattle.mlt_object_kinds.specs.Operations.{cell_of}
@@ -24,17 +22,17 @@ IsToldIn b o r = (next : Base) × Step b (o, r) next
 told_by : (b : Base) (o replayed : ObjOp) (r : ObjReply) (t : CellState) → o ≡ replayed → CellStep (state_at b (cell_of replayed)) (replayed, r) t → TellsSize b (replayed, r) → IsToldIn b o r
 told_by b o replayed r t is h told = subst (λ (y : ObjOp). IsToldIn b y r) (sym is) (with_state b (cell_of replayed) t, step_to b (replayed, r) t h told)
 
-account_told : (b : Base) (o : ObjOp) (a : ℕ) (asked : AccountOp) (r : ObjReply) (s t : Option ℕ) → o ≡ op.Account a asked → s ≡ account_at b a → AccountStep s asked r t → IsToldIn b o r
-account_told b o a asked r s t is here h = told_by b o (op.Account a asked) r (AccountState t) is (subst (λ u. AccountStep u asked r t) here h) tt
+account_told : (b : Base) (o : ObjOp) (a : ℕ) (asked : AccountOp) (r : ObjReply) (s t : Option ℕ) → o ≡ ObjOp.Account a asked → s ≡ account_at b a → AccountStep s asked r t → IsToldIn b o r
+account_told b o a asked r s t is here h = told_by b o (ObjOp.Account a asked) r (AccountState t) is (subst (λ u. AccountStep u asked r t) here h) tt
 
-element_told : (b : Base) (o : ObjOp) (set e : ℕ) (asked : ElementOp) (r : ObjReply) (s t : Bool) → o ≡ op.Element set e asked → s ≡ element_at b set e → ElementStep s asked r t → IsToldIn b o r
-element_told b o set e asked r s t is here h = told_by b o (op.Element set e asked) r (ElementState t) is (subst (λ u. ElementStep u asked r t) here h) tt
+element_told : (b : Base) (o : ObjOp) (set e : ℕ) (asked : ElementOp) (r : ObjReply) (s t : Bool) → o ≡ ObjOp.Element set e asked → s ≡ element_at b set e → ElementStep s asked r t → IsToldIn b o r
+element_told b o set e asked r s t is here h = told_by b o (ObjOp.Element set e asked) r (ElementState t) is (subst (λ u. ElementStep u asked r t) here h) tt
 
-counter_told : (b : Base) (o : ObjOp) (n : ℕ) (asked : CounterOp) (r : ObjReply) (s t : ℕ) → o ≡ op.Counter n asked → s ≡ counter_at b n → CounterStep s asked r t → IsToldIn b o r
-counter_told b o n asked r s t is here h = told_by b o (op.Counter n asked) r (CounterState t) is (subst (λ u. CounterStep u asked r t) here h) tt
+counter_told : (b : Base) (o : ObjOp) (n : ℕ) (asked : CounterOp) (r : ObjReply) (s t : ℕ) → o ≡ ObjOp.Counter n asked → s ≡ counter_at b n → CounterStep s asked r t → IsToldIn b o r
+counter_told b o n asked r s t is here h = told_by b o (ObjOp.Counter n asked) r (CounterState t) is (subst (λ u. CounterStep u asked r t) here h) tt
 
-size_told : (b : Base) (o : ObjOp) (set n : ℕ) → o ≡ op.Size set → n ≡ size_at b set → IsToldIn b o (Is n)
-size_told b o set n is here = told_by b o (op.Size set) (Is n) NoState is tt (let same : Is n ≡ Is (size_at b set) = λ i. Is (here i) in same)
+size_told : (b : Base) (o : ObjOp) (set n : ℕ) → o ≡ ObjOp.Size set → n ≡ size_at b set → IsToldIn b o (Is n)
+size_told b o set n is here = told_by b o (ObjOp.Size set) (Is n) NoState is tt (let same : Is n ≡ Is (size_at b set) = λ i. Is (here i) in same)
 
 pub returns-in-Account : goal.returns-in-Account
 returns-in-Account c = account_told c.args.base.now c.args.op.now c.in-Account.account c.in-Account.op c.apply.result.1 c.balance.result c.apply.result.0 c.in-Account.is c.balance.ensures.state c.apply.ensures

@@ -1,9 +1,8 @@
-use Rattle.std.proofs.Common.{Err, ap}
+use Rattle.std.proofs.Common.{Err, ap, flat_map}
 use Rattle.std.proofs.KnownBytes.{Keeps-refl}
 use Rattle.std.proofs.lemmas.Result.{err_from_is_err_and}
-use Rattle.std.specs.List.{flat_map}
 use Rattle.mlt_text.proofs.Failing.{finished, unfinished, unread, unwritten}
-use Rattle.mlt_script_serial.specs.Texts.{outcome_text}
+use Rattle.mlt_manager_solo.proofs.Names.{outcome_text}
 use Rattle.mlt_manager_solo.proofs.Alls.{new_rests, solo_text}
 use Rattle.mlt_manager_solo.proofs.engine.solo.Goals as goal
 

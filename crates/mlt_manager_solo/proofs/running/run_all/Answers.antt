@@ -1,8 +1,7 @@
-use Rattle.std.proofs.Common.{◌≡◌, ◌+◌, ◌<◌, ◌++◌, ◌∷◌, [], ℕ, List, count_by, ◌==◌, take, get_or, set, length, sym, ap, subst, ◌∙◌, arith}
-use Rattle.std.proofs.lemmas.List.{take_all, take_more, get_or-replicate, length-set, length-replicate}
-use Rattle.mlt_script_tree.specs.Scripts.{ScriptForm}
+use Rattle.std.proofs.Common.{◌≡◌, ◌+◌, ◌<◌, ◌++◌, ◌∷◌, [], ℕ, List, count_by, ◌==◌, take, get_or, set, length, sym, ap, subst, ◌∙◌, arith, take_all, length-set}
+use Rattle.std.proofs.lemmas.List.{take_more, get_or-replicate, length-replicate}
+use Rattle.mlt_manager_solo.proofs.Names.{ScriptForm, HasRunAll}
 use Rattle.mlt_script_serial.proofs.Appends.{counted_push, next_number}
-use Rattle.mlt_manager_solo.specs.Asking.{HasRunAll}
 use Rattle.mlt_manager_solo.proofs.Alls.{none_run, one_more_run}
 use Rattle.mlt_manager_solo.proofs.AtDesk.{run_at_rest}
 use Rattle.mlt_manager_solo.proofs.running.run_all.Goals as goal

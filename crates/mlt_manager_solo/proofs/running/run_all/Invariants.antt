@@ -1,6 +1,5 @@
 use Rattle.std.proofs.Common.{◌≡◌, ◌<◌, ◌==◌, ℕ, take, count_by, get_or, length}
-use Rattle.mlt_manager_solo.specs.Alone.{IsAtRest}
-use Rattle.mlt_manager_solo.specs.Asking.{HasRunAll}
+use Rattle.mlt_manager_solo.proofs.Names.{IsAtRest, HasRunAll}
 use Rattle.mlt_manager_solo.proofs.running.run_all.Given as goal
 
 abbrev pub invariant-loop-script : goal.invariant-loop-script

@@ -1,5 +1,4 @@
-use Rattle.std.proofs.Common.{◌≡◌, [], take}
-use Rattle.std.specs.String.{string_bytes}
+use Rattle.std.proofs.Common.{◌≡◌, [], take, string_bytes}
 use Rattle.mlt_manager_steps.proofs.Explaining.{IsSoFar}
 use Rattle.mlt_manager_steps.proofs.explained.play_explained.Given as goal
 

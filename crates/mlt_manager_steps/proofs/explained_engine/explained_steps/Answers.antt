@@ -1,5 +1,4 @@
-use Rattle.std.proofs.Common.{ap, Err, inl, inr}
-use Rattle.std.specs.String.{string_bytes}
+use Rattle.std.proofs.Common.{ap, Err, inl, inr, string_bytes}
 use Rattle.std.proofs.KnownBytes.{Keeps-refl}
 use Rattle.std.proofs.lemmas.Result.{err_from_is_err_and}
 use Rattle.mlt_text.proofs.Failing.{finished, unfinished, unread, unwritten}

@@ -1,7 +1,5 @@
-use Rattle.std.proofs.Common.{◌≡◌, ◌++◌}
-use Rattle.std.specs.List.{flat_map}
-use Rattle.std.specs.String.{string_bytes}
-use Rattle.mlt_object_base.specs.BaseText.{account_line}
+use Rattle.std.proofs.Common.{◌≡◌, ◌++◌, flat_map, string_bytes}
+use Rattle.mlt_object_base.proofs.Names.{account_line}
 use Rattle.mlt_object_base.proofs.text.push_accounts.Given as goal
 
 -- what is written, and the lines of what is left, are what stood there and all lines

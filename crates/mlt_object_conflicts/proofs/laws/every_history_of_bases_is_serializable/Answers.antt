@@ -1,4 +1,4 @@
-use Rattle.mlt_object_kinds.specs.Bases.{Step, empty_base}
+use Rattle.mlt_object_conflicts.proofs.Names.{Step, empty_base}
 use Rattle.mlt_order.specs.Histories.{lists_of}
 use Rattle.mlt_order.proofs.Keeping.{kept_by_history, last_goes}
 use Rattle.mlt_order.proofs.UndoLaws.{one_base}

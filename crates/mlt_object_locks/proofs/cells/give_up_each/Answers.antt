@@ -1,6 +1,5 @@
 use Rattle.std.proofs.Common.{◌+◌, take, sym, subst, ◌∙◌}
-use Rattle.std.proofs.lemmas.List.{take_more}
-use Rattle.mlt_object_locks.specs.Cells.{GivesUp}
+use Rattle.mlt_object_locks.proofs.Names.{take_more, GivesUp}
 use Rattle.mlt_object_locks.proofs.Changes.{gives_up_kept, gives_up_more, nothing_given_up}
 use Rattle.mlt_object_locks.proofs.Membership.{is_among, is_not_among}
 use Rattle.mlt_object_locks.proofs.cells.give_up_each.Goals as goal

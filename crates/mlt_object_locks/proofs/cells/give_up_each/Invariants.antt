@@ -1,5 +1,5 @@
 use Rattle.std.proofs.Common.{take}
-use Rattle.mlt_object_locks.specs.Cells.{GivesUp}
+use Rattle.mlt_object_locks.proofs.Names.{GivesUp}
 use Rattle.mlt_object_locks.proofs.cells.give_up_each.Given as goal
 
 -- those that were seen are given up

@@ -1,4 +1,4 @@
-use Rattle.mlt_object_locks.specs.Noted.{noted_of}
+use Rattle.mlt_object_locks.proofs.Names.{noted_of}
 use Rattle.mlt_object_locks.proofs.Notes.{notes_none, notes_one}
 use Rattle.mlt_object_locks.proofs.cells.grant.Goals as goal
 

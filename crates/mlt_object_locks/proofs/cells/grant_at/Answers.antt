@@ -1,7 +1,5 @@
 use Rattle.std.proofs.Common.{ℕ, ap, sym, subst, ◌∙◌}
-use Rattle.mlt_object_locks.specs.Classes.{bit_of_item}
-use Rattle.mlt_object_locks.specs.Holders.{Grants, HasBit}
-use Rattle.mlt_object_locks.specs.Cells.{list_at}
+use Rattle.mlt_object_locks.proofs.Names.{bit_of_item, Grants, HasBit, list_at}
 use Rattle.mlt_object_locks.proofs.Found.{changes_there, same_some, written_list}
 use Rattle.mlt_object_locks.proofs.cells.grant_at.Goals as goal
 

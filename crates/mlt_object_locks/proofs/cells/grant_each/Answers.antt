@@ -1,11 +1,5 @@
-use Rattle.std.proofs.Common.{[], take, ap, sym, subst, ◌∙◌, arith}
-use Rattle.std.specs.Prelude.{unwrap_or}
-use Rattle.std.proofs.lemmas.List.{take_more}
-use Rattle.std.proofs.lemmas.List.Elements.{Contains-get_or}
-use Rattle.mlt_object_locks.specs.Classes.{bit_of_item}
-use Rattle.mlt_object_locks.specs.Holders.{IsHere, holder_of}
-use Rattle.mlt_object_locks.specs.Cells.{GrantsAt}
-use Rattle.mlt_object_locks.specs.Noted.{NotesEach, noted_of}
+use Rattle.std.proofs.Common.{[], take, ap, sym, subst, ◌∙◌, arith, unwrap_or}
+use Rattle.mlt_object_locks.proofs.Names.{take_more, Contains-get_or, bit_of_item, IsHere, holder_of, GrantsAt, NotesEach, noted_of}
 use Rattle.mlt_object_locks.proofs.Changes.{bits_noted_more, granted_more}
 use Rattle.mlt_object_locks.proofs.Membership.{none_in_empty}
 use Rattle.mlt_object_locks.proofs.Notes.{notes_more}

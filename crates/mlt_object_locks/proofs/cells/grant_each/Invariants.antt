@@ -1,7 +1,5 @@
 use Rattle.std.proofs.Common.{◌+◌, ◌≤◌, length, take}
-use Rattle.mlt_object_locks.specs.Classes.{bit_of_item}
-use Rattle.mlt_object_locks.specs.Cells.{GrantsAt}
-use Rattle.mlt_object_locks.specs.Noted.{NotesEach, SameNoted, noted_of}
+use Rattle.mlt_object_locks.proofs.Names.{bit_of_item, GrantsAt, NotesEach, SameNoted, noted_of}
 use Rattle.mlt_object_locks.proofs.cells.grant_each.Given as goal
 
 -- The operation stands at those that were seen, which are noted. There is room for the others.

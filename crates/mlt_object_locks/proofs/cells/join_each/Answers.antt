@@ -1,6 +1,5 @@
 use Rattle.std.proofs.Common.{take, sym, subst}
-use Rattle.std.proofs.lemmas.List.{take_more}
-use Rattle.mlt_object_locks.specs.Cells.{IsHereAt, JoinsAt}
+use Rattle.mlt_object_locks.proofs.Names.{take_more, IsHereAt, JoinsAt}
 use Rattle.mlt_object_locks.proofs.Changes.{here_more, joined_at_more, joined_more, joined_still, nobody_joined, same_lists}
 use Rattle.mlt_object_locks.proofs.Membership.{from_front, none_in_empty}
 use Rattle.mlt_object_locks.proofs.cells.join_each.Goals as goal

@@ -1,5 +1,5 @@
 use Rattle.std.proofs.Common.{take}
-use Rattle.mlt_object_locks.specs.Cells.{IsHereAt, JoinsAt}
+use Rattle.mlt_object_locks.proofs.Names.{IsHereAt, JoinsAt}
 use Rattle.mlt_object_locks.proofs.cells.join_each.Given as goal
 
 -- the transaction came at those that were seen

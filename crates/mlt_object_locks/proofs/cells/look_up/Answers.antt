@@ -1,5 +1,4 @@
-use Rattle.std.proofs.Common.{[], Some, ap, sym, ◌∙◌}
-use Rattle.std.specs.Prelude.{unwrap_or}
+use Rattle.std.proofs.Common.{[], Some, ap, sym, ◌∙◌, unwrap_or}
 use Rattle.mlt_object_locks.proofs.Found.{same_key}
 use Rattle.mlt_object_locks.proofs.cells.look_up.Goals as goal
 

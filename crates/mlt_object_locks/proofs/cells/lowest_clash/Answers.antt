@@ -1,8 +1,5 @@
-use Rattle.std.proofs.Common.{◌+◌, ℕ, Option, Some, take, get_or, ap, sym, subst, ◌∙◌}
-use Rattle.std.proofs.lemmas.List.{take_all, take_more}
-use Rattle.mlt_object_locks.specs.Locks.{IsLowestOf, lower_of}
-use Rattle.mlt_object_locks.specs.Holders.{StandsAgainst}
-use Rattle.mlt_object_locks.specs.Cells.{StandsAtOne, list_at}
+use Rattle.std.proofs.Common.{◌+◌, ℕ, Option, Some, take, get_or, ap, sym, subst, ◌∙◌, take_all}
+use Rattle.mlt_object_locks.proofs.Names.{take_more, IsLowestOf, lower_of, StandsAgainst, StandsAtOne, list_at}
 use Rattle.mlt_object_locks.proofs.Clashing.{lowest_with_none, lowest_with_one}
 use Rattle.mlt_object_locks.proofs.cells.lowest_clash.Goals as goal
 use Rattle.mlt_object_locks.proofs.cells.lowest_clash.Goals.{in-Some, in_default}

@@ -1,6 +1,5 @@
 use Rattle.std.proofs.Common.{take}
-use Rattle.mlt_object_locks.specs.Locks.{IsLowestOf}
-use Rattle.mlt_object_locks.specs.Cells.{StandsAtOne}
+use Rattle.mlt_object_locks.proofs.Names.{IsLowestOf, StandsAtOne}
 use Rattle.mlt_object_locks.proofs.cells.lowest_clash.Given as goal
 
 -- the lowest of those at the places that were seen

@@ -1,8 +1,5 @@
-use Rattle.std.proofs.Common.{[], None, ap, sym, subst}
-use Rattle.std.specs.Prelude.{unwrap_or}
-use Rattle.mlt_object_locks.specs.Locks.{IsLowestOf}
-use Rattle.mlt_object_locks.specs.Holders.{StandsAgainst}
-use Rattle.mlt_object_locks.specs.Cells.{list_at}
+use Rattle.std.proofs.Common.{[], None, ap, sym, subst, unwrap_or}
+use Rattle.mlt_object_locks.proofs.Names.{IsLowestOf, StandsAgainst, list_at}
 use Rattle.mlt_object_locks.proofs.Found.{list_there}
 use Rattle.mlt_object_locks.proofs.Holding.{nobody}
 use Rattle.mlt_object_locks.proofs.cells.lowest_clash_at.Goals as goal

@@ -1,9 +1,5 @@
-use Rattle.std.proofs.Common.{[], None, IfSome, nat_eq, ap, sym, subst, ◌∙◌}
-use Rattle.std.specs.Prelude.{unwrap_or}
-use Rattle.std.specs.List.{filter, list_all}
-use Rattle.indexmap.specs.IndexMap.{Updates}
-use Rattle.mlt_object_locks.specs.Holders.{is_not_of, is_of}
-use Rattle.mlt_object_locks.specs.Cells.{list_at}
+use Rattle.std.proofs.Common.{[], None, IfSome, nat_eq, ap, sym, subst, ◌∙◌, unwrap_or, filter}
+use Rattle.mlt_object_locks.proofs.Names.{list_all, Updates, is_not_of, is_of, list_at}
 use Rattle.mlt_object_locks.proofs.Found.{all_go, changes_there, list_there, same_some, some_stay, written, written_list}
 use Rattle.mlt_object_locks.proofs.cells.release.Goals as goal
 

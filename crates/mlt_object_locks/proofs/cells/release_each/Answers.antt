@@ -1,6 +1,6 @@
 use Rattle.std.proofs.Common.{◌≡◌, ◌-◌, ◌+◌, ◌∷◌, [], drop, get_or, length, ap, sym, subst, ◌∙◌, arith}
 use Rattle.std.proofs.lemmas.List.{drop_all, drop_more}
-use Rattle.mlt_object_locks.specs.Cells.{ReleasesAt}
+use Rattle.mlt_object_locks.proofs.Names.{ReleasesAt}
 use Rattle.mlt_object_locks.proofs.Released.{none_released, release_sooner}
 use Rattle.mlt_object_locks.proofs.cells.release_each.Goals as goal
 

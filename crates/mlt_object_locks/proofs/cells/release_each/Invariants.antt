@@ -1,5 +1,5 @@
 use Rattle.std.proofs.Common.{◌-◌, drop, length}
-use Rattle.mlt_object_locks.specs.Cells.{ReleasesAt}
+use Rattle.mlt_object_locks.proofs.Names.{ReleasesAt}
 use Rattle.mlt_object_locks.proofs.cells.release_each.Given as goal
 
 -- those that were seen, which are the last, are released

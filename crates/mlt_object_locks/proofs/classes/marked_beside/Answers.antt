@@ -1,6 +1,5 @@
-use Rattle.std.proofs.Common.{◌+◌, ℕ, take, sym, subst, ◌∙◌}
-use Rattle.std.proofs.lemmas.List.{take_all, take_more}
-use Rattle.mlt_object_locks.specs.declared.classes.TheConstants.{CLASSES}
+use Rattle.std.proofs.Common.{◌+◌, ℕ, take, sym, subst, ◌∙◌, take_all}
+use Rattle.mlt_object_locks.proofs.Names.{take_more, CLASSES}
 use Rattle.mlt_object_locks.proofs.ClassLaws.{HasMarked, all_seen, marked_more, unmarked_more}
 use Rattle.mlt_object_locks.proofs.classes.marked_beside.Goals as goal
 use Rattle.mlt_object_locks.proofs.classes.marked_beside.Goals.{then-are_marked, else-are_marked}

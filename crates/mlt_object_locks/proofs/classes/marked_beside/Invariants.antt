@@ -1,5 +1,5 @@
 use Rattle.std.proofs.Common.{take}
-use Rattle.mlt_object_locks.specs.declared.classes.TheConstants.{CLASSES}
+use Rattle.mlt_object_locks.proofs.Names.{CLASSES}
 use Rattle.mlt_object_locks.proofs.ClassLaws.{HasMarked}
 use Rattle.mlt_object_locks.proofs.classes.marked_beside.Given as goal
 

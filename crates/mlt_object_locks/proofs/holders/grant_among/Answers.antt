@@ -1,5 +1,5 @@
 use Rattle.std.proofs.Common.{get_or, sym, ◌∙◌, true≢false}
-use Rattle.mlt_object_locks.specs.Classes.{bit_of_item}
+use Rattle.mlt_object_locks.proofs.Names.{bit_of_item}
 use Rattle.mlt_object_locks.proofs.Bits.{some_bit}
 use Rattle.mlt_object_locks.proofs.Holding.{found, granted_once, grants, had_bit}
 use Rattle.mlt_object_locks.proofs.holders.grant_among.Goals as goal

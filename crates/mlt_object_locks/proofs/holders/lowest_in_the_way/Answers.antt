@@ -1,6 +1,5 @@
-use Rattle.std.proofs.Common.{◌+◌, ℕ, Option, Some, take, ap, sym, subst, ◌∙◌, true≢false}
-use Rattle.std.proofs.lemmas.List.{take_all}
-use Rattle.mlt_object_locks.specs.Holders.{IsLowestInTheWay}
+use Rattle.std.proofs.Common.{◌+◌, ℕ, Option, Some, take, ap, sym, subst, ◌∙◌, true≢false, take_all}
+use Rattle.mlt_object_locks.proofs.Names.{IsLowestInTheWay}
 use Rattle.mlt_object_locks.proofs.Lowest.{front_with, front_without}
 use Rattle.mlt_object_locks.proofs.holders.lowest_in_the_way.Goals as goal
 use Rattle.mlt_object_locks.proofs.holders.lowest_in_the_way.Goals.{then-stands_in, else-stands_in}

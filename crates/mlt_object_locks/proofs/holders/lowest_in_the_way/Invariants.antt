@@ -1,5 +1,5 @@
 use Rattle.std.proofs.Common.{take}
-use Rattle.mlt_object_locks.specs.Holders.{IsLowestInTheWay}
+use Rattle.mlt_object_locks.proofs.Names.{IsLowestInTheWay}
 use Rattle.mlt_object_locks.proofs.holders.lowest_in_the_way.Given as goal
 
 -- the lowest of those that were seen

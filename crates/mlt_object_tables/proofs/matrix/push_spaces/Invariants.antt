@@ -1,5 +1,4 @@
-use Rattle.std.proofs.Common.{◌≡◌, ◌++◌}
-use Rattle.std.specs.String.{string_bytes}
+use Rattle.std.proofs.Common.{◌≡◌, ◌++◌, string_bytes}
 use Rattle.mlt_object_tables.specs.Matrices.{spaces}
 use Rattle.mlt_object_tables.proofs.matrix.push_spaces.Given as goal
 

@@ -1,5 +1,4 @@
-use Rattle.std.proofs.Common.{◌≡◌, ◌++◌, ℕ, List, take}
-use Rattle.std.specs.String.{string_bytes}
+use Rattle.std.proofs.Common.{◌≡◌, ◌++◌, ℕ, List, take, string_bytes}
 use Rattle.mlt_object_tables.specs.Tables.{AreTexts, IsSizeText}
 use Rattle.mlt_object_tables.proofs.tables.push_size_examples.Given as goal
 

@@ -1,6 +1,5 @@
 use Rattle.std.proofs.Common.{◌-◌, ap, length, arith}
-use Rattle.std.proofs.lemmas.Bool.Decides.{nat_tests}
-use Rattle.mlt_page_locks.specs.declared.lock_list.PageLock.{PageLock}
+use Rattle.mlt_page_locks.proofs.Names.{nat_tests, PageLock}
 use Rattle.mlt_page_locks.proofs.Pages.{all_lower}
 use Rattle.mlt_page_locks.proofs.lock_list.is_behind.Goals as goal
 

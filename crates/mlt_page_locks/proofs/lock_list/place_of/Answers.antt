@@ -1,6 +1,5 @@
-use Rattle.std.proofs.Common.{rules, subst}
-use Rattle.std.specs.Ordering.{nat_cmp}
-use Rattle.std.specs.List.Sorted.{IsBinarySearchResult}
+use Rattle.std.proofs.Common.{rules, subst, nat_cmp}
+use Rattle.mlt_page_locks.proofs.Names.{IsBinarySearchResult}
 use Rattle.std.proofs.lemmas.Fn.{always_returns_same}
 use Rattle.mlt_page_locks.proofs.Pages.{placed}
 use Rattle.mlt_page_locks.proofs.lock_list.place_of.Goals as goal

@@ -1,6 +1,6 @@
 use Rattle.std.proofs.Common.{◌∙◌, ap, sym, length, arith}
 use Rattle.std.specs.FinMap as map
-use Rattle.mlt_page_locks.specs.LockLists.{HeldPages, is_list_of}
+use Rattle.mlt_page_locks.proofs.Names.{HeldPages, is_list_of}
 use Rattle.mlt_page_locks.proofs.Covering.{place_is, no_place, none_before}
 use Rattle.mlt_page_locks.proofs.page_locks.list_from.Goals as goal
 

@@ -1,5 +1,5 @@
 use Rattle.std.proofs.Common.{◌≡◌, ◌<◌, ◌-◌, ℕ, false, get_or, length}
-use Rattle.mlt_page_locks.specs.LockLists.{HeldPages, is_list_of}
+use Rattle.mlt_page_locks.proofs.Names.{HeldPages, is_list_of}
 use Rattle.mlt_page_locks.proofs.page_locks.list_from.Given as goal
 
 -- none so far is that of the transaction

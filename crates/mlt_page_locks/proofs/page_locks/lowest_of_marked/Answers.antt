@@ -1,9 +1,6 @@
 use Rattle.std.proofs.Common.{◌≡◌, ap, sym, subst, ◌∙◌, take, take_all, length, List, Bool, true, false, cond, min, unwrap_or, Some, ◌+◌, arith}
-use Rattle.std.proofs.lemmas.List.{take_more}
+use Rattle.mlt_page_locks.proofs.Names.{take_more, option_map_or, goes_with, HeldPages}
 use Rattle.std.specs.FinMap as map
-use Rattle.std.specs.Option.{option_map_or}
-use Rattle.mlt_page_locks.specs.LockTables.{goes_with}
-use Rattle.mlt_page_locks.specs.LockLists.{HeldPages}
 use Rattle.mlt_page_locks.proofs.Conflicts.{in_way_of, IsLowestIfAny, lowest_more, lowest_of_table, same_lowest}
 use Rattle.mlt_page_locks.proofs.Covering.{passed_over}
 use Rattle.mlt_page_locks.proofs.Sharing.{nobody_against_shared}

@@ -1,8 +1,6 @@
-use Rattle.std.proofs.Common.{ap, sym, ◌∙◌}
-use Rattle.std.specs.Prelude.{position}
+use Rattle.std.proofs.Common.{ap, sym, ◌∙◌, position}
 use Rattle.std.specs.FinMap as map
-use Rattle.std.proofs.lemmas.List.Quantifiers.{position-Some}
-use Rattle.mlt_page_locks.specs.LockLists.{HeldPages, is_list_of}
+use Rattle.mlt_page_locks.proofs.Names.{position-Some, HeldPages, is_list_of}
 use Rattle.mlt_page_locks.proofs.page_locks.place_for.Goals as goal
 
 pub returns-in-Some-clause-marked : goal.returns-in-Some-clause-marked

@@ -1,7 +1,6 @@
 use Rattle.std.proofs.Common.{◌≡◌, true, is_some, subst, sym, arith}
 use Rattle.std.specs.FinMap as map
-use Rattle.mlt_page_locks.specs.LockTables.{Modes}
-use Rattle.mlt_page_locks.specs.Marks.{IsMarked}
+use Rattle.mlt_page_locks.proofs.Names.{Modes, IsMarked}
 use Rattle.mlt_page_locks.proofs.Pages.{no_such_page}
 use Rattle.mlt_page_locks.proofs.page_locks.unmark_pages.Goals as goal
 

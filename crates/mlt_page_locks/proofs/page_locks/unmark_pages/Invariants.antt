@@ -1,6 +1,5 @@
 use Rattle.std.proofs.Common.{◌<◌, ℕ, get_or}
-use Rattle.mlt_page_locks.specs.declared.lock_list.PageLock.{PageLock}
-use Rattle.mlt_page_locks.specs.Marks.{IsMarked, KeepsOthers}
+use Rattle.mlt_page_locks.proofs.Names.{PageLock, IsMarked, KeepsOthers}
 use Rattle.mlt_page_locks.proofs.page_locks.unmark_pages.Given as goal
 
 abbrev pub invariant-loop-lock : goal.invariant-loop-lock

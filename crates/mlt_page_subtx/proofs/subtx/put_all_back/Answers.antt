@@ -1,8 +1,5 @@
-use Rattle.std.proofs.Common.{◌≡◌, ap, ◌∙◌, ◌++◌, [], ◌∷◌, List, length, subst}
-use Rattle.std.specs.Option.{option_to_list}
-use Rattle.mlt_page_subtx.specs.declared.image.Image.{Image}
-use Rattle.mlt_page_subtx.specs.Images.{AreThere}
-use Rattle.mlt_page_subtx.specs.ImageLists.{images_in, images_of}
+use Rattle.std.proofs.Common.{◌≡◌, ap, ◌∙◌, ◌++◌, [], ◌∷◌, List, length, subst, option_to_list}
+use Rattle.mlt_page_subtx.proofs.Names.{Image, AreThere, images_in, images_of}
 use Rattle.mlt_page_subtx.proofs.Lists.{put_back_more, behind_and_front, entry_is_last, last_is_there, none_left, none_popped}
 use Rattle.mlt_page_subtx.proofs.subtx.put_all_back.Goals as goal
 

@@ -1,5 +1,5 @@
 use Rattle.std.proofs.Common.{◌++◌, length}
-use Rattle.mlt_page_subtx.specs.ImageLists.{images_in}
+use Rattle.mlt_page_subtx.proofs.Names.{images_in}
 use Rattle.mlt_page_subtx.proofs.Lists.{PutBackSoFar}
 use Rattle.mlt_page_subtx.proofs.subtx.put_all_back.Given as goal
 

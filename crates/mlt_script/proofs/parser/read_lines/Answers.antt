@@ -1,10 +1,8 @@
 use Rattle.std.proofs.Common.{◌≡◌, ◌+◌, length, [], Err, ap, sym, subst, ◌∙◌, rules, arith}
 use Rattle.std.proofs.lemmas.Result.{err_from_is_err_and}
 use Rattle.mlt_text_words.specs.Lines.{lines}
-use Rattle.mlt_script.specs.Parsers.{state_of}
-use Rattle.mlt_script.specs.Readings.{IsReading}
-use Rattle.mlt_script.specs.Scan.{scan, advance, Advances, Gives}
-use Rattle.mlt_script.specs.Scan.ScanState.{Outside}
+use Rattle.mlt_script.proofs.Names.{state_of, IsReading, advance, Advances, Gives, Outside}
+use Rattle.mlt_script.specs.Scan.{scan}
 use Rattle.mlt_script.proofs.Forming.{readings}
 use Rattle.mlt_script.proofs.PlainForms.{asking_line}
 use Rattle.mlt_script.proofs.Scanning.{goes_on, exits, ends}

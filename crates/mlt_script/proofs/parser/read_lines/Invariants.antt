@@ -1,8 +1,7 @@
 use Rattle.std.proofs.Common.{◌≡◌, ◌≤◌, ◌+◌, [], length}
 use Rattle.mlt_text_words.specs.Lines.{lines}
-use Rattle.mlt_script.specs.Parsers.{state_of}
+use Rattle.mlt_script.proofs.Names.{state_of, Outside}
 use Rattle.mlt_script.specs.Scan.{scan}
-use Rattle.mlt_script.specs.Scan.ScanState.{Outside}
 use Rattle.mlt_script.proofs.parser.read_lines.Given as goal
 
 abbrev pub invariant-loop-rest : goal.invariant-loop-rest

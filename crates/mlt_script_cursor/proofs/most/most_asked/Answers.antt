@@ -1,5 +1,5 @@
 use Rattle.std.proofs.Common.{◌≡◌, ◌≤◌, length, ap, arith}
-use Rattle.mlt_script_tree.specs.Blocks.{lines_of, longest}
+use Rattle.mlt_script_cursor.proofs.Names.{lines_of, longest}
 use Rattle.mlt_script_cursor.proofs.Longest.{longest_asked, longest_lines}
 use Rattle.mlt_script_cursor.proofs.most.most_asked.Goals as goal
 

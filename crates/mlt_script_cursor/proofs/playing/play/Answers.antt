@@ -1,6 +1,5 @@
 use Rattle.std.proofs.Common.{◌<◌, length, vec_capacity, arith}
-use Rattle.mlt_script_cursor.specs.Cursors.{questions_of}
-use Rattle.mlt_script_cursor.specs.Follows.{questions_of_script}
+use Rattle.mlt_script_cursor.proofs.Names.{questions_of, questions_of_script}
 use Rattle.mlt_script_cursor.proofs.Giving.{gives_more}
 use Rattle.mlt_script_cursor.proofs.Transcripts.{reaches_more, room_for_more}
 use Rattle.mlt_script_cursor.proofs.playing.play.Goals as goal

@@ -1,7 +1,6 @@
 use Rattle.std.proofs.Common.{vec_capacity}
-use Rattle.mlt_script_cursor.specs.Follows.{AsksAtMost, Reaches, questions_of_script}
-use Rattle.mlt_script_cursor.specs.Cursors.{questions_of, left_of}
-use Rattle.mlt_script_cursor.specs.Plays.{Gives}
+use Rattle.mlt_script_cursor.proofs.Names.{AsksAtMost, Reaches, questions_of_script, questions_of, Gives}
+use Rattle.mlt_script_cursor.specs.Cursors.{left_of}
 use Rattle.mlt_script_cursor.proofs.playing.play.Given as goal
 
 abbrev pub invariant-loop-op : goal.invariant-loop-op

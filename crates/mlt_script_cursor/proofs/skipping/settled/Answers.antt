@@ -1,7 +1,5 @@
 use Rattle.std.proofs.Common.{◌≡◌, List, [], arith, sym, ◌∙◌, ap, drop}
-use Rattle.std.proofs.lemmas.List.{drop_all}
-use Rattle.mlt_script_cursor.specs.declared.skipping.Skipping.TheVariants.{Nowhere}
-use Rattle.mlt_script_tree.specs.declared.statement.Line.{Line}
+use Rattle.mlt_script_cursor.proofs.Names.{drop_all, Nowhere, Line}
 use Rattle.mlt_script_cursor.proofs.Running.{some_line}
 use Rattle.mlt_script_cursor.specs.Runs.{run}
 use Rattle.mlt_script_cursor.proofs.Running.{at_end, turn}

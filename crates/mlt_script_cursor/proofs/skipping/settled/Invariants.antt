@@ -1,6 +1,5 @@
 use Rattle.std.proofs.Common.{◌≡◌, ◌≤◌, ◌-◌, length, drop}
-use Rattle.mlt_script_tree.specs.declared.statement.Ending.{Ending}
-use Rattle.mlt_script_cursor.specs.Follows.{Variables}
+use Rattle.mlt_script_cursor.proofs.Names.{Ending, Variables}
 use Rattle.mlt_script_cursor.specs.Runs.{run, level}
 use Rattle.mlt_script_cursor.proofs.skipping.settled.Given as goal
 

@@ -1,5 +1,5 @@
-use Rattle.std.proofs.Common.{rules, ◌≡◌, ◌+◌, ◌∷◌, ◌++◌, ◌∙◌, [], take, length, ap, sym, arith}
-use Rattle.std.proofs.lemmas.List.{take_more, length-take-le}
+use Rattle.std.proofs.Common.{rules, ◌≡◌, ◌+◌, ◌∷◌, ◌++◌, ◌∙◌, [], take, length, ap, sym, arith, length-take-le}
+use Rattle.std.proofs.lemmas.List.{take_more}
 use Rattle.mlt_script_tree.specs.Scripts.{ScriptForm}
 use Rattle.mlt_script_desk.specs.Clients.{IsOutcome}
 use Rattle.mlt_script_desk.proofs.Runs.{outcomes_more, runs_more}

@@ -1,6 +1,5 @@
-use Rattle.std.proofs.Common.{◌≡◌, ◌∷◌, ◌++◌, ◌+◌, [], take, sym, ap, subst, ◌∙◌}
-use Rattle.std.specs.String.{string_bytes}
-use Rattle.std.proofs.lemmas.List.{take_more, take_all}
+use Rattle.std.proofs.Common.{◌≡◌, ◌∷◌, ◌++◌, ◌+◌, [], take, sym, ap, subst, ◌∙◌, string_bytes, take_all}
+use Rattle.std.proofs.lemmas.List.{take_more}
 use Rattle.mlt_script_print.specs.Again.{AreScriptsAgain}
 use Rattle.mlt_script_print.specs.Printing.{scripts_text}
 use Rattle.mlt_script_tree.specs.Scripts.{ScriptForm}

@@ -1,5 +1,4 @@
-use Rattle.std.proofs.Common.{◌≡◌, take}
-use Rattle.std.specs.String.{string_bytes}
+use Rattle.std.proofs.Common.{◌≡◌, take, string_bytes}
 use Rattle.mlt_script_print.specs.Again.{AreScriptsAgain}
 use Rattle.mlt_script_print.specs.Printing.{scripts_text}
 use Rattle.mlt_script_print.proofs.printer.print.Given as goal

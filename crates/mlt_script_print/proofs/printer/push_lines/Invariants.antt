@@ -1,5 +1,4 @@
-use Rattle.std.proofs.Common.{◌≡◌, ◌++◌, length}
-use Rattle.std.specs.String.{string_bytes}
+use Rattle.std.proofs.Common.{◌≡◌, ◌++◌, length, string_bytes}
 use Rattle.mlt_script_print.specs.Again.{AreReadAgain}
 use Rattle.mlt_script_print.specs.Printing.{shown}
 use Rattle.mlt_script_print.proofs.printer.push_lines.Given as goal

@@ -1,5 +1,4 @@
-use Rattle.std.proofs.Common.{◌<◌, ◌++◌, ap, subst, ◌∙◌, List}
-use Rattle.std.specs.String.{string_bytes}
+use Rattle.std.proofs.Common.{◌<◌, ◌++◌, ap, subst, ◌∙◌, List, string_bytes}
 use Rattle.mlt_script_tree.specs.declared.statement.Line.{Line}
 use Rattle.mlt_script_print.specs.Again.{AreReadAgain}
 use Rattle.mlt_script_tree.specs.LineTexts.{ending_text}

@@ -1,5 +1,4 @@
-use Rattle.std.proofs.Common.{◌≡◌, ◌++◌, take}
-use Rattle.std.specs.List.{flat_map}
+use Rattle.std.proofs.Common.{◌≡◌, ◌++◌, take, flat_map}
 use Rattle.mlt_script_serial.specs.Texts.{reply_line}
 use Rattle.mlt_script_serial.proofs.report.push_outcome.Given as goal
 

@@ -1,5 +1,4 @@
-use Rattle.std.proofs.Common.{◌≡◌, ◌++◌, take}
-use Rattle.std.specs.List.{flat_map}
+use Rattle.std.proofs.Common.{◌≡◌, ◌++◌, take, flat_map}
 use Rattle.mlt_script_serial.specs.Texts.{outcome_text, script_line}
 use Rattle.mlt_script_serial.proofs.report.run_text.Given as goal
 

@@ -1,5 +1,4 @@
-use Rattle.std.proofs.Common.{◌≡◌, map, take, sym, ap, ◌∙◌}
-use Rattle.std.proofs.lemmas.List.{take_all}
+use Rattle.std.proofs.Common.{◌≡◌, map, take, sym, ap, ◌∙◌, take_all}
 use Rattle.mlt_types.specs.declared.refusal.Refusal.TheVariants.{OutOfMemory}
 use Rattle.mlt_object_kinds.specs.Bases.{empty_base}
 use Rattle.mlt_script_serial.specs.declared.outcome.Outcome.{Outcome}

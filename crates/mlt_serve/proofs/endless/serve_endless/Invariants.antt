@@ -1,6 +1,5 @@
-use Rattle.std.specs.Prelude.{true, Some}
-use Rattle.mlt_work_log.specs.Seats.{id_of}
-use Rattle.mlt_work_desk.specs.Makings.{making_by}
+use Rattle.std.proofs.Common.{true, Some}
+use Rattle.mlt_serve.proofs.Names.{id_of, making_by}
 use Rattle.mlt_serve.proofs.endless.serve_endless.Given as goal
 
 abbrev pub ghosts-serve_with-L-Ledger : goal.ghosts-serve_with-L-Ledger

@@ -1,9 +1,6 @@
-use Rattle.std.proofs.Common.{◌++◌, ◌∙◌, arith, subst, sym}
-use Rattle.std.specs.Prelude.{IsPermutation}
-use Rattle.std.proofs.lemmas.List.Elements.{All-push}
-use Rattle.std.proofs.lemmas.List.Sorted.{IsPermutation-append_right, IsPermutation-trans}
-use Rattle.mlt_serve.specs.Tellings.{TellsOutcomes}
-use Rattle.mlt_serve.specs.Threads.{AllHaveMemory, HasMemory, all_outcomes, outcomes_of}
+use Rattle.std.proofs.Common.{◌++◌, ◌∙◌, arith, subst, sym, IsPermutation}
+use Rattle.mlt_serve.proofs.Names.{All-push, IsPermutation-append_right, IsPermutation-trans, TellsOutcomes, AllHaveMemory, all_outcomes}
+use Rattle.mlt_serve.specs.Threads.{HasMemory, outcomes_of}
 use Rattle.mlt_serve.proofs.Merging.{last_behind}
 use Rattle.mlt_serve.proofs.gathering.gather.Goals as goal
 

@@ -1,8 +1,5 @@
-use Rattle.std.proofs.Common.{◌≡◌, ◌+◌, ◌-◌, ◌*◌, ◌^◌, ◌++◌, vec_len, min}
-use Rattle.std.specs.Prelude.{IsPermutation, false}
-use Rattle.mlt_serve.specs.Clients.{AreOfClients}
-use Rattle.mlt_serve.specs.Tellings.{TellsOutcomes}
-use Rattle.mlt_serve.specs.Threads.{AllHaveMemory, all_outcomes}
+use Rattle.std.proofs.Common.{◌≡◌, ◌+◌, ◌-◌, ◌*◌, ◌^◌, ◌++◌, vec_len, min, IsPermutation, false}
+use Rattle.mlt_serve.proofs.Names.{AreOfClients, TellsOutcomes, AllHaveMemory, all_outcomes}
 use Rattle.mlt_serve.proofs.gathering.gather.Given as goal
 
 abbrev pub invariant-loop-thread : goal.invariant-loop-thread

@@ -1,6 +1,6 @@
 use Rattle.std.proofs.Common.{arith, refl}
 use Rattle.mlt_trace_audit.proofs.Loops.{at_end, one_more}
-use Rattle.mlt_serve.specs.Clients.{IsOfClient}
+use Rattle.mlt_serve.proofs.Names.{IsOfClient}
 use Rattle.mlt_serve.proofs.reporting.are_of_clients.Goals as goal
 
 pub loop-outcome-preserved : goal.loop-outcome-preserved

@@ -1,6 +1,6 @@
 use Rattle.std.proofs.Common.{◌∙◌, subst, sym}
 use Rattle.mlt_manager.specs.Managers.{ManagerFields}
-use Rattle.mlt_serve.specs.Tellings.{TellsOutcomes}
+use Rattle.mlt_serve.proofs.Names.{TellsOutcomes}
 use Rattle.mlt_serve.proofs.serving.serve_with.Goals as goal
 
 pub returns-clause-told : goal.returns-clause-told

@@ -1,6 +1,4 @@
-use Rattle.std.proofs.Common.{◌≡◌, ◌++◌, take}
-use Rattle.std.specs.List.{flat_map}
-use Rattle.std.specs.String.{string_bytes}
+use Rattle.std.proofs.Common.{◌≡◌, ◌++◌, take, flat_map, string_bytes}
 use Rattle.mlt_serve_admin.specs.Metrics.{metric_text}
 use Rattle.mlt_serve_admin.proofs.metrics.push_metrics.Given as goal
 

@@ -1,6 +1,4 @@
-use Rattle.std.proofs.Common.{◌≡◌, ◌++◌, take}
-use Rattle.std.specs.List.{flat_map}
-use Rattle.std.specs.String.{string_bytes}
+use Rattle.std.proofs.Common.{◌≡◌, ◌++◌, take, flat_map, string_bytes}
 use Rattle.mlt_serve_admin.specs.Json.{comma}
 use Rattle.mlt_serve_admin.specs.Status.{figure_json}
 use Rattle.mlt_serve_admin.proofs.status.push_rest.Given as goal

@@ -1,7 +1,5 @@
 use Rattle.std.proofs.Common.{arith}
-use Rattle.mlt_text.proofs.Pieces.{on_err_all}
-use Rattle.mlt_serve_session.specs.Turns.{talk_state}
-use Rattle.mlt_event_text.proofs.Cutting.{empty}
+use Rattle.mlt_serve_session.proofs.Names.{on_err_all, talk_state, empty}
 use Rattle.mlt_serve_session.proofs.Reaching.{reaches_more, reaches_none, broke_before, broke_after}
 use Rattle.mlt_serve_session.proofs.batch.answer_lines.Goals as goal
 

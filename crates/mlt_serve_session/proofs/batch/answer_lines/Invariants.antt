@@ -1,7 +1,6 @@
 -- So far into the text, by some turns.
 use Rattle.std.proofs.Common.{◌≤◌, ◌+◌, ◌-◌, length}
-use Rattle.mlt_serve_session.specs.Batches.{Reaches, front}
-use Rattle.mlt_serve_session.specs.Turns.{talk_state}
+use Rattle.mlt_serve_session.proofs.Names.{Reaches, front, talk_state}
 use Rattle.mlt_serve_session.proofs.batch.answer_lines.Given as goal
 
 abbrev pub invariant-loop-notes : goal.invariant-loop-notes

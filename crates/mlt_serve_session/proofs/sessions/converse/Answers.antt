@@ -1,5 +1,5 @@
 use Rattle.std.proofs.Common.{ap, sym, ◌∙◌}
-use Rattle.mlt_serve_session.specs.Turns.{talk_state}
+use Rattle.mlt_serve_session.proofs.Names.{talk_state}
 use Rattle.mlt_serve_session.proofs.Closing.{none_pending}
 use Rattle.mlt_serve_session.proofs.Outcomes.{answers_broken, answers_done, answers_long}
 use Rattle.mlt_serve_session.proofs.Reaching.{same_error}

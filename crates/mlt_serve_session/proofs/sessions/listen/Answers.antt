@@ -1,9 +1,6 @@
 use Rattle.std.proofs.Common.{◌≡◌, inl, inr, refl, ◌+◌, ℕ, [], length, take, ◌∙◌, ap, subst, arith, length-take}
-use Rattle.mlt_serve_session.specs.Rounds.{Listens, streams}
-use Rattle.std.proofs.KnownBytes.{Consumes-nil}
-use Rattle.mlt_text.proofs.Pieces.{nothing_read, on_err_all}
-use Rattle.mlt_serve_session.specs.Turns.{talk_state}
-use Rattle.mlt_event_text.proofs.Cutting.{empty}
+use Rattle.mlt_serve_session.proofs.Names.{Listens, streams, Consumes-nil, on_err_all, talk_state, empty}
+use Rattle.mlt_text.proofs.Pieces.{nothing_read}
 use Rattle.mlt_serve_session.proofs.Reaching.{same_error}
 use Rattle.mlt_serve_session.proofs.Listening.{starts, ends_here, breaks, breaks_heard, stops, stops_heard, is_over, goes_further}
 use Rattle.mlt_serve_session.proofs.sessions.listen.Goals as goal

@@ -1,7 +1,6 @@
 -- The session goes on.
 use Rattle.std.proofs.Common.{◌≡◌, ◌≤◌, take, false}
-use Rattle.mlt_serve_session.specs.Rounds.{Listens, streams}
-use Rattle.mlt_serve_session.specs.Turns.{talk_state}
+use Rattle.mlt_serve_session.proofs.Names.{Listens, streams, talk_state}
 use Rattle.mlt_serve_session.proofs.sessions.listen.Given as goal
 
 abbrev pub invariant-rounds : goal.invariant-rounds

@@ -1,7 +1,5 @@
 use Rattle.std.proofs.Common.{subst}
-use Rattle.mlt_text.specs.Texts.{AppendsFront}
-use Rattle.mlt_text.proofs.Pieces.{on_err_all}
-use Rattle.mlt_serve_session.specs.Turns.{talk_state}
+use Rattle.mlt_serve_session.proofs.Names.{AppendsFront, on_err_all, talk_state}
 use Rattle.mlt_serve_session.proofs.Listening.{not_written}
 use Rattle.mlt_serve_session.proofs.sessions.reply.Goals as goal
 

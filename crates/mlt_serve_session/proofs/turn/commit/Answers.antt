@@ -1,6 +1,5 @@
 use Rattle.std.proofs.Common.{refl, sym, ap}
-use Rattle.mlt_script_cursor.specs.declared.call.DeskAnswer.TheVariants.{Refused}
-use Rattle.mlt_serve_session.specs.Noting.{committed_noted}
+use Rattle.mlt_serve_session.proofs.Names.{Refused, committed_noted}
 use Rattle.mlt_serve_session.proofs.Closing.{unchanged, closed}
 use Rattle.mlt_serve_session.proofs.Stepping.{unanswered, committed}
 use Rattle.mlt_serve_session.proofs.turn.commit.Goals as goal

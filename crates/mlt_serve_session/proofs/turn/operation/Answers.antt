@@ -1,6 +1,5 @@
 use Rattle.std.proofs.Common.{refl, sym}
-use Rattle.mlt_script_cursor.specs.declared.call.DeskAnswer.TheVariants.{Refused}
-use Rattle.mlt_serve_session.specs.Noting.{replied_noted}
+use Rattle.mlt_serve_session.proofs.Names.{Refused, replied_noted}
 use Rattle.mlt_serve_session.proofs.Closing.{replied, unchanged}
 use Rattle.mlt_serve_session.proofs.Stepping.{unanswered}
 use Rattle.mlt_serve_session.proofs.turn.operation.Goals as goal

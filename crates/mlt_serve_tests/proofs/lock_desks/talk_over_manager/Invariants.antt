@@ -1,4 +1,4 @@
-use Rattle.std.specs.Prelude.{true, Some}
+use Rattle.std.proofs.Common.{true, Some}
 use Rattle.mlt_work_log.specs.Seats.{id_of}
 use Rattle.mlt_work_desk.specs.Makings.{making_of}
 use Rattle.mlt_serve_tests.proofs.lock_desks.talk_over_manager.Given as goal

@@ -1,6 +1,5 @@
-use Rattle.std.proofs.Common.{◌≡◌, length, true, false, rules, sym, ◌∙◌}
-use Rattle.std.specs.Str.{bytes_eq}
-use Rattle.mlt_text_words.specs.Words.{spelling}
+use Rattle.std.proofs.Common.{◌≡◌, length, true, false, rules, sym, ◌∙◌, bytes_eq}
+use Rattle.mlt_text_words.proofs.Names.{spelling}
 use Rattle.mlt_text_words.proofs.Keywords.{empty_word, no_word, same_word, other_word}
 use Rattle.mlt_text_words.proofs.keyword.find_keyword.Goals as goal
 

@@ -1,7 +1,6 @@
-use Rattle.std.proofs.Common.{ℕ, ◌≤◌, ◌-◌, List, length, sym, subst}
-use Rattle.std.proofs.lemmas.Bool.{le-ltb}
+use Rattle.std.proofs.Common.{ℕ, ◌≤◌, ◌-◌, List, length, sym, subst, le-ltb}
 use Rattle.std.proofs.lemmas.Option.{slice_get_past}
-use Rattle.mlt_text_words.specs.declared.letter.Letter.{Letter}
+use Rattle.mlt_text_words.proofs.Names.{Letter}
 use Rattle.mlt_text_words.specs.Letters.{all_letters, letter_of}
 use Rattle.mlt_text_words.proofs.letter.find_letter.Goals as goal
 

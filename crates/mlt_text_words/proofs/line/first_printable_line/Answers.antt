@@ -1,5 +1,5 @@
 use Rattle.std.proofs.Common.{◌≡◌, sym, get_or, true, arith}
-use Rattle.mlt_text_words.specs.Lines.{is_lf}
+use Rattle.mlt_text_words.proofs.Names.{is_lf}
 use Rattle.mlt_text_words.proofs.Cutting.{printable}
 use Rattle.mlt_text_words.proofs.line.first_printable_line.Goals as goal
 

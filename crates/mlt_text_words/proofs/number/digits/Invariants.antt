@@ -1,7 +1,5 @@
 use Rattle.std.proofs.Common.{◌≡◌, take, true}
-use Rattle.std.specs.List.{list_all}
-use Rattle.std.specs.Str.Parse.{digits_value}
-use Rattle.mlt_text_words.specs.Numbers.{is_digit}
+use Rattle.mlt_text_words.proofs.Names.{list_all, digits_value, is_digit}
 use Rattle.mlt_text_words.proofs.number.digits.Given as goal
 
 abbrev pub invariant-loop-byte : goal.invariant-loop-byte

@@ -1,5 +1,5 @@
 use Rattle.std.proofs.Common.{refl, sym, ap}
-use Rattle.mlt_text_words.specs.Words.{first_word}
+use Rattle.mlt_text_words.proofs.Names.{first_word}
 use Rattle.mlt_text_words.proofs.Splitting.{no_word, first_of_more, first_of_one}
 use Rattle.mlt_text_words.proofs.words.next_raw_word.Goals as goal
 

@@ -1,5 +1,5 @@
 use Rattle.std.proofs.Common.{sym, subst, ap, length}
-use Rattle.mlt_trace.specs.Numbers.{CountsFrom}
+use Rattle.mlt_trace.proofs.Names.{CountsFrom}
 use Rattle.mlt_trace.proofs.ItemLaws.{commit_keeps_counted, commits_counted, no_commit}
 use Rattle.mlt_trace.proofs.laws.commits_stay_counted.Goals as goal
 

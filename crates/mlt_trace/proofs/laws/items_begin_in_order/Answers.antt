@@ -1,5 +1,5 @@
 use Rattle.std.proofs.Common.{sym, subst, ap, length}
-use Rattle.mlt_trace.specs.Numbers.{CountsFrom}
+use Rattle.mlt_trace.proofs.Names.{CountsFrom}
 use Rattle.mlt_trace.proofs.ItemLaws.{begin_keeps_order, begins_counted, no_begin}
 use Rattle.mlt_trace.proofs.laws.items_begin_in_order.Goals as goal
 

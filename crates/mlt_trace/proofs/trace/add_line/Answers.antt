@@ -1,5 +1,5 @@
 use Rattle.std.proofs.lemmas.Fmt.{contents_after_writes}
-use Rattle.mlt_trace.specs.Items.{item_line}
+use Rattle.mlt_trace.proofs.Names.{item_line}
 use Rattle.mlt_trace.proofs.trace.add_line.Goals as goal
 
 pub returns-in-Ok-clause-ok : goal.returns-in-Ok-clause-ok

@@ -1,6 +1,6 @@
 -- The writer has a front of the text. It goes on with the piece, and then with the lines of the items that are left.
 use Rattle.std.proofs.Common.{drop}
-use Rattle.mlt_trace.specs.Items.{trace_text}
+use Rattle.mlt_trace.proofs.Names.{trace_text}
 use Rattle.mlt_trace.proofs.Pieces.{GoesOn}
 use Rattle.mlt_trace.proofs.trace.write_trace.Given as goal
 

@@ -1,5 +1,5 @@
 use Rattle.std.proofs.Common.{arith, refl}
-use Rattle.mlt_trace_audit.specs.Agreement.{IsOfBegunTx}
+use Rattle.mlt_trace_audit.proofs.Names.{IsOfBegunTx}
 use Rattle.mlt_trace_audit.proofs.Loops.{at_end, one_more}
 use Rattle.mlt_trace_audit.proofs.any.are_begun.Goals as goal
 

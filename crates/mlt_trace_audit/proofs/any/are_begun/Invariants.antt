@@ -1,5 +1,5 @@
 use Rattle.std.proofs.Common.{All, take}
-use Rattle.mlt_trace_audit.specs.Agreement.{IsOfBegunTx}
+use Rattle.mlt_trace_audit.proofs.Names.{IsOfBegunTx}
 use Rattle.mlt_trace_audit.proofs.any.are_begun.Given as goal
 
 abbrev pub invariant-loop-outcome : goal.invariant-loop-outcome

@@ -1,5 +1,5 @@
 use Rattle.std.proofs.Common.{arith, refl}
-use Rattle.mlt_trace_audit.specs.Outcomes.{IsOfHistory}
+use Rattle.mlt_trace_audit.proofs.Names.{IsOfHistory}
 use Rattle.mlt_trace_audit.proofs.Loops.{at_end, one_more}
 use Rattle.mlt_trace_audit.proofs.any.are_each_of_history.Goals as goal
 

@@ -1,5 +1,5 @@
 use Rattle.std.proofs.Common.{All, take}
-use Rattle.mlt_trace_audit.specs.Outcomes.{IsOfHistory}
+use Rattle.mlt_trace_audit.proofs.Names.{IsOfHistory}
 use Rattle.mlt_trace_audit.proofs.any.are_each_of_history.Given as goal
 
 abbrev pub invariant-loop-outcome : goal.invariant-loop-outcome

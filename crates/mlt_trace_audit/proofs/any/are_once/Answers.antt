@@ -1,6 +1,5 @@
-use Rattle.std.proofs.Common.{arith, refl, subst, sym, ◌∙◌}
-use Rattle.std.proofs.Common.{Contains}
-use Rattle.mlt_trace_audit.specs.Agreement.{IsOnce}
+use Rattle.std.proofs.Common.{arith, refl, subst, sym, ◌∙◌, Contains}
+use Rattle.mlt_trace_audit.proofs.Names.{IsOnce}
 use Rattle.mlt_trace_audit.proofs.Begun.{begun_all, begun_more, is_begun_here, same_begun}
 use Rattle.mlt_trace_audit.proofs.any.are_once.Goals as goal
 use Rattle.mlt_trace_audit.proofs.any.are_once.Goals.{in-Begin+else-not-is_once, in_default}

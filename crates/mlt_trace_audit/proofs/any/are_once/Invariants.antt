@@ -1,6 +1,5 @@
 use Rattle.std.proofs.Common.{ℕ, Contains, take}
-use Rattle.mlt_trace.specs.Numbers.{begun_txs}
-use Rattle.mlt_trace_audit.specs.Agreement.{IsOnce}
+use Rattle.mlt_trace_audit.proofs.Names.{begun_txs, IsOnce}
 use Rattle.mlt_trace_audit.proofs.any.are_once.Given as goal
 
 abbrev pub invariant-loop-item : goal.invariant-loop-item

@@ -1,5 +1,5 @@
 use Rattle.std.proofs.Common.{◌≡◌, ◌≤◌, take}
-use Rattle.mlt_trace_audit.specs.Agreement.{count_of}
+use Rattle.mlt_trace_audit.proofs.Names.{count_of}
 use Rattle.mlt_trace_audit.proofs.any.count_of.Given as goal
 
 abbrev pub invariant-loop-outcome : goal.invariant-loop-outcome

@@ -1,7 +1,6 @@
-use Rattle.std.proofs.Common.{◌≢◌, arith, refl, subst, sym, ◌∙◌}
+use Rattle.std.proofs.Common.{◌≢◌, arith, refl, subst, sym, ◌∙◌, Contains}
 use Rattle.mlt_trace_audit.proofs.Begun.{begun_all, begun_more, is_begun_here, same_begun}
-use Rattle.mlt_trace.specs.Numbers.{begun_txs}
-use Rattle.std.proofs.Common.{Contains}
+use Rattle.mlt_trace_audit.proofs.Names.{begun_txs}
 use Rattle.mlt_trace_audit.proofs.any.is_begun.Goals as goal
 use Rattle.mlt_trace_audit.proofs.any.is_begun.Goals.{in-Begin+else-own-tx, in_default}
 

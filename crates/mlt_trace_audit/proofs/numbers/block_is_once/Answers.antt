@@ -1,5 +1,4 @@
-use Rattle.std.proofs.Common.{ap, ◌∙◌, length, true, arith}
-use Rattle.std.proofs.lemmas.List.{length-set}
+use Rattle.std.proofs.Common.{ap, ◌∙◌, length, true, arith, length-set}
 use Rattle.mlt_trace_audit.proofs.Marks.{all_marked, marked_twice, marks_one, marks_stay, unmarked}
 use Rattle.mlt_trace_audit.proofs.numbers.block_is_once.Goals as goal
 use Rattle.mlt_trace_audit.proofs.numbers.block_is_once.Goals.{then-below-outcome+then-outcome-upto+else-marks-place, else-below-outcome, else-below-outcome-via-then-below-outcome+else-outcome-upto, else-below-outcome-via-else-below-outcome}

@@ -1,5 +1,5 @@
 use Rattle.std.proofs.Common.{◌≤◌, length, replicate, false, ap, sym, ◌∙◌, arith, inl, inr}
-use Rattle.std.proofs.lemmas.Bool.{cases_lt}
+use Rattle.mlt_trace_audit.proofs.Names.{cases_lt}
 use Rattle.std.proofs.lemmas.List.{length-replicate}
 use Rattle.mlt_trace_audit.proofs.numbers.blocks_are_once.Goals as goal
 use Rattle.mlt_trace_audit.proofs.numbers.blocks_are_once.Goals.{then-last-below-lt16384, else-last-below-lt16384}

@@ -1,5 +1,5 @@
 use Rattle.std.proofs.Common.{◌≡◌, ℕ, ◌<◌, ◌≤◌, ◌-◌}
-use Rattle.mlt_trace_audit.specs.Agreement.{count_of}
+use Rattle.mlt_trace_audit.proofs.Names.{count_of}
 use Rattle.mlt_trace_audit.proofs.numbers.blocks_are_once.Given as goal
 
 abbrev pub invariant-loop-below : goal.invariant-loop-below

@@ -1,9 +1,6 @@
-use Rattle.std.proofs.Common.{◌≡◌, ◌+◌, length, arith, ap}
-use Rattle.std.specs.Prelude.{sum_by}
+use Rattle.std.proofs.Common.{◌≡◌, ◌+◌, length, arith, ap, sum_by, take_all}
 use Rattle.std.proofs.lemmas.Bool.Decides.{nat_tests}
-use Rattle.std.proofs.lemmas.List.{take_all}
-use Rattle.std.proofs.lemmas.List.Sums.{sum_by-take-le}
-use Rattle.mlt_trace_audit.specs.Outcomes.{IsOfHistory}
+use Rattle.mlt_trace_audit.proofs.Names.{sum_by-take-le, IsOfHistory}
 use Rattle.mlt_trace_audit.proofs.Loops.{at_end, in_all, one_more}
 use Rattle.mlt_trace_audit.proofs.Shares.{IsStarted, all_told, size, size_more, size_none, size_some, sizes_counted}
 use Rattle.mlt_trace_audit.proofs.ordered.are_each_of_ordered.Goals as goal

@@ -1,6 +1,5 @@
-use Rattle.std.proofs.Common.{◌≡◌, ◌+◌, All, take}
-use Rattle.std.specs.Prelude.{sum_by}
-use Rattle.mlt_trace_audit.specs.Ordered.{told_count}
+use Rattle.std.proofs.Common.{◌≡◌, ◌+◌, All, take, sum_by}
+use Rattle.mlt_trace_audit.proofs.Names.{told_count}
 use Rattle.mlt_trace_audit.proofs.Shares.{IsStarted, size}
 use Rattle.mlt_trace_audit.proofs.ordered.are_each_of_ordered.Given as goal
 

@@ -1,5 +1,5 @@
 use Rattle.std.proofs.Common.{arith, subst, sym, ◌∙◌}
-use Rattle.mlt_trace_audit.specs.Ordered.{StandsBehind}
+use Rattle.mlt_trace_audit.proofs.Names.{StandsBehind}
 use Rattle.mlt_trace_audit.proofs.Begun.{one_begin, one_other}
 use Rattle.mlt_trace_audit.proofs.Orderly.{ordered_all, ordered_more}
 use Rattle.mlt_trace_audit.proofs.ordered.count_ordered.Goals as goal

@@ -1,5 +1,5 @@
 use Rattle.std.proofs.Common.{◌≡◌, ◌≤◌, take}
-use Rattle.mlt_trace.specs.Numbers.{begin_count}
+use Rattle.mlt_trace_audit.proofs.Names.{begin_count}
 use Rattle.mlt_trace_audit.proofs.Orderly.{AreOrderedTo}
 use Rattle.mlt_trace_audit.proofs.ordered.count_ordered.Given as goal
 

@@ -1,5 +1,5 @@
 use Rattle.std.proofs.Common.{◌≡◌, ◌≤◌, take}
-use Rattle.mlt_trace_audit.specs.Ordered.{told_count}
+use Rattle.mlt_trace_audit.proofs.Names.{told_count}
 use Rattle.mlt_trace_audit.proofs.ordered.count_told.Given as goal
 
 abbrev pub invariant-loop-item : goal.invariant-loop-item

@@ -1,9 +1,5 @@
-use Rattle.std.proofs.Common.{◌≡◌, ℕ, List, Option, Some, None, IfSome, take, drop, subst}
-use Rattle.std.specs.Prelude.{IfNone}
-use Rattle.std.proofs.lemmas.List.{take-append-drop}
-use Rattle.mlt_trace.specs.declared.item.TraceItem.{TraceItem}
-use Rattle.mlt_script_serial.specs.declared.outcome.End.{End}
-use Rattle.mlt_trace_audit.specs.Outcomes.{HasNothing, IsClosedBefore, IsClosedSo}
+use Rattle.std.proofs.Common.{◌≡◌, ℕ, List, Option, Some, None, IfSome, take, drop, subst, IfNone, take-append-drop}
+use Rattle.mlt_trace_audit.proofs.Names.{TraceItem, End, HasNothing, IsClosedBefore, IsClosedSo}
 use Rattle.mlt_trace_audit.proofs.Apart.{Dones, HaveSame, before_same, closed_same, same_behind}
 use Rattle.mlt_trace_audit.proofs.ordered.place_behind_close.Goals as goal
 

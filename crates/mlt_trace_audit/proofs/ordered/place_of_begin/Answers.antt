@@ -1,6 +1,5 @@
 use Rattle.std.proofs.Common.{arith, inr, refl}
-use Rattle.std.proofs.lemmas.Option.{slice_get_within}
-use Rattle.mlt_trace.specs.declared.item.TraceItem.TheVariants.{Begin}
+use Rattle.mlt_trace_audit.proofs.Names.{slice_get_within, Begin}
 use Rattle.mlt_trace_audit.proofs.Orderly.{nothing_to, unbegun_at, unbegun_behind}
 use Rattle.mlt_trace_audit.proofs.ordered.place_of_begin.Goals as goal
 

@@ -1,5 +1,5 @@
 use Rattle.std.proofs.Common.{◌≤◌, ◌<◌, ◌-◌, length, take}
-use Rattle.mlt_trace.specs.Numbers.{begin_count}
+use Rattle.mlt_trace_audit.proofs.Names.{begin_count}
 use Rattle.mlt_trace_audit.proofs.ordered.place_of_begin.Given as goal
 
 abbrev pub invariant-loop-low : goal.invariant-loop-low

@@ -1,5 +1,5 @@
 use Rattle.std.proofs.Common.{arith, refl}
-use Rattle.mlt_trace_audit.specs.Outcomes.{IsWithoutTx}
+use Rattle.mlt_trace_audit.proofs.Names.{IsWithoutTx}
 use Rattle.mlt_trace_audit.proofs.Loops.{at_end, one_more}
 use Rattle.mlt_trace_audit.proofs.outcome_items.are_refused_without_tx.Goals as goal
 

@@ -1,11 +1,9 @@
 use Rattle.std.proofs.Common.{rules, ◌≡◌, true, false, nat_eq, eq-eqb, sym, ap, ◌∙◌}
 use denote.Enum.Bare.{same_true}
-use Rattle.mlt_object_kinds.specs.declared.operation.ObjOp.{ObjOp}
-use Rattle.mlt_object_kinds.specs.declared.operation.ObjReply.{ObjReply}
+use Rattle.mlt_trace_audit.proofs.Names.{ObjOp, ObjReply, parts_of}
 use Rattle.mlt_object_kinds.specs.declared.packed.Packed.{Packed}
 use Rattle.mlt_object_kinds.specs.contracts.packed.OpKind as op_kinds
 use Rattle.mlt_object_kinds.specs.contracts.packed.ReplyKind as reply_kinds
-use Rattle.mlt_object_kinds.specs.Packing.{parts_of}
 use Rattle.mlt_trace_audit.proofs.Parts.{same_by_parts}
 use Rattle.mlt_trace_audit.proofs.outcome_items.is_same.Goals as goal
 use Rattle.mlt_trace_audit.proofs.outcome_items.is_same.Goals.{then-eq, else-eq, then-eq-2, else-eq-2, then-one-other, else-one-other, then-one-other-2, else-one-other-2}

@@ -1,7 +1,6 @@
 use Rattle.std.proofs.Common.{◌<◌, length, get_or, refl, subst, arith}
-use Rattle.std.proofs.lemmas.Option.{slice_get-get_or}
+use Rattle.mlt_trace_audit.proofs.Names.{slice_get-get_or, RisesTo}
 use Rattle.std.proofs.lemmas.Bool.{iff_false}
-use Rattle.mlt_trace_audit.specs.Outcomes.{RisesTo}
 use Rattle.mlt_trace_audit.proofs.CommitOrder.{at_read, one_at, rise_all, rise_by_commit, rise_by_other}
 use Rattle.mlt_trace_audit.proofs.rising.neighbours_rise.Goals as goal
 use Rattle.mlt_trace_audit.proofs.rising.neighbours_rise.Goals.{then-is_committed+else-not-rises_to, else-is_committed}

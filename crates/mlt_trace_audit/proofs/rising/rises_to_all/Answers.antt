@@ -1,5 +1,5 @@
 use Rattle.std.proofs.Common.{arith, refl}
-use Rattle.mlt_trace_audit.specs.Outcomes.{RisesTo}
+use Rattle.mlt_trace_audit.proofs.Names.{RisesTo}
 use Rattle.mlt_trace_audit.proofs.Loops.{at_end, one_more}
 use Rattle.mlt_trace_audit.proofs.rising.rises_to_all.Goals as goal
 

@@ -1,5 +1,5 @@
 use Rattle.std.proofs.Common.{All, take}
-use Rattle.mlt_trace_audit.specs.Outcomes.{RisesTo}
+use Rattle.mlt_trace_audit.proofs.Names.{RisesTo}
 use Rattle.mlt_trace_audit.proofs.rising.rises_to_all.Given as goal
 
 abbrev pub invariant-loop-other : goal.invariant-loop-other

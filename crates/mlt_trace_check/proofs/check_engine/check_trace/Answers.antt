@@ -1,8 +1,7 @@
 use Rattle.std.proofs.Common.{◌≡◌, ◌∙◌, Err, ap, inl, inr}
 use Rattle.std.proofs.KnownBytes.{Keeps-refl}
-use Rattle.std.proofs.lemmas.Result.{err_from_is_err_and}
+use Rattle.mlt_trace_check.proofs.Names.{err_from_is_err_and, order_text}
 use Rattle.mlt_text.proofs.Failing.{unread, unwritten}
-use Rattle.mlt_trace_check.specs.OrderTexts.{order_text}
 use Rattle.mlt_trace_check.proofs.Said.{all_written, fails_cleanly, is_said, only_written}
 use Rattle.mlt_trace_check.proofs.check_engine.check_trace.Goals as goal
 

@@ -1,5 +1,4 @@
-use Rattle.std.proofs.Common.{◌≡◌, take}
-use Rattle.std.specs.String.{string_bytes}
+use Rattle.std.proofs.Common.{◌≡◌, take, string_bytes}
 use Rattle.mlt_trace_check.specs.OrderTexts.{serial_lines}
 use Rattle.mlt_trace_check.proofs.check_engine.text_of_txs.Given as goal
 

@@ -1,4 +1,4 @@
-use Rattle.std.proofs.lemmas.Result.{err_from_is_err_and}
+use Rattle.mlt_trace_check.proofs.Names.{err_from_is_err_and}
 use Rattle.mlt_trace_check.proofs.Knowing.{replay_fails, replays_more}
 use Rattle.mlt_trace_check.proofs.checker.replay.Goals as goal
 

@@ -1,7 +1,5 @@
 use Rattle.std.proofs.Common.{take}
-use Rattle.mlt_object_kinds.specs.Bases.{Step}
-use Rattle.mlt_order.specs.Runs.{Runs}
-use Rattle.mlt_trace_check.specs.Replaying.{dones}
+use Rattle.mlt_trace_check.proofs.Names.{Step, Runs, dones}
 use Rattle.mlt_trace_check.proofs.checker.replay.Given as goal
 
 abbrev pub invariant-loop-line : goal.invariant-loop-line

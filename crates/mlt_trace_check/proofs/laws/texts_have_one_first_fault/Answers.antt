@@ -1,4 +1,4 @@
-use Rattle.mlt_text_words.specs.Lines.{lines}
+use Rattle.mlt_trace_check.proofs.Names.{lines}
 use Rattle.mlt_trace_check.proofs.Faults.{one_first_fault}
 use Rattle.mlt_trace_check.proofs.laws.texts_have_one_first_fault.Goals as goal
 

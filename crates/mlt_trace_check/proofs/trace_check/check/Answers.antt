@@ -1,6 +1,5 @@
 use Rattle.std.proofs.Common.{subst, ◌∙◌}
-use Rattle.mlt_trace_check.specs.Answering.{Answers}
-use Rattle.mlt_trace_check.specs.Traces.{IsFirstFault}
+use Rattle.mlt_trace_check.proofs.Names.{Answers, IsFirstFault}
 use Rattle.mlt_trace_check.proofs.Exactness.{all_given, only_accepted, only_faulty}
 use Rattle.mlt_trace_check.proofs.trace_check.check.Goals as goal
 

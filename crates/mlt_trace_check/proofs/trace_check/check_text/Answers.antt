@@ -1,7 +1,5 @@
 use Rattle.std.proofs.Common.{◌≡◌, ◌+◌, length, sym, rules, arith, subst}
-use Rattle.std.proofs.lemmas.Result.{err_from_is_err_and}
-use Rattle.mlt_trace_check.specs.Answering.{WentOver}
-use Rattle.mlt_trace_check.specs.Traces.{IsAcceptedTrace}
+use Rattle.mlt_trace_check.proofs.Names.{err_from_is_err_and, WentOver, IsAcceptedTrace}
 use Rattle.mlt_trace_check.proofs.Going.{went_nowhere, went_on, went_to_end, went_wrong}
 use Rattle.mlt_trace_check.proofs.trace_check.check_text.Goals as goal
 

@@ -1,5 +1,5 @@
 use Rattle.std.proofs.Common.{◌≤◌, ◌+◌, length}
-use Rattle.mlt_trace_check.specs.Answering.{WentOver}
+use Rattle.mlt_trace_check.proofs.Names.{WentOver}
 use Rattle.mlt_trace_check.proofs.trace_check.check_text.Given as goal
 
 abbrev pub invariant-loop-rest : goal.invariant-loop-rest

@@ -1,5 +1,5 @@
 use Rattle.std.proofs.Common.{inl}
-use Rattle.mlt_text.proofs.Pieces.{on_err_all}
+use Rattle.mlt_trace_long.proofs.Names.{on_err_all}
 use Rattle.mlt_trace_long.proofs.Saying.{answers, fails, nothing_said}
 use Rattle.mlt_trace_long.proofs.long_check.check_pieces.Goals as goal
 

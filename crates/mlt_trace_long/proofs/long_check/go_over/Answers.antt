@@ -1,7 +1,7 @@
 use Rattle.std.proofs.Common.{◌≡◌, ◌+◌, ◌≤◌, [], ◌++◌, length, take, refl, sym, ◌∙◌, arith, length-take}
 use Rattle.std.proofs.lemmas.List.{nil_from_length}
-use Rattle.std.proofs.lemmas.Result.{err_from_is_err_and}
-use Rattle.mlt_text.proofs.Pieces.{nothing_read, on_err_all}
+use Rattle.mlt_trace_long.proofs.Names.{err_from_is_err_and, on_err_all}
+use Rattle.mlt_text.proofs.Pieces.{nothing_read}
 use Rattle.mlt_trace_long.proofs.Filling.{rest_by_length}
 use Rattle.mlt_trace_long.proofs.Pieces.{goes_further, left_fits, reads_more, starts, stops_here, stops_writing, told_of}
 use Rattle.mlt_trace_long.proofs.long_check.go_over.Goals as goal

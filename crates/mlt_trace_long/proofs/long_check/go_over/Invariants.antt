@@ -1,6 +1,6 @@
 -- The check goes on.
 use Rattle.std.proofs.Common.{◌≤◌, take}
-use Rattle.mlt_trace_long.specs.LongChecks.{GoesOn}
+use Rattle.mlt_trace_long.proofs.Names.{GoesOn}
 use Rattle.mlt_trace_long.proofs.long_check.go_over.Given as goal
 
 abbrev pub invariant-pieces : goal.invariant-pieces

@@ -1,9 +1,5 @@
-use Rattle.std.proofs.Common.{[], ◌∷◌, ◌++◌}
-use Rattle.std.specs.String.{string_bytes}
-use Rattle.std.proofs.lemmas.Result.{err_from_is_err_and}
-use Rattle.mlt_text.proofs.Pieces.{on_err_all}
-use Rattle.mlt_trace.specs.Numbers.{committed_txs}
-use Rattle.mlt_trace_long.specs.Pieces.{StopsIn}
+use Rattle.std.proofs.Common.{[], ◌∷◌, ◌++◌, string_bytes}
+use Rattle.mlt_trace_long.proofs.Names.{err_from_is_err_and, on_err_all, committed_txs, StopsIn}
 use Rattle.mlt_trace_long.proofs.Stepping.{goes_nowhere, goes_on, is_refused, says_more}
 use Rattle.mlt_trace_long.proofs.piece.take_lines.Goals as goal
 

@@ -1,8 +1,6 @@
 -- The lines so far were gone over, and their commits said.
-use Rattle.std.proofs.Common.{◌≡◌, ℕ, List, length}
-use Rattle.std.specs.String.{string_bytes}
-use Rattle.mlt_trace_check.specs.OrderTexts.{serial_lines}
-use Rattle.mlt_trace_long.specs.Goings.{GoesOver}
+use Rattle.std.proofs.Common.{◌≡◌, ℕ, List, length, string_bytes}
+use Rattle.mlt_trace_long.proofs.Names.{serial_lines, GoesOver}
 use Rattle.mlt_trace_long.proofs.piece.take_lines.Given as goal
 
 abbrev pub invariant-loop-said : goal.invariant-loop-said

@@ -1,5 +1,5 @@
 use Rattle.std.proofs.Common.{inl, inr}
-use Rattle.std.proofs.lemmas.Result.{err_from_is_err_and}
+use Rattle.mlt_trace_long.proofs.Names.{err_from_is_err_and}
 use Rattle.mlt_trace_long.proofs.Pieces.{front_written, refuses_none, stops_somewhere, stops_written, writes_lines}
 use Rattle.mlt_trace_long.proofs.piece.take_piece.Goals as goal
 

@@ -1,6 +1,6 @@
 use Rattle.std.proofs.Common.{ℕ, [], ◌∷◌, ◌++◌, refl, ap, subst, ◌∙◌}
-use Rattle.mlt_object_locks.specs.Locks.{HoldsClash, IsLowestClash, SameReservations}
-use Rattle.mlt_trace.specs.declared.item.TraceItem.TheVariants as trace
+use Rattle.mlt_tx.proofs.Names.{HoldsClash, SameReservations, TraceItem}
+use Rattle.mlt_object_locks.specs.Locks.{IsLowestClash}
 use Rattle.mlt_tx.proofs.ending.finish.Goals as goal
 
 pub returns-in-Err-clause-tells : goal.returns-in-Err-clause-tells
@@ -21,7 +21,7 @@ returns-clause-tells c = (
     held = c.in_default.ensures.granted ∙ ap (λ (tx : ℕ). c.args.shared.now.objects.held ++ (tx, c.args.done) ∷ []) c.tx-tx.ensures;
     reserved = subst (λ (tx : ℕ). SameReservations c.args.shared.now.objects.reserved c.ask.new.self.reserved tx) c.tx-tx.ensures c.ask.ensures.others;
     entries = c.push.ensures.entries;
-    items = c.push-2.ensures.items ∙ ap (λ (tx : ℕ). c.args.shared.now.history.items ++ trace.Op tx c.args.done ∷ []) c.tx-tx.ensures;
+    items = c.push-2.ensures.items ∙ ap (λ (tx : ℕ). c.args.shared.now.history.items ++ TraceItem.Op tx c.args.done ∷ []) c.tx-tx.ensures;
     room = c.push-2.ensures.room;
   },
 )

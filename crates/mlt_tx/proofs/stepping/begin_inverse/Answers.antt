@@ -1,8 +1,5 @@
 use Rattle.std.proofs.Common.{Some, subst, sym}
-use Rattle.mlt_hash_access.specs.LocalStates.{LocalState, local}
-use Rattle.mlt_hash.specs.Walks.{WalkContext, context_in}
-use Rattle.mlt_event.specs.declared.answer.Answer.{Answer}
-use Rattle.mlt_tx.specs.Steps.{TellsOfStart}
+use Rattle.mlt_tx.proofs.Names.{LocalState, local, WalkContext, context_in, Answer, TellsOfStart}
 use Rattle.mlt_tx.proofs.Inverses.{start_tells}
 use Rattle.mlt_tx.proofs.stepping.begin_inverse.Goals as goal
 

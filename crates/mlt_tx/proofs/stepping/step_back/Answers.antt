@@ -1,15 +1,8 @@
 use Rattle.std.proofs.Common.{◌≡◌, ℕ, None, Some, IsSome, refl, sym, ap, subst, ◌∙◌}
 use Rattle.std.proofs.lemmas.Option.{none-some}
-use Rattle.mlt_object_kinds.specs.declared.operation.ObjOp.{ObjOp}
-use Rattle.mlt_object_kinds.specs.declared.operation.ObjReply.{ObjReply}
-use Rattle.mlt_object_base.specs.Effects.{inverse_of}
-use Rattle.mlt_hash_access.specs.LocalStates.{LocalState, local}
+use Rattle.mlt_tx.proofs.Names.{ObjOp, ObjReply, inverse_of, LocalState, local, WalkContext, context_in, TakeBack, OperationFields, started_for, SharedState, Running}
 use Rattle.mlt_hash_access.proofs.Rebased.{same_some}
-use Rattle.mlt_hash.specs.Walks.{WalkContext, context_in}
-use Rattle.mlt_object_base.specs.declared.request.Request.TheVariants.{TakeBack}
-use Rattle.mlt_tx_operation.specs.Operating.{MayOperate, OperationFields, started_for}
-use Rattle.mlt_tx.specs.declared.shared.SharedState.{SharedState}
-use Rattle.mlt_page_subtx.specs.Images.{Running}
+use Rattle.mlt_tx_operation.specs.Operating.{MayOperate}
 use Rattle.mlt_object_undo.specs.Undo.{IsLast}
 use Rattle.mlt_tx.specs.Steps.{TakesBack}
 use Rattle.mlt_tx.proofs.Backing.{end_tells, one_last}

@@ -1,4 +1,4 @@
-use Rattle.mlt_object_kinds.specs.Operations.{cell_of}
+use Rattle.mlt_tx_meaning.proofs.Names.{cell_of}
 use Rattle.mlt_tx_meaning.proofs.Walks.{found_is_record, record_looked_up}
 use Rattle.mlt_tx_meaning.proofs.walk_laws.walks_find_the_record.Goals as goal
 

@@ -1,4 +1,4 @@
-use Rattle.mlt_tx_open.specs.TxSlots.{LackImage}
+use Rattle.mlt_tx_open.proofs.Names.{LackImage}
 use Rattle.mlt_tx_open.proofs.tx_slot.image_in.Given as goal
 
 -- nobody that was asked keeps one

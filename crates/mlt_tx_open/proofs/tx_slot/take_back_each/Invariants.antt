@@ -1,8 +1,6 @@
 use Rattle.std.proofs.Common.{drop}
-use Rattle.mlt_order.specs.Interleavings.{UndoneTo}
-use Rattle.mlt_object_kinds.specs.Bases.{Base as ObjectBase, Step}
-use Rattle.mlt_tx_open.specs.Standing.{standing_in}
-use Rattle.mlt_tx_open.specs.TxSlots.{table_of}
+use Rattle.mlt_tx_open.proofs.Names.{UndoneTo, Step, standing_in, table_of}
+use Rattle.mlt_object_kinds.specs.Bases.{Base as ObjectBase}
 use Rattle.mlt_tx_open.proofs.tx_slot.take_back_each.Given as goal
 
 -- what stands in the other slots is left to be taken back

@@ -1,6 +1,5 @@
 use Rattle.std.proofs.Common.{ℕ, Option, None, ap}
-use Rattle.mlt_tx_operation.specs.MostSteps.{most_steps_by}
-use Rattle.mlt_tx_operation.specs.Operating.{access_path_for}
+use Rattle.mlt_tx_operation.proofs.Names.{most_steps_by, access_path_for}
 use Rattle.mlt_tx_operation.proofs.MostSteps.{one_fewer_at_least}
 use Rattle.mlt_tx_operation.proofs.end_law.operations_come_to_an_end.Goals as goal
 

@@ -1,4 +1,4 @@
-use Rattle.mlt_hash.specs.Walks.{context_in}
+use Rattle.mlt_tx_operation.proofs.Names.{context_in}
 use Rattle.mlt_tx_operation.proofs.perform.perform.Given as goal
 
 abbrev pub ghost-insert : goal.ghost-insert

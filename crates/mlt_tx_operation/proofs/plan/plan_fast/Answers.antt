@@ -1,25 +1,6 @@
-use Rattle.std.proofs.Common.{◌≡◌, ℕ, None, Some, is_some, refl, sym, ap, subst, ◌∙◌}
-use Rattle.std.specs.Prelude.{IsSome, Option}
-use Rattle.mlt_types.specs.declared.mode.Mode.{Mode}
-use Rattle.mlt_page.specs.Slots.{is_live_of}
-use Rattle.mlt_page.specs.declared.slot.Slot.TheVariants.{Live}
-use Rattle.mlt_page.specs.Values.{BucketFields}
-use Rattle.mlt_object_kinds.specs.declared.operation.ObjOp.{ObjOp}
-use Rattle.mlt_object_base.specs.declared.record.RecChange.{RecChange}
-use Rattle.mlt_object_base.specs.declared.request.Request.TheVariants.{Do}
-use Rattle.mlt_object_base.specs.Records.{CanChange}
-use Rattle.mlt_object_base.specs.Requests.{decision, size_key_of, target_of}
-use Rattle.mlt_page_store.specs.Stores.{page_at}
-use Rattle.mlt_hash_form.specs.File.{IsPath}
-use Rattle.mlt_hash_form.specs.Form.{value_in}
-use Rattle.mlt_hash_access.specs.LocalStates.{LocalState, local}
-use Rattle.mlt_hash.specs.Walks.{WalkContext, context_in}
-use Rattle.mlt_hash.specs.declared.pass.Change.TheVariants as change
-use Rattle.mlt_hash_record.specs.Plans.{SetsFirst, WriteFields}
-use Rattle.mlt_tx_operation.specs.Operating.{started_for}
-use Rattle.mlt_tx_two_records.specs.Performing.{Performs}
-use Rattle.mlt_tx_two_records.proofs.Performing.{leaves}
-use Rattle.mlt_tx_operation.specs.Fast.{CanWrite, PassesFast, store_after}
+use Rattle.std.proofs.Common.{◌≡◌, ℕ, None, Some, is_some, refl, sym, ap, subst, ◌∙◌, IsSome, Option}
+use Rattle.mlt_tx_operation.proofs.Names.{Mode, is_live_of, Live, BucketFields, ObjOp, RecChange, Do, CanChange, decision, size_key_of, target_of, page_at, IsPath, value_in, LocalState, local, WalkContext, context_in, Change, SetsFirst, WriteFields, started_for, Performs, leaves, PassesFast, store_after}
+use Rattle.mlt_tx_operation.specs.Fast.{CanWrite}
 use Rattle.mlt_tx_operation.proofs.Passing.{no_key, passes_reading, passes_writing}
 use Rattle.mlt_tx_operation.proofs.plan.plan_fast.Goals as goal
 
@@ -51,9 +32,9 @@ returns-clause-passes g c =
     let found : c.value_in-found.result ≡ value_in (target_of (Do op)).0 fields.slots = c.value_in-found.ensures ∙ ap (λ k. value_in k fields.slots) key in
     let value : ℕ = c.in-Some-Some.value in
     let decided : RecChange = c.in-Some-decided.change in
-    let sets : Performs decided c.value_in-found.result (change.Set value) =
+    let sets : Performs decided c.value_in-found.result (Change.Set value) =
     leaves decided c.value_in-found.result (Some value) _ c.in-Some-Some.is-0 (subst (λ (d : Option RecChange). CanChange d c.value_in-found.result) c.in-Some-decided.is c.decide-reply.ensures.fits) (sym c.value_after.ensures ∙ c.in-Some-Some.is-1) in
-    let performs : Performs decided (value_in (target_of (Do op)).0 fields.slots) (change.Set value) = subst (λ f. Performs decided f (change.Set value)) found sets in
+    let performs : Performs decided (value_in (target_of (Do op)).0 fields.slots) (Change.Set value) = subst (λ f. Performs decided f (Change.Set value)) found sets in
     let some : IsSome (value_in (target_of (Do op)).0 fields.slots) = subst (λ (f : Option ℕ). IsSome f) (sym c.in-Some-Some.is-0 ∙ found) refl in
     let plan : SetsFirst c.in-Some.home.0 fields (is_live_of (target_of (Do op)).0) (Live (target_of (Do op)).0 value) c.in_ok-write.write =
     subst (λ k. SetsFirst c.in-Some.home.0 fields (is_live_of k) (Live k value) c.in_ok-write.write) key c.in_ok-write.ensures.plan in

@@ -1,17 +1,5 @@
 use Rattle.std.proofs.Common.{◌≡◌, Option, Some, refl, sym, ap, subst, ◌∙◌, inl, inr}
-use Rattle.std.proofs.lemmas.Bool.{false≢true}
-use Rattle.mlt_object_base.specs.declared.record.RecChange.{RecChange}
-use Rattle.mlt_object_base.specs.Records.{CanChange}
-use Rattle.mlt_object_base.specs.Requests.{decision}
-use Rattle.mlt_hash_access.specs.LocalStates.{LocalState, local}
-use Rattle.mlt_hash_access.specs.PageTurns.{IsRolledBack}
-use Rattle.mlt_hash.specs.Walks.{WalkContext, WalkFields, context_in}
-use Rattle.mlt_hash.specs.declared.answer.WalkAnswer.TheVariants as answer
-use Rattle.mlt_tx_two_records.proofs.RollingBack.{rolls_back}
-use Rattle.mlt_tx_operation.specs.declared.answer.StepAnswer.TheVariants as step
-use Rattle.mlt_tx_operation.specs.AtBucket.{TellsAtBucket}
-use Rattle.mlt_tx_operation.specs.Walking.{WalkingFields, walking}
-use Rattle.mlt_tx_operation.specs.Performing.{TellsOfDecision}
+use Rattle.mlt_tx_operation.proofs.Names.{false≢true, RecChange, CanChange, decision, LocalState, local, IsRolledBack, WalkContext, WalkFields, context_in, WalkAnswer, rolls_back, StepAnswer, TellsAtBucket, WalkingFields, walking, TellsOfDecision}
 use Rattle.mlt_tx_operation.proofs.AtBucket.{absent_to_add, asks_to_add, begins_again, change_finishes, first_restarts, ghost_is_there, splits_in_pass, may_change, narrow_restarts, refused_at_bucket, told_finishes}
 use Rattle.mlt_tx_operation.proofs.walking.act_on.Goals.{in-NeedSplit+else-not-is_first, in-Widen-1}
 use Rattle.mlt_tx_operation.proofs.walking.act_on.Goals as goal
@@ -81,7 +69,7 @@ returns-in-Refused g c =
     let old : LocalState = local c.perform.new.subtx c.perform.new.pages in
     let new : LocalState = local c.roll_back.new.self (record { store = c.roll_back.new.store; locks = c.roll_back.new.locks }) in
     let back = rolls_back m old new c.in-Refused.ensures.writes c.roll_back.ensures.store c.roll_back.ensures.locks c.roll_back.ensures.images in
-    let refuses : TellsAtBucket context m new before before (step.Refused c.in-Refused.reason) =
+    let refuses : TellsAtBucket context m new before before (StepAnswer.Refused c.in-Refused.reason) =
     refused_at_bucket context m old new before before c.in-Some.change c.args.found reply c.perform.new.walk c.in-Refused.reason c.requires.ready some can c.in-Refused.ensures.writes c.in-Refused.ensures.tells back in
     record { tells = refuses }
 
@@ -100,14 +88,14 @@ returns-in-NeedSplit-2 g c =
     let rolled : (stays : old ≡ m) → IsRolledBack m new = λ stays. rolls_back m old new stays c.roll_back-in-NeedSplit-2.ensures.store c.roll_back-in-NeedSplit-2.ensures.locks c.roll_back-in-NeedSplit-2.ensures.images in
     elim c.in-NeedSplit-2-1.branch [
       | in-NeedSplit+else-not-is_first w ↦
-          let tells : TellsOfDecision context old before.walk full c.in-Some.change c.args.found answer.NeedSplit = w.in-NeedSplit.ensures.tells in
+          let tells : TellsOfDecision context old before.walk full c.in-Some.change c.args.found WalkAnswer.NeedSplit = w.in-NeedSplit.ensures.tells in
           let stays : old ≡ m = w.in-NeedSplit.ensures.writes in
           let first = w.is_first.ensures.0 w.if-not-is_first.false in
-          let restarts = first_restarts context m before.walk full c.in-Some.change (subst (λ (n : LocalState). TellsOfDecision context n before.walk full c.in-Some.change c.args.found answer.NeedSplit) stays tells) first in
+          let restarts = first_restarts context m before.walk full c.in-Some.change (subst (λ (n : LocalState). TellsOfDecision context n before.walk full c.in-Some.change c.args.found WalkAnswer.NeedSplit) stays tells) first in
           record { tells = inr (inr (begins_again context m new before _ c.args.found full c.requires.ready (absent_to_add context m before c.args.found c.in-Some.change _ c.requires.ready can tells) (asks_to_add before.request c.args.found reply c.in-Some.change _ some can tells) (rolled stays) restarts.0 restarts.1 c.again.ensures refl refl)) }
       | in-Widen-1 w ↦
-          let tells : TellsOfDecision context old before.walk full c.in-Some.change c.args.found answer.Widen = w.enum_told-in-NeedSplit-2-1.ensures.tells in
+          let tells : TellsOfDecision context old before.walk full c.in-Some.change c.args.found WalkAnswer.Widen = w.enum_told-in-NeedSplit-2-1.ensures.tells in
           let stays : old ≡ m = w.enum_told-in-NeedSplit-2-1.ensures.writes in
-          let restarts = narrow_restarts context m before.walk full c.in-Some.change (subst (λ (n : LocalState). TellsOfDecision context n before.walk full c.in-Some.change c.args.found answer.Widen) stays tells) in
+          let restarts = narrow_restarts context m before.walk full c.in-Some.change (subst (λ (n : LocalState). TellsOfDecision context n before.walk full c.in-Some.change c.args.found WalkAnswer.Widen) stays tells) in
           record { tells = inr (inr (begins_again context m new before _ c.args.found full c.requires.ready (absent_to_add context m before c.args.found c.in-Some.change _ c.requires.ready can tells) (asks_to_add before.request c.args.found reply c.in-Some.change _ some can tells) (rolled stays) restarts.0 restarts.1 c.again.ensures refl refl)) }
     ]

@@ -1,13 +1,6 @@
 use Rattle.std.proofs.Common.{◌≡◌, ℕ, Option, Some, refl, sym, ap, subst, inl}
-use Rattle.mlt_object_kinds.specs.declared.operation.ObjReply.{ObjReply}
-use Rattle.mlt_object_base.specs.declared.record.RecChange.{RecChange}
-use Rattle.mlt_hash_access.specs.LocalStates.{LocalState, local}
-use Rattle.mlt_hash_access.specs.Views.{view_of}
+use Rattle.mlt_tx_operation.proofs.Names.{ObjReply, RecChange, LocalState, local, view_of, WalkContext, context_in, rolls_back, MayDecide, TellsAtBucket, WalkingFields, walking}
 use Rattle.mlt_hash_access.proofs.OwnSteps.{step_keeps_tx}
-use Rattle.mlt_hash.specs.Walks.{WalkContext, context_in}
-use Rattle.mlt_tx_two_records.proofs.RollingBack.{rolls_back}
-use Rattle.mlt_tx_operation.specs.AtBucket.{MayDecide, TellsAtBucket}
-use Rattle.mlt_tx_operation.specs.Walking.{WalkingFields, walking}
 use Rattle.mlt_tx_operation.proofs.Going.{goes_on, puts}
 use Rattle.mlt_tx_operation.proofs.Ready.{under_way}
 use Rattle.mlt_tx_operation.proofs.Telling.{found_tells, may_decide, refused, waits}

@@ -1,4 +1,4 @@
-use Rattle.mlt_hash.specs.Walks.{context_in}
+use Rattle.mlt_tx_operation.proofs.Names.{context_in}
 use Rattle.mlt_tx_operation.proofs.walking.step_walk.Given as goal
 
 abbrev pub ghost-advance : goal.ghost-advance

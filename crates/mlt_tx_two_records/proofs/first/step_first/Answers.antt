@@ -1,6 +1,5 @@
 use Rattle.std.proofs.Common.{refl}
-use Rattle.mlt_hash_access.specs.LocalStates.{LocalState, local}
-use Rattle.mlt_hash.specs.Walks.{WalkContext, context_in}
+use Rattle.mlt_tx_two_records.proofs.Names.{LocalState, local, WalkContext, context_in}
 use Rattle.mlt_tx_two_records.proofs.FirstSteps.{first_goes, found_tells, may_act}
 use Rattle.mlt_tx_two_records.proofs.first.step_first.Goals as goal
 

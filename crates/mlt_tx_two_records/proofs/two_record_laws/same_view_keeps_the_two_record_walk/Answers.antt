@@ -1,7 +1,7 @@
 use Rattle.std.proofs.Common.{subst}
-use Rattle.mlt_hash_access.specs.Views.{View}
+use Rattle.mlt_tx_two_records.proofs.Names.{View, IsTold}
 use Rattle.mlt_hash_pair.proofs.Laws.{one_view}
-use Rattle.mlt_tx_two_records.specs.TwoRecordWalks.{IsTold, Stands}
+use Rattle.mlt_tx_two_records.specs.TwoRecordWalks.{Stands}
 use Rattle.mlt_tx_two_records.proofs.two_record_laws.same_view_keeps_the_two_record_walk.Goals as goal
 
 pub returns-clause-stands : goal.returns-clause-stands

@@ -1,11 +1,5 @@
 use Rattle.std.proofs.Common.{◌≡◌, ℕ, Option, Some, refl, sym, ap, subst, ◌∙◌, inr}
-use Rattle.mlt_object_base.specs.declared.record.RecChange.{RecChange}
-use Rattle.mlt_hash_access.specs.LocalStates.{LocalState, local}
-use Rattle.mlt_hash_access.specs.Views.{view_of}
-use Rattle.mlt_hash_access.proofs.OwnSteps.{step_keeps_tx}
-use Rattle.mlt_hash.specs.Walks.{WalkContext, context_in}
-use Rattle.mlt_tx_two_records.specs.AtWideBuckets.{HasJustPut}
-use Rattle.mlt_tx_two_records.specs.WidePass.{IsGoingToSize}
+use Rattle.mlt_tx_two_records.proofs.Names.{RecChange, LocalState, local, view_of, step_keeps_tx, WalkContext, context_in, HasJustPut, IsGoingToSize}
 use Rattle.mlt_tx_two_records.proofs.RollingBack.{rolls_back}
 use Rattle.mlt_tx_two_records.proofs.WideDeciding.{is_possible, own_change}
 use Rattle.mlt_tx_two_records.proofs.WideOwn.{is_to_split, just_put, no_room, told_present}

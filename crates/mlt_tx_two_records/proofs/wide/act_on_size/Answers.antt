@@ -1,9 +1,5 @@
 use Rattle.std.proofs.Common.{◌≡◌, None, Option, Some, sym, ap, ◌∙◌}
-use Rattle.mlt_object_kinds.specs.declared.operation.ObjReply.{ObjReply}
-use Rattle.mlt_object_base.specs.declared.record.RecChange.{RecChange}
-use Rattle.mlt_object_base.specs.Requests.{decision, size_decision}
-use Rattle.mlt_hash_access.specs.LocalStates.{LocalState, local}
-use Rattle.mlt_hash.specs.Walks.{WalkContext, context_in}
+use Rattle.mlt_tx_two_records.proofs.Names.{ObjReply, RecChange, decision, size_decision, LocalState, local, WalkContext, context_in}
 use Rattle.mlt_tx_two_records.proofs.RollingBack.{rolls_back}
 use Rattle.mlt_tx_two_records.proofs.WideSize.{may_raise, raised, raises_it, refused_there, splits_for_it}
 use Rattle.mlt_tx_two_records.proofs.wide.act_on_size.Goals as goal

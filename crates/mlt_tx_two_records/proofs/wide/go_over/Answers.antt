@@ -1,6 +1,5 @@
 use Rattle.std.proofs.Common.{sym, ap, ◌∙◌}
-use Rattle.mlt_hash_access.specs.LocalStates.{LocalState, local}
-use Rattle.mlt_hash.specs.Walks.{WalkContext}
+use Rattle.mlt_tx_two_records.proofs.Names.{LocalState, local, WalkContext}
 use Rattle.mlt_tx_two_records.proofs.WideOver.{goes_over, has_changed, may_turn}
 use Rattle.mlt_tx_two_records.proofs.wide.go_over.Goals as goal
 

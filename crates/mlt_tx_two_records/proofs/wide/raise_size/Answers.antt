@@ -1,10 +1,5 @@
 use Rattle.std.proofs.Common.{◌≡◌, ℕ, None, Option, Some, refl, sym, subst, ◌∙◌}
-use Rattle.mlt_object_base.specs.declared.record.RecChange.{RecChange}
-use Rattle.mlt_object_base.specs.declared.record.RecChange.TheVariants.{Add}
-use Rattle.mlt_object_base.specs.Records.{record_after}
-use Rattle.mlt_hash_access.specs.LocalStates.{LocalState, local}
-use Rattle.mlt_hash.specs.Walks.{WalkContext, context_after, context_in}
-use Rattle.mlt_tx_two_records.specs.AtWideBuckets.{Raises, TellsOfRaise}
+use Rattle.mlt_tx_two_records.proofs.Names.{RecChange, Add, record_after, LocalState, local, WalkContext, context_after, context_in, Raises, TellsOfRaise}
 use Rattle.mlt_tx_two_records.proofs.Performing.{leaves}
 use Rattle.mlt_tx_two_records.proofs.WideRaise.{addition_raises, can_raise, is_added, leaves_record, update_raises}
 use Rattle.mlt_tx_two_records.proofs.wide.raise_size.Goals as goal

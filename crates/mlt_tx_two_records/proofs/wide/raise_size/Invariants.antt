@@ -1,4 +1,4 @@
-use Rattle.mlt_hash.specs.Walks.{context_after, context_in}
+use Rattle.mlt_tx_two_records.proofs.Names.{context_after, context_in}
 use Rattle.mlt_tx_two_records.proofs.wide.raise_size.Given as goal
 
 abbrev pub ghost-insert : goal.ghost-insert

@@ -1,10 +1,5 @@
 use Rattle.std.proofs.Common.{◌≡◌, ℕ, refl, sym, subst}
-use Rattle.mlt_hash_access.specs.LocalStates.{LocalState, local}
-use Rattle.mlt_hash_access.specs.Views.{view_of}
-use Rattle.mlt_hash_access.proofs.OwnSteps.{step_keeps_tx}
-use Rattle.mlt_hash.specs.Walks.{WalkContext, context_in}
-use Rattle.mlt_tx_two_records.specs.AtWideBuckets.{HasJustPut, MayActOnOwn, TellsAtOwn}
-use Rattle.mlt_tx_two_records.specs.WidePass.{IsGoingToSize}
+use Rattle.mlt_tx_two_records.proofs.Names.{LocalState, local, view_of, step_keeps_tx, WalkContext, context_in, HasJustPut, MayActOnOwn, TellsAtOwn, IsGoingToSize}
 use Rattle.mlt_tx_two_records.proofs.RollingBack.{rolls_back}
 use Rattle.mlt_tx_two_records.proofs.WideOwnSteps.{goes_over_behind, goes_to_own, has_put_behind, is_refused, may_act, may_walk, tells_there}
 use Rattle.mlt_tx_two_records.proofs.WideTelling.{never_needs, refused, waits}

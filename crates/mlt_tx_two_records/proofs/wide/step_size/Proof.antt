@@ -22,9 +22,7 @@ use borrow.Fn.Run.{Over}
 use borrow.Fn.World.{World}
 use borrow.Fn.Written as written
 use Rattle.mlt_types.specs.declared.pseudo.Pseudo as pseudo
-use Rattle.mlt_hash_access.specs.LocalStates.{LocalState, local}
-use Rattle.mlt_hash.specs.Walks.{WalkContext, Before, context_in}
-use Rattle.mlt_tx_two_records.specs.AtWideBuckets.{MayStepToSize}
+use Rattle.mlt_tx_two_records.proofs.Names.{LocalState, local, WalkContext, Before, context_in, MayStepToSize}
 use Rattle.mlt_tx_two_records.proofs.WideSizeSteps.{may_step}
 use Rattle.mlt_tx_two_records.proofs.wide.step_size.Statement.{statement}
 use Rattle.mlt_tx_two_records.proofs.wide.step_size.Lts as lts

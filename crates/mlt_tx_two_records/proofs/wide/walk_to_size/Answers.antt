@@ -1,10 +1,5 @@
 use Rattle.std.proofs.Common.{◌≡◌, ℕ, None, Option, refl, sym, ap, subst}
-use Rattle.mlt_object_kinds.specs.declared.operation.ObjReply.{ObjReply}
-use Rattle.mlt_object_base.specs.declared.record.RecChange.{RecChange}
-use Rattle.mlt_hash_access.specs.LocalStates.{LocalState, local}
-use Rattle.mlt_hash_access.proofs.OwnSteps.{step_keeps_tx}
-use Rattle.mlt_hash.specs.Walks.{WalkContext, context_after, context_in}
-use Rattle.mlt_tx_two_records.specs.AtWideBuckets.{MayActOnSize, TellsAtSize}
+use Rattle.mlt_tx_two_records.proofs.Names.{ObjReply, RecChange, LocalState, local, step_keeps_tx, WalkContext, context_after, context_in, MayActOnSize, TellsAtSize}
 use Rattle.mlt_tx_two_records.proofs.RollingBack.{rolls_back}
 use Rattle.mlt_tx_two_records.proofs.WideDeciding.{is_possible}
 use Rattle.mlt_tx_two_records.proofs.WideSizeSteps.{goes_to_size, is_refused, may_act, tells_there, told_behind, waits_there}

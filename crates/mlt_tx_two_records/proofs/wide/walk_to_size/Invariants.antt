@@ -1,4 +1,4 @@
-use Rattle.mlt_hash.specs.Walks.{context_after, context_in}
+use Rattle.mlt_tx_two_records.proofs.Names.{context_after, context_in}
 use Rattle.mlt_tx_two_records.proofs.wide.walk_to_size.Given as goal
 
 abbrev pub ghost-advance : goal.ghost-advance

@@ -1,5 +1,4 @@
-use Rattle.std.proofs.Common.{rules, subst}
-use Rattle.std.specs.Prelude.{IfOk}
+use Rattle.std.proofs.Common.{rules, subst, IfOk}
 use Rattle.mlt_manager.specs.Promises.{IsCommittedBaseOf}
 use Rattle.mlt_work.proofs.reporting.report_of.Goals as goal
 

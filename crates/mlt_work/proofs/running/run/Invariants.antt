@@ -1,4 +1,4 @@
-use Rattle.std.specs.Prelude.{false, Some}
+use Rattle.std.proofs.Common.{false, Some}
 use Rattle.mlt_work_log.specs.Seats.{id_of}
 use Rattle.mlt_work_desk.specs.Makings.{making_by}
 use Rattle.mlt_work.proofs.running.run.Given as goal

@@ -1,5 +1,4 @@
-use Rattle.std.proofs.Common.{◌≡◌, length, map}
-use Rattle.std.specs.Prelude.{All}
+use Rattle.std.proofs.Common.{◌≡◌, length, map, All}
 use Rattle.mlt_work_clients.specs.Claims.{view}
 use Rattle.mlt_work_clients.specs.Seats.{IsOf, view_of}
 use Rattle.mlt_work_clients.specs.Places.{IsClientRun, place_of, scripts_of_clients}

@@ -1,6 +1,5 @@
-use Rattle.std.proofs.Common.{◌≡◌, ◌+◌, ◌∷◌, ◌++◌, [], List, ℕ, map, take, get_or, sym, ◌∙◌, subst, arith, Vec, Global}
-use Rattle.std.specs.Prelude.{Some, None, Option, IfSome, IsSome}
-use Rattle.std.proofs.lemmas.List.{length-map, length-set, get_or-set_other, take_more}
+use Rattle.std.proofs.Common.{◌≡◌, ◌+◌, ◌∷◌, ◌++◌, [], List, ℕ, map, take, get_or, sym, ◌∙◌, subst, arith, Vec, Global, Some, None, Option, IfSome, IsSome, length-set, get_or-set_other}
+use Rattle.std.proofs.lemmas.List.{length-map, take_more}
 use Rattle.mlt_script_tree.specs.declared.script.Script.{Script}
 use Rattle.mlt_script_tree.specs.Scripts.{ScriptForm}
 use Rattle.mlt_work_clients.specs.declared.forms.ClientRun.{ClientRun}

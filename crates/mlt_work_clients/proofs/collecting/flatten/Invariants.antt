@@ -1,5 +1,4 @@
-use Rattle.std.proofs.Common.{◌≡◌, ◌≤◌, ◌<◌, ℕ, length, take}
-use Rattle.std.specs.Prelude.{IfSome, None, slice_index_or}
+use Rattle.std.proofs.Common.{◌≡◌, ◌≤◌, ◌<◌, ℕ, length, take, IfSome, None, slice_index_or}
 use Rattle.mlt_work_clients.specs.Places.{AreAllOutcomes, HasRunAt, IsClientRun, scripts_of_clients}
 use Rattle.mlt_work_clients.proofs.collecting.flatten.Given as goal
 

@@ -1,5 +1,4 @@
-use Rattle.std.proofs.Common.{◌≡◌, ◌<◌, ◌+◌, ◌++◌, List, ℕ, length, map, sym, ap, ◌∙◌, subst, arith, Vec, Global, inr}
-use Rattle.std.specs.Prelude.{Some, false}
+use Rattle.std.proofs.Common.{◌≡◌, ◌<◌, ◌+◌, ◌++◌, List, ℕ, length, map, sym, ap, ◌∙◌, subst, arith, Vec, Global, inr, Some, false}
 use Rattle.std.proofs.lemmas.List.{length-map}
 use Rattle.std.proofs.lemmas.List.Elements.{All-pop}
 use Rattle.mlt_work_clients.specs.declared.view.SeatView.{SeatView}

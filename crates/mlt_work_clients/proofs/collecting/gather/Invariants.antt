@@ -1,5 +1,4 @@
-use Rattle.std.proofs.Common.{◌≡◌, ◌⊎◌, ◌<◌, ◌+◌, ◌-◌, ◌^◌, length, vec_len, min}
-use Rattle.std.specs.Prelude.{All, false}
+use Rattle.std.proofs.Common.{◌≡◌, ◌⊎◌, ◌<◌, ◌+◌, ◌-◌, ◌^◌, length, vec_len, min, All, false}
 use Rattle.mlt_work_clients.specs.Seats.{IsOf, view_of}
 use Rattle.mlt_work_clients.specs.Workers.{HasDrawnPast, HasWorked}
 use Rattle.mlt_work_clients.specs.Places.{AreInPlace, HaveRuns, scripts_of_clients}

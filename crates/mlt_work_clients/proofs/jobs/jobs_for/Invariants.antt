@@ -1,5 +1,4 @@
-use Rattle.std.proofs.Common.{◌≡◌, ◌+◌, vec_len}
-use Rattle.std.specs.Prelude.{All}
+use Rattle.std.proofs.Common.{◌≡◌, ◌+◌, vec_len, All}
 use Rattle.mlt_work_clients.specs.Seats.{IsOf, view_of}
 use Rattle.mlt_work_clients.specs.Workers.{IsFresh, view_after_splits}
 use Rattle.mlt_work_clients.proofs.jobs.jobs_for.Given as goal

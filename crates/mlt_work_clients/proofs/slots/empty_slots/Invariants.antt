@@ -1,5 +1,4 @@
-use Rattle.std.proofs.Common.{◌≡◌, ◌≤◌, ◌-◌, replicate, vec_len}
-use Rattle.std.specs.Prelude.{None}
+use Rattle.std.proofs.Common.{◌≡◌, ◌≤◌, ◌-◌, replicate, vec_len, None}
 use Rattle.mlt_work_clients.proofs.slots.empty_slots.Given as goal
 
 abbrev pub invariant-loop-slots : goal.invariant-loop-slots

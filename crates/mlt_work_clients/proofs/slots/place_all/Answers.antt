@@ -1,6 +1,5 @@
-use Rattle.std.proofs.Common.{◌<◌, List, length, ◌∙◌, arith, Vec, Global}
-use Rattle.std.specs.Prelude.{Some}
-use Rattle.std.proofs.lemmas.List.{length-map, length-set}
+use Rattle.std.proofs.Common.{◌<◌, List, length, ◌∙◌, arith, Vec, Global, Some, length-set}
+use Rattle.std.proofs.lemmas.List.{length-map}
 use Rattle.std.proofs.lemmas.List.Elements.{All-pop}
 use Rattle.mlt_script_tree.specs.declared.script.Script.{Script}
 use Rattle.mlt_script_tree.specs.Scripts.{ScriptForm}

@@ -1,5 +1,4 @@
-use Rattle.std.proofs.Common.{◌≡◌, ◌⊎◌, ◌<◌, ℕ, length, map, vec_len}
-use Rattle.std.specs.Prelude.{All}
+use Rattle.std.proofs.Common.{◌≡◌, ◌⊎◌, ◌<◌, ℕ, length, map, vec_len, All}
 use Rattle.mlt_work_clients.specs.Claims.{times}
 use Rattle.mlt_work_clients.specs.Places.{AreInPlace, HasRunAt, IsClientRun, KeepsRuns, place_of, scripts_of_clients}
 use Rattle.mlt_work_clients.proofs.slots.place_all.Given as goal

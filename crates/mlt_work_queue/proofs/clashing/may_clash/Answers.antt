@@ -1,5 +1,4 @@
-use Rattle.std.proofs.Common.{sym, subst}
-use Rattle.std.specs.Bool.{MatchBool}
+use Rattle.std.proofs.Common.{sym, subst, MatchBool}
 use Rattle.mlt_work_queue.specs.Queues.{MayClash, NeverClash}
 use Rattle.mlt_work_queue.proofs.Exact.{table_is_exact}
 use Rattle.mlt_work_queue.proofs.clashing.may_clash.Goals as goal

@@ -1,13 +1,7 @@
-use Rattle.std.proofs.Common.{◌≡◌, refl, ap, sym, subst, ◌∙◌, arith}
-use Rattle.std.specs.Prelude.{◌↔◌}
-use Rattle.mlt_types.specs.declared.refusal.Refusal.TheVariants as refusal
+use Rattle.std.proofs.Common.{◌≡◌, refl, ap, sym, subst, ◌∙◌, arith, ◌↔◌}
+use Rattle.mlt_hash.proofs.Names.{Refusal, LocalState, local, WalkContext, WalkFields, page_of, TellsAt, walk_step, steps_to_bucket, WalkAnswer}
 use Rattle.mlt_hash_access.specs.PageSteps.{HasNoPageLeft}
-use Rattle.mlt_hash_access.specs.LocalStates.{LocalState, local}
-use Rattle.mlt_hash.specs.Walks.{WalkContext, WalkFields}
-use Rattle.mlt_hash.specs.Changes.{page_of}
-use Rattle.mlt_hash.specs.Splitting.{HasToMake, TellsAt, walk_step}
-use Rattle.mlt_hash.specs.Steps.{steps_to_bucket}
-use Rattle.mlt_hash.specs.declared.answer.WalkAnswer.TheVariants as answer
+use Rattle.mlt_hash.specs.Splitting.{HasToMake}
 use Rattle.mlt_hash.proofs.Splittings.{adding_finds_none, earlier_finds_none, locks_if_found, path_has_room, splitting_finds_none}
 use Rattle.mlt_hash.proofs.walk.Walk.advance.Goals as goal
 
@@ -123,10 +117,10 @@ pub returns-in-Adding-clause-no_room : goal.returns-in-Adding-clause-no_room
 returns-in-Adding-clause-no_room g c =
     let old : LocalState = local c.args.subtx.now c.args.pages.now in
     let phase = sym (ap (λ (w : WalkFields). w.phase) c.self.view_is) ∙ c.in-Adding.is in
-    subst (λ p. (c.add_or_split.result ≡ answer.Refused refusal.NoRoom) ↔ (HasToMake p g.context old c.args.self.now × HasNoPageLeft c.args.pages.now.store)) (sym phase) c.add_or_split.ensures.no_room
+    subst (λ p. (c.add_or_split.result ≡ WalkAnswer.Refused Refusal.NoRoom) ↔ (HasToMake p g.context old c.args.self.now × HasNoPageLeft c.args.pages.now.store)) (sym phase) c.add_or_split.ensures.no_room
 
 pub returns-in-Splitting-clause-no_room : goal.returns-in-Splitting-clause-no_room
 returns-in-Splitting-clause-no_room g c =
     let old : LocalState = local c.args.subtx.now c.args.pages.now in
     let phase = sym (ap (λ (w : WalkFields). w.phase) c.self.view_is) ∙ c.in-Splitting.is in
-    subst (λ p. (c.go_on_splitting.result ≡ answer.Refused refusal.NoRoom) ↔ (HasToMake p g.context old c.args.self.now × HasNoPageLeft c.args.pages.now.store)) (sym phase) c.go_on_splitting.ensures.no_room
+    subst (λ p. (c.go_on_splitting.result ≡ WalkAnswer.Refused Refusal.NoRoom) ↔ (HasToMake p g.context old c.args.self.now × HasNoPageLeft c.args.pages.now.store)) (sym phase) c.go_on_splitting.ensures.no_room

@@ -1,4 +1,4 @@
-use Rattle.mlt_hash.specs.Walks.{split_target}
+use Rattle.mlt_hash.proofs.Names.{split_target}
 use Rattle.mlt_hash.proofs.walk.Walk.advance.Given as goal
 
 abbrev pub ghost-read_header : goal.ghost-read_header

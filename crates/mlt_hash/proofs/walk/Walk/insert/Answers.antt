@@ -1,14 +1,7 @@
-use Rattle.std.proofs.Common.{◌≡◌, None, ap, refl, subst, ◌∙◌}
-use Rattle.std.specs.Prelude.{position}
-use Rattle.std.specs.Ordering.{nat_cmp}
+use Rattle.std.proofs.Common.{◌≡◌, None, ap, refl, subst, ◌∙◌, position, nat_cmp}
 use Rattle.std.specs.FinSet as set
-use Rattle.mlt_page.specs.Slots.{is_live_of}
-use Rattle.mlt_page.specs.declared.slot.Slot.TheVariants.{Live}
-use Rattle.mlt_page.specs.Values.{BucketFields}
-use Rattle.mlt_hash_access.specs.LocalStates.{LocalState, local}
+use Rattle.mlt_hash.proofs.Names.{is_live_of, Live, BucketFields, LocalState, local, IsNowhere, SetsFirst, has_room, WalkContext, WalkFields, view_for}
 use Rattle.mlt_hash_access.proofs.Leaving.{leaves_it}
-use Rattle.mlt_hash_record.specs.Plans.{IsNowhere, SetsFirst, has_room}
-use Rattle.mlt_hash.specs.Walks.{WalkContext, WalkFields, view_for}
 use Rattle.mlt_hash.proofs.Additions.{absent_from_bucket, absent_may_write, absent_plans, is_full, put_takes, put_tells, revival_takes, revival_tells, unmade_takes}
 use Rattle.mlt_hash.proofs.InPlace.{ReadsBucket, at_bucket_without, holds_bucket, plan_is_written, reads_bucket}
 use Rattle.mlt_hash.proofs.walk.Walk.insert.Given.{Over}

@@ -1,9 +1,5 @@
 use Rattle.std.proofs.Common.{ap, sym, ◌∙◌}
-use Rattle.mlt_page.specs.Slots.{is_live_of}
-use Rattle.mlt_page.specs.declared.slot.Slot.TheVariants.{Ghost}
-use Rattle.mlt_hash_access.specs.LocalStates.{LocalState, local}
-use Rattle.mlt_hash.specs.Walks.{WalkContext, WalkFields, view_for}
-use Rattle.mlt_hash.specs.Changes.{MayChange, page_of}
+use Rattle.mlt_hash.proofs.Names.{is_live_of, Ghost, LocalState, local, WalkContext, WalkFields, view_for, MayChange, page_of}
 use Rattle.mlt_hash.proofs.InPlace.{at_bucket_with, holds_bucket, reads_bucket, ReadsBucket, plan_is_written, record_has_plan, record_may_write, record_plans, remove_tells}
 use Rattle.mlt_hash.proofs.walk.Walk.remove.Goals as goal
 

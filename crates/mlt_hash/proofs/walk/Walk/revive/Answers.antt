@@ -1,10 +1,5 @@
 use Rattle.std.proofs.Common.{ℕ, ◌≡◌, ap, subst, sym, ◌∙◌}
-use Rattle.mlt_page.specs.Slots.{is_ghost_of}
-use Rattle.mlt_page.specs.declared.slot.Slot.TheVariants.{Live}
-use Rattle.mlt_hash_access.specs.LocalStates.{LocalState, local}
-use Rattle.mlt_hash_access.specs.Views.{view_of, view_over}
-use Rattle.mlt_hash.specs.Walks.{WalkContext, Before, WalkFields, one_key, view_for}
-use Rattle.mlt_hash.specs.Changes.{MayChange, RevivesFirst, SeesBucket, page_of}
+use Rattle.mlt_hash.proofs.Names.{is_ghost_of, Live, LocalState, local, view_of, view_over, WalkContext, Before, WalkFields, one_key, view_for, MayChange, RevivesFirst, SeesBucket, page_of}
 use Rattle.mlt_hash.proofs.InPlace.{ReadsBucket, at_bucket_without, holds_bucket, plan_is_written, reads_bucket}
 use Rattle.mlt_hash.proofs.Additions.{absent_from_bucket, absent_may_write, absent_plans, first_revival, ghost_has_plan, revive_tells}
 use Rattle.mlt_hash.proofs.walk.Walk.revive.Goals as goal

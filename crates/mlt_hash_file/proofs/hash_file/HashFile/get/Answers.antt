@@ -1,11 +1,7 @@
-use Rattle.mlt_hash.specs.Walks.{nothing_before}
+use Rattle.mlt_hash_file.proofs.Names.{nothing_before, PageStore, page_at, live_records, context_of, IsHashFile}
 use Rattle.mlt_hash_file.proofs.AloneWalks.{more_from_start, ready_at_start}
 use Rattle.std.proofs.Common.{◌≡◌, ◌∙◌, sym, subst}
 use Rattle.std.specs.FinMap as map
-use Rattle.mlt_page_store.specs.Stores.{PageStore, page_at}
-use Rattle.mlt_hash_form.specs.Records.{live_records}
-use Rattle.mlt_hash_file.specs.Alone.{context_of}
-use Rattle.mlt_hash_file.specs.AloneWalks.{IsHashFile}
 use Rattle.mlt_hash_file.proofs.AloneEnds.{idle_starts}
 use Rattle.mlt_hash_file.proofs.HashFiles.{file_before, found_is_record, store_stays}
 use Rattle.mlt_hash_file.proofs.hash_file.HashFile.get.Goals as goal

@@ -1,9 +1,6 @@
 use Rattle.std.proofs.Common.{◌≡◌, ◌∙◌, sym, ap, subst}
-use Rattle.std.proofs.Math.Path.{transport}
+use Rattle.mlt_hash_file.proofs.Names.{transport, PageStore, page_at, live_records, IsHashFile}
 use Rattle.std.specs.FinMap as map
-use Rattle.mlt_page_store.specs.Stores.{PageStore, page_at}
-use Rattle.mlt_hash_form.specs.Records.{live_records}
-use Rattle.mlt_hash_file.specs.AloneWalks.{IsHashFile}
 use Rattle.mlt_hash_file.specs.HashFiles.{Refuses}
 use Rattle.mlt_hash_file.proofs.Alone.{keeps_both, keeps_same}
 use Rattle.mlt_hash_file.proofs.AloneEnds.{idle_starts}

@@ -1,5 +1,5 @@
 use Rattle.std.proofs.Common.{rules, ◌≤◌, arith}
-use Rattle.mlt_hash_access.specs.LocalStates.{local}
+use Rattle.mlt_hash_file.proofs.Names.{local}
 use Rattle.mlt_hash_form.proofs.MapChanges.{opening_map}
 use Rattle.mlt_hash_file.proofs.AloneEnds.{alone_at_start, idle_at_start}
 use Rattle.mlt_hash_file.proofs.OpenedFiles.{opened_depth, opened_file}

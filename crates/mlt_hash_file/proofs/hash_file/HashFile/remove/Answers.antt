@@ -1,10 +1,8 @@
-use Rattle.mlt_hash.specs.Walks.{nothing_before}
+use Rattle.mlt_hash_file.proofs.Names.{nothing_before, PageStore, live_records}
 use Rattle.mlt_hash_file.proofs.AloneWalks.{more_from_start, ready_at_start}
 use Rattle.mlt_hash_file.proofs.AlonePasses.{ready_there}
 use Rattle.std.proofs.Common.{◌≡◌, ◌∙◌, IsSome, sym, ap, subst}
 use Rattle.std.specs.FinMap as map
-use Rattle.mlt_page_store.specs.Stores.{PageStore}
-use Rattle.mlt_hash_form.specs.Records.{live_records}
 use Rattle.mlt_hash_file.proofs.AloneEnds.{idle_starts}
 use Rattle.mlt_hash_file.proofs.HashFiles.{at_record, file_before, removes}
 use Rattle.mlt_hash_file.proofs.hash_file.HashFile.remove.Goals as goal

@@ -1,4 +1,4 @@
-use Rattle.mlt_hash.specs.Walks.{nothing_before}
+use Rattle.mlt_hash_file.proofs.Names.{nothing_before}
 use Rattle.mlt_hash_file.proofs.hash_file.HashFile.update.Given as goal
 
 abbrev pub ghost-find : goal.ghost-find

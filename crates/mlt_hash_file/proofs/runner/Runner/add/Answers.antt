@@ -1,6 +1,5 @@
-use Rattle.mlt_hash_file.specs.Alone.{context_of}
+use Rattle.mlt_hash_file.proofs.Names.{context_of, nothing_before}
 use Rattle.std.proofs.Common.{◌∙◌}
-use Rattle.mlt_hash.specs.Walks.{nothing_before}
 use Rattle.mlt_hash_file.proofs.Alone.{keeps_both}
 use Rattle.mlt_hash_file.proofs.AloneWalks.{more_from_start, ready_at_start}
 use Rattle.mlt_hash_file.proofs.AlonePasses.{absent_here, context_before, ready_there, retell}

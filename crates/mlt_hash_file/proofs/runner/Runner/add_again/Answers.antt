@@ -1,7 +1,5 @@
 use Rattle.std.proofs.Common.{subst}
-use Rattle.mlt_hash_file.specs.Alone.{context_of}
-use Rattle.mlt_hash_file.specs.AloneWalks.{TellsOfPass}
-use Rattle.mlt_hash.specs.Walks.{WalkContext, nothing_before}
+use Rattle.mlt_hash_file.proofs.Names.{context_of, TellsOfPass, WalkContext, nothing_before}
 use Rattle.mlt_hash_file.proofs.AloneEnds.{idle_starts}
 use Rattle.mlt_hash_file.proofs.AlonePasses.{retell}
 use Rattle.mlt_hash_file.proofs.AloneWalks.{file_kept, same_context}

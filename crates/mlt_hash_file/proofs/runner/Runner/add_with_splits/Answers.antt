@@ -1,7 +1,4 @@
-use Rattle.mlt_hash_file.specs.Alone.{context_of}
-use Rattle.mlt_hash_access.specs.Views.{view_of}
-use Rattle.mlt_hash_access.proofs.Since.{nothing_written}
-use Rattle.mlt_hash.specs.Walks.{nothing_before}
+use Rattle.mlt_hash_file.proofs.Names.{context_of, view_of, nothing_written, nothing_before}
 use Rattle.mlt_hash_file.proofs.Alone.{keeps_both}
 use Rattle.mlt_hash_file.proofs.AloneInsertions.{may_add_now, pass_is_later, splits_are_later, splits_before}
 use Rattle.mlt_hash_file.proofs.AloneWalks.{file_kept}

@@ -1,5 +1,4 @@
-use Rattle.mlt_hash_file.specs.Alone.{context_of}
-use Rattle.mlt_hash.specs.Steps.{steps_to_bucket}
+use Rattle.mlt_hash_file.proofs.Names.{context_of, steps_to_bucket}
 use Rattle.mlt_hash_file.proofs.AloneWalks.{IsOnItsWay}
 use Rattle.mlt_hash_file.proofs.runner.Runner.find.Given as goal
 

@@ -1,4 +1,4 @@
-use Rattle.mlt_hash.specs.Walks.{nothing_before}
+use Rattle.mlt_hash_file.proofs.Names.{nothing_before}
 use Rattle.mlt_hash_file.proofs.AloneWalks.{file_kept}
 use Rattle.mlt_hash_file.proofs.runner.Runner.insert.Goals as goal
 

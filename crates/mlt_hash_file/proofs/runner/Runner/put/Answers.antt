@@ -1,8 +1,5 @@
-use Rattle.mlt_hash_access.specs.LocalStates.{local}
+use Rattle.mlt_hash_file.proofs.Names.{local, IsAlone, MayChange, page_of, context_after, context_by}
 use Rattle.std.proofs.Common.{refl, subst}
-use Rattle.mlt_hash_file.specs.Alone.{IsAlone}
-use Rattle.mlt_hash.specs.Changes.{MayChange, page_of}
-use Rattle.mlt_hash.specs.Walks.{context_after, context_by}
 use Rattle.mlt_hash_file.proofs.Alone.{alone_after_write, write_keeps_before, written_after}
 use Rattle.mlt_hash_file.proofs.AloneChanges.{may_walk_alone, writes_at_most}
 use Rattle.mlt_hash_file.proofs.AlonePasses.{addition_tells}

@@ -1,4 +1,4 @@
-use Rattle.mlt_hash_access.specs.LocalStates.{local}
+use Rattle.mlt_hash_file.proofs.Names.{local}
 use Rattle.mlt_hash_file.proofs.AloneEnds.{alone_after, idle_after, put_back_keeps}
 use Rattle.mlt_hash_file.proofs.runner.Runner.roll_back.Goals as goal
 

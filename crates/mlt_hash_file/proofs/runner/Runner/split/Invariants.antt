@@ -1,4 +1,4 @@
-use Rattle.mlt_hash_file.specs.Alone.{context_of}
+use Rattle.mlt_hash_file.proofs.Names.{context_of}
 use Rattle.mlt_hash_file.proofs.AloneSplits.{IsSplittingOn, effort}
 use Rattle.mlt_hash_file.proofs.runner.Runner.split.Given as goal
 

@@ -1,6 +1,5 @@
-use Rattle.mlt_hash_access.specs.LocalStates.{local}
+use Rattle.mlt_hash_file.proofs.Names.{local, IsAlone}
 use Rattle.std.proofs.Common.{refl, subst}
-use Rattle.mlt_hash_file.specs.Alone.{IsAlone}
 use Rattle.mlt_hash_file.proofs.Alone.{alone_after_step, step_keeps_before, written_after}
 use Rattle.mlt_hash_file.proofs.AloneSteps.{goes}
 use Rattle.mlt_hash_file.proofs.AloneChanges.{may_walk_alone}

@@ -1,4 +1,4 @@
-use Rattle.mlt_hash.specs.Walks.{context_after, context_in}
+use Rattle.mlt_hash_file.proofs.Names.{context_after, context_in}
 use Rattle.mlt_hash_file.proofs.runner.Runner.step.Given as goal
 
 abbrev pub ghost-advance : goal.ghost-advance

@@ -1,8 +1,5 @@
-use Rattle.mlt_hash_access.specs.LocalStates.{local}
+use Rattle.mlt_hash_file.proofs.Names.{local, MayChange, page_of, context_after, context_by, Change}
 use Rattle.std.proofs.Common.{refl}
-use Rattle.mlt_hash.specs.Changes.{MayChange, page_of}
-use Rattle.mlt_hash.specs.Walks.{context_after, context_by}
-use Rattle.mlt_hash.specs.declared.pass.Change.TheVariants as change
 use Rattle.mlt_hash_file.proofs.Alone.{alone_after_write, write_keeps_before}
 use Rattle.mlt_hash_file.proofs.AloneChanges.{change_alone, may_walk_alone, writes_at_most}
 use Rattle.mlt_hash_file.proofs.runner.Runner.update.Given.{Over}
@@ -30,6 +27,6 @@ returns-clause-keeps g c =
 
 pub returns-clause-tells : goal.returns-clause-tells
 returns-clause-tells g c =
-    change_alone g.since (g.P.Pseudo.bits_of c.args.root.now.pseudo) c.self.inside.active c.args.root.now.page c.args.root.now.max_depth (local c.self.inside.subtx c.self.inside.pages) c.args.self.now (local c.update.new.subtx c.update.new.pages) c.args.walk.now c.update.new.self (change.Set c.args.value) c.update.result
+    change_alone g.since (g.P.Pseudo.bits_of c.args.root.now.pseudo) c.self.inside.active c.args.root.now.page c.args.root.now.max_depth (local c.self.inside.subtx c.self.inside.pages) c.args.self.now (local c.update.new.subtx c.update.new.pages) c.args.walk.now c.update.new.self (Change.Set c.args.value) c.update.result
     c.self.invariant.1 c.self.view_is c.self.invariant.0 c.requires.1.1.0 c.requires.1.1.1.written c.requires.1.1.1.file c.requires.1.1.1.stands
     c.update.ensures.leaves.may c.update.ensures.leaves.clean c.update.ensures.leaves.touches (writes_at_most _ _ _ c.update.result c.update.ensures.writes) (c.update.ensures.tells _ refl (may g c.before))

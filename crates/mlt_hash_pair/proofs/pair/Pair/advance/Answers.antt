@@ -1,8 +1,5 @@
 use Rattle.std.proofs.Common.{◌≡◌, ℕ, sym, ap, subst, ◌∙◌}
-use Rattle.mlt_hash_access.specs.LocalStates.{LocalState, local}
-use Rattle.mlt_hash_pair.specs.Pairs.{IsUnderWay, MayFind, PairFields, mode_next, page_next}
-use Rattle.mlt_hash_pair.specs.Reading.{next_mode, next_page, descent_after}
-use Rattle.mlt_hash_pair.specs.Steps.{TellsOfStep}
+use Rattle.mlt_hash_pair.proofs.Names.{LocalState, local, IsUnderWay, MayFind, PairFields, mode_next, page_next, next_mode, next_page, descent_after, TellsOfStep}
 use Rattle.mlt_hash_pair.proofs.Finding.{pair_next_there, reads_small, tells}
 use Rattle.mlt_hash_pair.proofs.pair.Pair.advance.Given.{Over}
 use Rattle.mlt_hash_pair.proofs.pair.Pair.advance.Goals.{After-next_mode}

@@ -1,12 +1,5 @@
-use Rattle.std.proofs.Common.{◌≡◌, ap, refl, subst, sym, ◌∙◌}
-use Rattle.std.proofs.lemmas.Bool.{eqb-true}
-use Rattle.mlt_hash_access.specs.LocalStates.{LocalState, local}
-use Rattle.mlt_hash_access.specs.PageSteps.{WritesAtMost}
-use Rattle.mlt_hash_access.specs.Views.{view_of}
-use Rattle.mlt_hash_pair.specs.Descents.{page_of}
-use Rattle.mlt_hash_pair.specs.Changes.{TellsOfTwo, task_in, task_of}
-use Rattle.mlt_hash_pair.specs.Pairs.{PairFields, later_of}
-use Rattle.mlt_hash_pair.specs.Writing.{MayPlan, TellsOfOne}
+use Rattle.std.proofs.Common.{◌≡◌, ap, refl, subst, sym, ◌∙◌, eqb-true}
+use Rattle.mlt_hash_pair.proofs.Names.{LocalState, local, WritesAtMost, view_of, page_of, TellsOfTwo, task_in, task_of, PairFields, later_of, MayPlan, TellsOfOne}
 use Rattle.mlt_hash_pair.proofs.Behind.{left_fits, left_writes, one_later, one_tells, right_fits, right_writes, stands_behind}
 use Rattle.mlt_hash_pair.proofs.pair.Pair.change.Goals as goal
 

@@ -1,11 +1,6 @@
 use Rattle.std.proofs.Common.{◌≡◌, ◌<◌, None, Some, ap, subst, sym, true, ◌∙◌}
-use Rattle.mlt_page.specs.Values.{BucketFields}
-use Rattle.mlt_page_locks.specs.LockTables.{can_write}
-use Rattle.mlt_hash_access.specs.LocalStates.{LocalState, local}
+use Rattle.mlt_hash_pair.proofs.Names.{BucketFields, can_write, LocalState, local, ReadsHeldBucket, WritesSlot, view_of, WriteFields, PairFields}
 use Rattle.mlt_hash_access.specs.PageSteps.{WritesHeldSlot}
-use Rattle.mlt_hash_access.specs.Views.{ReadsHeldBucket, WritesSlot, view_of}
-use Rattle.mlt_hash_record.specs.Plans.{WriteFields}
-use Rattle.mlt_hash_pair.specs.Pairs.{PairFields}
 use Rattle.mlt_hash_pair.proofs.Behind.{earlier_held, earlier_holds, earlier_makes, earlier_not_third, earlier_reads, earlier_within}
 use Rattle.mlt_hash_pair.proofs.pair.Pair.write_earlier.Goals as goal
 

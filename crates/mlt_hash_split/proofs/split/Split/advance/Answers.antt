@@ -1,5 +1,5 @@
 use Rattle.std.proofs.Common.{sym, ap, ◌∙◌}
-use Rattle.mlt_hash_split.specs.Splits.{SplitFields}
+use Rattle.mlt_hash_split.proofs.Names.{SplitFields}
 use Rattle.mlt_hash_split.proofs.Steps.{makes_second_half}
 use Rattle.mlt_hash_split.proofs.split.Split.advance.Goals as goal
 

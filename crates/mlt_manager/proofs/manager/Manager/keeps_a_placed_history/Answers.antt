@@ -1,7 +1,5 @@
 use Rattle.std.proofs.Common.{subst}
-use Rattle.mlt_trace_check.specs.Traces.{ArePlaced}
-use Rattle.mlt_trace.specs.Numbers.{AreBegunInOrder}
-use Rattle.mlt_manager.specs.Managers.{ManagerFields}
+use Rattle.mlt_manager.proofs.Names.{ArePlaced, AreBegunInOrder, ManagerFields}
 use Rattle.mlt_manager.proofs.manager.Manager.keeps_a_placed_history.Goals as goal
 
 abbrev HasPlaces : {P : Type 0} → ManagerFields P → Type 0

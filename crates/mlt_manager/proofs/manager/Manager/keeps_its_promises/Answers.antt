@@ -1,6 +1,5 @@
 use Rattle.std.proofs.Common.{subst}
-use Rattle.mlt_manager.specs.Parts.{fields_of}
-use Rattle.mlt_manager.specs.Promises.{KeepsPromises}
+use Rattle.mlt_manager.proofs.Names.{fields_of, KeepsPromises}
 use Rattle.mlt_manager.proofs.Promises.{promises_kept}
 use Rattle.mlt_manager.proofs.manager.Manager.keeps_its_promises.Goals as goal
 

@@ -1,6 +1,5 @@
 use Rattle.std.proofs.Common.{refl, subst}
-use Rattle.mlt_manager.specs.Parts.{fields_of}
-use Rattle.mlt_manager.specs.Promises.{PassesTheChecker}
+use Rattle.mlt_manager.proofs.Names.{fields_of, PassesTheChecker}
 use Rattle.mlt_manager.proofs.Promises.{checker_passed}
 use Rattle.mlt_manager.proofs.manager.Manager.passes_the_checker.Goals as goal
 

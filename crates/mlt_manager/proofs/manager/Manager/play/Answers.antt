@@ -1,6 +1,5 @@
 use Rattle.std.proofs.Common.{refl, subst, sym, List, [], ◌∙◌}
-use Rattle.mlt_event.specs.declared.told.Told.{Told}
-use Rattle.mlt_manager.specs.Events.{IsRun}
+use Rattle.mlt_manager.proofs.Names.{Told, IsRun}
 use Rattle.mlt_manager.proofs.Playing.{all_played, played_on}
 use Rattle.mlt_manager.proofs.Quiet.{none_waits}
 use Rattle.mlt_manager.proofs.manager.Manager.play.Goals as goal

@@ -1,7 +1,5 @@
 use Rattle.std.proofs.Common.{IfOk, ap, subst, ◌∙◌}
-use Rattle.mlt_manager.specs.Answers.{counted}
-use Rattle.mlt_manager.specs.Bases.{LeavesBase}
-use Rattle.mlt_manager.specs.Parts.{fields_of}
+use Rattle.mlt_manager.proofs.Names.{counted, LeavesBase, fields_of}
 use Rattle.mlt_manager.proofs.Keeping.{is_counted}
 use Rattle.mlt_manager.proofs.Kept.{step_kept, step_leads}
 use Rattle.mlt_manager.proofs.Others.{step_others}

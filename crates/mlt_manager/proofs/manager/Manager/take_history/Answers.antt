@@ -1,4 +1,4 @@
-use Rattle.mlt_manager.specs.Parts.{fields_of}
+use Rattle.mlt_manager.proofs.Names.{fields_of}
 use Rattle.mlt_manager.proofs.HandingOut.{hands_out_keeps}
 use Rattle.mlt_manager.proofs.manager.Manager.take_history.Goals as goal
 

@@ -1,8 +1,6 @@
 use Rattle.std.proofs.Common.{IfOk, ap, subst, ◌∙◌}
-use Rattle.mlt_manager.specs.Bases.{WholeLeavesBase}
+use Rattle.mlt_manager.proofs.Names.{WholeLeavesBase, counted, fields_of}
 use Rattle.mlt_manager.proofs.WholeBases.{whole_leads}
-use Rattle.mlt_manager.specs.Answers.{counted}
-use Rattle.mlt_manager.specs.Parts.{fields_of}
 use Rattle.mlt_manager.proofs.Keeping.{is_counted}
 use Rattle.mlt_manager.proofs.Kept.{whole_kept}
 use Rattle.mlt_manager.proofs.Others.{whole_others}

@@ -1,8 +1,5 @@
 use Rattle.std.proofs.Common.{refl, ap, subst, ◌≡◌, ◌≤◌, ◌+◌, ℕ, arith}
-use Rattle.std.proofs.lemmas.Result.{err_from_is_err_and}
-use Rattle.mlt_manager.specs.Answers.{IsIdleWith}
-use Rattle.mlt_trace.specs.declared.item.TraceItem.TheVariants as trace
-use Rattle.mlt_manager.specs.Parts.{fields_of}
+use Rattle.mlt_manager.proofs.Names.{err_from_is_err_and, IsIdleWith, TraceItem, fields_of}
 use Rattle.mlt_manager.proofs.Ending.{ended_at, room_to_end}
 use Rattle.mlt_manager.proofs.parts.Parts.abort.Goals as goal
 
@@ -19,7 +16,7 @@ close-requires-clause-room g c =
 pub returns-then-count-eq0-clause-answers : goal.returns-then-count-eq0-clause-answers
 returns-then-count-eq0-clause-answers g c = record {
   nothing = subst (IsIdleWith c.args.self.now.txs c.args.tx) c.if-count-eq0.true c.in_ok-count.ensures.idle;
-  ends = ended_at (fields_of c.args.self.now) (fields_of c.close.new.self) c.close.new.self.commits c.args.tx (trace.Abort c.args.tx) c.close.ensures.ends;
+  ends = ended_at (fields_of c.args.self.now) (fields_of c.close.new.self) c.close.new.self.commits c.args.tx (TraceItem.Abort c.args.tx) c.close.ensures.ends;
   rest = ap fields_of c.close.ensures.rest;
 }
 

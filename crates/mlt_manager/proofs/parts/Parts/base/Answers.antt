@@ -1,4 +1,4 @@
-use Rattle.mlt_manager.specs.Parts.{fields_of}
+use Rattle.mlt_manager.proofs.Names.{fields_of}
 use Rattle.mlt_manager.proofs.LeftBases.{left_is_committed}
 use Rattle.mlt_manager.proofs.parts.Parts.base.Goals as goal
 

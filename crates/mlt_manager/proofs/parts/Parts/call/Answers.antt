@@ -1,5 +1,5 @@
 use Rattle.std.proofs.Common.{refl}
-use Rattle.mlt_manager.specs.Parts.{fields_of}
+use Rattle.mlt_manager.proofs.Names.{fields_of}
 use Rattle.mlt_manager.proofs.Refusing.{call_answers}
 use Rattle.mlt_manager.proofs.parts.Parts.call.Goals as goal
 

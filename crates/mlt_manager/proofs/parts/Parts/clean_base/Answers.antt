@@ -1,10 +1,6 @@
 use Rattle.std.proofs.Common.{◌≤◌, ◌^◌, List, sym, ap, subst, arith}
-use Rattle.std.proofs.Math.Nat.{pow-le-pow_right}
+use Rattle.mlt_manager.proofs.Names.{pow-le-pow_right, BucketFields, Slot, AreSlotsOf, CopiesSlots, fields_of}
 use Rattle.mlt_object_kinds.specs.Bases.{Base as ObjectBase}
-use Rattle.mlt_page.specs.Values.{BucketFields}
-use Rattle.mlt_page.specs.declared.slot.Slot.{Slot}
-use Rattle.mlt_manager_base.specs.Copies.{AreSlotsOf, CopiesSlots}
-use Rattle.mlt_manager.specs.Parts.{fields_of}
 use Rattle.mlt_manager.proofs.CopiedBuckets.{AreCopiedBelow, all_copied, bits, bucket_copied, depth, none_copied, slots_of_base}
 use Rattle.mlt_manager.proofs.parts.Parts.clean_base.Goals as goal
 

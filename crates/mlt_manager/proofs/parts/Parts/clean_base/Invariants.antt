@@ -1,5 +1,4 @@
-use Rattle.mlt_manager.specs.Managers.{IsManager}
-use Rattle.mlt_manager.specs.Parts.{fields_of}
+use Rattle.mlt_manager.proofs.Names.{IsManager, fields_of}
 use Rattle.mlt_manager.proofs.CopiedBuckets.{AreCopiedBelow, bits, depth}
 use Rattle.mlt_manager.proofs.parts.Parts.clean_base.Given as goal
 

@@ -1,6 +1,5 @@
 use Rattle.std.proofs.Common.{◌≡◌, Some, None, sym, ap, ◌∙◌, option_copied}
-use Rattle.mlt_page.specs.declared.page.Page.TheVariants as page
-use Rattle.mlt_manager.specs.Parts.{fields_of}
+use Rattle.mlt_manager.proofs.Names.{Page, fields_of}
 use Rattle.mlt_manager.proofs.CopiedBuckets.{bucket_read, bucket_there}
 use Rattle.mlt_manager.proofs.parts.Parts.clean_bucket.Goals as goal
 
@@ -18,8 +17,8 @@ unreachable-requires-in_default-page g c =
     let within = c.requires.within in
     let is = bucket_there g.P.Pseudo.bits_of (fields_of c.args.self.now) c.requires.sound c.args.place within.0 within.1 within.2 c.clean_directory-directory.result.now c.clean_directory-directory.ensures.directory
     c.entry.result c.entry.ensures (option_copied c.clean_page.result) c.clean_page.ensures.clean in
-    let there : Some c.in-Some.page.now ≡ Some (page.Bucket is.0) = sym (ap option_copied c.in-Some.is) ∙ is.1 in
-    let is_bucket : c.in-Some.page.now ≡ page.Bucket is.0 = cc there in
+    let there : Some c.in-Some.page.now ≡ Some (Page.Bucket is.0) = sym (ap option_copied c.in-Some.is) ∙ is.1 in
+    let is_bucket : c.in-Some.page.now ≡ Page.Bucket is.0 = cc there in
     c.in_default-page.not-Bucket is.0 is_bucket
 
 pub returns : goal.returns

@@ -1,6 +1,5 @@
 use Rattle.std.proofs.Common.{◌≡◌, Some, None, sym, ap, ◌∙◌, option_copied}
-use Rattle.mlt_page.specs.declared.page.Page.TheVariants as page
-use Rattle.mlt_manager.specs.Parts.{fields_of}
+use Rattle.mlt_manager.proofs.Names.{Page, fields_of}
 use Rattle.mlt_manager.proofs.CopiedBuckets.{directory_read, directory_there, few_places}
 use Rattle.mlt_manager.proofs.parts.Parts.clean_directory.Goals as goal
 
@@ -21,8 +20,8 @@ unreachable-requires-in_default-page g c =
     let within = c.requires.within in
     let is = directory_there g.P.Pseudo.bits_of (fields_of c.args.self.now) c.requires.sound c.args.place within.0 within.1 within.2 c.clean_head-head.result.now c.clean_head-head.ensures.head
     c.dir.result c.dir.ensures (option_copied c.clean_page.result) c.clean_page.ensures.clean in
-    let there : Some c.in-Some.page.now ≡ Some (page.Dir is.0) = sym (ap option_copied c.in-Some.is) ∙ is.1 in
-    let is_dir : c.in-Some.page.now ≡ page.Dir is.0 = cc there in
+    let there : Some c.in-Some.page.now ≡ Some (Page.Dir is.0) = sym (ap option_copied c.in-Some.is) ∙ is.1 in
+    let is_dir : c.in-Some.page.now ≡ Page.Dir is.0 = cc there in
     c.in_default-page.not-Dir is.0 is_dir
 
 pub returns : goal.returns

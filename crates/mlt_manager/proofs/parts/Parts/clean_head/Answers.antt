@@ -1,7 +1,5 @@
 use Rattle.std.proofs.Common.{◌≡◌, Some, None, sym, ap, ◌∙◌, option_copied}
-use Rattle.mlt_page.specs.declared.page.Page.TheVariants as page
-use Rattle.mlt_hash_form.specs.File.{header_of}
-use Rattle.mlt_manager.specs.Parts.{fields_of}
+use Rattle.mlt_manager.proofs.Names.{Page, header_of, fields_of}
 use Rattle.mlt_manager.proofs.CopiedBuckets.{head_read}
 use Rattle.mlt_manager.proofs.Depths.{clean_header}
 use Rattle.mlt_manager.proofs.parts.Parts.clean_head.Goals as goal
@@ -16,8 +14,8 @@ pub unreachable-requires-in_default-page : goal.unreachable-requires-in_default-
 unreachable-requires-in_default-page g c =
     let header = header_of (option_copied c.clean_page.result) in
     let is = clean_header g.P.Pseudo.bits_of (fields_of c.args.self.now) c.requires.sound (option_copied c.clean_page.result) c.clean_page.ensures.clean in
-    let there : Some c.in-Some.page.now ≡ Some (page.Head header) = sym (ap option_copied c.in-Some.is) ∙ is in
-    let is_header : c.in-Some.page.now ≡ page.Head header = cc there in
+    let there : Some c.in-Some.page.now ≡ Some (Page.Head header) = sym (ap option_copied c.in-Some.is) ∙ is in
+    let is_header : c.in-Some.page.now ≡ Page.Head header = cc there in
     c.in_default-page.not-Head header is_header
 
 pub returns : goal.returns

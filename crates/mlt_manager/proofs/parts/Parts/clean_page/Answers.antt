@@ -1,6 +1,5 @@
 use Rattle.std.proofs.Common.{sym, subst}
-use Rattle.mlt_manager.specs.Bases.{HasCleanPage}
-use Rattle.mlt_manager.specs.Parts.{fields_of}
+use Rattle.mlt_manager.proofs.Names.{HasCleanPage, fields_of}
 use Rattle.mlt_manager.proofs.Depths.{clean_as_stored, clean_by_image}
 use Rattle.mlt_manager.proofs.parts.Parts.clean_page.Goals as goal
 

@@ -1,7 +1,5 @@
 use Rattle.std.proofs.Common.{refl, ◌+◌}
-use Rattle.std.proofs.lemmas.Result.{err_from_is_err_and}
-use Rattle.mlt_trace.specs.declared.item.TraceItem.TheVariants as trace
-use Rattle.mlt_manager.specs.Parts.{fields_of}
+use Rattle.mlt_manager.proofs.Names.{err_from_is_err_and, TraceItem, fields_of}
 use Rattle.mlt_manager.proofs.Ending.{ended_at, room_to_end}
 use Rattle.mlt_manager.proofs.parts.Parts.commit.Goals as goal
 
@@ -16,6 +14,6 @@ close-requires-clause-room g c = room_to_end g.P.Pseudo.bits_of (fields_of c.arg
 pub returns-clause-answers : goal.returns-clause-answers
 returns-clause-answers g c = record {
   next = refl;
-  ends = ended_at (fields_of c.args.self.now) (fields_of c.close.new.self) (c.args.self.now.commits + 1) c.args.tx (trace.Commit c.args.tx (c.args.self.now.commits + 1)) c.close.ensures.ends;
+  ends = ended_at (fields_of c.args.self.now) (fields_of c.close.new.self) (c.args.self.now.commits + 1) c.args.tx (TraceItem.Commit c.args.tx (c.args.self.now.commits + 1)) c.close.ensures.ends;
   rest = λ i. record (fields_of ((c.close.ensures.rest) i)) { commits = c.args.self.now.commits + 1 };
 }

@@ -1,9 +1,5 @@
 use Rattle.std.proofs.Common.{refl, subst, ◌∙◌}
-use Rattle.mlt_event.specs.declared.answer.Answer.{Answer}
-use Rattle.mlt_manager.specs.Answers.{HasStepped}
-use Rattle.mlt_tx.specs.Transactions.{IsPending}
-use Rattle.mlt_manager.specs.Parts.{fields_of}
-use Rattle.mlt_manager.specs.Wholes.{LetsGoOn}
+use Rattle.mlt_manager.proofs.Names.{Answer, HasStepped, IsPending, fields_of, LetsGoOn}
 use Rattle.mlt_manager.proofs.Chains.{none_taken}
 use Rattle.mlt_manager.proofs.Finding.{pending_is_busy}
 use Rattle.mlt_manager.proofs.RunningOn.{fewer_on, is_small, on_by_one, on_ends, stands_in}

@@ -1,7 +1,5 @@
 use Rattle.std.proofs.Common.{◌≡◌}
-use Rattle.mlt_tx.specs.Transactions.{IsPending}
-use Rattle.mlt_manager.specs.Parts.{fields_of}
-use Rattle.mlt_manager.specs.Wholes.{LetsGoOn}
+use Rattle.mlt_manager.proofs.Names.{IsPending, fields_of, LetsGoOn}
 use Rattle.mlt_manager.proofs.Chains.{IsUnderWay}
 use Rattle.mlt_manager.proofs.RunningOn.{on_left}
 use Rattle.mlt_manager.proofs.parts.Parts.run_on.Given as goal

@@ -1,6 +1,6 @@
-use Rattle.std.proofs.Common.{sym, ap, ◌∙◌}
-use Rattle.std.specs.Option.{option_copied}
-use Rattle.mlt_tx.specs.Transactions.{IsPending, IsUndoing}
+use Rattle.std.proofs.Common.{sym, ap, ◌∙◌, option_copied}
+use Rattle.mlt_manager.proofs.Names.{IsPending}
+use Rattle.mlt_tx.specs.Transactions.{IsUndoing}
 use Rattle.mlt_manager.proofs.Finding.{open_at}
 use Rattle.mlt_manager.proofs.parts.Parts.stage.Goals as goal
 

@@ -1,6 +1,5 @@
 use Rattle.std.proofs.Common.{refl}
-use Rattle.std.proofs.lemmas.Result.{err_from_is_err_and}
-use Rattle.mlt_manager.specs.Parts.{fields_of}
+use Rattle.mlt_manager.proofs.Names.{err_from_is_err_and, fields_of}
 use Rattle.mlt_manager.proofs.Stepping.{may_step_one, step_answers, stepped}
 use Rattle.mlt_manager.proofs.parts.Parts.step.Goals as goal
 

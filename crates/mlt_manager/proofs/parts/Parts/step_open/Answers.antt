@@ -1,4 +1,4 @@
-use Rattle.mlt_manager.specs.Parts.{fields_of}
+use Rattle.mlt_manager.proofs.Names.{fields_of}
 use Rattle.mlt_manager.proofs.Stepping.{may_step_here, stepped}
 use Rattle.mlt_manager.proofs.parts.Parts.step_open.Goals as goal
 

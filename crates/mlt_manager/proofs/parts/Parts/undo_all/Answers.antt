@@ -1,7 +1,5 @@
 use Rattle.std.proofs.Common.{refl, ◌∙◌}
-use Rattle.mlt_manager.specs.Answers.{IsUndoing}
-use Rattle.mlt_manager.specs.Parts.{fields_of}
-use Rattle.mlt_manager.specs.Undoings.{GoesOnBack}
+use Rattle.mlt_manager.proofs.Names.{IsUndoing, fields_of, GoesOnBack}
 use Rattle.mlt_manager.proofs.Chains.{none_taken}
 use Rattle.mlt_manager.proofs.Finding.{undoing_is_busy}
 use Rattle.mlt_manager.proofs.UndoingAll.{back_ends, back_on, fewer_left, goes_by}

@@ -1,7 +1,5 @@
 use Rattle.std.proofs.Common.{◌≡◌}
-use Rattle.mlt_manager.specs.Answers.{IsUndoing}
-use Rattle.mlt_manager.specs.Parts.{fields_of}
-use Rattle.mlt_manager.specs.Undoings.{GoesOnBack}
+use Rattle.mlt_manager.proofs.Names.{IsUndoing, fields_of, GoesOnBack}
 use Rattle.mlt_manager.proofs.Chains.{IsUnderWay}
 use Rattle.mlt_manager.proofs.UndoingAll.{back_left}
 use Rattle.mlt_manager.proofs.parts.Parts.undo_all.Given as goal

@@ -1,9 +1,5 @@
 use Rattle.std.proofs.Common.{Option, refl, subst}
-use Rattle.mlt_object_kinds.specs.declared.operation.ObjReply.{ObjReply}
-use Rattle.mlt_hash.specs.Walks.{context_by}
-use Rattle.mlt_tx_open.specs.Tables.{CallsOneFast}
-use Rattle.mlt_manager.specs.Managers.{ManagerFields}
-use Rattle.mlt_manager.specs.Parts.{fields_of}
+use Rattle.mlt_manager.proofs.Names.{ObjReply, context_by, CallsOneFast, ManagerFields, fields_of}
 use Rattle.mlt_manager.proofs.Fast.{called_fast, done_fast, may_call_fast}
 use Rattle.mlt_manager.proofs.Called.{called_keeps}
 use Rattle.mlt_manager.proofs.RunningOn.{called_is_pending}

@@ -1,5 +1,5 @@
 use Rattle.std.proofs.Common.{refl}
-use Rattle.std.proofs.lemmas.Result.{err_from_is_err_and}
+use Rattle.mlt_manager.proofs.Names.{err_from_is_err_and}
 use Rattle.mlt_manager.proofs.parts.Parts.whole_undo.Goals as goal
 
 pub returns-in_err-undoing-clause-answers : goal.returns-in_err-undoing-clause-answers

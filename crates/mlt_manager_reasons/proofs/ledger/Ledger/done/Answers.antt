@@ -1,6 +1,5 @@
 use Rattle.std.proofs.Common.{◌∙◌, subst}
-use Rattle.mlt_object_kinds.specs.declared.operation.ObjOp.{ObjOp}
-use Rattle.mlt_object_kinds.specs.Bases.{Step}
+use Rattle.mlt_manager_reasons.proofs.Names.{ObjOp, Step}
 use Rattle.mlt_manager_reasons.proofs.Knowing.{knows_done}
 use Rattle.mlt_manager_reasons.proofs.ledger.Ledger.done.Goals as goal
 

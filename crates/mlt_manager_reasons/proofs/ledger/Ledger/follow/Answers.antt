@@ -1,7 +1,5 @@
 use Rattle.std.proofs.Common.{◌≡◌, ◌++◌, ◌∷◌, ◌+◌, [], suc, take, get_or, sym, ap, subst, ◌∙◌, arith, List}
-use Rattle.mlt_trace.specs.declared.item.TraceItem.{TraceItem}
-use Rattle.mlt_manager_reasons.specs.Histories.{LeadsTo}
-use Rattle.mlt_manager_reasons.specs.Tables.{Knows}
+use Rattle.mlt_manager_reasons.proofs.Names.{TraceItem, LeadsTo, Knows}
 use Rattle.mlt_manager_reasons.proofs.Knowing.{front_leads, take_one}
 use Rattle.mlt_manager_reasons.proofs.ledger.Ledger.follow.Goals as goal
 

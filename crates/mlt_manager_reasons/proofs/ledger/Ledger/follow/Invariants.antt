@@ -1,7 +1,5 @@
 use Rattle.std.proofs.Common.{take}
-use Rattle.mlt_object_kinds.specs.Bases.{Base}
-use Rattle.mlt_manager_reasons.specs.Histories.{LeadsTo}
-use Rattle.mlt_manager_reasons.specs.Tables.{Knows}
+use Rattle.mlt_manager_reasons.proofs.Names.{Base, LeadsTo, Knows}
 use Rattle.mlt_manager_reasons.proofs.ledger.Ledger.follow.Given as goal
 
 abbrev pub invariant-loop-place : goal.invariant-loop-place

@@ -1,6 +1,6 @@
 use Rattle.std.proofs.Common.{◌≡◌, take, refl, sym, ap, subst, ◌∙◌}
 use Rattle.mlt_manager_reasons.specs.Pendings.{pending_after}
-use Rattle.mlt_manager_reasons.specs.Tables.{Knows}
+use Rattle.mlt_manager_reasons.proofs.Names.{Knows}
 use Rattle.mlt_manager_reasons.proofs.Knowing.{front_is}
 use Rattle.mlt_manager_reasons.proofs.replayed.ReplayedState.note.Goals as goal
 

@@ -1,12 +1,7 @@
-use Rattle.std.proofs.Common.{◌≡◌, ◌∙◌, None, Some, IsSome, cond, ap, refl, subst, sym}
-use Rattle.std.specs.BTreeMap.{get_by, is_at}
+use Rattle.std.proofs.Common.{◌≡◌, ◌∙◌, None, Some, IsSome, cond, ap, refl, subst, sym, nat_cmp}
+use Rattle.mlt_object_base.proofs.Names.{get_by, is_at, lookup, option_copied_mut, with_entry, AccountStep}
 use Rattle.std.specs.FinMap as map
-use Rattle.std.specs.Map.{lookup}
-use Rattle.std.specs.Option.{option_copied_mut}
-use Rattle.std.specs.Ordering.{nat_cmp}
-use Rattle.mlt_types.specs.Maps.{with_entry}
 use Rattle.mlt_object_kinds.specs.declared.operation.ObjReply.TheVariants.{Closed}
-use Rattle.mlt_object_kinds.specs.Accounts.{AccountStep}
 use Rattle.mlt_object_base.proofs.Maps.{changed_and_gone, number_in_map, number_map_updated}
 use Rattle.mlt_object_base.proofs.accounts.Accounts.apply.Goals as goal
 

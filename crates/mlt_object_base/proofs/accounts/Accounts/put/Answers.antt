@@ -1,5 +1,5 @@
 use Rattle.std.proofs.Common.{◌∙◌, Some, ap}
-use Rattle.mlt_types.specs.Maps.{with_entry}
+use Rattle.mlt_object_base.proofs.Names.{with_entry}
 use Rattle.mlt_object_base.proofs.Maps.{number_map_updated}
 use Rattle.mlt_object_base.proofs.accounts.Accounts.put.Goals as goal
 

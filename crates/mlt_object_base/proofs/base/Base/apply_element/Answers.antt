@@ -1,6 +1,5 @@
 use Rattle.std.proofs.Common.{sym, ap, ◌∙◌}
-use Rattle.mlt_types.specs.Maps.{with_entry}
-use Rattle.mlt_object_kinds.specs.Bases.{element_entry}
+use Rattle.mlt_object_base.proofs.Names.{with_entry, element_entry}
 use Rattle.mlt_object_base.proofs.Steps.{step_to_element}
 use Rattle.mlt_object_base.proofs.base.Base.apply_element.Goals as goal
 

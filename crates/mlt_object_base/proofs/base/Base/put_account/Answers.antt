@@ -1,9 +1,7 @@
-use Rattle.std.proofs.Common.{◌≡◌, ℕ, ◌∙◌, Result, Ok, Err, OnOk, ap, refl}
+use Rattle.std.proofs.Common.{◌≡◌, ℕ, ◌∙◌, Result, Ok, Err, OnOk, ap, refl, nat_cmp}
 use Rattle.std.specs.FinMap as map
-use Rattle.std.specs.Ordering.{nat_cmp}
 use Rattle.mlt_types.specs.declared.refusal.Refusal.{Refusal}
-use Rattle.mlt_object_kinds.specs.Bases.{Base}
-use Rattle.mlt_object_base.specs.Kept.{base_of}
+use Rattle.mlt_object_base.proofs.Names.{Base, base_of}
 use Rattle.mlt_object_base.proofs.base.Base.put_account.Goals as goal
 
 in_base : (r : Result (Unit {0}) Refusal) (old new whole : Base) (a b : ℕ) → old ≡ whole → (OnOk r (new.accounts ≡ map.insert old.accounts a b)) → new ≡ record old { accounts = new.accounts }

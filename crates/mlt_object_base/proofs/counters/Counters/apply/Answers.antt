@@ -1,12 +1,6 @@
-use Rattle.std.proofs.Common.{◌≡◌, ◌∙◌, None, Some, IsSome, cond, ap, refl, subst, sym}
-use Rattle.std.specs.BTreeMap.{get_by, is_at}
+use Rattle.std.proofs.Common.{◌≡◌, ◌∙◌, None, Some, IsSome, cond, ap, refl, subst, sym, nat_cmp}
+use Rattle.mlt_object_base.proofs.Names.{get_by, is_at, lookup, option_copied_mut, with_entry, counter_entry, counter_value, CounterStep}
 use Rattle.std.specs.FinMap as map
-use Rattle.std.specs.Map.{lookup}
-use Rattle.std.specs.Option.{option_copied_mut}
-use Rattle.std.specs.Ordering.{nat_cmp}
-use Rattle.mlt_types.specs.Maps.{with_entry}
-use Rattle.mlt_object_kinds.specs.Bases.{counter_entry, counter_value}
-use Rattle.mlt_object_kinds.specs.Counters.{CounterStep}
 use Rattle.mlt_object_base.proofs.Maps.{changed_and_gone, counter_in_map, counter_map_updated, kept, kept_not_zero, value_of}
 use Rattle.mlt_object_base.proofs.counters.Counters.apply.Goals as goal
 

@@ -1,8 +1,6 @@
 use Rattle.std.proofs.Common.{◌≡◌, ◌+◌, ◌≤◌, ◌^◌, ℕ, true, false, is_some, cond, ap, sym, subst, ◌∙◌, arith}
 use Rattle.std.specs.FinMap as map
-use Rattle.mlt_types.specs.Maps.{with_entry}
-use Rattle.mlt_object_kinds.specs.Bases.{element_entry}
-use Rattle.mlt_object_base.specs.Kept.{AreCounted, kept_size}
+use Rattle.mlt_object_base.proofs.Names.{with_entry, element_entry, AreCounted, kept_size}
 use Rattle.mlt_object_base.proofs.Counting.{Elements, elements_of, few_counted, still_counted}
 use Rattle.mlt_object_base.proofs.Maps.{element_map_updated}
 use Rattle.mlt_object_base.proofs.elements.Elements.add.Goals as goal

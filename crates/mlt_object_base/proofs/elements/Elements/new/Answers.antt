@@ -1,5 +1,5 @@
 use Rattle.std.proofs.Common.{List, ℕ, subst, sym, []}
-use Rattle.mlt_object_base.specs.Kept.{AreCounted}
+use Rattle.mlt_object_base.proofs.Names.{AreCounted}
 use Rattle.mlt_object_base.proofs.Counting.{nothing_counted}
 use Rattle.mlt_object_base.proofs.elements.Elements.new.Goals as goal
 

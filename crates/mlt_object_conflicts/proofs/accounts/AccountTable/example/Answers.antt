@@ -1,7 +1,5 @@
 use Rattle.std.proofs.Common.{◌≡◌, ℕ, true, Option, sym, subst}
-use Rattle.mlt_object_kinds.specs.Accounts.{AccountStep}
-use Rattle.mlt_object_conflicts.specs.AccountTable.{account_class, account_item, account_marks}
-use Rattle.mlt_object_conflicts.specs.Tables.{paired, IsOfClass, BreaksAt}
+use Rattle.mlt_object_conflicts.proofs.Names.{AccountStep, account_class, account_item, account_marks, paired, IsOfClass, BreaksAt}
 use Rattle.mlt_object_conflicts.proofs.AccountExact.{account_breach_breaks}
 use Rattle.mlt_object_conflicts.proofs.accounts.AccountTable.example.Goals as goal
 

@@ -1,6 +1,5 @@
 use Rattle.std.proofs.Common.{subst, sym, arith}
-use Rattle.std.proofs.lemmas.Bool.Decides.{nat_tests}
-use Rattle.mlt_object_locks.specs.Classes.{Meets}
+use Rattle.mlt_object_locks.proofs.Names.{nat_tests, Meets}
 use Rattle.mlt_object_locks.proofs.Bits.{meets_if, not_none_if}
 use Rattle.mlt_object_locks.proofs.classes.ClassSet.meets.Goals as goal
 

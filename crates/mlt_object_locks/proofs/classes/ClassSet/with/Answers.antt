@@ -1,5 +1,5 @@
 use Rattle.std.proofs.Common.{◌*◌, ◌%◌, ◌^◌, bit_or, subst, arith}
-use Rattle.mlt_object_locks.specs.Classes.{Adds, bit_of}
+use Rattle.mlt_object_locks.proofs.Names.{Adds, bit_of}
 use Rattle.mlt_object_locks.proofs.Bits.{adds_bit}
 use Rattle.mlt_object_locks.proofs.classes.ClassSet.with.Goals as goal
 

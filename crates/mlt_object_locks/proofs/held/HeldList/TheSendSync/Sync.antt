@@ -1,6 +1,6 @@
 -- The list owns nothing, so any thread may see it.
 use denote.Param.Send.{IsSync, part_keyless}
-use Rattle.mlt_object_locks.specs.contracts.held.HeldList.{the_row}
+use Rattle.mlt_object_locks.proofs.Names.{the_row}
 use Rattle.mlt_object_locks.proofs.held.HeldList.TheSendSync.Send.{send}
 
 pub sync : IsSync the_row

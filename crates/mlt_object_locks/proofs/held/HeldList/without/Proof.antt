@@ -1,39 +1,15 @@
-use mathlib.Core.Path.{refl}
-use mathlib.Core.List.{[], ◌∷◌}
-use seplogic.Ra.Ura.{Ura}
-use mir.Syntax.{named}
-use mir.Val.{Val, vptr, vstruct, vnil}
-use base.Logic.{SProp, ent, emp, via, fst∗}
-use base.Fml.{Fml}
-use prog.Memory.{Memory}
-use prog.Routine.{Routine}
-use prog.Wp.{Calls, Loops, WpFn, Tables}
-use types.Logic.{Logic}
-use contract.Lifetimes.{Lfts, Shares}
-use contract.Monad.{Fun}
-use contract.Running.{tables, tables_of}
-use sound.WpLaws.{WpFn-mono}
-use types.Kit.{‵, raw, ◌$◌, ◌∵◌, !, qed, move, suffices, done}
-use types.Run.{no_more, returns, enter}
-use types.Part.{agg}
-use types.ByLocal.{alloc_all, pass_all, free_all, look_at, sets}
-use denote.Exit.{yes}
-use denote.RattleType.{owns}
-use denote.Ref.{shr_vals, shr_Tells}
-use denote.Shadow.{pure_i}
-use denote.Signature.{plain, types_at}
-use denote.Triple.Entry.{on_entry, alive, Args}
-use denote.Triple.Spec.{Meets, triple_of}
-use denote.Triple.Table.{entered}
-use denote.Triple.Walked.{says, stay_none_ref, Stays, walk_of, Walks, ends_at, walked, Goes-none_ref, walk_Meets}
+use Rattle.mlt_object_locks.proofs.Names.{refl, [], Ura, named, Val, vptr, vstruct, vnil, SProp, ent, emp, via, fst∗, Fml, Memory, Routine, Calls, Loops, WpFn, Tables, Logic, Lfts, Shares, Fun, tables, WpFn-mono, ‵, raw, !, qed, move, suffices, done, no_more, returns, enter, agg, alloc_all, pass_all, free_all, look_at, sets, yes, owns, shr_vals, shr_Tells, pure_i, plain, types_at, on_entry, alive, Args, triple_of, entered, says, stay_none_ref, Stays, walk_of, Walks, ends_at, walked, Goes-none_ref, walk_Meets, is_of_other}
+use mathlib.Core.List.{◌∷◌}
+use contract.Running.{tables_of}
+use types.Kit.{◌$◌, ◌∵◌}
+use denote.Triple.Spec.{Meets}
 use Rattle.mlt_object_locks.specs.contracts.held.HeldList.without.Key.{name as key}
 use Rattle.mlt_object_locks.specs.contracts.held.HeldList.without as f
 use Rattle.mlt_object_locks.proofs.held.HeldList.without.Statement as stated
 use Rattle.mlt_object_locks.proofs.held.HeldList.without.Code as code
 use Rattle.mlt_object_locks.specs.contracts.held.HeldList as list
 use Rattle.mlt_types.specs.contracts.TxId as tx_id
-use Rattle.std.specs.List.{filter}
-use Rattle.mlt_object_locks.specs.Locks.{is_of_other}
+use Rattle.std.proofs.Common.{filter}
 
 abbrev stayed : Stays (f.ended).signature.params (f.ended).kept
 stayed = (stay_none_ref (0 ∷ []) tt (plain (λ _. list.the_row)) yes, (stay_none_ref (1 ∷ []) tt (plain (λ _. tx_id.the_row)) yes, tt))

@@ -1,6 +1,5 @@
 use Rattle.std.proofs.Common.{◌≡◌, false, subst, ◌∷◌, ap, sym, ◌∙◌}
-use Rattle.std.specs.List.{list_any}
-use Rattle.mlt_object_locks.specs.Holders.{AreOnce, holder_of, is_of}
+use Rattle.mlt_object_locks.proofs.Names.{list_any, AreOnce, holder_of, is_of}
 use Rattle.mlt_object_locks.proofs.Holding.{joined_once, joins_none, joins_one}
 use Rattle.mlt_object_locks.proofs.holders.Holders.join.Goals as goal
 

@@ -1,6 +1,5 @@
 use Rattle.std.proofs.Common.{◌≡◌, true, sym, subst, ◌∙◌}
-use Rattle.std.specs.List.{list_all}
-use Rattle.mlt_object_locks.specs.Holders.{IsInTheWay, IsLowestInTheWay, StandsAgainst, is_of}
+use Rattle.mlt_object_locks.proofs.Names.{list_all, IsInTheWay, IsLowestInTheWay, StandsAgainst, is_of}
 use Rattle.mlt_object_locks.proofs.Holding.{alone, stands_against, stands_in_the_way}
 use Rattle.mlt_object_locks.proofs.Lowest.{same_lowest}
 use Rattle.mlt_object_locks.proofs.holders.Holders.lowest_clash.Goals as goal

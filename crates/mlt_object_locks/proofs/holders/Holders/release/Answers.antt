@@ -1,7 +1,5 @@
-use Rattle.std.proofs.Common.{◌≢◌, rules, ◌∙◌, ap, sym, subst}
-use Rattle.std.specs.List.{filter}
-use Rattle.std.proofs.lemmas.List.Kept.{AllPairs-filter}
-use Rattle.mlt_object_locks.specs.Holders.{AreOnce, is_not_of}
+use Rattle.std.proofs.Common.{◌≢◌, rules, ◌∙◌, ap, sym, subst, filter}
+use Rattle.mlt_object_locks.proofs.Names.{AllPairs-filter, AreOnce, is_not_of}
 use Rattle.mlt_object_locks.proofs.Membership.{filter-from_retain}
 use Rattle.mlt_object_locks.proofs.holders.Holders.release.Goals as goal
 

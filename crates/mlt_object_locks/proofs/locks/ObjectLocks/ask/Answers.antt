@@ -1,11 +1,5 @@
 use Rattle.std.proofs.Common.{◌≡◌, ℕ, Option, None, [], ◌∷◌, sym, ap, subst, ◌∙◌, arith}
-use Rattle.mlt_types.specs.Cells.{IsInRange}
-use Rattle.mlt_object_kinds.specs.Operations.{cell_of}
-use Rattle.mlt_object_locks.specs.Locks.{IsLowestOf, Locks, reservation_of}
-use Rattle.mlt_object_locks.specs.Classes.{bit_of_item}
-use Rattle.mlt_object_locks.specs.Noted.{NotesEach, noted_of}
-use Rattle.mlt_object_locks.specs.Places.{places_if_any, places_of}
-use Rattle.mlt_object_locks.specs.Cells.{GrantsAt, IsHereAt, IsSound, StandsAtOne, list_at}
+use Rattle.mlt_object_locks.proofs.Names.{IsInRange, cell_of, IsLowestOf, Locks, reservation_of, bit_of_item, NotesEach, noted_of, places_if_any, places_of, GrantsAt, IsHereAt, IsSound, StandsAtOne, list_at}
 use Rattle.mlt_object_locks.proofs.Changes.{granted_more, nobody_granted}
 use Rattle.mlt_object_locks.proofs.Clashing.{lowest_of_all, lowest_with_none}
 use Rattle.mlt_object_locks.proofs.Holding.{alone}

@@ -1,10 +1,5 @@
 use Rattle.std.proofs.Common.{◌≤◌, ℕ, List, Option, length, rules, sym, ap, subst, ◌∙◌, arith}
-use Rattle.mlt_object_kinds.specs.Operations.{cell_of}
-use Rattle.mlt_object_locks.specs.Locks.{HoldsClash, IsLowestOf, Locks, reservation_of}
-use Rattle.mlt_object_locks.specs.Classes.{bit_of_item}
-use Rattle.mlt_object_locks.specs.Noted.{NotesEach, noted_of}
-use Rattle.mlt_object_locks.specs.Places.{looked_at, places_if_any, places_of}
-use Rattle.mlt_object_locks.specs.Cells.{GrantsAt, IsHereAt, IsSound}
+use Rattle.mlt_object_locks.proofs.Names.{cell_of, HoldsClash, IsLowestOf, Locks, reservation_of, bit_of_item, NotesEach, noted_of, looked_at, places_if_any, places_of, GrantsAt, IsHereAt, IsSound}
 use Rattle.mlt_object_locks.proofs.Clashing.{lowest_of_all}
 use Rattle.mlt_object_locks.proofs.Sound.{few_places, sound_granted}
 use Rattle.mlt_object_locks.proofs.locks.ObjectLocks.ask_anywhere.Goals as goal

@@ -1,7 +1,5 @@
 use Rattle.std.proofs.Common.{◌≡◌, sym, ap, subst, ◌∙◌}
-use Rattle.mlt_object_locks.specs.Locks.{Locks, reservation_of}
-use Rattle.mlt_object_locks.specs.Places.{places_if_any, reserved_places}
-use Rattle.mlt_object_locks.specs.Cells.{IsSound, ReleasesAt}
+use Rattle.mlt_object_locks.proofs.Names.{Locks, reservation_of, places_if_any, reserved_places, IsSound, ReleasesAt}
 use Rattle.mlt_object_locks.proofs.Sound.{sound_released}
 use Rattle.mlt_object_locks.proofs.locks.ObjectLocks.release_all.Goals as goal
 

@@ -1,8 +1,5 @@
 use Rattle.std.proofs.Common.{◌≡◌, ◌≤◌, Some, Contains, refl, rules, sym, ap, subst, ◌∙◌, inl, inr}
-use Rattle.mlt_object_locks.specs.Locks.{Locks, reservation_of, SameReservations}
-use Rattle.mlt_object_locks.specs.Places.{places_if_any, places_of, reserved_places}
-use Rattle.mlt_object_locks.specs.Holders.{holder_of}
-use Rattle.mlt_object_locks.specs.Cells.{GivesUp, IsHereAt, IsSound, JoinsAt}
+use Rattle.mlt_object_locks.proofs.Names.{Locks, reservation_of, SameReservations, places_if_any, places_of, reserved_places, holder_of, GivesUp, IsHereAt, IsSound, JoinsAt}
 use Rattle.mlt_object_locks.proofs.Notes.{keeps_noted}
 use Rattle.mlt_object_locks.proofs.Sound.{sound_unchanged, sound_reserved}
 use Rattle.mlt_object_locks.proofs.locks.ObjectLocks.reserve_at.Goals as goal

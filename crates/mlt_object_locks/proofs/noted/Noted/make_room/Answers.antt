@@ -1,7 +1,5 @@
-use Rattle.std.proofs.Common.{◌≡◌, ◌≤◌, Some, OnOk, position, ap, sym, subst, ◌∙◌}
-use Rattle.std.specs.Prelude.{unwrap_or}
-use Rattle.mlt_object_locks.specs.Entries.{is_entry_of}
-use Rattle.mlt_object_locks.specs.Noted.{KeysWithRoom, noted_of, nothing_noted}
+use Rattle.std.proofs.Common.{◌≡◌, ◌≤◌, Some, OnOk, position, ap, sym, subst, ◌∙◌, unwrap_or}
+use Rattle.mlt_object_locks.proofs.Names.{is_entry_of, KeysWithRoom, noted_of, nothing_noted}
 use Rattle.mlt_object_locks.proofs.Entries.{changed_once, changed_other, changed_own, found_own, found_value}
 use Rattle.mlt_object_locks.proofs.noted.Noted.make_room.Goals as goal
 

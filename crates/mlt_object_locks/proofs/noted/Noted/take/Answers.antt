@@ -1,7 +1,5 @@
-use Rattle.std.proofs.Common.{◌≡◌, Some, position, ap, sym, subst, ◌∙◌}
-use Rattle.std.specs.Prelude.{unwrap_or}
-use Rattle.mlt_object_locks.specs.Entries.{HasEachOnce, is_entry_of}
-use Rattle.mlt_object_locks.specs.Noted.{noted_of, nothing_noted}
+use Rattle.std.proofs.Common.{◌≡◌, Some, position, ap, sym, subst, ◌∙◌, unwrap_or}
+use Rattle.mlt_object_locks.proofs.Names.{HasEachOnce, is_entry_of, noted_of, nothing_noted}
 use Rattle.mlt_object_locks.proofs.Entries.{found_value, nothing_found, taken_once, taken_other, taken_own}
 use Rattle.mlt_object_locks.proofs.noted.Noted.take.Goals as goal
 

@@ -1,6 +1,5 @@
 use Rattle.std.proofs.Common.{◌≡◌, None, Some, position, ap, sym, ◌∙◌}
-use Rattle.mlt_object_locks.specs.Locks.{reservation_of}
-use Rattle.mlt_object_locks.specs.Entries.{CellsWithRoom, is_entry_of}
+use Rattle.mlt_object_locks.proofs.Names.{reservation_of, CellsWithRoom, is_entry_of}
 use Rattle.mlt_object_locks.proofs.Entries.{found_value, nothing_found}
 use Rattle.mlt_object_locks.proofs.Reservations.{reservation_found}
 use Rattle.mlt_object_locks.proofs.reserved.Reserved.cell_of.Goals as goal

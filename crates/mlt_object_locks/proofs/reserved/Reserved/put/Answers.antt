@@ -1,6 +1,5 @@
 use Rattle.std.proofs.Common.{◌≡◌, None, Some, position, refl, ap, sym, subst, ◌∙◌}
-use Rattle.mlt_object_locks.specs.Locks.{reservation_of}
-use Rattle.mlt_object_locks.specs.Entries.{CellsWithRoom, HasEachOnce, is_entry_of, value_of}
+use Rattle.mlt_object_locks.proofs.Names.{reservation_of, CellsWithRoom, HasEachOnce, is_entry_of, value_of}
 use Rattle.mlt_object_locks.proofs.Entries.{changed_once, changed_other, changed_own, found_value, nothing_found, pushed_once, pushed_other, pushed_own}
 use Rattle.mlt_object_locks.proofs.Reservations.{reservation_found}
 use Rattle.mlt_object_locks.proofs.reserved.Reserved.put.Goals as goal

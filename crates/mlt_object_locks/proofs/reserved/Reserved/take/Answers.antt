@@ -1,8 +1,5 @@
-use Rattle.std.proofs.Common.{◌≡◌, ◌-◌, ◌++◌, ◌∷◌, [], true, nat_eq, length, slice_get, ap, sym, ◌∙◌, arith}
-use Rattle.std.specs.Option.{option_to_list}
-use Rattle.std.proofs.lemmas.Bool.Decides.{nat_tests}
-use Rattle.mlt_object_locks.specs.Locks.{reservation_of}
-use Rattle.mlt_object_locks.specs.Entries.{CellsWithRoom}
+use Rattle.std.proofs.Common.{◌≡◌, ◌-◌, ◌++◌, ◌∷◌, [], true, nat_eq, length, slice_get, ap, sym, ◌∙◌, arith, option_to_list}
+use Rattle.mlt_object_locks.proofs.Names.{nat_tests, reservation_of, CellsWithRoom}
 use Rattle.mlt_object_locks.proofs.Entries.{last_is, popped_once, popped_other, popped_own, popped_value}
 use Rattle.mlt_object_locks.proofs.Reservations.{reservation_found}
 use Rattle.mlt_object_locks.proofs.reserved.Reserved.take.Goals as goal

@@ -1,6 +1,5 @@
 use Rattle.std.proofs.Common.{◌≡◌, None, Some, position, ap, sym, subst, ◌∙◌}
-use Rattle.mlt_object_locks.specs.Locks.{reservation_of}
-use Rattle.mlt_object_locks.specs.Entries.{CellsWithRoom, HasEachOnce, is_entry_of}
+use Rattle.mlt_object_locks.proofs.Names.{reservation_of, CellsWithRoom, HasEachOnce, is_entry_of}
 use Rattle.mlt_object_locks.proofs.Entries.{found_value, nothing_found, taken_once, taken_other, taken_own}
 use Rattle.mlt_object_locks.proofs.Reservations.{reservation_found}
 use Rattle.mlt_object_locks.proofs.reserved.Reserved.take_within.Goals as goal

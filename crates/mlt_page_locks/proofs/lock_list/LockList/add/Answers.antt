@@ -1,5 +1,5 @@
 use Rattle.std.proofs.Common.{length, ap, ◌∙◌, lit<}
-use Rattle.mlt_page_locks.specs.LockLists.{HeldPages, with_lock}
+use Rattle.mlt_page_locks.proofs.Names.{HeldPages, with_lock}
 use Rattle.mlt_page_locks.proofs.Pages.{Strengthened, added_behind, added_between, room_for}
 use Rattle.mlt_page_locks.proofs.lock_list.LockList.add.Goals as goal
 

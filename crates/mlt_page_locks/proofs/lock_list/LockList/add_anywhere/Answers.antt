@@ -1,7 +1,5 @@
 use Rattle.std.proofs.Common.{ap, ◌∙◌, set, lit<}
-use Rattle.arrayvec.specs.ArrayVec.{with_items}
-use Rattle.mlt_page_locks.specs.Requests.{with_page}
-use Rattle.mlt_page_locks.specs.LockLists.{HeldPages}
+use Rattle.mlt_page_locks.proofs.Names.{with_items, with_page, HeldPages}
 use Rattle.mlt_page_locks.proofs.Pages.{Strengthened, strengthened, added, room_for}
 use Rattle.mlt_page_locks.proofs.lock_list.LockList.add_anywhere.Goals as goal
 

@@ -1,7 +1,6 @@
 use Rattle.std.proofs.Common.{Some, List, ap, sym, subst, ◌∙◌, get_or}
 use Rattle.std.specs.FinMap as map
-use Rattle.mlt_page_locks.specs.declared.lock_list.PageLock.{PageLock}
-use Rattle.mlt_page_locks.specs.LockLists.{HeldPages, IsAt, IsBetween}
+use Rattle.mlt_page_locks.proofs.Names.{PageLock, HeldPages, IsAt, IsBetween}
 use Rattle.mlt_page_locks.proofs.Pages.{get-modes_of, get-modes_of_none}
 use Rattle.mlt_page_locks.proofs.lock_list.LockList.mode_of.Goals as goal
 

@@ -1,8 +1,6 @@
 use Rattle.std.proofs.Common.{◌≡◌, ◌<◌, ℕ, ◌*◌, ◌%◌, ◌^◌, List, bit_or, get_or, length, w64, sym, ap, subst, ◌∙◌}
-use Rattle.std.specs.Int.{bit_at}
-use Rattle.std.proofs.lemmas.List.{get_or_default}
+use Rattle.mlt_page_locks.proofs.Names.{bit_at, get_or_default, IsMarked, row_of}
 use Rattle.std.proofs.lemmas.Nat.Bits.{bit_at_set_same}
-use Rattle.mlt_page_locks.specs.Marks.{IsMarked, row_of}
 use Rattle.mlt_page_locks.proofs.Bits.{kept_at, marked_at, set_keeps_bit}
 use Rattle.mlt_page_locks.proofs.marks.Marks.mark.Goals as goal
 

@@ -1,8 +1,5 @@
 use Rattle.std.proofs.Common.{sym, ap, subst, set, List, ◌∙◌}
-use Rattle.mlt_page_locks.specs.LockTables.{LockTable, HasRoom}
-use Rattle.mlt_page_locks.specs.Requests.{granted, conflicts, IsNobody}
-use Rattle.mlt_page_locks.specs.LockLists.{HeldPages, lock_table}
-use Rattle.mlt_page_locks.specs.Marks.{IsMarked}
+use Rattle.mlt_page_locks.proofs.Names.{LockTable, HasRoom, granted, conflicts, IsNobody, HeldPages, lock_table, IsMarked}
 use Rattle.mlt_page_locks.proofs.LockLaws.{compatible_granted}
 use Rattle.mlt_page_locks.proofs.Covering.{covers_added}
 use Rattle.mlt_page_locks.proofs.Places.{GrantedAt, granted_at, has_place, room_at}

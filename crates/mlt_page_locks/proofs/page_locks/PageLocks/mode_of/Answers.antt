@@ -1,7 +1,6 @@
 use Rattle.std.proofs.Common.{refl, ap, sym, ◌∙◌}
 use Rattle.std.specs.FinMap as map
-use Rattle.mlt_page_locks.specs.LockTables.{LockTable, mode_held}
-use Rattle.mlt_page_locks.specs.LockLists.{HeldPages}
+use Rattle.mlt_page_locks.proofs.Names.{LockTable, mode_held, HeldPages}
 use Rattle.mlt_page_locks.proofs.Tables.{mode_in_list, no_mode}
 use Rattle.mlt_page_locks.proofs.page_locks.PageLocks.mode_of.Goals as goal
 

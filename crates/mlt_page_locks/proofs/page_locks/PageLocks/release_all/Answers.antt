@@ -1,12 +1,8 @@
-use Rattle.std.proofs.Common.{ap, sym, ◌∙◌, set}
+use Rattle.std.proofs.Common.{ap, sym, ◌∙◌, set, position}
 use Rattle.std.specs.FinMap as map
-use Rattle.mlt_page_locks.specs.LockTables.{LockTable}
-use Rattle.mlt_page_locks.specs.Requests.{released}
-use Rattle.mlt_page_locks.specs.LockLists.{HeldPages, is_list_of, lock_table}
+use Rattle.mlt_page_locks.proofs.Names.{LockTable, released, HeldPages, is_list_of, lock_table, position-Some}
 use Rattle.mlt_page_locks.proofs.Tables.{nothing_released}
 use Rattle.mlt_page_locks.proofs.Grants.{Makes, cleared}
-use Rattle.std.specs.Prelude.{position}
-use Rattle.std.proofs.lemmas.List.Quantifiers.{position-Some}
 use Rattle.mlt_page_locks.proofs.Covering.{covers_cleared}
 use Rattle.mlt_page_locks.proofs.page_locks.PageLocks.release_all.Goals as goal
 

@@ -1,8 +1,5 @@
-use Rattle.std.proofs.Common.{◌≡◌, None, Some, sym, ap, ◌∙◌}
-use Rattle.std.specs.Option.{option_copied}
-use Rattle.std.specs.List.{find}
-use Rattle.mlt_page_subtx.specs.Images.{Running, image_of}
-use Rattle.mlt_page_subtx.specs.ImageLists.{images_in}
+use Rattle.std.proofs.Common.{◌≡◌, None, Some, sym, ap, ◌∙◌, option_copied, find}
+use Rattle.mlt_page_subtx.proofs.Names.{Running, image_of, images_in}
 use Rattle.mlt_page_subtx.proofs.Lists.{is_of, image_of-far, image_of-near}
 use Rattle.mlt_page_subtx.proofs.subtx.Subtx.first_image.Goals as goal
 

@@ -1,7 +1,6 @@
 use Rattle.std.proofs.Common.{refl, ap, ◌∙◌}
 use Rattle.std.specs.FinMap as map
-use Rattle.mlt_page_store.specs.Stores.{PageStore}
-use Rattle.mlt_page_subtx.specs.Images.{put_back}
+use Rattle.mlt_page_subtx.proofs.Names.{PageStore, put_back}
 use Rattle.mlt_page_subtx.proofs.ImageLaws.{fresh_has_no_image, put_back-made, dropped_again}
 use Rattle.mlt_page_subtx.proofs.subtx.Subtx.grow.Goals as goal
 

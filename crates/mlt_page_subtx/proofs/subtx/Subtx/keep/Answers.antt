@@ -1,11 +1,7 @@
-use Rattle.std.proofs.Common.{◌≡◌, None, length, nat_eq, ap, ◌∙◌, ◌++◌, [], ◌∷◌, arith}
-use Rattle.std.proofs.lemmas.Bool.Decides.{nat_tests}
+use Rattle.std.proofs.Common.{◌≡◌, None, length, nat_eq, ap, ◌∙◌, ◌++◌, [], ◌∷◌, arith, Option, option_copied}
+use Rattle.mlt_page_subtx.proofs.Names.{nat_tests, Page, Images, Running, image_of, images_in, images_of}
 use Rattle.std.specs.FinMap as map
-use Rattle.std.specs.Prelude.{Option, option_copied}
 use Rattle.indexmap.proofs.CallerLemmas.{insert_entry-new}
-use Rattle.mlt_page.specs.declared.page.Page.{Page}
-use Rattle.mlt_page_subtx.specs.Images.{Images, Running, image_of}
-use Rattle.mlt_page_subtx.specs.ImageLists.{images_in, images_of}
 use Rattle.mlt_page_subtx.proofs.Lists.{KeptOneMore, images_in-append, kept_near, kept_far, no_entry}
 use Rattle.mlt_page_subtx.proofs.subtx.Subtx.keep.Goals as goal
 

@@ -1,7 +1,6 @@
 use Rattle.std.proofs.Common.{ap, sym, ◌∙◌}
 use Rattle.std.specs.FinMap as map
-use Rattle.mlt_page_store.specs.Stores.{page_at}
-use Rattle.mlt_page_subtx.specs.Images.{Images}
+use Rattle.mlt_page_subtx.proofs.Names.{page_at, Images}
 use Rattle.mlt_page_subtx.proofs.ImageLaws.{not_there, with_image-absent, with_image-present}
 use Rattle.mlt_page_subtx.proofs.subtx.Subtx.keep_first.Goals as goal
 

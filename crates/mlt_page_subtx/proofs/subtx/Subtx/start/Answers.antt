@@ -1,5 +1,5 @@
 use Rattle.std.proofs.Common.{ap}
-use Rattle.mlt_page_subtx.specs.ImageLists.{images_in}
+use Rattle.mlt_page_subtx.proofs.Names.{images_in}
 use Rattle.mlt_page_subtx.proofs.Lists.{kept_none}
 use Rattle.mlt_page_subtx.proofs.subtx.Subtx.start.Goals as goal
 

@@ -1,7 +1,6 @@
 use Rattle.std.proofs.Common.{◌≡◌, ap, ◌∙◌, arith}
 use Rattle.std.specs.FinMap as map
-use Rattle.mlt_page_store.specs.Stores.{PageStore}
-use Rattle.mlt_page_subtx.specs.Images.{put_back}
+use Rattle.mlt_page_subtx.proofs.Names.{PageStore, put_back}
 use Rattle.mlt_page_subtx.proofs.ImageLaws.{put_back-write}
 use Rattle.mlt_page_subtx.proofs.subtx.Subtx.write.Goals as goal
 

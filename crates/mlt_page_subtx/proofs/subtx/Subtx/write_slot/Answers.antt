@@ -1,6 +1,6 @@
 use Rattle.std.proofs.Common.{◌∙◌}
 use Rattle.mlt_page.specs.Pages.{page_with_slot}
-use Rattle.mlt_page_subtx.specs.Images.{put_back}
+use Rattle.mlt_page_subtx.proofs.Names.{put_back}
 use Rattle.mlt_page_subtx.proofs.ImageLaws.{put_back-write}
 use Rattle.mlt_page_subtx.proofs.subtx.Subtx.write_slot.Goals as goal
 

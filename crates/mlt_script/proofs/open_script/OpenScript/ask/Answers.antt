@@ -1,6 +1,5 @@
 use Rattle.std.proofs.Common.{◌≡◌, ◌++◌, ◌∷◌, [], List, ap, ◌∙◌, reverse}
-use Rattle.mlt_script_tree.specs.declared.statement.Line.{Line}
-use Rattle.mlt_script_tree.specs.declared.statement.Line.TheVariants.{Plain}
+use Rattle.mlt_script.proofs.Names.{Line, Plain}
 use Rattle.mlt_script.proofs.Placing.{kept_plain}
 use Rattle.mlt_script.proofs.open_script.OpenScript.ask.Goals as goal
 

@@ -1,7 +1,5 @@
 use Rattle.std.proofs.Common.{◌≡◌, ◌∷◌, ◌++◌, [], reverse, ap, refl, ◌∙◌, List, Bool, true, false, not}
-use Rattle.std.proofs.lemmas.List.{reverse-append}
-use Rattle.mlt_script_tree.specs.declared.statement.Line.{Line}
-use Rattle.mlt_script_tree.specs.declared.statement.Line.TheVariants.{Else, End}
+use Rattle.mlt_script.proofs.Names.{reverse-append, Line, Else, End}
 use Rattle.mlt_script.proofs.Placing.{kept_end, kept_end_first}
 use Rattle.mlt_script.proofs.open_script.OpenScript.close.Goals.{then-not-frame+in_ok-push-in-Some, else-not-frame}
 use Rattle.mlt_script.proofs.open_script.OpenScript.close.Goals as goal

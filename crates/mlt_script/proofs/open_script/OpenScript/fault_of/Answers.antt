@@ -1,7 +1,6 @@
 use Rattle.std.proofs.Common.{◌≤◌, ◌<◌, reverse, ap, ◌∙◌, sym, length, arith}
 use Rattle.std.proofs.lemmas.List.{length-reverse}
-use Rattle.mlt_script.specs.Scan.{line_fault}
-use Rattle.mlt_script_tree.specs.Scripts.{open_of}
+use Rattle.mlt_script.proofs.Names.{line_fault, open_of}
 use Rattle.mlt_script.proofs.Placing.{deep_here, not_deep_here}
 use Rattle.mlt_script.proofs.open_script.OpenScript.fault_of.Goals as goal
 

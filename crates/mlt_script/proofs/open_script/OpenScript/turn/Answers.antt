@@ -1,6 +1,5 @@
 use Rattle.std.proofs.Common.{◌≡◌, ◌∷◌, [], reverse, ap, ◌∙◌, true}
-use Rattle.std.proofs.lemmas.List.{reverse-append}
-use Rattle.mlt_script.specs.declared.frame.Frame.{Frame}
+use Rattle.mlt_script.proofs.Names.{reverse-append, Frame}
 use Rattle.mlt_script.proofs.Placing.{kept_else}
 use Rattle.mlt_script.proofs.open_script.OpenScript.turn.Goals as goal
 

@@ -1,10 +1,6 @@
 use Rattle.std.proofs.Common.{◌≡◌, length, reverse, List, [], ap, sym, refl, ◌∙◌, ◌∷◌, ◌++◌, Ok, rules, arith}
-use Rattle.mlt_script.specs.declared.frame.Frame.{Frame}
-use Rattle.mlt_script_tree.specs.declared.statement.Line.{Line}
-use Rattle.mlt_script_tree.specs.Blocks.{Open}
-use Rattle.mlt_script.specs.Scan.{ended}
-use Rattle.mlt_script.specs.Scan.ScanState.{Outside}
-use Rattle.mlt_script_tree.specs.Scripts.{ScriptForm, open_of, tree_of, whole}
+use Rattle.mlt_script.proofs.Names.{Frame, Line, Open, ended, Outside, ScriptForm, open_of, whole}
+use Rattle.mlt_script_tree.specs.Scripts.{tree_of}
 use Rattle.mlt_script.proofs.Placing.{at_top}
 use Rattle.mlt_script.proofs.parser.Parser.close.Goals as goal
 

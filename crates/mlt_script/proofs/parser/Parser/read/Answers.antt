@@ -1,5 +1,5 @@
 use Rattle.std.proofs.Common.{subst}
-use Rattle.mlt_script.specs.Readings.{IsReading}
+use Rattle.mlt_script.proofs.Names.{IsReading}
 use Rattle.mlt_script.proofs.parser.Parser.read.Goals as goal
 
 pub step-requires : goal.step-requires

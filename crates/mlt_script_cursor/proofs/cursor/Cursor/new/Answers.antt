@@ -1,9 +1,5 @@
 use Rattle.std.proofs.Common.{ap, ◌∙◌, List}
-use Rattle.mlt_script_cursor.specs.declared.skipping.Skipping.TheVariants.{Nowhere}
-use Rattle.mlt_script_tree.specs.declared.statement.Line.{Line}
-use Rattle.mlt_script_cursor.specs.Follows.{no_values, questions}
-use Rattle.mlt_script_cursor.specs.Follows.Questions.{Ends}
-use Rattle.mlt_script_tree.specs.declared.statement.Ending.{Ending}
+use Rattle.mlt_script_cursor.proofs.Names.{Nowhere, Line, no_values, questions, Ends, Ending}
 use Rattle.mlt_script_cursor.specs.Runs.{run}
 use Rattle.mlt_script_cursor.proofs.Trees.{whole}
 use Rattle.mlt_script_cursor.proofs.cursor.Cursor.new.Goals as goal

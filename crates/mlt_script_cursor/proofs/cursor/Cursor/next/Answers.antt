@@ -1,9 +1,6 @@
 use Rattle.std.proofs.Common.{sym, subst, ◌∙◌}
-use Rattle.mlt_script_cursor.specs.declared.cursor.Next.{Next}
-use Rattle.mlt_script_cursor.specs.declared.cursor.Next.TheVariants as next
+use Rattle.mlt_script_cursor.proofs.Names.{Next, questions_of, Questions, IsNext}
 use Rattle.mlt_script_cursor.proofs.Running.{some_line}
-use Rattle.mlt_script_cursor.specs.Cursors.{questions_of}
-use Rattle.mlt_script_cursor.specs.Follows.{Questions, IsNext}
 use Rattle.mlt_script_cursor.proofs.Running.{next_line, run_out, asks}
 use Rattle.mlt_script_cursor.proofs.cursor.Cursor.next.Goals as goal
 
@@ -21,9 +18,9 @@ returns-then-self-clause-asking c = λ op e.
 pub returns-in-Commit-clause-next : goal.returns-in-Commit-clause-next
 returns-in-Commit-clause-next c =
     let s = c.args.self.now in
-    subst (λ (p : Questions). IsNext next.Commit p) (sym (run_out s.lines.now s.at s.variables s.ending c.if-self.false)) c.in-Commit.is
+    subst (λ (p : Questions). IsNext Next.Commit p) (sym (run_out s.lines.now s.at s.variables s.ending c.if-self.false)) c.in-Commit.is
 
 pub returns-in-Abort-clause-next : goal.returns-in-Abort-clause-next
 returns-in-Abort-clause-next c =
     let s = c.args.self.now in
-    subst (λ (p : Questions). IsNext next.Abort p) (sym (run_out s.lines.now s.at s.variables s.ending c.if-self.false)) c.in-Abort.is
+    subst (λ (p : Questions). IsNext Next.Abort p) (sym (run_out s.lines.now s.at s.variables s.ending c.if-self.false)) c.in-Abort.is

@@ -1,8 +1,6 @@
 use Rattle.std.proofs.Common.{◌≡◌, ◌<◌, ◌+◌, Some, None, length, drop, get_or, sym, ◌∙◌, ap, arith, le_refl}
 use Rattle.mlt_script_cursor.proofs.Running.{some_line}
-use Rattle.mlt_script_tree.specs.declared.statement.Ending.TheVariants.{Abort}
-use Rattle.mlt_script_cursor.specs.Follows.{Variables}
-use Rattle.mlt_script_cursor.specs.Hearing.{heard, heard_values, after_hearing}
+use Rattle.mlt_script_cursor.proofs.Names.{Abort, Variables, heard, heard_values, after_hearing}
 use Rattle.mlt_script_cursor.specs.Runs.{run}
 use Rattle.mlt_script_cursor.proofs.Running.{in_range, tells, run_out}
 use Rattle.mlt_script_cursor.proofs.cursor.Cursor.tell.Goals as goal

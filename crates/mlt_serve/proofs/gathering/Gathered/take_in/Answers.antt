@@ -1,6 +1,5 @@
-use Rattle.std.proofs.Common.{rules, ◌++◌}
-use Rattle.std.specs.Prelude.{IsPermutation}
-use Rattle.mlt_work_log.specs.Seats.{first_items}
+use Rattle.std.proofs.Common.{rules, ◌++◌, IsPermutation}
+use Rattle.mlt_serve.proofs.Names.{first_items}
 use Rattle.mlt_serve.proofs.Telling.{both_told}
 use Rattle.mlt_serve.proofs.gathering.Gathered.take_in.Goals as goal
 

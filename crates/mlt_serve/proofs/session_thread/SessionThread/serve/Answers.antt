@@ -1,8 +1,5 @@
 use Rattle.std.proofs.Common.{rules, ◌≡◌, subst, sym}
-use Rattle.mlt_work_log.specs.Prefixes.{StartsWith}
-use Rattle.mlt_work_log.specs.Seats.{first_items}
-use Rattle.mlt_serve.specs.Clients.{AreOfClients}
-use Rattle.mlt_serve.specs.Tellings.{TellsOutcomes}
+use Rattle.mlt_serve.proofs.Names.{StartsWith, first_items, AreOfClients, TellsOutcomes}
 use Rattle.mlt_serve.proofs.Numbering.{grown}
 use Rattle.mlt_serve.proofs.Telling.{grown_told}
 use Rattle.mlt_serve.proofs.session_thread.SessionThread.serve.Goals as goal

@@ -1,5 +1,5 @@
 use Rattle.std.proofs.Common.{ap, subst, ◌∙◌}
-use Rattle.mlt_serve_admin.specs.declared.replies.Content.TheVariants as content
+use Rattle.mlt_serve_admin.specs.declared.replies.Content.{Content}
 use Rattle.mlt_serve_admin.specs.Lists.{sessions_text}
 use Rattle.mlt_serve_admin.specs.Replies.{IsReply}
 use Rattle.mlt_serve_admin.proofs.service.OperatorService.show_sessions.Goals as goal
@@ -7,7 +7,7 @@ use Rattle.mlt_serve_admin.proofs.service.OperatorService.show_sessions.Goals as
 pub returns : goal.returns
 returns g c = (
   c.in_ok-view.view,
-  subst (λ body. IsReply 200 content.Json body c.fill.new.response)
+  subst (λ body. IsReply 200 Content.Json body c.fill.new.response)
       (c.as_str.ensures.value ∙ c.in_ok-text.ensures ∙ ap sessions_text c.as_slice.ensures.value)
       c.in_ok-fill.ensures,
 )

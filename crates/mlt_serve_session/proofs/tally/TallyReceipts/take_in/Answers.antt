@@ -1,6 +1,6 @@
 use Rattle.std.proofs.Common.{◌≡◌, ◌+◌, sum_by, ap, ◌∙◌, arith}
 use Rattle.std.proofs.lemmas.List.Sums.{sum_by-append}
-use Rattle.mlt_script_serial.specs.declared.outcome.Outcome.{Outcome}
+use Rattle.mlt_serve_session.proofs.Names.{Outcome}
 use Rattle.mlt_serve_session.specs.Tallies.{commits_by}
 use Rattle.mlt_serve_session.proofs.tally.TallyReceipts.take_in.Goals as goal
 

@@ -1,6 +1,6 @@
 -- The list owns nothing, so any thread may see it.
 use denote.Param.Send.{IsSync, part_keyless}
-use Rattle.mlt_trace.specs.contracts.handed_out.HandedOut.{the_row}
+use Rattle.mlt_trace.proofs.Names.{the_row}
 use Rattle.mlt_trace.proofs.handed_out.HandedOut.TheSendSync.Send.{send}
 
 pub sync : IsSync the_row

@@ -1,5 +1,5 @@
 use Rattle.std.proofs.Common.{arith, subst, sym}
-use Rattle.mlt_trace.specs.Ranges.{FitsItem}
+use Rattle.mlt_trace.proofs.Names.{FitsItem}
 use Rattle.mlt_trace.proofs.Fitting.{one_more_kept_fits}
 use Rattle.mlt_trace.proofs.history.History.push.Goals as goal
 

@@ -1,8 +1,5 @@
 use Rattle.std.proofs.Common.{Err, ◌+◌, refl, sym, subst, ap, ◌∙◌}
-use Rattle.std.proofs.lemmas.Result.{err_from_is_err_and}
-use Rattle.mlt_object_kinds.specs.Bases.{Step}
-use Rattle.mlt_order.specs.Runs.{Runs}
-use Rattle.mlt_trace_check.specs.Replaying.{Replays, dones}
+use Rattle.mlt_trace_check.proofs.Names.{err_from_is_err_and, Step, Runs, Replays, dones}
 use Rattle.mlt_trace_check.proofs.Knowing.{commit_fails, is_undoing, knows_commit}
 use Rattle.mlt_trace_check.proofs.checker.Checker.commit.Goals as goal
 use Rattle.mlt_trace_check.proofs.checker.Checker.commit.Goals.{then-one-via-then-one, then-one-via-else-one+then-not-is_next}

@@ -1,8 +1,7 @@
-use Rattle.std.proofs.Common.{◌≡◌, ◌∙◌, Some, IsSome, refl, sym, ap, subst, arith}
+use Rattle.std.proofs.Common.{◌≡◌, ◌∙◌, Some, IsSome, refl, sym, ap, subst, arith, nat_cmp}
 use Rattle.std.specs.BTreeMap.{get_by}
 use Rattle.std.specs.Option.{option_copied_mut}
-use Rattle.std.specs.Ordering.{nat_cmp}
-use Rattle.mlt_trace_check.specs.declared.open_tx.OpenTx.{OpenTx}
+use Rattle.mlt_trace_check.proofs.Names.{OpenTx}
 use Rattle.mlt_trace_check.proofs.Knowing.{knows_done}
 use Rattle.mlt_trace_check.proofs.checker.Checker.done.Goals as goal
 

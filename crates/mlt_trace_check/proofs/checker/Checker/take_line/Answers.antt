@@ -1,5 +1,5 @@
 use Rattle.std.proofs.Common.{◌∙◌}
-use Rattle.std.proofs.lemmas.Result.{err_from_is_err_and}
+use Rattle.mlt_trace_check.proofs.Names.{err_from_is_err_and}
 use Rattle.mlt_trace_check.proofs.Going.{bad_line, item_line}
 use Rattle.mlt_trace_check.proofs.checker.Checker.take_line.Goals as goal
 

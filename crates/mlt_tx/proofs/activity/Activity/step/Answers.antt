@@ -1,22 +1,15 @@
 use Rattle.std.proofs.Common.{◌≡◌, Option, refl, sym, ap, subst, ◌∙◌}
-use Rattle.mlt_hash.specs.Walks.{WalkContext, context_in}
-use Rattle.mlt_tx_operation.specs.Operating.{OperationFields}
-use Rattle.mlt_event.specs.declared.answer.Answer.{Answer}
+use Rattle.mlt_tx.proofs.Names.{WalkContext, context_in, OperationFields, Answer, SharedState, At, Transaction, LeavesRoom, pending_after}
 use Rattle.mlt_tx.specs.declared.activity.ActivityState.{ActivityState}
-use Rattle.mlt_tx.specs.declared.activity.ActivityState.TheVariants as state
-use Rattle.mlt_tx.specs.declared.shared.SharedState.{SharedState}
-use Rattle.mlt_tx.specs.declared.transaction.At.{At}
-use Rattle.mlt_tx.specs.declared.transaction.At.TheVariants as at
-use Rattle.mlt_tx.specs.declared.transaction.Transaction.{Transaction}
 use Rattle.mlt_tx.specs.Activities.{at_of}
-use Rattle.mlt_tx.specs.Transactions.{LeavesRoom, TellsAt, pending_after, transaction_at}
+use Rattle.mlt_tx.specs.Transactions.{TellsAt, transaction_at}
 use Rattle.mlt_tx.proofs.Pending.{keeps_room, still_pending}
 use Rattle.mlt_tx.proofs.activity.Activity.step.Goals as goal
 
-pending_is : (s : ActivityState) (o : OperationFields) (i : Option OperationFields) → s ≡ state.Pending → at_of s o i ≡ at.Pending o
+pending_is : (s : ActivityState) (o : OperationFields) (i : Option OperationFields) → s ≡ ActivityState.Pending → at_of s o i ≡ At.Pending o
 pending_is s o i is = ap (λ (s : ActivityState). at_of s o i) is
 
-was_pending : (s : ActivityState) (o : OperationFields) (i : Option OperationFields) (whole : At) → at_of s o i ≡ whole → s ≡ state.Pending → at.Pending o ≡ whole
+was_pending : (s : ActivityState) (o : OperationFields) (i : Option OperationFields) (whole : At) → at_of s o i ≡ whole → s ≡ ActivityState.Pending → At.Pending o ≡ whole
 was_pending s o i whole view is = sym (pending_is s o i is) ∙ view
 
 pub returns-in-Done-clause-tells : goal.returns-in-Done-clause-tells
@@ -24,7 +17,7 @@ returns-in-Done-clause-tells g c =
     let context : WalkContext = context_in g.P.Pseudo.bits_of c.args.environment.now c.args.subtx.now.tx in
     let told : Answer = c.step_on-answer.result in
     let o : OperationFields = c.self.inside.operation in
-    let after : Transaction = transaction_at c.step_on-answer.new.subtx c.step_on-answer.new.undo at.Idle in
+    let after : Transaction = transaction_at c.step_on-answer.new.subtx c.step_on-answer.new.undo At.Idle in
     let new : SharedState = c.step_on-answer.new.shared in
     subst (λ (a : At). TellsAt a context (transaction_at c.args.subtx.now c.args.undo.now a) after c.args.shared.now new told) (was_pending c.self.inside.state o c.self.inside.inverting c.args.self.now c.self.view_is c.in-Pending.is) (record {
       next = c.step_on-answer.new.operation;
@@ -39,7 +32,7 @@ returns-in-Refused-clause-tells g c =
     let context : WalkContext = context_in g.P.Pseudo.bits_of c.args.environment.now c.args.subtx.now.tx in
     let told : Answer = c.step_on-answer.result in
     let o : OperationFields = c.self.inside.operation in
-    let after : Transaction = transaction_at c.step_on-answer.new.subtx c.step_on-answer.new.undo at.Idle in
+    let after : Transaction = transaction_at c.step_on-answer.new.subtx c.step_on-answer.new.undo At.Idle in
     let between : SharedState = c.step_on-answer.new.shared in
     let new : SharedState = record { alloc = between.alloc; pages = between.pages; objects = between.objects; history = c.release.new.self } in
     subst (λ (a : At). TellsAt a context (transaction_at c.args.subtx.now c.args.undo.now a) after c.args.shared.now new told) (was_pending c.self.inside.state o c.self.inside.inverting c.args.self.now c.self.view_is c.in-Pending.is) (record {

@@ -1,8 +1,5 @@
 use Rattle.std.proofs.Common.{refl, subst}
-use Rattle.mlt_page_subtx.specs.Images.{Running}
-use Rattle.mlt_hash.specs.Walks.{context_in}
-use Rattle.mlt_tx.specs.Fast.{StepsFast, called_with}
-use Rattle.mlt_tx.specs.declared.transaction.Transaction.{Transaction}
+use Rattle.mlt_tx.proofs.Names.{Running, context_in, StepsFast, called_with, Transaction}
 use Rattle.mlt_tx.proofs.transaction.Transaction.call_fast.Goals as goal
 
 pub returns-in-Some-clause-calls : goal.returns-in-Some-clause-calls

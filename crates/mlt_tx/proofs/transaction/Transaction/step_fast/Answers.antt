@@ -1,9 +1,5 @@
 use Rattle.std.proofs.Common.{ℕ, refl, subst}
-use Rattle.mlt_object_kinds.specs.declared.operation.ObjOp.{ObjOp}
-use Rattle.mlt_object_kinds.specs.declared.operation.ObjReply.{ObjReply}
-use Rattle.mlt_hash.specs.Walks.{WalkContext, context_in}
-use Rattle.mlt_tx.specs.declared.shared.SharedState.{SharedState}
-use Rattle.mlt_tx.specs.declared.transaction.Transaction.{Transaction}
+use Rattle.mlt_tx.proofs.Names.{ObjOp, ObjReply, WalkContext, context_in, SharedState, Transaction}
 use Rattle.mlt_tx.proofs.Fast.{IsAdded, steps_fast}
 use Rattle.mlt_tx.proofs.transaction.Transaction.step_fast.Goals as goal
 

@@ -1,7 +1,6 @@
 use Rattle.std.proofs.Common.{ℕ, sym, ◌∙◌}
-use Rattle.std.proofs.lemmas.Result.{on_err_weaker}
-use Rattle.mlt_hash.specs.Walks.{WalkContext, context_in}
-use Rattle.mlt_tx_open.specs.Tables.{ChangesOne}
+use Rattle.mlt_tx_open.proofs.Names.{on_err_weaker, WalkContext, ChangesOne}
+use Rattle.mlt_hash.specs.Walks.{context_in}
 use Rattle.mlt_tx_open.proofs.Fast.{calls_if_ok}
 use Rattle.mlt_tx_open.proofs.TxSlots.{transaction_changed, it_sits, not_open, one_changes}
 use Rattle.mlt_tx_open.proofs.table.OpenTransactions.call_fast.Goals as goal

@@ -1,8 +1,6 @@
-use Rattle.std.proofs.Common.{Some, sym, ap, ◌∙◌}
+use Rattle.std.proofs.Common.{Some, sym, ap, ◌∙◌, option_copied}
 use Rattle.std.specs.FinMap as map
-use Rattle.std.specs.Option.{option_copied}
-use Rattle.mlt_tx_open.specs.declared.tx_slot.TxSlot.{TxSlot}
-use Rattle.mlt_tx_open.specs.Tables.{Table}
+use Rattle.mlt_tx_open.proofs.Names.{TxSlot, Table}
 use Rattle.mlt_tx_open.proofs.TxSlots.{none_sits, who_sits}
 use Rattle.mlt_tx_open.proofs.table.OpenTransactions.get.Goals as goal
 

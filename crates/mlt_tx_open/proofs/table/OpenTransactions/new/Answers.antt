@@ -1,6 +1,5 @@
 use Rattle.std.proofs.Common.{List, sym, subst}
-use Rattle.mlt_tx_open.specs.declared.tx_slot.TxSlot.{TxSlot}
-use Rattle.mlt_tx_open.specs.TxSlots.{AreTxSlots}
+use Rattle.mlt_tx_open.proofs.Names.{TxSlot, AreTxSlots}
 use Rattle.mlt_tx_open.proofs.TxSlots.{no_slots}
 use Rattle.mlt_tx_open.proofs.table.OpenTransactions.new.Goals as goal
 

@@ -1,9 +1,6 @@
 use Rattle.std.proofs.Common.{◌≡◌, OnOk, sym, ap, subst, ◌∙◌}
-use Rattle.mlt_order.specs.Interleavings.{UndoneTo}
-use Rattle.mlt_object_kinds.specs.Bases.{Base as ObjectBase, Step}
-use Rattle.mlt_tx_open.specs.Standing.{standing_in}
-use Rattle.mlt_tx_open.specs.Tables.{Table}
-use Rattle.mlt_tx_open.specs.TxSlots.{HaveOneEach, table_of}
+use Rattle.mlt_tx_open.proofs.Names.{UndoneTo, Step, standing_in, Table, HaveOneEach, table_of}
+use Rattle.mlt_object_kinds.specs.Bases.{Base as ObjectBase}
 use Rattle.mlt_tx_open.proofs.table.OpenTransactions.take_back.Goals as goal
 
 pub take_back_each-requires : goal.take_back_each-requires

@@ -1,6 +1,6 @@
 use Rattle.std.proofs.Common.{refl, sym, ◌∙◌}
-use Rattle.std.proofs.lemmas.Result.{on_err_weaker, on_ok_weaker}
-use Rattle.mlt_tx.specs.Transactions.{IsPending, IsUndoing}
+use Rattle.mlt_tx_open.proofs.Names.{on_err_weaker, IsPending, IsUndoing}
+use Rattle.std.proofs.lemmas.Result.{on_ok_weaker}
 use Rattle.mlt_tx_open.proofs.TxSlots.{transaction_changed, one_changes}
 use Rattle.mlt_tx_open.proofs.Trying.{call_tried, not_found, found_at, found_idle}
 use Rattle.mlt_tx_open.proofs.table.OpenTransactions.try_call.Goals as goal

@@ -1,6 +1,6 @@
 use Rattle.std.proofs.Common.{◌≡◌, Some, refl, sym, subst, ◌∙◌}
-use Rattle.mlt_tx.specs.declared.transaction.Transaction.{Transaction}
-use Rattle.mlt_tx_open.specs.OpenAt.{IsBusy, IsIdle}
+use Rattle.mlt_tx_open.proofs.Names.{Transaction, IsBusy}
+use Rattle.mlt_tx_open.specs.OpenAt.{IsIdle}
 use Rattle.mlt_tx_open.proofs.TxSlots.{transaction_changed, one_changes}
 use Rattle.mlt_tx_open.proofs.Trying.{busy_unless_idle, not_found, found_there, found_at}
 use Rattle.mlt_tx_open.proofs.table.OpenTransactions.try_step.Goals as goal

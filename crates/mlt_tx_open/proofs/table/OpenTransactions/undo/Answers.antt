@@ -1,5 +1,5 @@
 use Rattle.std.proofs.Common.{sym, ap, ◌∙◌}
-use Rattle.mlt_tx.specs.declared.transaction.At.{At}
+use Rattle.mlt_tx_open.proofs.Names.{At}
 use Rattle.mlt_tx_open.proofs.TxSlots.{transaction_changed, none_open, one_changes}
 use Rattle.mlt_tx_open.proofs.table.OpenTransactions.undo.Goals as goal
 

@@ -1,14 +1,6 @@
 use Rattle.std.proofs.Common.{◌≡◌, ◌<◌, Option, None, Some, sym, ap, subst, ◌∙◌}
-use Rattle.mlt_object_kinds.specs.declared.operation.ObjReply.{ObjReply}
-use Rattle.mlt_hash_access.specs.LocalStates.{LocalState, local}
-use Rattle.mlt_hash_access.specs.Views.{view_of}
-use Rattle.mlt_hash.specs.Walks.{WalkContext, context_in}
-use Rattle.mlt_tx_two_records.specs.TwoRecordWalks.{steps_of_two_records}
+use Rattle.mlt_tx_operation.proofs.Names.{ObjReply, LocalState, local, view_of, WalkContext, context_in, steps_of_two_records, StepAnswer, IsRefused, TellsOfStep, Waits, MayOperate, OperationFields, on_one, on_two, WalkingFields, walking}
 use Rattle.mlt_tx_two_records.proofs.TwoRecordSteps.{end_is_left, one_fewer_at_least}
-use Rattle.mlt_tx_operation.specs.declared.answer.StepAnswer.TheVariants as step
-use Rattle.mlt_tx_operation.specs.Answers.{IsRefused, TellsOfStep, Waits}
-use Rattle.mlt_tx_operation.specs.Operating.{MayOperate, OperationFields, on_one, on_two}
-use Rattle.mlt_tx_operation.specs.Walking.{WalkingFields, walking}
 use Rattle.mlt_tx_operation.proofs.TwoRecordWalks.{two_records_goes_on, two_records_refused, two_records_tells, two_records_waits}
 use Rattle.mlt_tx_operation.proofs.Operations.{may_go_on, may_walk_on}
 use Rattle.mlt_tx_operation.proofs.operation.Operation.step.Goals as goal
@@ -39,11 +31,11 @@ returns-in-Going g c =
     let is : on_two request None c.in-Two.two_records ≡ c.args.self.now = (λ i. record { request = c.self.inside.request; reply = sym none i; access_path = sym c.in-Two.is i }) ∙ c.self.view_is in
     let fewer : steps_of_two_records context.root c.step.new.self (view_of new) < steps_of_two_records context.root c.in-Two.two_records (view_of old) =
     one_fewer_at_least context request old new c.in-Two.two_records c.step.new.self c.requires.ready.small c.in-Going.ensures.tells in
-    let tells : TellsOfStep context old new (on_two request None c.in-Two.two_records) (on_two request None c.step.new.self) step.Going =
+    let tells : TellsOfStep context old new (on_two request None c.in-Two.two_records) (on_two request None c.step.new.self) StepAnswer.Going =
     two_records_goes_on c.in-Two.two_records c.step.new.self context old new request c.in-Going.ensures.tells.0 c.in-Going.ensures.tells.1 fewer in
-    let untold : TellsOfStep context old new (on_two request None c.in-Two.two_records) (on_two request c.self.inside.reply c.step.new.self) step.Going =
-    subst (λ (r : Option ObjReply). TellsOfStep context old new (on_two request None c.in-Two.two_records) (on_two request r c.step.new.self) step.Going) (sym none) tells in
-    record { tells = subst (λ (o : OperationFields). TellsOfStep context old new o (on_two request c.self.inside.reply c.step.new.self) step.Going) is untold }
+    let untold : TellsOfStep context old new (on_two request None c.in-Two.two_records) (on_two request c.self.inside.reply c.step.new.self) StepAnswer.Going =
+    subst (λ (r : Option ObjReply). TellsOfStep context old new (on_two request None c.in-Two.two_records) (on_two request r c.step.new.self) StepAnswer.Going) (sym none) tells in
+    record { tells = subst (λ (o : OperationFields). TellsOfStep context old new o (on_two request c.self.inside.reply c.step.new.self) StepAnswer.Going) is untold }
 
 pub returns-in-Waiting : goal.returns-in-Waiting
 returns-in-Waiting g c =
@@ -68,9 +60,9 @@ returns-in-Told g c =
     let none : c.self.inside.reply ≡ None = ap (λ (o : OperationFields). o.reply) c.self.view_is ∙ c.requires.untold in
     let is : on_two request None c.in-Two.two_records ≡ c.args.self.now = (λ i. record { request = c.self.inside.request; reply = sym none i; access_path = sym c.in-Two.is i }) ∙ c.self.view_is in
     let more : 1 < steps_of_two_records context.root c.in-Two.two_records (view_of old) = end_is_left context request c.in-Told.reply old new c.in-Two.two_records c.step.new.self c.in-Told.ensures.tells in
-    let tells : TellsOfStep context old new (on_two request None c.in-Two.two_records) (on_two request (Some c.in-Told.reply) c.step.new.self) step.Going =
+    let tells : TellsOfStep context old new (on_two request None c.in-Two.two_records) (on_two request (Some c.in-Told.reply) c.step.new.self) StepAnswer.Going =
     two_records_tells c.in-Two.two_records c.step.new.self context old new request c.in-Told.reply c.in-Told.ensures.tells.0 c.in-Told.ensures.tells.1 c.in-Told.ensures.tells.2 more in
-    record { tells = subst (λ (o : OperationFields). TellsOfStep context old new o (on_two request (Some c.in-Told.reply) c.step.new.self) step.Going) is tells }
+    record { tells = subst (λ (o : OperationFields). TellsOfStep context old new o (on_two request (Some c.in-Told.reply) c.step.new.self) StepAnswer.Going) is tells }
 
 pub returns-in-Refused : goal.returns-in-Refused
 returns-in-Refused g c =

@@ -1,14 +1,7 @@
 use Rattle.std.proofs.Common.{◌≡◌, refl, sym, ap, subst, ◌∙◌}
-use Rattle.mlt_hash_access.specs.LocalStates.{LocalState, local}
-use Rattle.mlt_hash_access.specs.Views.{view_of}
-use Rattle.mlt_hash.specs.Walks.{WalkContext, context_in}
-use Rattle.mlt_tx_two_records.specs.declared.two_records.TwoRecordWalk.{TwoRecordWalk}
-use Rattle.mlt_tx_two_records.specs.declared.two_records.TwoRecordWalk.TheVariants.{Owing, Wide}
-use Rattle.mlt_tx_two_records.specs.declared.two_records.WideStage.{WideStage}
-use Rattle.mlt_tx_two_records.specs.declared.two_records.WideStage.TheVariants as wide_stage
-use Rattle.mlt_tx_two_records.specs.Answers.{TellsLast, TellsOfTwoRecords}
+use Rattle.mlt_tx_two_records.proofs.Names.{LocalState, local, view_of, WalkContext, context_in, TwoRecordWalk, Owing, Wide, WideStage, TellsOfTwoRecords, OwesOne}
+use Rattle.mlt_tx_two_records.specs.Answers.{TellsLast}
 use Rattle.mlt_tx_two_records.specs.TwoRecordWalks.{Stands}
-use Rattle.mlt_tx_two_records.specs.FirstPass.{OwesOne}
 use Rattle.mlt_tx_two_records.proofs.FirstSteps.{owing_tells}
 use Rattle.mlt_tx_two_records.proofs.two_records.TwoRecordWalk.step.Goals as goal
 
@@ -34,5 +27,5 @@ returns-in-Own g c =
     let old : LocalState = local c.args.subtx.now c.args.pages.now in
     let new : LocalState = local c.step_own-next.new.subtx c.step_own-next.new.pages in
     let after : TwoRecordWalk = Wide c.step_own-next.result.0 c.step_own-next.new.walk in
-    let is : Wide wide_stage.Own c.in-Wide.walk ≡ c.args.self.now = ap (λ (l : WideStage). Wide l c.in-Wide.walk) (sym c.in-Own.is) ∙ sym c.in-Wide.is in
+    let is : Wide WideStage.Own c.in-Wide.walk ≡ c.args.self.now = ap (λ (l : WideStage). Wide l c.in-Wide.walk) (sym c.in-Own.is) ∙ sym c.in-Wide.is in
     record { tells = subst (λ (before : TwoRecordWalk). TellsOfTwoRecords context old new before after c.args.request.now c.step_own-next.result.1) is c.step_own-next.ensures.tells }

@@ -1,11 +1,8 @@
 use Rattle.std.proofs.Common.{rules, ◌≡◌, subst}
 use Rattle.mlt_script_cursor.specs.Calls.{answer_by}
-use Rattle.mlt_script_cursor.specs.declared.call.DeskAnswer.TheVariants.{Replied}
-use Rattle.mlt_script_cursor.specs.declared.call.DeskCall.TheVariants as call
-use Rattle.mlt_work_log.specs.Prefixes.{StartsWith}
-use Rattle.mlt_work_log.specs.Seats.{first_items}
-use Rattle.mlt_work_desk.specs.Holds.{MayAnswerOperation, SeesAnswer, desk_view}
-use Rattle.mlt_work_desk.specs.Tries.{SpendsByWaits, tries_called}
+use Rattle.mlt_work_desk.proofs.Names.{Replied, DeskCall, StartsWith, first_items, SeesAnswer, SpendsByWaits}
+use Rattle.mlt_work_desk.specs.Holds.{MayAnswerOperation, desk_view}
+use Rattle.mlt_work_desk.specs.Tries.{tries_called}
 use Rattle.mlt_work_desk.proofs.Seeing.{sees_later, sees_more}
 use Rattle.mlt_work_desk.proofs.calls.LockDeskAnswering.operation.Goals as goal
 
@@ -26,9 +23,9 @@ returns-in-Called g c =
     let more = subst (StartsWith called) same (sees_more asking _ _ called c.hold-told.ensures.sees) in
     let steps = c.steps.ensures in
     let of_op = subst (λ o. MayAnswerOperation bits_of c.hold-told.new.self.thread.tx o given view) is_op steps.told in
-    let sees_op = subst (λ o. SeesAnswer bits_of called (call.Operation c.hold-told.new.self.thread.tx o) given after) is_op steps.sees in
+    let sees_op = subst (λ o. SeesAnswer bits_of called (DeskCall.Operation c.hold-told.new.self.thread.tx o) given after) is_op steps.sees in
     record {
       may = subst (λ x. MayAnswerOperation bits_of x c.args.op given view) is_tx of_op;
-      sees = sees_later bits_of before called (call.Operation c.args.tx c.args.op) given after more (subst (λ x. SeesAnswer bits_of called (call.Operation x c.args.op) given after) is_tx sees_op);
+      sees = sees_later bits_of before called (DeskCall.Operation c.args.tx c.args.op) given after more (subst (λ x. SeesAnswer bits_of called (DeskCall.Operation x c.args.op) given after) is_tx sees_op);
       spends = subst (λ old. SpendsByWaits old tries) had steps.spends;
     }

@@ -1,11 +1,5 @@
 use Rattle.std.proofs.Common.{rules, ◌≡◌, ◌∙◌, refl, subst, sym, true}
-use Rattle.mlt_event.specs.declared.event.Event.TheVariants as event
-use Rattle.mlt_event.specs.declared.told.Told.TheVariants as told
-use Rattle.mlt_script_cursor.specs.declared.call.DeskAnswer.TheVariants.{Aborted}
-use Rattle.mlt_script_cursor.specs.declared.call.DeskCall.TheVariants as call
-use Rattle.mlt_work_log.specs.Prefixes.{StartsWith}
-use Rattle.mlt_work_log.specs.Seats.{first_items}
-use Rattle.mlt_work_desk.specs.Holds.{IsToldTo, SeesAnswer, SeesEvent}
+use Rattle.mlt_work_desk.proofs.Names.{Event, Told, Aborted, DeskCall, StartsWith, first_items, IsToldTo, SeesAnswer, SeesEvent}
 use Rattle.mlt_work_desk.proofs.Seeing.{sees_closed, sees_later, sees_more, sees_refused_abort}
 use Rattle.mlt_work_desk.proofs.calls.LockDeskDesk.abort.Goals as goal
 
@@ -14,10 +8,10 @@ returns-in-Aborting-true g c =
     let before = first_items c.args.self.now.snapshot in
     let after = first_items c.hold-told.new.self.snapshot in
     let held = c.hold-told.ensures in
-    let was_told : c.hold-told.result.0 ≡ told.Aborting true = search rules in
+    let was_told : c.hold-told.result.0 ≡ Told.Aborting true = search rules in
     record {
       may = tt;
-      sees = sees_closed g.P.Pseudo.bits_of before c.args.tx after (subst (λ said. SeesEvent before (event.Abort c.args.tx) said after) was_told held.sees);
+      sees = sees_closed g.P.Pseudo.bits_of before c.args.tx after (subst (λ said. SeesEvent before (Event.Abort c.args.tx) said after) was_told held.sees);
       spends = held.tries;
     }
 
@@ -29,10 +23,10 @@ returns-in-Aborting-false g c =
     let after = first_items c.undo.new.self.snapshot in
     let held = c.hold-told.ensures in
     let more = subst (λ one. StartsWith (first_items one) before) (sym c.is_in.ensures.snapshot) (sees_more before _ _ _ held.sees) in
-    let ends = subst (λ x. SeesAnswer bits_of undoing (call.Abort x) Aborted after) c.is_in.ensures.tx c.undo.ensures.ends in
+    let ends = subst (λ x. SeesAnswer bits_of undoing (DeskCall.Abort x) Aborted after) c.is_in.ensures.tx c.undo.ensures.ends in
     record {
       may = tt;
-      sees = sees_later bits_of before undoing (call.Abort c.args.tx) Aborted after more ends;
+      sees = sees_later bits_of before undoing (DeskCall.Abort c.args.tx) Aborted after more ends;
       spends = c.undo.ensures.tries ∙ c.is_in.ensures.tries ∙ held.tries;
     }
 
@@ -41,7 +35,7 @@ returns-in-Refused g c =
     let bits_of = g.P.Pseudo.bits_of in
     let before = first_items c.args.self.now.snapshot in
     let after = first_items c.hold-told.new.self.snapshot in
-    let aborts = event.Abort c.args.tx in
+    let aborts = Event.Abort c.args.tx in
     let held = c.hold-told.ensures in
     record {
       may = tt;

@@ -1,7 +1,5 @@
 use Rattle.std.proofs.Common.{◌∙◌, subst}
-use Rattle.mlt_event.specs.declared.event.Event.TheVariants as event
-use Rattle.mlt_work_log.specs.Seats.{first_items}
-use Rattle.mlt_work_desk.specs.Holds.{IsToldTo, SeesEvent}
+use Rattle.mlt_work_desk.proofs.Names.{Event, first_items, IsToldTo, SeesEvent}
 use Rattle.mlt_work_desk.proofs.Seeing.{sees_begun}
 use Rattle.mlt_work_desk.proofs.calls.LockDeskDesk.begin.Goals as goal
 
@@ -12,7 +10,7 @@ returns-in-Begun g c =
     let after = first_items c.hold-told.new.self.snapshot in
     let held = c.hold-told.ensures in
     record {
-      may = subst (λ said. IsToldTo bits_of event.Begin said) c.in-Begun.is held.told;
-      sees = sees_begun bits_of before c.in-Begun.tx after (subst (λ said. SeesEvent before event.Begin said after) c.in-Begun.is held.sees);
+      may = subst (λ said. IsToldTo bits_of Event.Begin said) c.in-Begun.is held.told;
+      sees = sees_begun bits_of before c.in-Begun.tx after (subst (λ said. SeesEvent before Event.Begin said after) c.in-Begun.is held.sees);
       spends = held.tries ∙ c.begin.ensures;
     }

@@ -1,7 +1,5 @@
 use Rattle.std.proofs.Common.{subst}
-use Rattle.mlt_event.specs.declared.event.Event.TheVariants as event
-use Rattle.mlt_work_log.specs.Seats.{first_items}
-use Rattle.mlt_work_desk.specs.Holds.{IsToldTo, SeesEvent}
+use Rattle.mlt_work_desk.proofs.Names.{Event, first_items, IsToldTo, SeesEvent}
 use Rattle.mlt_work_desk.proofs.Seeing.{sees_committed}
 use Rattle.mlt_work_desk.proofs.calls.LockDeskDesk.commit.Goals as goal
 
@@ -10,7 +8,7 @@ returns-in-Committed g c =
     let bits_of = g.P.Pseudo.bits_of in
     let before = first_items c.args.self.now.snapshot in
     let after = first_items c.hold-told.new.self.snapshot in
-    let commits = event.Commit c.args.tx in
+    let commits = Event.Commit c.args.tx in
     let held = c.hold-told.ensures in
     record {
       may = subst (λ said. IsToldTo bits_of commits said) c.in-Committed.is held.told;

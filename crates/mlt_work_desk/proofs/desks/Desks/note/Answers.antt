@@ -1,5 +1,5 @@
 use Rattle.std.proofs.Common.{refl}
-use Rattle.mlt_work_queue.specs.Queues.{with_blocked}
+use Rattle.mlt_work_desk.proofs.Names.{with_blocked}
 use Rattle.mlt_work_desk.proofs.InTurn.{same_turns, turns_with}
 use Rattle.mlt_work_desk.proofs.desks.Desks.note.Goals as goal
 

@@ -1,10 +1,8 @@
-use Rattle.std.proofs.Common.{rules, ◌≡◌, ◌∙◌, [], None, Some, refl, sym, subst, ap, arith}
-use Rattle.std.proofs.lemmas.Bool.{eq-eqb, false≢true}
-use Rattle.mlt_work_waits.specs.declared.wait.Awaited.TheVariants as awaited
-use Rattle.mlt_work_waits.specs.declared.wait.Whose.TheVariants as whose
-use Rattle.mlt_work_waits.specs.Waits.{Waits, others_in, wakers_in}
+use Rattle.std.proofs.Common.{rules, ◌≡◌, ◌∙◌, [], None, Some, refl, sym, subst, ap, arith, eq-eqb}
+use Rattle.mlt_work_desk.proofs.Names.{false≢true, Awaited, Whose, Waits, others_in, waiting}
+use Rattle.mlt_work_waits.specs.Waits.{wakers_in}
 use Rattle.mlt_work_desk.specs.declared.desks.Desks.{Desks}
-use Rattle.mlt_work_desk.specs.Waits.{CantSleep, waiting}
+use Rattle.mlt_work_desk.specs.Waits.{CantSleep}
 use Rattle.mlt_work_desk.proofs.Fewer.{fewer_wait}
 use Rattle.mlt_work_desk.proofs.InTurn.{same_turns, stay_in_turn}
 use Rattle.mlt_work_desk.proofs.desks.Desks.wait_for_object.Goals.{in-Some+else-eq, in_default}
@@ -13,15 +11,15 @@ use Rattle.mlt_work_desk.proofs.desks.Desks.wait_for_object.Goals as goal
 pub invariant_of-self : goal.invariant_of-self
 invariant_of-self c =
     let before = c.args.self.now in
-    let one = whose.Of c.in-Some.youngest.waiter in
+    let one = Whose.Of c.in-Some.youngest.waiter in
     record {
-      awake = omega (arith, ap waiting c.release.ensures.releases, fewer_wait awaited.Objects one before.waits, before.awake);
+      awake = omega (arith, ap waiting c.release.ensures.releases, fewer_wait Awaited.Objects one before.waits, before.awake);
       turns = same_turns (others_in one before.waits.objects) _ before.queue _ (ap (λ (w : Waits). w.objects) c.release.ensures.releases) refl (stay_in_turn one before.waits.objects before.queue before.turns);
     }
 
 -- it can't sleep among those that are left, who stay
 abbrev TriesFast : goal.Else-join → Desks → Type 0
-TriesFast c desks = CantSleep desks.count awaited.Objects c.args.wait desks.waits × (c.join.new.self.waits ≡ desks.waits)
+TriesFast c desks = CantSleep desks.count Awaited.Objects c.args.wait desks.waits × (c.join.new.self.waits ≡ desks.waits)
 
 tries_fast : (c : goal.Else-join) → TriesFast c c.match-youngest.self
 tries_fast c = (c.join.ensures.cant c.if-join.false, c.join.ensures.stays c.if-join.false)
@@ -29,7 +27,7 @@ tries_fast c = (c.join.ensures.cant c.if-join.false, c.join.ensures.stays c.if-j
 pub returns-else-join-clause-turns : goal.returns-else-join-clause-turns
 returns-else-join-clause-turns c = elim c.match-youngest.branch [
   | in-Some+else-eq w ↦ (
-    wakers_in (whose.Of w.in-Some.youngest.waiter) c.args.self.now.waits.objects,
+    wakers_in (Whose.Of w.in-Some.youngest.waiter) c.args.self.now.waits.objects,
     ap (λ x. x.items) w.wakers-is ∙ w.release.ensures.wakes,
     (
       Some w.in-Some.youngest,
@@ -38,7 +36,7 @@ returns-else-join-clause-turns c = elim c.match-youngest.branch [
         is_other = λ same. false≢true (sym w.if-eq.false ∙ w.eq.ensures ∙ eq-eqb w.in-Some.youngest.waiter c.args.wait.waiter same);
       },
       refl,
-      subst (λ waits. CantSleep c.args.self.now.count awaited.Objects c.args.wait waits × (c.join.new.self.waits ≡ waits)) w.release.ensures.releases
+      subst (λ waits. CantSleep c.args.self.now.count Awaited.Objects c.args.wait waits × (c.join.new.self.waits ≡ waits)) w.release.ensures.releases
           (subst (TriesFast c) w.self-is (tries_fast c)),
     ),
   )

@@ -1,8 +1,5 @@
 use Rattle.std.proofs.Common.{◌∙◌, ap, arith}
-use Rattle.mlt_work_waits.specs.declared.wait.Awaited.TheVariants as awaited
-use Rattle.mlt_work_waits.specs.declared.wait.Whose.TheVariants as whose
-use Rattle.mlt_work_waits.specs.Waits.{Waits, released}
-use Rattle.mlt_work_desk.specs.Waits.{waiting}
+use Rattle.mlt_work_desk.proofs.Names.{Awaited, Whose, Waits, released, waiting}
 use Rattle.mlt_work_desk.proofs.Fewer.{fewer_wait}
 use Rattle.mlt_work_desk.proofs.InTurn.{same_turns}
 use Rattle.mlt_work_desk.proofs.desks.Desks.wait_for_page.Goals as goal
@@ -10,8 +7,8 @@ use Rattle.mlt_work_desk.proofs.desks.Desks.wait_for_page.Goals as goal
 pub invariant_of-self : goal.invariant_of-self
 invariant_of-self c =
     let before = c.args.self.now in
-    let after = c.release.ensures.releases ∙ ap (released awaited.Pages whose.All) (c.join.ensures.stays c.if-join.false) in
+    let after = c.release.ensures.releases ∙ ap (released Awaited.Pages Whose.All) (c.join.ensures.stays c.if-join.false) in
     record {
-      awake = omega (arith, ap waiting after, fewer_wait awaited.Pages whose.All before.waits, before.awake, c.join.ensures.count);
+      awake = omega (arith, ap waiting after, fewer_wait Awaited.Pages Whose.All before.waits, before.awake, c.join.ensures.count);
       turns = same_turns before.waits.objects _ before.queue _ (ap (λ (w : Waits). w.objects) after) c.join.ensures.queue before.turns;
     }

@@ -1,19 +1,16 @@
 use Rattle.std.proofs.Common.{◌∙◌, refl, ap, arith}
-use Rattle.mlt_work_waits.specs.declared.wait.Awaited.TheVariants as awaited
-use Rattle.mlt_work_waits.specs.declared.wait.Whose.TheVariants as whose
-use Rattle.mlt_work_waits.specs.Waits.{Waits, others_in, released}
-use Rattle.mlt_work_desk.specs.Waits.{waiting}
+use Rattle.mlt_work_desk.proofs.Names.{Awaited, Whose, Waits, others_in, released, waiting}
 use Rattle.mlt_work_desk.proofs.Fewer.{fewer_wait}
 use Rattle.mlt_work_desk.proofs.InTurn.{same_turns, stay_in_turn}
 use Rattle.mlt_work_desk.proofs.desks.Desks.wake_waiter.Goals as goal
 
 pub invariant_of-self : goal.invariant_of-self
 invariant_of-self c =
-    let one = whose.Of c.args.tx in
+    let one = Whose.Of c.args.tx in
     let before = c.args.self.now in
-    let less = released awaited.Objects one before.waits in
-    let after = c.release-2.ensures.releases ∙ ap (released awaited.Pages one) c.release.ensures.releases in
+    let less = released Awaited.Objects one before.waits in
+    let after = c.release-2.ensures.releases ∙ ap (released Awaited.Pages one) c.release.ensures.releases in
     record {
-      awake = omega (arith, ap waiting after, fewer_wait awaited.Pages one less, fewer_wait awaited.Objects one before.waits, before.awake);
+      awake = omega (arith, ap waiting after, fewer_wait Awaited.Pages one less, fewer_wait Awaited.Objects one before.waits, before.awake);
       turns = same_turns (others_in one before.waits.objects) _ before.queue _ (ap (λ (w : Waits). w.objects) after) refl (stay_in_turn one before.waits.objects before.queue before.turns);
     }

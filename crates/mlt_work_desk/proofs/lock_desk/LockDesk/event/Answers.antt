@@ -1,6 +1,5 @@
 use Rattle.std.proofs.Common.{rules, ◌≡◌, ◌≢◌, false}
-use Rattle.mlt_work_log.specs.Seats.{first_items}
-use Rattle.mlt_work_desk.specs.Holds.{EndsWithOp, is_done}
+use Rattle.mlt_work_desk.proofs.Names.{first_items, EndsWithOp, is_done}
 use Rattle.mlt_work_desk.proofs.Cycles.{youngest_of_cycle}
 use Rattle.mlt_work_desk.proofs.Replying.{reply_not_done, reply_then}
 use Rattle.mlt_work_desk.proofs.lock_desk.LockDesk.event.Goals as goal

@@ -1,14 +1,8 @@
 use Rattle.std.proofs.Common.{rules, ◌≡◌, inl, inr, false, refl, subst, true}
 use Rattle.mlt_types.specs.declared.refusal.Refusal.TheVariants.{GaveUp}
-use Rattle.mlt_event.specs.declared.answer.Answer.TheVariants as answer
-use Rattle.mlt_event.specs.declared.event.Event.TheVariants as event
-use Rattle.mlt_event.specs.declared.told.Told.TheVariants as told
-use Rattle.mlt_script_cursor.specs.declared.call.DeskCall.TheVariants as call
-use Rattle.mlt_work_log.specs.Seats.{first_items}
-use Rattle.mlt_work_desk.specs.Holds.{EndsWithOp, IfReply, IsToldTo, SeesEvent}
+use Rattle.mlt_work_desk.proofs.Names.{Answer, Event, Told, DeskCall, first_items, EndsWithOp, IfReply, IsToldTo, SeesEvent, SleepingThread}
 use Rattle.mlt_work_desk.specs.Tries.{GivesUp}
 use Rattle.mlt_work_desk.specs.Waits.{is_to_wait}
-use Rattle.mlt_work_desk.specs.declared.turn.SleepingThread.{SleepingThread}
 use Rattle.mlt_work_desk.proofs.Seeing.{more_than, sees_more, sees_refused, sees_replied}
 use Rattle.mlt_work_desk.proofs.lock_desk.LockDesk.step.Goals as goal
 
@@ -20,14 +14,14 @@ returns-in-Answered-Done-clause-sees g c =
     let reply = c.in-Answered-Done.reply in
     let held = c.hold-told.ensures in
     let is_reply : c.hold-told.new.self.is_reply ≡ true = search rules in
-    let was_told : c.hold-told.result.0 ≡ told.Answered (answer.Done reply) = search rules in
+    let was_told : c.hold-told.result.0 ≡ Told.Answered (Answer.Done reply) = search rules in
     sees_replied g.P.Pseudo.bits_of before tx c.args.self.now.thread.op reply after (held.reply is_reply)
-    (subst (λ said. SeesEvent before (event.Step tx) said after) was_told held.sees)
+    (subst (λ said. SeesEvent before (Event.Step tx) said after) was_told held.sees)
 
 pub returns-in-Answered-Done-2-clause-told : goal.returns-in-Answered-Done-2-clause-told
 returns-in-Answered-Done-2-clause-told g c =
-    let step = event.Step c.args.self.now.thread.tx in
-    let done = told.Answered (answer.Done c.in-Answered-Done.reply) in
+    let step = Event.Step c.args.self.now.thread.tx in
+    let done = Told.Answered (Answer.Done c.in-Answered-Done.reply) in
     let held = c.hold-told.ensures in
     let is_other : c.hold-told.new.self.is_reply ≡ false = search rules in
     let was_told : c.hold-told.result.0 ≡ done = search rules in
@@ -59,7 +53,7 @@ returns-then-gives_up-clause-told g c =
           cancelled = cancel.0;
           to_wait = waits;
           stepped = held.told;
-          cancels = subst (λ (s : SleepingThread). IsToldTo g.P.Pseudo.bits_of (event.Cancel s.tx) cancel.0) held.thread cancel.1;
+          cancels = subst (λ (s : SleepingThread). IsToldTo g.P.Pseudo.bits_of (Event.Cancel s.tx) cancel.0) held.thread cancel.1;
           reason = subst (λ (s : SleepingThread). GivesUp s.tx c.gives_up.new.self.tries) held.thread (c.gives_up.ensures.reason gave);
         },
       ))),
@@ -77,5 +71,5 @@ returns-then-gives_up-clause-sees g c =
     let mid = first_items c.hold-told.new.self.snapshot in
     let after = first_items c.gives_up.new.self.snapshot in
     let thread = c.args.self.now.thread in
-    sees_refused g.P.Pseudo.bits_of before (call.Operation thread.tx thread.op) GaveUp after
+    sees_refused g.P.Pseudo.bits_of before (DeskCall.Operation thread.tx thread.op) GaveUp after
     (more_than before mid after c.gives_up.ensures.more (sees_more before _ _ mid c.hold-told.ensures.sees))

@@ -1,5 +1,5 @@
 use Rattle.std.proofs.Common.{◌∙◌}
-use Rattle.mlt_work_log.specs.Seats.{first_items}
+use Rattle.mlt_work_desk.proofs.Names.{first_items}
 use Rattle.mlt_work_desk.proofs.Seeing.{more_than}
 use Rattle.mlt_work_desk.proofs.Trying.{spends_more}
 use Rattle.mlt_work_desk.proofs.lock_desk.LockDesk.steps.Goals as goal

@@ -1,7 +1,5 @@
 use Rattle.std.proofs.Common.{◌≡◌}
-use Rattle.mlt_work_log.specs.Prefixes.{StartsWith}
-use Rattle.mlt_work_log.specs.Seats.{first_items}
-use Rattle.mlt_work_desk.specs.Tries.{SpendsByWaits}
+use Rattle.mlt_work_desk.proofs.Names.{StartsWith, first_items, SpendsByWaits}
 use Rattle.mlt_work_desk.proofs.lock_desk.LockDesk.steps.Given as goal
 
 -- it has seen what it had seen, is in the same operation, and has spent its tries by waits

@@ -1,6 +1,5 @@
 use Rattle.std.proofs.Common.{◌≡◌}
-use Rattle.mlt_work_log.specs.Prefixes.{StartsWith}
-use Rattle.mlt_work_log.specs.Seats.{first_items}
+use Rattle.mlt_work_desk.proofs.Names.{StartsWith, first_items}
 use Rattle.mlt_work_desk.proofs.lock_desk.LockDesk.undo.Given as goal
 
 -- it has seen what it had seen, takes back the same transaction, and has its tries

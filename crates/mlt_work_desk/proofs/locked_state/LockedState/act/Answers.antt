@@ -1,6 +1,5 @@
 use Rattle.std.proofs.Common.{rules, ◌≡◌, ◌≢◌, ◌∙◌, ◌+◌, ◌-◌, ◌^◌, ◌++◌, Some, true, ap, min, arith, sym}
-use Rattle.mlt_work_log.specs.Seats.{first_items}
-use Rattle.mlt_work_desk.specs.Holds.{goes_on}
+use Rattle.mlt_work_desk.proofs.Names.{first_items, goes_on}
 use Rattle.mlt_work_desk.proofs.Adding.{event_adds}
 use Rattle.mlt_work_desk.proofs.Counting.{one_event, same_making}
 use Rattle.mlt_work_desk.proofs.GoingOn.{sees_same}

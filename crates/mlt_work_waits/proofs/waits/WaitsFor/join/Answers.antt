@@ -1,6 +1,6 @@
 use Rattle.std.proofs.Common.{sym, subst}
 use Rattle.mlt_work_waits.specs.Waits.{CanJoin, IsAcyclic, LeadToAwake}
-use Rattle.mlt_work_waits.specs.declared.wait.Awaited.TheVariants as awaited
+use Rattle.mlt_work_waits.specs.declared.wait.Awaited.{Awaited}
 use Rattle.mlt_work_waits.proofs.Acyclic.{stays_acyclic}
 use Rattle.mlt_work_waits.proofs.Ends.{lead_to_awake}
 use Rattle.mlt_work_waits.proofs.waits.WaitsFor.join.Goals as goal
@@ -9,13 +9,13 @@ one_more_object : (c : goal.After-push) → IsAcyclic (record { objects = c.push
 one_more_object c =
     let can = subst (CanJoin c.args.awaited c.args.wait) (sym c.self.view_is) (c.can_join.ensures.can (subst IsAcyclic c.self.view_is c.self.invariant) c.if-not-can_join.false) in
     subst (λ items. IsAcyclic (record { objects = items; pages = c.self.inside.pages.items })) (sym c.push.ensures.items)
-    (stays_acyclic awaited.Objects c.args.wait _ c.self.invariant can.first can.open_end)
+    (stays_acyclic Awaited.Objects c.args.wait _ c.self.invariant can.first can.open_end)
 
 one_more_page : (c : goal.After-push-in-Pages) → IsAcyclic (record { objects = c.self.inside.objects.items; pages = c.push-in-Pages.new.self.items })
 one_more_page c =
     let can = subst (CanJoin c.args.awaited c.args.wait) (sym c.self.view_is) (c.can_join.ensures.can (subst IsAcyclic c.self.view_is c.self.invariant) c.if-not-can_join.false) in
     subst (λ items. IsAcyclic (record { objects = c.self.inside.objects.items; pages = items })) (sym c.push-in-Pages.ensures.items)
-    (stays_acyclic awaited.Pages c.args.wait _ c.self.invariant can.first can.open_end)
+    (stays_acyclic Awaited.Pages c.args.wait _ c.self.invariant can.first can.open_end)
 
 pub invariant_of-self : goal.invariant_of-self
 invariant_of-self c = one_more_object c

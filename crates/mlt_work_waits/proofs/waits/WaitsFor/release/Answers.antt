@@ -1,17 +1,17 @@
 use Rattle.std.proofs.Common.{sym, subst}
 use Rattle.mlt_work_waits.specs.Waits.{IsAcyclic}
-use Rattle.mlt_work_waits.specs.declared.wait.Awaited.TheVariants as awaited
+use Rattle.mlt_work_waits.specs.declared.wait.Awaited.{Awaited}
 use Rattle.mlt_work_waits.proofs.Acyclic.{fewer_are_acyclic}
 use Rattle.mlt_work_waits.proofs.Ends.{lead_to_awake}
 use Rattle.mlt_work_waits.proofs.waits.WaitsFor.release.Goals as goal
 
 fewer_objects : (c : goal.After-release_in) → IsAcyclic (record { objects = c.release_in.new.waits.items; pages = c.self.inside.pages.items })
 fewer_objects c =
-    subst (λ items. IsAcyclic (record { objects = items; pages = c.self.inside.pages.items })) (sym c.release_in.ensures.releases) (fewer_are_acyclic awaited.Objects c.args.whose _ c.self.invariant)
+    subst (λ items. IsAcyclic (record { objects = items; pages = c.self.inside.pages.items })) (sym c.release_in.ensures.releases) (fewer_are_acyclic Awaited.Objects c.args.whose _ c.self.invariant)
 
 fewer_pages : (c : goal.After-release_in-in-Pages) → IsAcyclic (record { objects = c.self.inside.objects.items; pages = c.release_in-in-Pages.new.waits.items })
 fewer_pages c =
-    subst (λ items. IsAcyclic (record { objects = c.self.inside.objects.items; pages = items })) (sym c.release_in-in-Pages.ensures.releases) (fewer_are_acyclic awaited.Pages c.args.whose _ c.self.invariant)
+    subst (λ items. IsAcyclic (record { objects = c.self.inside.objects.items; pages = items })) (sym c.release_in-in-Pages.ensures.releases) (fewer_are_acyclic Awaited.Pages c.args.whose _ c.self.invariant)
 
 pub invariant_of-self : goal.invariant_of-self
 invariant_of-self c = fewer_objects c

@@ -1,6 +1,5 @@
-use Rattle.std.proofs.Common.{◌≡◌, ◌∙◌, ◌<◌, ◌≤◌, ◌+◌, true, false, None, Some, length, sym, subst, ap, inl, inr, arith}
-use Rattle.std.specs.Option.{option_copied}
-use Rattle.std.proofs.lemmas.Bool.{eq-eqb, eqb-true, false≢true}
+use Rattle.std.proofs.Common.{◌≡◌, ◌∙◌, ◌<◌, ◌≤◌, ◌+◌, true, false, None, Some, length, sym, subst, ap, inl, inr, arith, option_copied, eq-eqb, eqb-true}
+use Rattle.std.proofs.lemmas.Bool.{false≢true}
 use Rattle.mlt_work_waits.specs.declared.wait.Waiting.{Waiting}
 use Rattle.mlt_work_waits.specs.Waits.{Waits, wait_in}
 use Rattle.mlt_work_waits.proofs.Youngest.{IsPicked, Walked, walked_around, walked_no_longer, walked_none, walked_on, walked_to_end}
