@@ -89,7 +89,7 @@ READING: list[Part] = [
          """The sentence has two halves. One is about the history: it is what the events were told. It is the field `told` of the
          first record. The other is about the last manager, to which the run leads: it keeps the main promise, the field `main` of
          the second record, and all that the sentence says of pages and of commit order is there. Of a manager `m` it reads
-         three things: `m.commons.history.items`, the items of its history, `m.commons.pages.store.pages`, the pages of its
+         three things: `m.shared.history.items`, the items of its history, `m.shared.pages.store.pages`, the pages of its
          store, and `m.txs`, the open transactions with their first images. Each can be read by a call, which is shown
          [at the end](#what-is-seen-of-a-manager).
 
@@ -266,7 +266,7 @@ NOT_SHOWN: list[tuple[str, str]] = [
     ("HoldsLocksOfItsPass",
      "a running operation holds locks of the pages that it came to on its way to its bucket, its pass, and exclusive ones of those "
      "of which it keeps an image; whoever runs nothing holds none"),
-    ("KeepsBooks", "who is open, what may be taken back and what is held is what the history says"),
+    ("MatchesHistory", "who is open, what may be taken back and what is held is what the history says"),
     ("AreBegunInOrder AreCounted", "numbers of transactions and of commits are given out in order, from 1"),
     ("Manager ManagerFields",
      "a manager in memory, and what contracts see of it. Of its fields the sentence reads the three that calls answer"),

@@ -58,7 +58,7 @@ module _ {P : Type 0} (bits_of : P → ℕ → ℕ) (m : ManagerFields P) (h : I
     can_be = h.sound.match.records.means.can_be;
     ghosts = kept_by_match (ledger_of (abstract_state_of (state_of bits_of m h.images h.base))) h.sound.match.file.ghosts;
     locks = λ i. record { of_pass = pass_locks (state_of bits_of m h.images h.base) i h.sound; written = written_locks (state_of bits_of m h.images h.base) i h.sound };
-    accounts = record {
+    history = record {
       in_table = h.sound.opened;
       in_history = h.sound.match.records.running;
       number = λ i one there. (h.sound.fits i one there).number;

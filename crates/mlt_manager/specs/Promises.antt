@@ -51,7 +51,7 @@ ledger_by bits_of m clean = record {
 -- Open are just those in the table, and just those that the history has begun and not ended. Each has its number, and its
 -- undo list has what the history says that stands of it. Its object locks are all that the history says it did, taken back
 -- or not, and nobody else holds any. Page locks of two transactions go with each other.
-pub record KeepsAccounts {P : Type 0} (m : ManagerFields P) : Type 0 where
+pub record MatchesHistory {P : Type 0} (m : ManagerFields P) : Type 0 where
   pub in_table : (i : ℕ) → set.contains m.active i ≡ is_some (map.get m.txs i)
   pub in_history : (i : ℕ) → (set.contains m.active i ≡ true) ↔ ((lists_by m).stage i ≡ Running)
   pub number : (i : ℕ) (one : Transaction) → map.get m.txs i ≡ Some one → one.subtx.tx ≡ i
@@ -70,7 +70,7 @@ pub record KeepsPromises {P : Type 0} (bits_of : P → ℕ → ℕ) (m : Manager
       → IsRecord cell (map.get (live_records main.clean) (key_number cell))
   pub ghosts : GhostsAreKept (ledger_by bits_of m main.clean)
   pub locks : (i : ℕ) → HoldsLocksOfItsPass bits_of m (map.get main.clean) i
-  pub accounts : KeepsAccounts m
+  pub history : MatchesHistory m
   pub begun : AreBegunInOrder m.shared.history.items
   pub commits : AreCounted m.shared.history.items
 
