@@ -2,7 +2,7 @@
 pub use Rattle.mlt_script.specs.Grammar.{AreLawful, AreOpen, AreScripts, AreSpelled, AreWhole, IsFault, IsFirstFaultOf, IsLawful, IsSound, IsSpelled, IsSpelledOpen, IsSpelledScript, form_in, forms_of}
 pub use Rattle.mlt_script.specs.Parsers.{state_of}
 pub use Rattle.mlt_script.specs.Readings.{IsReading, said_by}
-pub use Rattle.mlt_script.specs.Scan.{Advances, Gives, Refuses, ScanState, advance, after, at_end, ended, line_fault, said}
+pub use Rattle.mlt_script.specs.Scan.{Advances, Gives, Refuses, ScanState, advance, after, at_end, ended, line_fault, said, step}
 pub use Rattle.mlt_script.specs.Scan.ScanState.{Inside, Outside}
 pub use Rattle.mlt_script.specs.declared.forms.LineForm.{LineForm}
 pub use Rattle.mlt_script.specs.declared.forms.LineForm.TheVariants.{Begins, Closes, Says}

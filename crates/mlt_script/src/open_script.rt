@@ -21,6 +21,7 @@ const MOST: usize = 256;
 
 // Makes room for one more line. Behind a few lines it is room for as many as most scripts have, so that these are not moved again
 // and again. What is left of it is given back as the script ends.
+#[inline(always)]
 fn make_room(lines: &mut Vec<Line>) -> Result<(), AllocError>
     ensures { lines.new.items ≡ lines.old.items }
 {
@@ -115,6 +116,7 @@ impl OpenScript {
     }
 
     /// Goes over a statement that may stand here. Where memory runs out, nothing has changed.
+    #[inline(always)]
     pub fn ask(&mut self, statement: Statement) -> Result<(), AllocError>
         requires { line_fault (open_of self.old.lines.items) (Line.Plain statement) ≡ None }
         ensures client { self.new.client ≡ self.old.client }

@@ -5,9 +5,9 @@ ghost use Rattle.mlt_types.specs.declared.refusal.ScriptCause.{ScriptCause};
 ghost use Rattle.mlt_script.specs.Grammar.{Spells, IsFirstFault, IsDecided};
 ghost use Rattle.mlt_text_words.specs.Lines.{lines};
 ghost use Rattle.mlt_script.specs.Readings.{IsReading};
-ghost use Rattle.mlt_script.specs.Scan.{scan, step, ended, advance, at_end, Gives, Advances};
-ghost use Rattle.mlt_script.specs.Scan.ScanState.{Outside, Inside};
-ghost use Rattle.mlt_script_tree.specs.Scripts.{ScriptForm, open_of};
+ghost use Rattle.mlt_script.specs.Scan.{scan, step, advance, at_end, Gives, Advances};
+ghost use Rattle.mlt_script.specs.Scan.ScanState.{Outside};
+ghost use Rattle.mlt_script_tree.specs.Scripts.{ScriptForm};
 
 use crate::forms::LineForm;
 use crate::line::{ScriptReading, read_first};
@@ -45,51 +45,50 @@ impl Parser {
         }
     }
 
-    /// Goes over a line outside a script.
-    fn begin(&mut self, alloc: Global, line: u64, form: LineForm) -> Result<(), Refusal>
-        requires { IsReading (ScriptReading.Form form) }
-        ensures { Advances result line (step (Outside self.old.scripts.items) form)
+    /// Begins a script.
+    fn begin(&mut self, alloc: Global, line: u64, client: u16) -> Result<(), Refusal>
+        requires { client < 1000 }
+        ensures { Advances result line (step (state_of self.old) (LineForm.Begins client))
             (state_of self.new) }
     {
-        match form {
-            LineForm::Begins(client) => {
+        match &self.begun {
+            Some(_) => Err(misplaced(line)),
+            None => {
                 self.begun = Some(OpenScript::new(alloc, client));
+                Ok(())
+            }
+        }
+    }
+
+    /// Ends the script that is open.
+    fn close(&mut self, line: u64, ending: Ending) -> Result<(), Refusal>
+        ensures { Advances result line (step (state_of self.old) (LineForm.Closes ending))
+            (state_of self.new) }
+    {
+        match self.begun.take() {
+            Some(script) if script.ifs.is_empty() => {
+                let OpenScript {
+                    client,
+                    mut lines,
+                    count: _,
+                    ifs: _,
+                } = script;
+                give_back(&mut lines);
+                self.scripts.push(Script::new(client, lines, ending))?;
                 Ok(())
             }
             _ => Err(misplaced(line)),
         }
     }
 
-    /// Ends the script that is open.
-    fn close(&mut self, script: OpenScript, line: u64, ending: Ending) -> Result<(), Refusal>
-        ensures { Advances result line
-            (ended self.old.scripts.items script.client (open_of script.lines.items) ending)
+    /// Goes over a line of an if.
+    fn say(&mut self, line: u64, said: Line) -> Result<(), Refusal>
+        ensures { Advances result line (step (state_of self.old) (LineForm.Says said))
             (state_of self.new) }
     {
-        if !script.ifs.is_empty() {
-            return Err(misplaced(line));
-        }
-        let OpenScript {
-            client,
-            mut lines,
-            count: _,
-            ifs: _,
-        } = script;
-        give_back(&mut lines);
-        self.scripts.push(Script::new(client, lines, ending))?;
-        self.begun = None;
-        Ok(())
-    }
-
-    /// Goes over a line inside a script.
-    fn go_on(&mut self, script: OpenScript, line: u64, form: LineForm) -> Result<(), Refusal>
-        ensures { Advances result line
-            (step (Inside self.old.scripts.items script.client (open_of script.lines.items)) form)
-            (state_of self.new) }
-    {
-        match form {
-            LineForm::Begins(_) => Err(misplaced(line)),
-            LineForm::Says(said) => match script.fault_of(said) {
+        match self.begun.take() {
+            None => Err(misplaced(line)),
+            Some(script) => match script.fault_of(said) {
                 Some(cause) => Err(Refusal::ScriptFault { line, cause }),
                 None => {
                     let script = script.say(said)?;
@@ -97,7 +96,6 @@ impl Parser {
                     Ok(())
                 }
             },
-            LineForm::Closes(ending) => self.close(script, line, ending),
         }
     }
 
@@ -123,12 +121,11 @@ impl Parser {
         requires { IsReading (ScriptReading.Form form) }
         ensures { Advances result line (step (state_of self.old) form) (state_of self.new) }
     {
-        if let LineForm::Says(Line::Plain(statement)) = form {
-            return self.ask(line, statement);
-        }
-        match self.begun.take() {
-            None => self.begin(alloc, line, form),
-            Some(script) => self.go_on(script, line, form),
+        match form {
+            LineForm::Begins(client) => self.begin(alloc, line, client),
+            LineForm::Says(Line::Plain(statement)) => self.ask(line, statement),
+            LineForm::Says(said) => self.say(line, said),
+            LineForm::Closes(ending) => self.close(line, ending),
         }
     }
 

@@ -1,5 +1,6 @@
 use Rattle.std.proofs.Common.{◌≡◌, length, reverse, List, [], ap, sym, refl, ◌∙◌, ◌∷◌, ◌++◌, Ok, rules, arith}
-use Rattle.mlt_script.proofs.Names.{Frame, Line, Open, ended, Outside, ScriptForm, open_of, whole}
+use Rattle.mlt_script.proofs.Names.{Frame, Line, Open, Closes, state_of, ended, step, Outside, Inside, ScriptForm, open_of, whole}
+use Rattle.mlt_script.specs.Parsers.{state_with}
 use Rattle.mlt_script_tree.specs.Scripts.{tree_of}
 use Rattle.mlt_script.proofs.Placing.{at_top}
 use Rattle.mlt_script.proofs.parser.Parser.close.Goals as goal
@@ -11,7 +12,7 @@ is_none (f ∷ fs) h = absurd (omega (arith, h))
 pub new-requires-clause-lines : goal.new-requires-clause-lines
 unfolding tree_of
 new-requires-clause-lines c =
-    let s = c.args.script in
+    let s = c.in-Some.script in
     let z : length s.ifs.items ≡ 0 = search rules in
     rw c.give_back.ensures
     (at_top (open_of s.lines.items) s.lines.items s.count (s.kept, s.counted, s.framed ∙ is_none s.ifs.items z, s.wide, s.deep)).1
@@ -19,7 +20,7 @@ new-requires-clause-lines c =
 pub new-requires-clause-longest : goal.new-requires-clause-longest
 unfolding tree_of
 new-requires-clause-longest c =
-    let s = c.args.script in
+    let s = c.in-Some.script in
     let z : length s.ifs.items ≡ 0 = search rules in
     rw c.give_back.ensures
     (at_top (open_of s.lines.items) s.lines.items s.count (s.kept, s.counted, s.framed ∙ is_none s.ifs.items z, s.wide, s.deep)).2
@@ -27,19 +28,21 @@ new-requires-clause-longest c =
 pub new-requires-clause-nesting : goal.new-requires-clause-nesting
 unfolding tree_of
 new-requires-clause-nesting c =
-    let s = c.args.script in
+    let s = c.in-Some.script in
     let z : length s.ifs.items ≡ 0 = search rules in
     rw c.give_back.ensures
     (at_top (open_of s.lines.items) s.lines.items s.count (s.kept, s.counted, s.framed ∙ is_none s.ifs.items z, s.wide, s.deep)).3
 
-pub returns : goal.returns
+pub returns-in_ok-push-in-Some : goal.returns-in_ok-push-in-Some
 unfolding tree_of
-returns c =
-    let s = c.args.script in
+returns-in_ok-push-in-Some c =
+    let s = c.in-Some.script in
     let z : length s.ifs.items ≡ 0 = search rules in
     let top = at_top (open_of s.lines.items) s.lines.items s.count (s.kept, s.counted, s.framed ∙ is_none s.ifs.items z, s.wide, s.deep) in
     let scripts = c.args.self.now.scripts.items in
     let more : c.push.new.self.items ≡ scripts ++ record { client = s.client; block = whole (open_of s.lines.items); ending = c.args.ending } ∷ [] =
-    c.in_ok-push.ensures.items ∙ ap (λ (x : ScriptForm). scripts ++ x ∷ []) (c.new.ensures
+    c.in_ok-push-in-Some.ensures.items ∙ ap (λ (x : ScriptForm). scripts ++ x ∷ []) (c.new.ensures
     ∙ ap (λ (lines : List Line). record { client = s.client; block = tree_of lines; ending = c.args.ending }) c.give_back.ensures) in
-    ap (λ (o : Open). ended scripts s.client o c.args.ending) top.0 ∙ ap (λ (xs : List ScriptForm). Ok (Outside xs)) (sym more)
+    let begun : state_of c.args.self.now ≡ Inside scripts s.client (open_of s.lines.items) = ap (state_with scripts) (sym c.take.ensures.value ∙ c.in-Some.is) in
+    ap (λ state. step state (Closes c.args.ending)) begun ∙ ap (λ (o : Open). ended scripts s.client o c.args.ending) top.0 ∙ ap (λ (xs : List ScriptForm). Ok (Outside xs)) (sym more)
+    ∙ ap (λ begun. Ok (state_with c.push.new.self.items begun)) (sym c.take.ensures.after)
