@@ -1,25 +1,29 @@
 //! What an operator sees and does.
 
 use crate::service::Service;
+use mlt_object_kinds::Done;
+use mlt_script_serial::Outcome;
 use mlt_serve_admin::{
     Counts, Operated, ServerView, SessionView, TransactionView, WaitReason, WaitView,
 };
 use mlt_serve_notes::Cut;
 use mlt_serve_seats::{OpenTransaction, SessionState};
+use mlt_trace::KeptItem;
 use mlt_types::{Pseudo, TxId};
 use mlt_work_desk::{DeskStatistics, MadeWith};
 use mlt_work_waits::Waiting;
 use std::alloc::{AllocError, Global};
+use std::mem::size_of;
 use std::sync::Wait;
 use std::sync::atomic::Ordering;
 use std::time::{Clock, Instant};
 
 /// How many bytes an item of the history takes, an outcome, and an operation of one.
-const ITEM_BYTES: u64 = 32;
+const ITEM_BYTES: u64 = size_of::<KeptItem>() as u64;
 
-const OUTCOME_BYTES: u64 = 80;
+const OUTCOME_BYTES: u64 = size_of::<Outcome>() as u64;
 
-const OPERATION_BYTES: u64 = 24;
+const OPERATION_BYTES: u64 = size_of::<Done>() as u64;
 
 /// What an operator sees, and can do.
 #[derive(Drop)]

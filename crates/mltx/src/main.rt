@@ -358,6 +358,8 @@ fn write_history<P: Pseudo>(
     let Some(items) = manager.history() else {
         unreachable!()
     };
+    // The text of every history passes the checker.
+    manager.passes_the_checker();
     let mut output = match File::create(rt, file.as_str()) {
         Ok(created) => Output::new(created),
         Err(error) => return Err(Failure::of_call(Known::OfTrace(error))),
