@@ -1,5 +1,5 @@
 mod Names
-pub mod Fast
+pub mod FastPath
 pub mod Backing
 pub mod Inverses
 pub mod Pending

@@ -1,6 +1,6 @@
 use Rattle.std.proofs.Common.{ℕ, refl, subst}
 use Rattle.mlt_tx.proofs.Names.{ObjOp, ObjReply, WalkContext, context_in, SharedState, Transaction}
-use Rattle.mlt_tx.proofs.Fast.{IsAdded, steps_fast}
+use Rattle.mlt_tx.proofs.FastPath.{IsAdded, steps_fast}
 use Rattle.mlt_tx.proofs.transaction.Transaction.step_fast.Goals as goal
 
 pub returns-clause-done : goal.returns-clause-done
