@@ -108,6 +108,7 @@ DEPOSIT = "`deposit A n`, A below 2^32, n below 2^64 or a variable"
 OF_SCRIPTS = "a line of scripts begins so, which `solo` and `run` read; "
 OF_A_SCHEDULE = "a line of a schedule begins so, which `steps` reads; "
 OF_A_TRACE = "a line of a trace begins so, which `check` reads; "
+WITH_A_NUMBER = "scripts that `run` reads, or a trace that `check` reads, begin so; "
 PRINTED = "expected: tabs and bytes of 0x20 to 0x7e alone"
 IN_COMMENTS = ", but in comments, which have lines of their own"
 OPEN_TX = "expected: a transaction that is open, and has "
@@ -122,7 +123,7 @@ FAULTY: Mapping[str, tuple[str, str | bytes, int, str, str, str]] = {
     "script-given-to-steps": ("steps", SCRIPTS, 2, "Words", "open 1", f"{OF_SCRIPTS}expected: {BEGINNINGS['steps']}"),
     "scripts-of-clients-given-to-steps": (
         "steps", "begin 1\nup 1 1\ncommit\n", 1, "Words", "begin 1",
-        "scripts that `run` reads, or a trace that `check` reads, begin so; expected: `begin`",
+        f"{WITH_A_NUMBER}expected: `begin`",
     ),
     "script-given-to-check": (
         "check", SCRIPTS, 1, "Words", "begin",
@@ -146,6 +147,9 @@ FAULTY: Mapping[str, tuple[str, str | bytes, int, str, str, str]] = {
     "negative-number": (
         "solo", "begin\nwithdraw 1 -5\ncommit\n", 2, "Words", "withdraw 1 -5", f"a number has no sign; expected: {WITHDRAW}"
     ),
+    "number-with-a-plus": (
+        "check", "begin +1\n", 1, "Words", "begin +1", "a number has no sign; expected: `begin T`, T from 1 on"
+    ),
     "comment-behind-a-statement": (
         "solo", "begin\nopen 1 # c\ncommit\n", 2, "Words", "open 1 # c",
         "a comment has a line of its own; expected: `open A`, A below 2^32",
@@ -168,6 +172,11 @@ FAULTY: Mapping[str, tuple[str, str | bytes, int, str, str, str]] = {
         "solo", b"begin\nopen\t1\x1b[2J\xe9\r\n", 2, "Line", "open\\t1\\x1b[2J\\xe9\\x0d", PRINTED + IN_COMMENTS
     ),
     "carriage-return-at-the-end": ("solo", "begin\ncommit\r", 2, "Line", "commit\\x0d", PRINTED + IN_COMMENTS),
+    "byte-of-a-schedule": ("steps", b"begin\n\x7f\n", 2, "Line", "\\x7f", PRINTED + IN_COMMENTS),
+    "byte-order-mark-of-a-trace": (
+        "check", b"\xef\xbb\xbf" + TRACE.encode(), 1, "Line", "\\xef\\xbb\\xbfbegin 1",
+        "a byte order mark stands in front; expected: a text without one",
+    ),
     "byte-of-a-trace": ("check", b"begin 1\n# \xc3\xa4\n", 2, "Line", "# \\xc3\\xa4", PRINTED),
     "statement-outside-a-script": ("solo", "open 1\n", 1, "Place", "open 1", "expected: a `begin` before it"),
     "begin-inside-a-script": (
@@ -176,6 +185,14 @@ FAULTY: Mapping[str, tuple[str, str | bytes, int, str, str, str]] = {
     "commit-inside-an-if": (
         "solo", "begin\nif has 1 1 is yes\ncommit\n", 3, "Place", "commit",
         "expected: a `begin` before it, and an `end` for each `if`",
+    ),
+    "abort-inside-an-if": (
+        "run", "begin\nif has 1 1 is yes\nabort\n", 3, "Place", "abort",
+        "expected: a `begin` before it, and an `end` for each `if`",
+    ),
+    "else-without-an-if": (
+        "solo", "begin\nelse\n", 2, "Place", "else",
+        "expected: an `if` before it that is open, and that has no `else` where this is one",
     ),
     "end-without-an-if": (
         "solo", "begin\nend\n", 2, "Place", "end",
@@ -218,6 +235,69 @@ FAULTY: Mapping[str, tuple[str, str | bytes, int, str, str, str]] = {
 }
 
 
+ACCOUNT, SET, ELEMENT, COUNTER = "A below 2^32", "S below 2^16", "S below 2^16, e below 2^32", "C below 2^32"
+AMOUNT = "n below 2^64 or a variable"
+# Of each kind of text a line for each word that begins one, which has too few words or too many, and the form that is told.
+FORMS: Mapping[str, Sequence[tuple[str, str]]] = {
+    "solo": (
+        ("begin 1 2", "`begin`, or `begin K` with K of 0 to 999"),
+        ("commit 1", "`commit`"),
+        ("abort 1", "`abort`"),
+        ("open", f"`open A`, {ACCOUNT}"),
+        ("close 4294967296", f"`close A`, {ACCOUNT}"),
+        ("deposit 1", f"`deposit A n`, {ACCOUNT}, {AMOUNT}"),
+        ("withdraw 1", f"`withdraw A n`, {ACCOUNT}, {AMOUNT}"),
+        ("balance 1 1", f"`balance A`, {ACCOUNT}"),
+        ("add 65536 1", f"`add S e`, {ELEMENT}"),
+        ("remove 1", f"`remove S e`, {ELEMENT}"),
+        ("has 1", f"`has S e`, {ELEMENT}"),
+        ("size", f"`size S`, {SET}"),
+        ("up 1", f"`up C n`, {COUNTER}, {AMOUNT}"),
+        ("down 1", f"`down C n`, {COUNTER}, {AMOUNT}"),
+        ("read a", f"`read C`, {COUNTER}"),
+        ("need withdraw 1 5", "`need OP is REPLY`, as `need withdraw 1 5 is done`"),
+        ("let v = has 1 1", "`let v = balance A`, `let v = read C` or `let v = size S`"),
+        ("if withdraw 1 5", "`if OP is REPLY`, as `if withdraw 1 5 is done`"),
+        ("else 1", "`else`"),
+        ("end if", "`end`"),
+    ),
+    "steps": (
+        ("begin x", "`begin`"),
+        ("call 1", "`call T OP`, as `call 1 deposit 1 5`"),
+        ("step 1 0", "`step T`, or `step T N` with N of 1 to 1000"),
+        ("cancel", "`cancel T`"),
+        ("commit", "`commit T`"),
+        ("abort 1 1", "`abort T`"),
+        ("whole 1", "`whole T OP`, as `whole 1 deposit 1 5`"),
+        ("undo", "`undo T`"),
+    ),
+    "check": (
+        ("begin x", "`begin T`, T from 1 on"),
+        ("op 1 balance 1", "`op T OP REPLY`, as `op 1 balance 1 is 7`"),
+        ("back 0", "`back T`, T from 1 on"),
+        ("commit 1", "`commit T N`, T and N from 1 on"),
+        ("abort", "`abort T`, T from 1 on"),
+    ),
+}
+
+
+@each({f"form-of-{row[0].split()[0]}-for-{command}": (command, *row) for command, rows in FORMS.items() for row in rows})
+def form_of_a_line(mltx: Program, case: tuple[str, str, str]) -> None:
+    command, line, form = case
+    noticed = WITH_A_NUMBER if (command, line) == ("steps", "begin x") else ""
+    fault = f"mltx: {'11 TraceFault' if command == 'check' else '10 ScriptFault'} line 1 Words\n"
+    file = mltx.file("text", f"{line}\n")
+    expect(mltx.run(command, "-v", file), status=1, err=f"{fault}mltx: {file}, line 1: `{line}`: {noticed}expected: {form}\n")
+
+
+@test
+def each_word_that_begins_a_line_has_its_form(mltx: Program) -> None:
+    """The words whose forms are told are those that a line may begin with, as the line of an unknown word names them."""
+    for command, rows in FORMS.items():
+        words = [line.split()[0] for line, _ in rows]
+        same("a line that begins with " + ", ".join(words[:-1]) + f" or {words[-1]}", BEGINNINGS[command], command)
+
+
 @each({f"faulty-{name}": case for name, case in FAULTY.items()})
 def faulty_text(mltx: Program, case: tuple[str, str | bytes, int, str, str, str]) -> None:
     """Of a file, and of standard input."""
@@ -227,6 +307,16 @@ def faulty_text(mltx: Program, case: tuple[str, str | bytes, int, str, str, str]
     is_said(mltx, (command, file), fault, f"mltx: {file}, line {line}: `{shown}`: {said}\n")
     ran = mltx.run(command, "-", "-v", redirect=f"<{file}")
     expect(ran, status=1, err=f"{fault}mltx: standard input, line {line}: `{shown}`: {said}\n", what=f"{command} -")
+
+
+@test(seconds=0.5)
+def writes_of_the_second_line_fail(mltx: Program) -> None:
+    """From whichever write on they fail, what went out before is a front of both lines, and the status tells of the fault."""
+    file = mltx.file("text", "opn\n")
+    said = f"mltx: 10 ScriptFault line 1 Words\nmltx: {file}, line 1: `opn`: expected: {BEGINNINGS['solo']}\n"
+    for number in range(1, len(said) + 1):
+        ran = mltx.run("solo", "-v", file, env=mltx.shim(FAIL=f"write-error {number} {errno.EIO} 1 1000000"))
+        expect(ran, status=1, err=said[: number - 1], what=f"write {number} fails")
 
 
 @test

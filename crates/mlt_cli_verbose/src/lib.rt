@@ -6,7 +6,6 @@ mod expected;
 mod forms;
 mod hint;
 mod kind;
-mod numbered;
 mod shown;
 mod verbose;
 

