@@ -1,5 +1,7 @@
 """The conflict tables that `mltx tables` prints: cell by cell those of docs/FORMATS.md, and an example of each conflict,
-which is played by the model in both orders."""
+which is played by the model in both orders. The matrices, and all that stands in the table of sets, are also written here
+by hand, byte for byte."""
+import errno
 import re
 from itertools import product
 
@@ -68,6 +70,94 @@ def sizes_are_those_of_formats(mltx):
     title, marks = cells_of(parts_of(mltx, "set")[2])
     same(title, "size")
     same(marks, {("size", word): "x" if word.lower() in replies else "." for word in classes_of("element")})
+
+
+MATRIX_OF_ACCOUNTS = """\
+account    Opened Exists Closed NotEmpty Deposited Over Withdrawn Short Balance Missing
+Opened          .      x      x        .         x    x         x     x       x       .
+Exists          .      .      x        .         .    .         .     .       .       .
+Closed          x      .      .        .         .    .         .     .       .       x
+NotEmpty        .      .      .        .         .    .         x     .       .       .
+Deposited       .      .      x        x         .    x         x     .       x       .
+Over            .      .      x        .         .    .         x     .       .       .
+Withdrawn       .      .      x        .         x    .         .     x       x       .
+Short           .      .      x        .         x    .         .     .       .       .
+Balance         .      .      x        .         x    .         x     .       .       .
+Missing         x      .      .        .         .    .         .     .       .       .
+"""
+TABLE_OF_SETS = """\
+set        Added Present Removed Absent Yes No
+Added          .       x       x      .   x  .
+Present        .       .       x      .   .  .
+Removed        x       .       .      x   .  x
+Absent         x       .       .      .   .  .
+Yes            .       .       x      .   .  .
+No             x       .       .      .   .  .
+
+Added, then Present, from no element 1 1:
+  held add 1 1 added, asked add 1 1 present: element 1 1
+  asked add 1 1 added, held add 1 1 present: element 1 1
+Added, then Removed, from no element 1 1:
+  held add 1 1 added, asked remove 1 1 removed: no element 1 1
+  asked remove 1 1 absent, held add 1 1 added: element 1 1
+Added, then Yes, from no element 1 1:
+  held add 1 1 added, asked has 1 1 yes: element 1 1
+  asked has 1 1 no, held add 1 1 added: element 1 1
+Present, then Removed, from element 1 1:
+  held add 1 1 present, asked remove 1 1 removed: no element 1 1
+  asked remove 1 1 removed, held add 1 1 added: element 1 1
+Removed, then Added, from element 1 1:
+  held remove 1 1 removed, asked add 1 1 added: element 1 1
+  asked add 1 1 present, held remove 1 1 removed: no element 1 1
+Removed, then Absent, from element 1 1:
+  held remove 1 1 removed, asked remove 1 1 absent: no element 1 1
+  asked remove 1 1 removed, held remove 1 1 absent: no element 1 1
+Removed, then No, from element 1 1:
+  held remove 1 1 removed, asked has 1 1 no: no element 1 1
+  asked has 1 1 yes, held remove 1 1 removed: no element 1 1
+Absent, then Added, from no element 1 1:
+  held remove 1 1 absent, asked add 1 1 added: element 1 1
+  asked add 1 1 added, held remove 1 1 removed: no element 1 1
+Yes, then Removed, from element 1 1:
+  held has 1 1 yes, asked remove 1 1 removed: no element 1 1
+  asked remove 1 1 removed, held has 1 1 no: no element 1 1
+No, then Added, from no element 1 1:
+  held has 1 1 no, asked add 1 1 added: element 1 1
+  asked add 1 1 added, held has 1 1 yes: element 1 1
+
+size       Added Present Removed Absent Yes No
+size           x       .       x      .   .  .
+
+Added, then size, from no element 1 1:
+  held add 1 1 added, asked size 1 is 1: element 1 1
+  asked size 1 is 0, held add 1 1 added: element 1 1
+size, then Added, from no element 1 1:
+  held size 1 is 0, asked add 1 1 added: element 1 1
+  asked add 1 1 added, held size 1 is 1: element 1 1
+Removed, then size, from element 1 1:
+  held remove 1 1 removed, asked size 1 is 0: no element 1 1
+  asked size 1 is 1, held remove 1 1 removed: no element 1 1
+size, then Removed, from element 1 1:
+  held size 1 is 1, asked remove 1 1 removed: no element 1 1
+  asked remove 1 1 removed, held size 1 is 0: no element 1 1
+"""
+
+
+@test
+def table_of_sets_is_written_so(mltx):
+    expect(mltx.run("tables", "set"), out=TABLE_OF_SETS)
+
+
+@test
+def table_of_accounts_is_written_so(mltx):
+    """The matrix byte for byte, one blank line, and the examples, line by line in the form that `example_of` reads."""
+    ran = mltx.run("tables", "account")
+    matrix, examples = ran.out.decode().split("\n\n")
+    same(matrix + "\n", MATRIX_OF_ACCOUNTS)
+    rows, marked = examples.split("\n"), list(cells_of(matrix.splitlines())[1].values()).count("x")
+    same((len(rows), rows[-1]), (3 * marked + 1, ""))
+    for at in range(0, 3 * marked, 3):
+        example_of(rows[at : at + 3])
 
 
 def held_at(value):
@@ -178,6 +268,14 @@ def examples_of_the_help_and_of_formats_are_true(mltx):
         shown = re.search(rf"(?m)^{indent}counter    Counted Read\n(?:(?:{indent}.*)?\n)+", text)
         assert shown, "no table of counters"
         same(re.sub(f"(?m)^{indent}", "", shown[0]).rstrip("\n") + "\n", wanted)
+
+
+@each({"each-write-of-a-table-fails": errno.EIO, "each-write-of-a-table-is-interrupted": errno.EINTR}, seconds=0.5)
+def writes_of_a_table_fail(mltx, fault):
+    """Whichever write fails, that is 13, and what went out before is a front of the text."""
+    for number in range(1, len(TABLE_OF_SETS) // 20 + 2):
+        ran = mltx.run("tables", "set", env=mltx.shim(FAIL=f"write-out {number} {fault} 20"))
+        expect(ran, status=1, out=TABLE_OF_SETS[: 20 * (number - 1)], err="mltx: 13 Io\n", what=f"write {number} fails")
 
 
 @test

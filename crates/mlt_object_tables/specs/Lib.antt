@@ -1,5 +1,4 @@
 pub mod Examples
-pub mod Matrices
 pub mod OrderTexts
 pub mod SizeOrders
 pub mod Tables

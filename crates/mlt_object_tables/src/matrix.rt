@@ -1,144 +1,73 @@
 //! The matrix of a conflict table.
 
-ghost use Rattle.std.specs.Prelude.{◌≡◌, ◌++◌, IsOkUnless, OnOk};
-ghost use Rattle.std.specs.List.{flat_map};
-ghost use Rattle.std.specs.String.{string_bytes};
-ghost use Rattle.mlt_object_tables.specs.Matrices.{head_line, head_of, label, mark_below, mark_of, matrix, row_line, size_mark, size_matrix, spaces};
+ghost use Rattle.std.specs.Prelude.{◌≡◌, IfOk, map};
+ghost use Rattle.mlt_object_conflicts.specs.Sizes.{counts};
+ghost use Rattle.mlt_object_tables.specs.Words.{element_classes};
 
 use crate::named::NamedTable;
-use mlt_object_conflicts::ElementClass;
 use mlt_object_kinds::Element;
-use mlt_types::Refusal;
+use std::alloc::{AllocError, Global};
 
-// How many columns a row's word has, with the spaces behind it.
-const LABEL: usize = 10;
+// What the table marks beside a class that is held, for each class that is asked for, in the order of the table.
+fn row_of<K: NamedTable>(alloc: Global, held: K::Class) -> Result<Vec<bool>, AllocError>
+    ensures marks { IfOk result (λ row. row.items ≡ map (K.marks held) K.all_classes) }
+{
+    let mut row = Vec::new(alloc);
+    for asked in K::classes() {
+        row.push(K::conflicts(held, *asked))?;
+    }
+    Ok(row)
+}
+
+// Which classes of elements conflict with the size of their set, in the order of the table.
+fn size_row(alloc: Global) -> Result<Vec<bool>, AllocError>
+    ensures marks { IfOk result (λ row. row.items ≡ map counts element_classes) }
+{
+    let mut row = Vec::new(alloc);
+    for class in Element::classes() {
+        row.push(class.counts())?;
+    }
+    Ok(row)
+}
 
 // Appends the matrix: a line with the words of all classes, and one for each class that is held.
-pub(crate) fn push_matrix<K: NamedTable>(text: &mut String, title: &str) -> Result<(), Refusal>
-    ensures text { OnOk result (string_bytes text.new
-        ≡ string_bytes text.old ++ matrix K.class_word K.marks K.all_classes title.now) }
-    ensures refusal { IsOkUnless result Refusal.OutOfMemory }
-{
-    push_head::<K>(text, title)?;
-    push_rows::<K>(text, K::classes())
-}
-
-// Appends the line with the words of all classes.
-fn push_head<K: NamedTable>(text: &mut String, title: &str) -> Result<(), Refusal>
-    ensures text { OnOk result (string_bytes text.new
-        ≡ string_bytes text.old ++ head_line K.class_word K.all_classes title.now) }
-    ensures refusal { IsOkUnless result Refusal.OutOfMemory }
-{
-    push_label(text, title)?;
-    push_heads::<K>(text, K::classes())?;
-    text.push('\n')?;
-    Ok(())
-}
-
-// Appends the words of these classes.
-fn push_heads<K: NamedTable>(text: &mut String, classes: &[K::Class]) -> Result<(), Refusal>
-    ensures text { OnOk result (string_bytes text.new
-        ≡ string_bytes text.old ++ flat_map (head_of K.class_word) classes.now) }
-    ensures refusal { IsOkUnless result Refusal.OutOfMemory }
-{
-    for class in classes {
-        text.push(' ')?;
-        text.push_str(K::word(*class))?;
-    }
-    Ok(())
-}
-
-// Appends the line of each of these classes, as one that is held.
-fn push_rows<K: NamedTable>(text: &mut String, rows: &[K::Class]) -> Result<(), Refusal>
-    ensures text { OnOk result (string_bytes text.new
-        ≡ string_bytes text.old ++ flat_map (row_line K.class_word K.marks K.all_classes) rows.now) }
-    ensures refusal { IsOkUnless result Refusal.OutOfMemory }
-{
-    for held in rows {
-        push_row::<K>(text, *held)?;
-    }
-    Ok(())
-}
-
-// Appends the line of a class that is held.
-fn push_row<K: NamedTable>(text: &mut String, held: K::Class) -> Result<(), Refusal>
-    ensures text { OnOk result (string_bytes text.new
-        ≡ string_bytes text.old ++ row_line K.class_word K.marks K.all_classes held) }
-    ensures refusal { IsOkUnless result Refusal.OutOfMemory }
-{
-    push_label(text, K::word(held))?;
-    push_marks::<K>(text, held, K::classes())?;
-    text.push('\n')?;
-    Ok(())
-}
-
-// Appends the marks of a class that is held, for each of these that is asked for.
-fn push_marks<K: NamedTable>(
+pub(crate) fn push_matrix<K: NamedTable>(
+    alloc: Global,
     text: &mut String,
-    held: K::Class,
-    classes: &[K::Class],
-) -> Result<(), Refusal>
-    ensures text { OnOk result (string_bytes text.new
-        ≡ string_bytes text.old ++ flat_map (mark_of K.class_word K.marks held) classes.now) }
-    ensures refusal { IsOkUnless result Refusal.OutOfMemory }
-{
-    for asked in classes {
-        push_mark(text, K::word(*asked), K::conflicts(held, *asked))?;
+    title: &str,
+) -> Result<(), AllocError> {
+    push_head::<K>(text, title)?;
+    for held in K::classes() {
+        let row = row_of::<K>(alloc, *held)?;
+        push_row::<K>(text, K::word(*held), row.as_slice())?;
     }
     Ok(())
 }
 
 // Appends which classes of elements conflict with the size of their set.
-pub(crate) fn push_size_matrix(text: &mut String) -> Result<(), Refusal>
-    ensures text { OnOk result (string_bytes text.new ≡ string_bytes text.old ++ size_matrix) }
-    ensures refusal { IsOkUnless result Refusal.OutOfMemory }
-{
+pub(crate) fn push_size_matrix(alloc: Global, text: &mut String) -> Result<(), AllocError> {
     push_head::<Element>(text, "size")?;
-    push_label(text, "size")?;
-    push_size_marks(text, Element::classes())?;
-    text.push('\n')?;
-    Ok(())
+    let row = size_row(alloc)?;
+    push_row::<Element>(text, "size", row.as_slice())
 }
 
-fn push_size_marks(text: &mut String, classes: &[ElementClass]) -> Result<(), Refusal>
-    ensures text { OnOk result
-        (string_bytes text.new ≡ string_bytes text.old ++ flat_map size_mark classes.now) }
-    ensures refusal { IsOkUnless result Refusal.OutOfMemory }
-{
-    for class in classes {
-        push_mark(text, Element::word(*class), class.counts())?;
+// Appends the line with the words of all classes.
+fn push_head<K: NamedTable>(text: &mut String, title: &str) -> Result<(), AllocError> {
+    write!(text, "{title:10}")?;
+    for class in K::classes() {
+        let word = K::word(*class);
+        write!(text, " {word}")?;
     }
-    Ok(())
+    text.push('\n')
 }
 
-// Appends a word, and spaces up to the columns.
-fn push_label(text: &mut String, word: &str) -> Result<(), Refusal>
-    ensures text { OnOk result
-        (string_bytes text.new ≡ string_bytes text.old ++ label word.now) }
-    ensures refusal { IsOkUnless result Refusal.OutOfMemory }
-{
-    text.push_str(word)?;
-    push_spaces(text, LABEL.saturating_sub(word.len()))
-}
-
-// Appends a mark below the last letter of its column's word.
-fn push_mark(text: &mut String, word: &str, is_marked: bool) -> Result<(), Refusal>
-    ensures text { OnOk result
-        (string_bytes text.new ≡ string_bytes text.old ++ mark_below word.now is_marked) }
-    ensures refusal { IsOkUnless result Refusal.OutOfMemory }
-{
-    push_spaces(text, word.len())?;
-    text.push(if is_marked { 'x' } else { '.' })?;
-    Ok(())
-}
-
-fn push_spaces(text: &mut String, count: usize) -> Result<(), Refusal>
-    ensures text { OnOk result
-        (string_bytes text.new ≡ string_bytes text.old ++ spaces count) }
-    ensures refusal { IsOkUnless result Refusal.OutOfMemory }
-{
-    for _ in 0..count {
-        text.push(' ')?;
+// Appends a word and the marks of its row, each below the last letter of its column's word.
+fn push_row<K: NamedTable>(text: &mut String, word: &str, row: &[bool]) -> Result<(), AllocError> {
+    write!(text, "{word:10}")?;
+    for (class, is_marked) in K::classes().iter().zip(row) {
+        let width = K::word(*class).len() + 1;
+        let mark = if *is_marked { 'x' } else { '.' };
+        write!(text, "{mark:>width$}")?;
     }
-    Ok(())
+    text.push('\n')
 }

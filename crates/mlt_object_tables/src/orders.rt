@@ -2,11 +2,12 @@
 
 ghost use Rattle.std.specs.Prelude.{◌≡◌, ◌++◌, IsOkUnless, OnOk};
 ghost use Rattle.std.specs.String.{string_bytes};
-ghost use Rattle.mlt_object_tables.specs.OrderTexts.{orders_text};
+ghost use Rattle.mlt_object_tables.specs.OrderTexts.{order_line, orders_text};
 
 use crate::cell_value::CellValue;
 use mlt_object_kinds::Done;
 use mlt_types::Refusal;
+use std::alloc::AllocError;
 
 /// Two operations on a cell, one after the other, with what each is told, and what they leave.
 #[derive(Clone, Copy, Debug, PartialEq, Eq)]
@@ -39,17 +40,26 @@ pub fn push_orders(text: &mut String, lead: &str, orders: &Orders) -> Result<(),
         (string_bytes text.new ≡ string_bytes text.old ++ orders_text lead.now orders.now) }
     ensures refusal { IsOkUnless result Refusal.OutOfMemory }
 {
-    let OpOrder {
-        first,
-        second,
-        after,
-    } = &orders.held_first;
-    writeln!(text, "{lead}held {first}, asked {second}: {after}")?;
-    let OpOrder {
-        first,
-        second,
-        after,
-    } = &orders.asked_first;
-    writeln!(text, "{lead}asked {first}, held {second}: {after}")?;
+    push_order(text, lead, "held", "asked", &orders.held_first)?;
+    push_order(text, lead, "asked", "held", &orders.asked_first)?;
     Ok(())
+}
+
+/// Appends the line of one order, behind this lead, with a word for each of the two operations.
+pub(crate) fn push_order(
+    text: &mut String,
+    lead: &str,
+    earlier: &str,
+    later: &str,
+    order: &OpOrder,
+) -> Result<(), AllocError>
+    ensures { OnOk result (string_bytes text.new ≡ string_bytes text.old
+        ++ order_line lead.now earlier.now later.now order.now) }
+{
+    let OpOrder {
+        first,
+        second,
+        after,
+    } = order;
+    writeln!(text, "{lead}{earlier} {first}, {later} {second}: {after}")
 }
