@@ -26,7 +26,7 @@ end\ncommit\n",
 
 #[test]
 fn if_else_script(rt: HostRuntime) -> Result<(), Fail> {
-    are_reported(rt.alloc(), Form::Solo, IF_ELSE)
+    are_reported(rt.alloc(), ReportForm::Solo, IF_ELSE)
 }
 
 // The size of a set goes with its elements, also back with those of a script that aborts. The text of a base has none.
@@ -39,7 +39,7 @@ client 0 script 2\nis 0\nadded\npresent\nis 1\nabsent\nis 1\ncommitted 1\nelemen
 
 #[test]
 fn sizes_of_sets(rt: HostRuntime) -> Result<(), Fail> {
-    are_reported(rt.alloc(), Form::Run, SIZES)
+    are_reported(rt.alloc(), ReportForm::Run, SIZES)
 }
 
 // Scripts that abort leave nothing. In the report of a run scripts have names by their clients.
