@@ -75,47 +75,119 @@ def standard_input_is_read(mltx):
         expect(mltx.run(*words, given=given), out=wanted, what=" ".join(words) or "no words")
 
 
-# What the help has to name: the subcommands or arguments, the options and their ranges.
-OPTIONS = ("-v, --verbose", "--hash", "mult", "low", "--trace <FILE>")
+# What help says of each argument and option.
+OF_ARGUMENTS = {
+    "<FILE>": "The file to read; `-` is standard input",
+    "<ADDR>": "The IP address and port to listen on, as `127.0.0.1:7000`",
+    "[TABLE]": "The table that is printed; without it all of them [possible values: account, set, counter]",
+}
+OF_OPTIONS = {
+    "-v, --verbose": "At a fault, a second line says which file or address, why, and what was expected",
+    "--hash <HASH>": "The hash function of the pages; without it `mult` [possible values: mult, low]",
+    "--trace <FILE>": "Where to write the trace of what the transactions did",
+    "--explain": "Where an event is blocked or waits, lines that begin with `#` say why",
+    "--workers <N>": "How many workers run scripts at once, from 1 to 8; without it 4",
+    "--tries <N>": "How often a script, or an operation of a session, may be told to wait, from 1 to 1000000; without it 10000",
+    "--long": "The trace may have any length: it is checked as it is read, and written of as it is checked",
+    "--endless": "As many connections are served as come, and nothing is kept of what was done; not with --limit",
+    "--sessions <N>": "How many sessions are held at once, from 1 to 64; without it 8",
+    "--limit <N>": "How many connections are served in all, from 1 to 1000000; without it 1",
+    "--idle <SECONDS>": "How many seconds a connection may be idle, from 0, which is for ever, to 86400; without it 0",
+    "--wait <SECONDS>": "How many seconds an operation may wait before it is told GaveUp, from 0, which is for ever, to 86400; "
+    "without it 0",
+    "--open <SECONDS>": "How many seconds a transaction may be open before its session is cut, from 0, which is for ever, "
+    "to 86400; without it 0",
+    "--full <FULL>": "What a client finds while all sessions are taken: it waits for one, or is refused; without it `wait` "
+    "[possible values: wait, refuse]",
+    "--admin <ADDR>": "The IP address and port at which an operator connects by HTTP; without it there is none",
+    "--until-eof": "The server ends in order at the end of standard input, which has to be held open",
+    "-h, --help": "Print help",
+    "-V, --version": "Print version",
+}
+OF_A_RUN = ("-v, --verbose", "--hash <HASH>", "--trace <FILE>")
+# Of each subcommand: what it does, its argument, its options in their order, and words of the example below them.
 HELP = {
-    "help": ("Usage: mltx", "solo", "steps", "run", "check", "serve", "tables", "--help", "--version", "-v, --verbose", "solo -"),
-    "help-solo": ("mltx solo [OPTIONS] <FILE>", "standard input", *OPTIONS),
-    "help-steps": ("mltx steps [OPTIONS] <FILE>", "standard input", *OPTIONS, "--explain"),
-    "help-run": (
-        *("mltx run [OPTIONS] <FILE>", "standard input", *OPTIONS),
-        *("--workers <N>", "1 to 8; without it 4", "--tries <N>", "1 to 1000000; without it 10000"),
+    "solo": (
+        "Runs the scripts of FILE one after another, and prints what each was told.",
+        *("<FILE>", OF_A_RUN, "solo scripts.txt"),
     ),
-    "help-check": ("mltx check [OPTIONS] <FILE>", "standard input", "-v, --verbose", "--long"),
-    "help-tables": ("mltx tables [OPTIONS] [TABLE]", "account", "set", "counter", "without it all of them", "-v, --verbose"),
-    "help-serve": (
-        *("mltx serve [OPTIONS] <ADDR>", "127.0.0.1:7000", *OPTIONS, "--sessions <N>", "1 to 64; without it 8"),
-        *("--limit <N>", "1 to 1000000; without it 1", "--tries <N>", "1 to 1000000; without it 10000"),
-        *("--idle <SECONDS>", "from 0, which is for ever, to 86400; without it 0"),
-        *("--wait <SECONDS>", "an operation may wait before it is told GaveUp, from 0, which is for ever, to 86400; without it 0"),
-        *("--open <SECONDS>", "a transaction may be open before its session is cut, from 0, which is for ever, to 86400; without it 0"),
-        *("--full <FULL>", "without it `wait`", "refuse", "--admin <ADDR>", "without it there is none", "--until-eof"),
-        *("mltx serve 127.0.0.1:7000 --endless --sessions 64 --idle 600 --admin 127.0.0.1:7001", "--endless", "not with --limit"),
+    "steps": (
+        "Runs the schedule of FILE, step by step, and prints what each event was told, and then the base.",
+        *("<FILE>", (*OF_A_RUN, "--explain"), "steps schedule.txt"),
+    ),
+    "run": (
+        "Runs the scripts of FILE side by side, those of a client one after another, and prints what each was told, and then "
+        "the base.",
+        *("<FILE>", (*OF_A_RUN, "--workers <N>", "--tries <N>"), "run scripts.txt --workers 2 --trace trace.txt"),
+    ),
+    "check": (
+        "Checks the trace of FILE: whether its transactions, run alone in the order of their commits, are told the same.",
+        *("<FILE>", ("-v, --verbose", "--long"), "check trace.txt"),
+    ),
+    "serve": (
+        "Listens on ADDR, and serves connections: each is a session of lines, and each line has its answer.",
+        "<ADDR>",
+        (
+            *(*OF_A_RUN, "--endless", "--sessions <N>", "--limit <N>", "--tries <N>", "--idle <SECONDS>", "--wait <SECONDS>"),
+            *("--open <SECONDS>", "--full <FULL>", "--admin <ADDR>", "--until-eof"),
+        ),
+        "serve 127.0.0.1:7000 --limit 2",
+    ),
+    "tables": (
+        "Prints which operations conflict: the conflict tables, and an example of each conflict in both orders.",
+        *("[TABLE]", ("-v, --verbose",), "tables counter"),
+    ),
+}
+# What the help has to say below that.
+BELOW = {
+    "serve": (
+        "mltx serve 127.0.0.1:7000 --endless --sessions 64 --idle 600 --admin 127.0.0.1:7001",
         "mltx: listening on 127.0.0.1:7000",
     ),
 }
 
 
-@each(HELP)
-def help_text(mltx, wanted):
-    """The same text by each way to ask for it, on standard output, and it names what there is."""
-    name = wanted[0].split()[1] if wanted[0] != "Usage: mltx" else None
-    ways = [(name, "--help"), (name, "-h"), ("help", name)] if name else [("--help",), ("-h",), ("help",)]
+def in_columns(rows):
+    """Rows of two columns, below each other. A long option without a short one stands below the others."""
+    begun = [(f"    {name}" if name.startswith("--") else name, text) for name, text in rows]
+    width = max(len(name) for name, _ in begun)
+    return "".join(f"  {name:{width}}  {text}\n" for name, text in begun)
+
+
+def options_text(names):
+    return "Options:\n" + in_columns((name, OF_OPTIONS[name]) for name in names)
+
+
+def is_help(mltx, ways, begin):
+    """The same text by each way to ask for it, on standard output, and it begins with this one."""
     told = [mltx.run(*words) for words in ways]
     for words, ran in zip(ways, told):
         same((ran.status, ran.err, ran.out), (0, b"", told[0].out), " ".join(words))
-    missing = [text for text in wanted if text.encode() not in told[0].out]
-    holds(not missing, f"the help {ways[0]} does not name {missing}:\n{told[0].out.decode()}")
+    same(told[0].out.decode()[: len(begin)], begin)
+    return told[0].out.decode()
+
+
+@each({f"help-{name}": name for name in HELP})
+def help_text(mltx, name):
+    about, argument, options, example = HELP[name]
+    begin = f"{about}\n\nUsage: mltx {name} [OPTIONS] {argument}\n\n"
+    begin += f"Arguments:\n  {argument}  {OF_ARGUMENTS[argument]}\n\n"
+    begin += options_text((*options, "-h, --help")) + f"\nExample: mltx {example}\n"
+    told = is_help(mltx, [(name, "--help"), (name, "-h"), ("help", name)], begin)
+    missing = [text for text in BELOW.get(name, ()) if text not in told]
+    holds(not missing, f"the help of {name} does not name {missing}:\n{told}")
 
 
 @test
-def help_of_check_has_no_options_of_a_run(mltx):
-    told = mltx.run("check", "--help").out
-    same([option for option in (b"--hash", b"--trace", b"--workers", b"--tries") if option in told], [])
+def help_of_all(mltx):
+    help_itself = ("help", "Print this message or the help of the given subcommand(s)")
+    commands = in_columns([*((name, about) for name, (about, *_) in HELP.items()), help_itself])
+    begin = "Runs transactions on accounts, sets and counters, and checks traces of what they did.\n\n"
+    begin += f"Usage: mltx [OPTIONS] <COMMAND>\n\nCommands:\n{commands}\n"
+    begin += options_text(("-v, --verbose", "-h, --help", "-V, --version"))
+    begin += "\nWith no words at all it is `solo -`: the scripts are read from standard input.\n\n"
+    begin += "Example: mltx solo scripts.txt\n"
+    same(is_help(mltx, [("--help",), ("-h",), ("help",)], begin), begin)
 
 
 @test
@@ -225,6 +297,44 @@ WRONG = {
     "serve-has-no-workers": (("serve", "--workers", "2", "127.0.0.1:0"), "'--workers'"),
     "no-help-of-what-is-not-there": (("help", "play"), "'play'"),
 }
+# Words that are wrong, with the whole of what is said behind `error: ` and before the last line.
+ALL_USAGE, SOLO_USAGE = "\n\nUsage: mltx [OPTIONS] <COMMAND>", "\n\nUsage: mltx solo [OPTIONS] <FILE>"
+WHOLLY = {
+    "no-subcommand": (("play",), f"unrecognized subcommand 'play'{ALL_USAGE}"),
+    "no-words-but-two-dashes": (
+        ("--",),
+        "'mltx' requires a subcommand but one was not provided\n"
+        f"  [subcommands: solo, steps, run, check, serve, tables, help]{ALL_USAGE}",
+    ),
+    "no-file": (("solo",), "the following required arguments were not provided:\n  <FILE>\n\nUsage: mltx solo <FILE>"),
+    "no-option": (
+        ("solo", "--fast", "a.txt"),
+        f"unexpected argument '--fast' found\n\n  tip: to pass '--fast' as a value, use '-- --fast'{SOLO_USAGE}",
+    ),
+    "no-second-file": (("solo", "a.txt", "b.txt"), f"unexpected argument 'b.txt' found{SOLO_USAGE}"),
+    "no-value": (
+        ("solo", "a.txt", "--hash"),
+        "a value is required for '--hash <HASH>' but none was supplied\n  [possible values: mult, low]",
+    ),
+    "no-option-twice": (
+        ("solo", "--hash", "low", "--hash", "low", "a.txt"),
+        f"the argument '--hash <HASH>' cannot be used multiple times{SOLO_USAGE}",
+    ),
+    "no-such-name": (("tables", "other"), "invalid value 'other' for '[TABLE]'\n  [possible values: account, set, counter]"),
+    "no-number": (("run", "--workers", "two", "a.txt"), "invalid value 'two' for '--workers <N>': invalid digit found in string"),
+    "no-number-above": (
+        ("serve", "--idle=86401", "-"),
+        "invalid value '86401' for '--idle <SECONDS>': 86401 is not in 0..=86400",
+    ),
+    "no-value-of-a-flag": (
+        ("steps", "--explain=yes", "a.txt"),
+        "unexpected value 'yes' for '--explain' found; no more were expected\n\nUsage: mltx steps --explain <FILE>",
+    ),
+    "no-end-and-a-limit": (
+        ("serve", "--limit", "1", "--endless", "-"),
+        f"the argument '--endless' cannot be used with '--limit <N>'{ALL_USAGE}",
+    ),
+}
 # For each option with a number: its subcommand, the least and the greatest number, and what else stands there.
 NUMBERS = {
     "workers": ("run", 1, 8, "a.txt"),
@@ -249,6 +359,13 @@ def is_wrong(mltx, words, said):
 @each({f"wrong-{name}": case for name, case in WRONG.items()})
 def wrong_words(mltx, case):
     is_wrong(mltx, *case)
+
+
+@each({f"told-wholly-{name}": case for name, case in WHOLLY.items()})
+def wrong_words_wholly(mltx, case):
+    words, said = case
+    mltx.file("a.txt", FIRST_RUN)
+    expect(mltx.run(*words), status=2, err=f"error: {said}\n\nFor more information, try '--help'.\n", what=" ".join(words))
 
 
 @each({f"numbers-of-{name}": (name.split("-")[0], *case) for name, case in NUMBERS.items()})

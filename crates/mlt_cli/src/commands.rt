@@ -1,13 +1,17 @@
 //! What `clap` reads the words of the command line by: the subcommands, their arguments and their help.
 
-ghost use Rattle.std.specs.Prelude.{◌≡◌, IfOk, false};
-ghost use Rattle.clap.specs.Words.{app_of, rule_of};
-ghost use Rattle.clap.specs.declared.builder.command.Command.TheViews.{out-Command};
-ghost use Rattle.mlt_cli.specs.CommandLine.{bare_app, check_app, choice_rule, flag_rule, input_app, mltx_app, names_of, number_rule, run_app, serve_app, steps_app, tables_app, text_rule, verbose_rule, with_counts, with_operating, with_times, work_app};
-
 use clap::builder::ValueParser;
 use clap::{Arg, ArgAction, Command};
 use std::alloc::{AllocError, Global};
+
+// The names of the hash functions.
+static HASH_NAMES: [&str; 2] = ["mult", "low"];
+
+// The names of the conflict tables.
+static TABLE_NAMES: [&str; 3] = ["account", "set", "counter"];
+
+// The names of what a client finds while all sessions are taken.
+static FULL_NAMES: [&str; 2] = ["wait", "refuse"];
 
 const VERSION: &str = "0.1.0";
 
@@ -194,34 +198,27 @@ struct InputHelp {
     help: &'static str,
 }
 
-// The program's description, where these are the names of the hash functions, of the tables, and of what a client finds
-// while all sessions are taken.
-pub(crate) fn mltx_command<'a>(
-    alloc: Global,
-    names: &'a [&'a str],
-    tables: &'a [&'a str],
-    fulls: &'a [&'a str],
-) -> Result<Command<'a>, AllocError>
-    ensures { IfOk result
-        (λ command. app_of command ≡ mltx_app (names_of names.entry tables.entry fulls.entry)) }
-{
-    let solo = run_command(alloc, "solo", FILE, names, SOLO_ABOUT, SOLO_EXAMPLE)?;
-    let command = bare_command(alloc)?.subcommand(solo)?;
-    let steps = steps_command(alloc, names)?;
-    let command = command.subcommand(steps)?;
-    let run = work_command(alloc, names)?;
-    let command = command.subcommand(run)?;
-    let check = check_command(alloc)?;
-    let command = command.subcommand(check)?;
-    let serve = serve_command(alloc, names, fulls)?;
-    let command = command.subcommand(serve)?;
-    let tables = tables_command(alloc, tables)?;
-    command.subcommand(tables)
+// The program's description.
+pub(crate) fn mltx_command<'a>(alloc: Global) -> Result<Command<'a>, AllocError> {
+    let command = bare_command(alloc)?;
+    let solo = run_command(alloc, "solo", FILE, SOLO_ABOUT, SOLO_EXAMPLE);
+    let command = with_subcommand(command, solo)?;
+    let command = with_subcommand(command, steps_command(alloc))?;
+    let command = with_subcommand(command, work_command(alloc))?;
+    let command = with_subcommand(command, check_command(alloc))?;
+    let command = with_subcommand(command, serve_command(alloc))?;
+    with_subcommand(command, tables_command(alloc))
 }
 
-fn bare_command<'a>(alloc: Global) -> Result<Command<'a>, AllocError>
-    ensures { IfOk result (λ command. app_of command ≡ bare_app) }
-{
+// The command with a subcommand, if there was memory for that.
+fn with_subcommand<'a>(
+    command: Command<'a>,
+    subcommand: Result<Command<'a>, AllocError>,
+) -> Result<Command<'a>, AllocError> {
+    command.subcommand(subcommand?)
+}
+
+fn bare_command<'a>(alloc: Global) -> Result<Command<'a>, AllocError> {
     Command::new(alloc, "mltx")
         .version(VERSION)
         .about(ABOUT)
@@ -233,15 +230,20 @@ fn bare_command<'a>(alloc: Global) -> Result<Command<'a>, AllocError>
 }
 
 // The flag that asks for the second line of a fault.
-fn verbose_flag<'a>(alloc: Global) -> Arg<'a>
-    ensures rule { rule_of result ≡ verbose_rule }
-    ensures local { result.global ≡ false }
-{
+fn verbose_flag<'a>(alloc: Global) -> Arg<'a> {
     Arg::new(alloc, "verbose")
         .short('v')
         .long("verbose")
         .action(ArgAction::SetTrue)
         .help(VERBOSE_HELP)
+}
+
+// The file that is read, or the address that is listened on.
+fn input_argument<'a>(alloc: Global, input: InputHelp) -> Arg<'a> {
+    Arg::new(alloc, "input")
+        .value_name(input.value_name)
+        .help(input.help)
+        .required(true)
 }
 
 // A subcommand with an input.
@@ -251,78 +253,60 @@ fn input_command<'a>(
     input: InputHelp,
     about: &'a str,
     example: &'a str,
-) -> Result<Command<'a>, AllocError>
-    ensures app { IfOk result (λ command. app_of command ≡ input_app name.entry.now) }
-    ensures globals { IfOk result (λ command. (out-Command command).has_globals ≡ false) }
-{
-    let arg = Arg::new(alloc, "input")
-        .value_name(input.value_name)
-        .help(input.help)
-        .required(true);
+) -> Result<Command<'a>, AllocError> {
     Command::new(alloc, name)
         .about(about)
         .after_help(example)
-        .arg(arg)?
+        .arg(input_argument(alloc, input))?
         .arg(verbose_flag(alloc))
 }
 
-// A subcommand that runs what it reads, where these are the names of the hash functions.
+// A subcommand that runs what it reads.
 fn run_command<'a>(
     alloc: Global,
     name: &'a str,
     input: InputHelp,
-    names: &'a [&'a str],
     about: &'a str,
     example: &'a str,
-) -> Result<Command<'a>, AllocError>
-    ensures app { IfOk result (λ command. app_of command ≡ run_app names.entry name.entry.now) }
-    ensures globals { IfOk result (λ command. (out-Command command).has_globals ≡ false) }
-{
-    let hash = choice_option(alloc, "hash", "HASH", HASH_HELP, names);
-    let trace = text_option(alloc, "trace", "FILE", TRACE_HELP);
+) -> Result<Command<'a>, AllocError> {
+    let hashes = HASH_NAMES.as_slice();
     input_command(alloc, name, input, about, example)?
-        .arg(hash)?
-        .arg(trace)
+        .arg(choice_option(alloc, "hash", "HASH", HASH_HELP, hashes))?
+        .arg(text_option(alloc, "trace", "FILE", TRACE_HELP))
 }
 
-fn steps_command<'a>(alloc: Global, names: &'a [&'a str]) -> Result<Command<'a>, AllocError>
-    ensures app { IfOk result (λ command. app_of command ≡ steps_app names.entry) }
-    ensures globals { IfOk result (λ command. (out-Command command).has_globals ≡ false) }
-{
-    let explain = flag_option(alloc, "explain", EXPLAIN_HELP);
-    run_command(alloc, "steps", FILE, names, STEPS_ABOUT, STEPS_EXAMPLE)?.arg(explain)
+fn steps_command<'a>(alloc: Global) -> Result<Command<'a>, AllocError> {
+    run_command(alloc, "steps", FILE, STEPS_ABOUT, STEPS_EXAMPLE)?.arg(flag_option(
+        alloc,
+        "explain",
+        EXPLAIN_HELP,
+    ))
 }
 
 // `check`, which may take a trace of any length.
-fn check_command<'a>(alloc: Global) -> Result<Command<'a>, AllocError>
-    ensures app { IfOk result (λ command. app_of command ≡ check_app) }
-    ensures globals { IfOk result (λ command. (out-Command command).has_globals ≡ false) }
-{
-    let long = flag_option(alloc, "long", LONG_HELP);
-    input_command(alloc, "check", FILE, CHECK_ABOUT, CHECK_EXAMPLE)?.arg(long)
+fn check_command<'a>(alloc: Global) -> Result<Command<'a>, AllocError> {
+    input_command(alloc, "check", FILE, CHECK_ABOUT, CHECK_EXAMPLE)?.arg(flag_option(
+        alloc, "long", LONG_HELP,
+    ))
 }
 
-// `tables`, where these are the names of the tables.
-fn tables_command<'a>(alloc: Global, names: &'a [&'a str]) -> Result<Command<'a>, AllocError>
-    ensures app { IfOk result (λ command. app_of command ≡ tables_app names.entry) }
-    ensures globals { IfOk result (λ command. (out-Command command).has_globals ≡ false) }
-{
-    let table = Arg::new(alloc, "table")
-        .value_name("TABLE")
-        .help(TABLE_HELP)
-        .value_parser(names);
+fn tables_command<'a>(alloc: Global) -> Result<Command<'a>, AllocError> {
     Command::new(alloc, "tables")
         .about(TABLES_ABOUT)
         .after_help(TABLES_EXAMPLE)
         .arg(verbose_flag(alloc))?
-        .arg(table)
+        .arg(table_argument(alloc))
+}
+
+fn table_argument<'a>(alloc: Global) -> Arg<'a> {
+    Arg::new(alloc, "table")
+        .value_name("TABLE")
+        .help(TABLE_HELP)
+        .value_parser(TABLE_NAMES.as_slice())
 }
 
 // An option that takes a text. Help shows it by this name.
-fn text_option<'a>(alloc: Global, name: &'a str, value_name: &'a str, help: &'a str) -> Arg<'a>
-    ensures rule { rule_of result ≡ text_rule name.entry.now }
-    ensures local { result.global ≡ false }
-{
+fn text_option<'a>(alloc: Global, name: &'a str, value_name: &'a str, help: &'a str) -> Arg<'a> {
     Arg::new(alloc, name)
         .long(name)
         .value_name(value_name)
@@ -336,18 +320,12 @@ fn choice_option<'a>(
     value_name: &'a str,
     help: &'a str,
     names: &'a [&'a str],
-) -> Arg<'a>
-    ensures rule { rule_of result ≡ choice_rule name.entry.now names.entry }
-    ensures local { result.global ≡ false }
-{
+) -> Arg<'a> {
     text_option(alloc, name, value_name, help).value_parser(names)
 }
 
 // An option that takes nothing, and has a long name alone.
-fn flag_option<'a>(alloc: Global, name: &'a str, help: &'a str) -> Arg<'a>
-    ensures rule { rule_of result ≡ flag_rule name.entry.now }
-    ensures local { result.global ≡ false }
-{
+fn flag_option<'a>(alloc: Global, name: &'a str, help: &'a str) -> Arg<'a> {
     Arg::new(alloc, name)
         .long(name)
         .action(ArgAction::SetTrue)
@@ -362,10 +340,7 @@ fn number_option<'a>(
     help: &'a str,
     least: u64,
     most: u64,
-) -> Arg<'a>
-    ensures rule { rule_of result ≡ number_rule name.entry.now least most }
-    ensures local { result.global ≡ false }
-{
+) -> Arg<'a> {
     Arg::new(alloc, name)
         .long(name)
         .value_name(value_name)
@@ -373,70 +348,51 @@ fn number_option<'a>(
         .value_parser(ValueParser::unsigned(least, most))
 }
 
-fn work_command<'a>(alloc: Global, names: &'a [&'a str]) -> Result<Command<'a>, AllocError>
-    ensures app { IfOk result (λ command. app_of command ≡ work_app names.entry) }
-    ensures globals { IfOk result (λ command. (out-Command command).has_globals ≡ false) }
-{
-    let workers = number_option(alloc, "workers", "N", WORKERS_HELP, 1, 8);
-    let tries = number_option(alloc, "tries", "N", TRIES_HELP, 1, 1_000_000);
-    run_command(alloc, "run", FILE, names, RUN_ABOUT, RUN_EXAMPLE)?
-        .arg(workers)?
-        .arg(tries)
+// How often a script, or an operation of a session, may be told to wait.
+fn tries_option<'a>(alloc: Global) -> Arg<'a> {
+    number_option(alloc, "tries", "N", TRIES_HELP, 1, 1_000_000)
 }
 
-fn serve_command<'a>(
-    alloc: Global,
-    names: &'a [&'a str],
-    fulls: &'a [&'a str],
-) -> Result<Command<'a>, AllocError>
-    ensures app { IfOk result (λ command. app_of command ≡ serve_app names.entry fulls.entry) }
-    ensures globals { IfOk result (λ command. (out-Command command).has_globals ≡ false) }
-{
-    let command = run_command(alloc, "serve", ADDRESS, names, SERVE_ABOUT, SERVE_EXAMPLE)?;
+fn work_command<'a>(alloc: Global) -> Result<Command<'a>, AllocError> {
+    run_command(alloc, "run", FILE, RUN_ABOUT, RUN_EXAMPLE)?
+        .arg(number_option(alloc, "workers", "N", WORKERS_HELP, 1, 8))?
+        .arg(tries_option(alloc))
+}
+
+fn serve_command<'a>(alloc: Global) -> Result<Command<'a>, AllocError> {
+    let command = run_command(alloc, "serve", ADDRESS, SERVE_ABOUT, SERVE_EXAMPLE)?;
     let command = command.arg(flag_option(alloc, "endless", ENDLESS_HELP))?;
     let command = with_counts(alloc, command)?;
     let command = with_times(alloc, command)?;
-    with_operating(alloc, command, fulls)
+    with_operating(alloc, command)
 }
 
 // The subcommand with the options that count: sessions, connections, and tries.
-fn with_counts<'a>(alloc: Global, command: Command<'a>) -> Result<Command<'a>, AllocError>
-    requires { (out-Command command).has_globals ≡ false }
-    ensures app { IfOk result (λ added. app_of added ≡ with_counts (app_of command.entry)) }
-    ensures globals { IfOk result (λ added. (out-Command added).has_globals ≡ false) }
-{
-    let sessions = number_option(alloc, "sessions", "N", SESSIONS_HELP, 1, 64);
-    let limit = number_option(alloc, "limit", "N", LIMIT_HELP, 1, 1_000_000);
-    let tries = number_option(alloc, "tries", "N", TRIES_HELP, 1, 1_000_000);
-    command.arg(sessions)?.arg(limit)?.arg(tries)
+fn with_counts<'a>(alloc: Global, command: Command<'a>) -> Result<Command<'a>, AllocError> {
+    command
+        .arg(number_option(alloc, "sessions", "N", SESSIONS_HELP, 1, 64))?
+        .arg(number_option(alloc, "limit", "N", LIMIT_HELP, 1, 1_000_000))?
+        .arg(tries_option(alloc))
+}
+
+// An option that takes a number of seconds, at most a day.
+fn seconds_option<'a>(alloc: Global, name: &'a str, help: &'a str) -> Arg<'a> {
+    number_option(alloc, name, "SECONDS", help, 0, 86_400)
 }
 
 // The subcommand with the options that say for how many seconds.
-fn with_times<'a>(alloc: Global, command: Command<'a>) -> Result<Command<'a>, AllocError>
-    requires { (out-Command command).has_globals ≡ false }
-    ensures app { IfOk result (λ added. app_of added ≡ with_times (app_of command.entry)) }
-    ensures globals { IfOk result (λ added. (out-Command added).has_globals ≡ false) }
-{
-    let idle = number_option(alloc, "idle", "SECONDS", IDLE_HELP, 0, 86_400);
-    let wait = number_option(alloc, "wait", "SECONDS", WAIT_HELP, 0, 86_400);
-    let open = number_option(alloc, "open", "SECONDS", OPEN_HELP, 0, 86_400);
-    command.arg(idle)?.arg(wait)?.arg(open)
+fn with_times<'a>(alloc: Global, command: Command<'a>) -> Result<Command<'a>, AllocError> {
+    command
+        .arg(seconds_option(alloc, "idle", IDLE_HELP))?
+        .arg(seconds_option(alloc, "wait", WAIT_HELP))?
+        .arg(seconds_option(alloc, "open", OPEN_HELP))
 }
 
-// The subcommand with the options of who runs the server, where these are the names of what a client finds while all
-// sessions are taken.
-fn with_operating<'a>(
-    alloc: Global,
-    command: Command<'a>,
-    fulls: &'a [&'a str],
-) -> Result<Command<'a>, AllocError>
-    requires { (out-Command command).has_globals ≡ false }
-    ensures app { IfOk result
-        (λ added. app_of added ≡ with_operating fulls.entry (app_of command.entry)) }
-    ensures globals { IfOk result (λ added. (out-Command added).has_globals ≡ false) }
-{
-    let full = choice_option(alloc, "full", "FULL", FULL_HELP, fulls);
-    let admin = text_option(alloc, "admin", "ADDR", ADMIN_HELP);
-    let until_eof = flag_option(alloc, "until-eof", UNTIL_EOF_HELP);
-    command.arg(full)?.arg(admin)?.arg(until_eof)
+// The subcommand with the options of who runs the server.
+fn with_operating<'a>(alloc: Global, command: Command<'a>) -> Result<Command<'a>, AllocError> {
+    let fulls = FULL_NAMES.as_slice();
+    command
+        .arg(choice_option(alloc, "full", "FULL", FULL_HELP, fulls))?
+        .arg(text_option(alloc, "admin", "ADDR", ADMIN_HELP))?
+        .arg(flag_option(alloc, "until-eof", UNTIL_EOF_HELP))
 }

@@ -1,15 +1,11 @@
 //! The words of the command line, and the job that they ask for.
 
-ghost use Rattle.std.specs.Prelude.{◌≡◌, ◌≤◌, ◌&&◌, ℕ, List, [], ◌∷◌, IfOk, IfErr, IfSome, is_some, map, option_map, codes};
-ghost use Rattle.std.specs.Str.Parse.{without_leading_plus};
-ghost use Rattle.std.specs.String.{string_bytes};
-ghost use Rattle.clap.specs.Words.{first_of, found_of, kind_of, rows_of, subcommand_rows_of};
-ghost use Rattle.mlt_cli.specs.CommandLine.{AreWithinDay, AskFor, FailsAt, IsFileWord, IsWithinBounds, IsWithinLimit, SaysVerbose, Subcommand, are_endless_and_limited, asked_by, asked_in, asked_of, check_in, connections_in, connections_of, form_of_check, form_of_operating, form_of_run, form_of_schedule, form_of_serve, form_of_work, full_in, full_named, has_both, has_flag, hash_named, is_verbose_in, kind_of_want, number_named, number_of_digits, operating_in, run_in, schedule_in, seconds_in, serve_in, subcommand_name, table_named, tables_in, times_in, tries_in, with_input, work_in};
-ghost use Rattle.mlt_cli.specs.CommandLine.Subcommand.{solo};
+ghost use Rattle.std.specs.Prelude.{◌≤◌, IfOk, IfSome};
+ghost use Rattle.mlt_cli.specs.CommandLine.{AreWithinDay, IsWithinBounds, IsWithinLimit};
 
 use crate::commands::mltx_command;
 use clap::error::ErrorKind;
-use clap::{ArgMatches, Error};
+use clap::{ArgMatches, Command, Error};
 use mlt_object_tables::TableName;
 use std::alloc::{AllocError, Global};
 
@@ -145,17 +141,8 @@ pub struct CommandLine {
     pub verbose: bool,
 }
 
-// The names of the hash functions.
-static HASH_NAMES: [&str; 2] = ["mult", "low"];
-
-// The names of the conflict tables.
-static TABLE_NAMES: [&str; 3] = ["account", "set", "counter"];
-
 // What is said where connections are to be without end, and limited too.
 const ENDLESS_AND_LIMITED: &str = "the argument '--endless' cannot be used with '--limit <N>'";
-
-// The names of what a client finds while all sessions are taken.
-static FULL_NAMES: [&str; 2] = ["wait", "refuse"];
 
 /// The job that the words after the program's name ask for, and whether they have `-v` or `--verbose`. With no words it is
 /// `solo -`.
@@ -163,38 +150,8 @@ static FULL_NAMES: [&str; 2] = ["wait", "refuse"];
 /// # Errors
 /// `clap`'s own, where the words ask for help or the version or are wrong, or memory runs out.
 pub fn read_words(alloc: Global, words: &[String]) -> Result<CommandLine, Error>
-    // with no words standard input is run, if there is memory
-    ensures none { words.now ≡ []
-        → IfOk result (λ line. asked_of line.job ≡ with_input solo (codes "-")) }
-    ensures none_err { words.now ≡ []
-        → IfErr result (λ error. kind_of error ≡ ErrorKind.OutOfMemory) }
-    // after a subcommand a file or an address goes as it stands, if there is memory
-    ensures input { (subcommand : Subcommand) (input : List ℕ)
-        → map string_bytes words.now ≡ subcommand_name subcommand ∷ input ∷ [] → IsFileWord input
-        → IfOk result (λ line. asked_of line.job ≡ with_input subcommand input) }
-    ensures input_err { (subcommand : Subcommand) (input : List ℕ)
-        → map string_bytes words.now ≡ subcommand_name subcommand ∷ input ∷ [] → IsFileWord input
-        → IfErr result (λ error. kind_of error ≡ ErrorKind.OutOfMemory) }
-    // the job is the one that `clap` finds in the words, and it finds nothing wrong with them
-    ensures ok { IfOk result (λ line.
-        AskFor (map string_bytes words.now) (asked_of line.job)) }
-    // its numbers are within their bounds
+    // each number is in its range
     ensures bounds { IfOk result (λ line. IsWithinBounds line.job) }
-    // the flag is told where `clap` finds it, before the subcommand or behind it
-    ensures verbose { IfOk result (λ line.
-        SaysVerbose (map string_bytes words.now) line.verbose) }
-    // an error is of a kind that the words call for, or memory ran out
-    ensures err { IfErr result (λ error. FailsAt (map string_bytes words.now) error) }
-{
-    read_job(alloc, words)
-}
-
-fn read_job(alloc: Global, words: &[String]) -> Result<CommandLine, Error>
-    ensures ok { IfOk result (λ line. AskFor (map string_bytes words.now) (asked_of line.job)) }
-    ensures bounds { IfOk result (λ line. IsWithinBounds line.job) }
-    ensures verbose { IfOk result (λ line.
-        SaysVerbose (map string_bytes words.now) line.verbose) }
-    ensures err { IfErr result (λ error. FailsAt (map string_bytes words.now) error) }
 {
     if words.is_empty() {
         return Ok(CommandLine {
@@ -202,23 +159,32 @@ fn read_job(alloc: Global, words: &[String]) -> Result<CommandLine, Error>
             verbose: false,
         });
     }
-    let names = HASH_NAMES.as_slice();
-    let tables = TABLE_NAMES.as_slice();
-    let mut command = mltx_command(alloc, names, tables, FULL_NAMES.as_slice())?;
+    read_by(alloc, &mut mltx_command(alloc)?, words)
+}
+
+// What the words ask for by the program's description.
+fn read_by<'a>(
+    alloc: Global,
+    command: &mut Command<'a>,
+    words: &'a [String],
+) -> Result<CommandLine, Error>
+    ensures { IfOk result (λ line. IsWithinBounds line.job) }
+{
     let matches = command.try_get_matches_from_mut(words)?;
-    let verbose = is_verbose_in(&matches);
     match job_in(alloc, &matches)? {
-        Some(job) => Ok(CommandLine { job, verbose }),
+        Some(job) => Ok(CommandLine {
+            job,
+            verbose: is_verbose_in(&matches),
+        }),
         None => {
-            let kind = kind_of_want(&matches);
-            Err(command.error(kind, text_of_want(kind))?)
+            let (kind, text) = want_of(&matches);
+            Err(command.error(kind, text)?)
         }
     }
 }
 
 fn standard_input(alloc: Global) -> Result<Job, AllocError>
-    ensures asked { IfOk result (λ job. asked_of job ≡ with_input solo (codes "-")) }
-    ensures bounds { IfOk result IsWithinBounds }
+    ensures { IfOk result IsWithinBounds }
 {
     Ok(Job::Solo(Run {
         input: String::from_str(alloc, "-")?,
@@ -228,61 +194,30 @@ fn standard_input(alloc: Global) -> Result<Job, AllocError>
 }
 
 // Whether the flag stands before the subcommand or behind it.
-fn is_verbose_in(matches: &ArgMatches<'_>) -> bool
-    ensures { result
-        ≡ is_verbose_in (rows_of (found_of matches.now)) (subcommand_rows_of matches.now) }
-{
+fn is_verbose_in(matches: &ArgMatches<'_>) -> bool {
     match matches.subcommand() {
         Some((_, found)) => flag_found(matches, "verbose") || flag_found(found, "verbose"),
         None => flag_found(matches, "verbose"),
     }
 }
 
-// Of which kind the error is where no job is found.
-fn kind_of_want(matches: &ArgMatches<'_>) -> ErrorKind
-    ensures { result ≡ kind_of_want (subcommand_rows_of matches.now) }
-{
-    if are_endless_and_limited(matches) {
-        ErrorKind::ArgumentConflict
-    } else {
-        ErrorKind::MissingRequiredArgument
-    }
-}
-
-// What is said where no job is found and the error is of this kind.
-fn text_of_want(kind: ErrorKind) -> &'static str {
-    match kind {
-        ErrorKind::ArgumentConflict => ENDLESS_AND_LIMITED,
-        _ => "an input is wanted",
+// Of which kind the error is where no job is found, and what is said.
+fn want_of(matches: &ArgMatches<'_>) -> (ErrorKind, &'static str) {
+    match matches.subcommand() {
+        Some((_, found)) if is_endless_and_limited(found) => {
+            (ErrorKind::ArgumentConflict, ENDLESS_AND_LIMITED)
+        }
+        _ => (ErrorKind::MissingRequiredArgument, "an input is wanted"),
     }
 }
 
 // Whether connections are to be without end, and limited too.
-fn are_endless_and_limited(matches: &ArgMatches<'_>) -> bool
-    ensures { result ≡ are_endless_and_limited (subcommand_rows_of matches.now) }
-{
-    match matches.subcommand() {
-        Some((_, found)) => has_both(found),
-        None => false,
-    }
-}
-
-fn has_both(found: &ArgMatches<'_>) -> bool
-    ensures { result ≡ has_both (rows_of (found_of found.now)) }
-{
-    are_both(flag_found(found, "endless"), limit_found(found))
-}
-
-fn are_both(endless: bool, limit: Option<&str>) -> bool
-    ensures { result ≡ (endless && is_some (option_map (λ text. text.now) limit.entry)) }
-{
-    endless && limit.is_some()
+fn is_endless_and_limited(found: &ArgMatches<'_>) -> bool {
+    flag_found(found, "endless") && found.get_str("limit").is_some()
 }
 
 // Whether a flag was met.
-fn flag_found(found: &ArgMatches<'_>, id: &str) -> bool
-    ensures { result ≡ has_flag id.now (rows_of (found_of found.now)) }
-{
+fn flag_found(found: &ArgMatches<'_>, id: &str) -> bool {
     match found.get_str(id) {
         Some(text) => text == "true",
         None => false,
@@ -290,9 +225,7 @@ fn flag_found(found: &ArgMatches<'_>, id: &str) -> bool
 }
 
 fn job_in(alloc: Global, matches: &ArgMatches<'_>) -> Result<Option<Job>, AllocError>
-    ensures asked { IfOk result
-        (λ job. option_map asked_of job ≡ asked_in (subcommand_rows_of matches.now)) }
-    ensures bounds { IfOk result (λ job. IfSome job IsWithinBounds) }
+    ensures { IfOk result (λ job. IfSome job IsWithinBounds) }
 {
     match matches.subcommand() {
         Some((name, found)) => job_of(alloc, name, found),
@@ -301,31 +234,35 @@ fn job_in(alloc: Global, matches: &ArgMatches<'_>) -> Result<Option<Job>, AllocE
 }
 
 fn job_of(alloc: Global, name: &str, found: &ArgMatches<'_>) -> Result<Option<Job>, AllocError>
-    ensures asked { IfOk result
-        (λ job. option_map asked_of job ≡ asked_by name.now (rows_of (found_of found.now))) }
-    ensures bounds { IfOk result (λ job. IfSome job IsWithinBounds) }
+    ensures { IfOk result (λ job. IfSome job IsWithinBounds) }
 {
     if name == "solo" {
-        Ok(run_found(alloc, found)?.map(Job::Solo))
+        solo_found(alloc, found)
     } else if name == "steps" {
-        Ok(schedule_found(alloc, found)?.map(Job::Steps))
+        schedule_found(alloc, found)
     } else if name == "run" {
-        Ok(work_found(alloc, found)?.map(Job::Work))
+        work_found(alloc, found)
     } else if name == "check" {
-        Ok(check_found(alloc, found)?.map(Job::Check))
+        check_found(alloc, found)
     } else if name == "serve" {
-        Ok(serve_found(alloc, found)?.map(Job::Serve))
+        serve_found(alloc, found)
     } else if name == "tables" {
-        Ok(tables_found(found).map(Job::Tables))
+        Ok(tables_found(found))
     } else {
         Ok(None)
     }
 }
 
-fn run_found(alloc: Global, found: &ArgMatches<'_>) -> Result<Option<Run>, AllocError>
-    ensures { IfOk result
-        (λ run. option_map form_of_run run ≡ run_in (rows_of (found_of found.now))) }
+fn solo_found(alloc: Global, found: &ArgMatches<'_>) -> Result<Option<Job>, AllocError>
+    ensures { IfOk result (λ job. IfSome job IsWithinBounds) }
 {
+    let Some(run) = run_found(alloc, found)? else {
+        return Ok(None);
+    };
+    Ok(Some(Job::Solo(run)))
+}
+
+fn run_found(alloc: Global, found: &ArgMatches<'_>) -> Result<Option<Run>, AllocError> {
     let Some(input) = text_found(alloc, found, "input")? else {
         return Ok(None);
     };
@@ -336,33 +273,28 @@ fn run_found(alloc: Global, found: &ArgMatches<'_>) -> Result<Option<Run>, Alloc
     Ok(Some(Run { input, hash, trace }))
 }
 
-fn schedule_found(alloc: Global, found: &ArgMatches<'_>) -> Result<Option<Schedule>, AllocError>
-    ensures { IfOk result (λ schedule.
-        option_map form_of_schedule schedule ≡ schedule_in (rows_of (found_of found.now))) }
+fn schedule_found(alloc: Global, found: &ArgMatches<'_>) -> Result<Option<Job>, AllocError>
+    ensures { IfOk result (λ job. IfSome job IsWithinBounds) }
 {
     let Some(run) = run_found(alloc, found)? else {
         return Ok(None);
     };
     let explains = flag_found(found, "explain");
-    Ok(Some(Schedule { run, explains }))
+    Ok(Some(Job::Steps(Schedule { run, explains })))
 }
 
-fn check_found(alloc: Global, found: &ArgMatches<'_>) -> Result<Option<Check>, AllocError>
-    ensures { IfOk result
-        (λ check. option_map form_of_check check ≡ check_in (rows_of (found_of found.now))) }
+fn check_found(alloc: Global, found: &ArgMatches<'_>) -> Result<Option<Job>, AllocError>
+    ensures { IfOk result (λ job. IfSome job IsWithinBounds) }
 {
     let Some(input) = text_found(alloc, found, "input")? else {
         return Ok(None);
     };
     let is_long = flag_found(found, "long");
-    Ok(Some(Check { input, is_long }))
+    Ok(Some(Job::Check(Check { input, is_long })))
 }
 
-fn work_found(alloc: Global, found: &ArgMatches<'_>) -> Result<Option<Work>, AllocError>
-    ensures asked { IfOk result
-        (λ work. option_map form_of_work work ≡ work_in (rows_of (found_of found.now))) }
-    ensures bounds { IfOk result
-        (λ work. IfSome work (λ work. IsWithinBounds (Job.Work work))) }
+fn work_found(alloc: Global, found: &ArgMatches<'_>) -> Result<Option<Job>, AllocError>
+    ensures { IfOk result (λ job. IfSome job IsWithinBounds) }
 {
     let Some(run) = run_found(alloc, found)? else {
         return Ok(None);
@@ -373,18 +305,15 @@ fn work_found(alloc: Global, found: &ArgMatches<'_>) -> Result<Option<Work>, All
     let Some(tries) = tries_found(found) else {
         return Ok(None);
     };
-    Ok(Some(Work {
+    Ok(Some(Job::Work(Work {
         run,
         workers: workers as usize,
         tries,
-    }))
+    })))
 }
 
-fn serve_found(alloc: Global, found: &ArgMatches<'_>) -> Result<Option<Serve>, AllocError>
-    ensures asked { IfOk result
-        (λ serve. option_map form_of_serve serve ≡ serve_in (rows_of (found_of found.now))) }
-    ensures bounds { IfOk result
-        (λ serve. IfSome serve (λ serve. IsWithinBounds (Job.Serve serve))) }
+fn serve_found(alloc: Global, found: &ArgMatches<'_>) -> Result<Option<Job>, AllocError>
+    ensures { IfOk result (λ job. IfSome job IsWithinBounds) }
 {
     let Some(run) = run_found(alloc, found)? else {
         return Ok(None);
@@ -405,7 +334,7 @@ fn serve_found(alloc: Global, found: &ArgMatches<'_>) -> Result<Option<Serve>, A
         return Ok(None);
     };
     let operating = operating_found(alloc, found)?;
-    Ok(Some(Serve {
+    Ok(Some(Job::Serve(Serve {
         run,
         sessions: sessions as usize,
         connections,
@@ -413,28 +342,26 @@ fn serve_found(alloc: Global, found: &ArgMatches<'_>) -> Result<Option<Serve>, A
         times,
         full,
         operating,
-    }))
+    })))
 }
 
-// How many connections there are; None where both a limit is given and none is to be.
+// As many connections as the limit says, or as come; one where neither is asked for, and None where both are.
 fn connections_found(found: &ArgMatches<'_>) -> Option<Connections>
-    ensures connections { result ≡ connections_in (rows_of (found_of found.now)) }
-    ensures within { IfSome result IsWithinLimit }
+    ensures { IfSome result IsWithinLimit }
 {
-    connections_of(flag_found(found, "endless"), limit_found(found))
-}
-
-// The limit as it stands on the command line, if there is one.
-fn limit_found<'a>(found: &'a ArgMatches<'_>) -> Option<&'a str>
-    ensures { option_map (λ text. text.now) result
-        ≡ first_of (codes "limit") (rows_of (found_of found.now)) }
-{
-    found.get_str("limit")
+    match (flag_found(found, "endless"), found.get_str("limit")) {
+        (true, Some(_)) => None,
+        (true, None) => Some(Connections::Endless),
+        (false, Some(word)) => {
+            let limit = number_of(word, 1, 1_000_000)?;
+            Some(Connections::Limit(limit as u32))
+        }
+        (false, None) => Some(Connections::Limit(1)),
+    }
 }
 
 fn times_found(found: &ArgMatches<'_>) -> Option<Times>
-    ensures times { result ≡ times_in (rows_of (found_of found.now)) }
-    ensures within { IfSome result AreWithinDay }
+    ensures { IfSome result AreWithinDay }
 {
     let idle = seconds_found(found, "idle")?;
     let wait = seconds_found(found, "wait")?;
@@ -446,34 +373,26 @@ fn times_found(found: &ArgMatches<'_>) -> Option<Times>
     })
 }
 
-fn full_found(found: &ArgMatches<'_>) -> Option<Full>
-    ensures { result ≡ full_in (rows_of (found_of found.now)) }
-{
+fn full_found(found: &ArgMatches<'_>) -> Option<Full> {
     full_of(found.get_str("full"))
 }
 
-fn operating_found(alloc: Global, found: &ArgMatches<'_>) -> Result<OperatorOptions, AllocError>
-    ensures { IfOk result
-        (λ operating. form_of_operating operating ≡ operating_in (rows_of (found_of found.now))) }
-{
+fn operating_found(alloc: Global, found: &ArgMatches<'_>) -> Result<OperatorOptions, AllocError> {
     let admin = text_found(alloc, found, "admin")?;
     let until_eof = flag_found(found, "until-eof");
     Ok(OperatorOptions { admin, until_eof })
 }
 
-// The table that is named, if one is; None where there is none of the name.
-fn tables_found(found: &ArgMatches<'_>) -> Option<Option<TableName>>
-    ensures { result ≡ tables_in (rows_of (found_of found.now)) }
+fn tables_found(found: &ArgMatches<'_>) -> Option<Job>
+    ensures { IfSome result IsWithinBounds }
 {
     match found.get_str("table") {
-        Some(name) => table_of(name).map(Some),
-        None => Some(None),
+        Some(name) => Some(Job::Tables(Some(table_of(name)?))),
+        None => Some(Job::Tables(None)),
     }
 }
 
-fn table_of(name: &str) -> Option<TableName>
-    ensures { result ≡ table_named name.now }
-{
+fn table_of(name: &str) -> Option<TableName> {
     if name == "account" {
         Some(TableName::Account)
     } else if name == "set" {
@@ -485,10 +404,11 @@ fn table_of(name: &str) -> Option<TableName>
     }
 }
 
-fn text_found(alloc: Global, found: &ArgMatches<'_>, id: &str) -> Result<Option<String>, AllocError>
-    ensures { IfOk result
-        (λ text. option_map string_bytes text ≡ first_of id.now (rows_of (found_of found.now))) }
-{
+fn text_found(
+    alloc: Global,
+    found: &ArgMatches<'_>,
+    id: &str,
+) -> Result<Option<String>, AllocError> {
     match found.get_str(id) {
         Some(text) => Ok(Some(String::from_str(alloc, text)?)),
         None => Ok(None),
@@ -496,16 +416,14 @@ fn text_found(alloc: Global, found: &ArgMatches<'_>, id: &str) -> Result<Option<
 }
 
 fn tries_found(found: &ArgMatches<'_>) -> Option<u64>
-    ensures number { result ≡ tries_in (rows_of (found_of found.now)) }
-    ensures within { IfSome result (λ number. (1 ≤ number) × (number ≤ 1000000)) }
+    ensures { IfSome result (λ number. (1 ≤ number) × (number ≤ 1000000)) }
 {
     number_found(found, "tries", 1, 1_000_000, 10_000)
 }
 
 // The seconds that an option gives, at most a day, and 0 where it is not given.
 fn seconds_found(found: &ArgMatches<'_>, id: &str) -> Option<u64>
-    ensures number { result ≡ seconds_in id.now (rows_of (found_of found.now)) }
-    ensures within { IfSome result (λ seconds. seconds ≤ 86400) }
+    ensures { IfSome result (λ seconds. seconds ≤ 86400) }
 {
     number_found(found, id, 0, 86_400, 0)
 }
@@ -514,9 +432,7 @@ fn seconds_found(found: &ArgMatches<'_>, id: &str) -> Option<u64>
 fn number_found(found: &ArgMatches<'_>, id: &str, least: u64, most: u64, usual: u64) -> Option<u64>
     requires least { least ≤ usual }
     requires most { usual ≤ most }
-    ensures number { result
-        ≡ number_named least most usual (first_of id.now (rows_of (found_of found.now))) }
-    ensures within { IfSome result (λ number. (least ≤ number) × (number ≤ most)) }
+    ensures { IfSome result (λ number. (least ≤ number) × (number ≤ most)) }
 {
     match found.get_str(id) {
         Some(word) => number_of(word, least, most),
@@ -526,8 +442,7 @@ fn number_found(found: &ArgMatches<'_>, id: &str, least: u64, most: u64, usual: 
 
 // The number that a word writes, if it lies within these bounds.
 fn number_of(word: &str, least: u64, most: u64) -> Option<u64>
-    ensures number { result ≡ number_of_digits least most (without_leading_plus word.now) }
-    ensures within { IfSome result (λ number. (least ≤ number) × (number ≤ most)) }
+    ensures { IfSome result (λ number. (least ≤ number) × (number ≤ most)) }
 {
     match word.parse::<u64>() {
         Ok(number) if least <= number && number <= most => Some(number),
@@ -536,9 +451,7 @@ fn number_of(word: &str, least: u64, most: u64) -> Option<u64>
 }
 
 // The hash function of this name, and `Mult` where none is given.
-fn hash_of(name: Option<&str>) -> Option<Hash>
-    ensures { result ≡ hash_named (option_map (λ name. name.now) name.entry) }
-{
+fn hash_of(name: Option<&str>) -> Option<Hash> {
     match name {
         None => Some(Hash::Mult),
         Some(name) if name == "mult" => Some(Hash::Mult),
@@ -547,27 +460,8 @@ fn hash_of(name: Option<&str>) -> Option<Hash>
     }
 }
 
-// As many connections as the limit says, or as come; one where neither is asked for, and None where both are.
-fn connections_of(endless: bool, limit: Option<&str>) -> Option<Connections>
-    ensures connections { result
-        ≡ connections_of endless (option_map (λ text. text.now) limit.entry) }
-    ensures within { IfSome result IsWithinLimit }
-{
-    match (endless, limit) {
-        (true, Some(_)) => None,
-        (true, None) => Some(Connections::Endless),
-        (false, Some(word)) => {
-            let limit = number_of(word, 1, 1_000_000)?;
-            Some(Connections::Limit(limit as u32))
-        }
-        (false, None) => Some(Connections::Limit(1)),
-    }
-}
-
 // What a client finds by this name, and `Wait` where none is given.
-fn full_of(name: Option<&str>) -> Option<Full>
-    ensures { result ≡ full_named (option_map (λ name. name.now) name.entry) }
-{
+fn full_of(name: Option<&str>) -> Option<Full> {
     match name {
         None => Some(Full::Wait),
         Some(name) if name == "wait" => Some(Full::Wait),

@@ -1,3 +1,0 @@
-mod Names
-pub mod Asked
-pub mod Numbers
