@@ -127,6 +127,7 @@ def counts_are_what_clients_did(mltx):
             with server.connect() as third:
                 third.send("begin\n")
                 comes(server, "/status", lambda told: (told["sessions"], told["queued"]) == (2, 1), "a client is queued")
+                holds(b"\nmltx_queued_connections 1\n" in answer(server, "/metrics")[2], "a client is queued, as metrics tell it")
                 time.sleep(1.1)
                 holds(1 <= counts(server, "seconds")["seconds"] <= 1 + 2 * SLACK, "the seconds after more than one")
                 says(other, "quit", "bye")
@@ -197,37 +198,122 @@ def note_on_pages_that_get_few(mltx):
         expect(server.end(said=""), out="served 2\n", notes=[note])
 
 
-NAMED = {
-    "mltx_uptime_seconds": "seconds", "mltx_history_bytes": "bytes", "mltx_history_items": "items",
-    "mltx_connections_total": "connections", "mltx_transactions_begun_total": "begun",
-}
+# What a server tells once `busy` has made these numbers, each another one but for two zeros. Seconds and events are not known.
+STATUS_TEXT = (
+    '{"seconds":SECONDS,"sessions":6,"session_threads":7,"queued":0,"connections":8,"limit":77,"open":5,"begun":24,'
+    '"operations":14,"commits":10,"aborts":9,"gave_up":3,"deadlocks":2,"events":EVENTS,"items":59,"bytes":3744,"pages":4,'
+    '"most_pages":70000,"depth":1,"stopping":0}\n'
+)
+
+METRICS_TEXT = """\
+# HELP mltx_uptime_seconds Seconds since the server listens.
+# TYPE mltx_uptime_seconds gauge
+mltx_uptime_seconds SECONDS
+# HELP mltx_sessions Connections that are served.
+# TYPE mltx_sessions gauge
+mltx_sessions 6
+# HELP mltx_session_threads Threads that serve sessions.
+# TYPE mltx_session_threads gauge
+mltx_session_threads 7
+# HELP mltx_queued_connections Connections that are accepted and not yet served.
+# TYPE mltx_queued_connections gauge
+mltx_queued_connections 0
+# HELP mltx_connections_total Connections that were accepted.
+# TYPE mltx_connections_total counter
+mltx_connections_total 8
+# HELP mltx_connection_limit How many connections are accepted in all.
+# TYPE mltx_connection_limit gauge
+mltx_connection_limit 77
+# HELP mltx_open_transactions Transactions that are open.
+# TYPE mltx_open_transactions gauge
+mltx_open_transactions 5
+# HELP mltx_transactions_begun_total Transactions that were begun.
+# TYPE mltx_transactions_begun_total counter
+mltx_transactions_begun_total 24
+# HELP mltx_operations_total Operations that were done.
+# TYPE mltx_operations_total counter
+mltx_operations_total 14
+# HELP mltx_commits_total Transactions that committed.
+# TYPE mltx_commits_total counter
+mltx_commits_total 10
+# HELP mltx_aborts_total Transactions that aborted.
+# TYPE mltx_aborts_total counter
+mltx_aborts_total 9
+# HELP mltx_gave_up_total Operations that were given up.
+# TYPE mltx_gave_up_total counter
+mltx_gave_up_total 3
+# HELP mltx_deadlocks_total Operations that were given up to end a circle of waits.
+# TYPE mltx_deadlocks_total counter
+mltx_deadlocks_total 2
+# HELP mltx_events_total Events of the manager.
+# TYPE mltx_events_total counter
+mltx_events_total EVENTS
+# HELP mltx_history_items Items of the history.
+# TYPE mltx_history_items gauge
+mltx_history_items 59
+# HELP mltx_history_bytes Bytes that the history and the outcomes take.
+# TYPE mltx_history_bytes gauge
+mltx_history_bytes 3744
+# HELP mltx_pages Pages that are there.
+# TYPE mltx_pages gauge
+mltx_pages 4
+# HELP mltx_most_pages How many pages there may be.
+# TYPE mltx_most_pages gauge
+mltx_most_pages 70000
+# HELP mltx_directory_depth Depth of the directory.
+# TYPE mltx_directory_depth gauge
+mltx_directory_depth 1
+# HELP mltx_stopping Whether the server was told to end: 1, or 0.
+# TYPE mltx_stopping gauge
+mltx_stopping 0
+"""
 
 
-@test
-def metrics_line_by_line(mltx):
-    """Each number has its words, its kind and its value, and a name of its own; they are those of the status."""
-    with operated(mltx) as server, server.connect() as peer:
-        for line in WORK:
-            peer.ask(line)
-        comes(server, "/status", lambda told: told["session_threads"] == 8, "all session threads run")
+@contextmanager
+def busy(server):
+    """What STATUS_TEXT tells, as long as the block lasts, of a server with `--sessions 7 --hash low --wait 2 --limit 77`."""
+    # Nine accounts, of which the last one has the directory double: a header, a page of the directory and two buckets.
+    opens = [f"open {account}" for account in (*range(8), 32_768)]
+    lines = ["begin", *opens, "commit", *9 * ["begin", "commit"], *7 * ["begin", "abort"], "quit"]
+    server.talk("".join(line + "\n" for line in lines))
+    server.talk("quit\n")
+    comes(server, "/status", lambda told: (told["sessions"], told["session_threads"]) == (0, 7), "the first two have left")
+    with ExitStack() as open_ones:
+        one, other, *more = [open_ones.enter_context(server.connect()) for _ in range(6)]
+        says(one, "begin", "begun 18", "deposit 1 5", "done")
+        for begun, account in ((19, 2), (20, 3)):
+            # A circle, which the youngest gives up.
+            says(other, "begin", f"begun {begun}", f"deposit {account} 5", "done")
+            one.send(f"balance {account}\n")
+            says_nothing(one, "the account is held")
+            says(other, "balance 1", "error 14 GaveUp", "abort", "aborted")
+            same(one.line(), "is 0", "the one that goes on")
+        # One that waits for too long.
+        says(other, "begin", "begun 21", "balance 1", "error 14 GaveUp")
+        for begun, peer in enumerate(more[1:], 22):
+            says(peer, "begin", f"begun {begun}")
+        same(more[0].ask("foo"), "error 10 ScriptFault", "one without a transaction")
+        # The history has 11 items of the first transaction, 2 of each of the next 16, 4 of each that gave up, and 8 of those that
+        # are open. An item takes 32 bytes, the end of one of 19 transactions 80, and one of 14 operations 24.
+        yield
+
+
+@test(seconds=4)
+def numbers_as_texts(mltx):
+    """Byte by byte, as JSON and as Prometheus reads them; seconds and events are numbers that may be."""
+    with operated(mltx, "--sessions", 7, "--hash", "low", "--wait", 2, limit=77) as server, busy(server):
         told = asked(server, "/status")
-        status, kind, body = answer(server, "/metrics")
-        if asked(server, "/status")["seconds"] != told["seconds"]:
-            told = asked(server, "/status")
-            status, kind, body = answer(server, "/metrics")
-    same((status, kind, body[-1:]), (200, "text/plain; version=0.0.4; charset=utf-8", b"\n"), "the answer")
-    rows, found, kinds = body.decode().splitlines(), {}, {}
-    same(len(rows), 3 * len(NUMBERS), "how many lines there are")
-    for help_line, type_line, value_line in zip(rows[::3], rows[1::3], rows[2::3], strict=True):
-        name, value = re.fullmatch(r"(mltx_[a-z_]+) ([0-9]+)", value_line).groups()
-        holds(re.fullmatch(f"# HELP {name} \\S.*", help_line), help_line)
-        kinds[name] = re.fullmatch(f"# TYPE {name} (gauge|counter)", type_line)[1]
-        same(kinds[name] == "counter", name.endswith("_total"), f"the kind of {name}")
-        holds(name not in found, f"{name} comes twice")
-        found[name] = int(value)
-    same(list(kinds.values()).count("counter"), 8, f"how many counters there are among {kinds}")
-    same({name: found.get(name) for name in NAMED}, {name: told[of] for name, of in NAMED.items()}, "those with a known name")
-    same(sorted(found.values()), sorted(told.values()), "the values")
+        (*status, json_text), (*metrics, metrics_text) = [answer(server, path) for path in ("/status", "/metrics")]
+        most_seconds = asked(server, "/status")["seconds"]
+    same((status, metrics), ([200, JSON], [200, "text/plain; version=0.0.4; charset=utf-8"]), "the answers")
+    holds(2 <= told["seconds"] <= 4 * SLACK, f"{told['seconds']} seconds")
+    # Each transaction has a begin, 19 an end, and each operation at least a call and a step.
+    holds(told["events"] > 24 + 19 + 2 * 14, f"{told['events']} events")
+    for name, body, text in (("/status", json_text, STATUS_TEXT), ("/metrics", metrics_text, METRICS_TEXT)):
+        found = re.search('("seconds":|\nmltx_uptime_seconds )([0-9]+)', body.decode())
+        holds(found and told["seconds"] <= int(found[2]) <= most_seconds, f"{name} tells {found} as seconds")
+        wanted = text.replace("SECONDS", found[2]).replace("EVENTS", str(told["events"]))
+        same((body.decode().splitlines(), body[-1:]), (wanted.splitlines(), b"\n"), name)
 
 
 def wait(waiter, client, holder, why, operation):
@@ -342,6 +428,82 @@ def sessions_tell_what_transactions_did(mltx):
             same(session_rows(server), {1: transaction(3, 0, []), 3: None}, "once one has left")
 
 
+# The rows of `/waits` and of `/sessions`, at a moment of four clients, without their milliseconds.
+WAIT_TEXTS = [
+    '{"waiter":2,"client":3,"holder":1,"for":"object","operation":"read 7171","milliseconds":N}',
+    '{"waiter":3,"client":2,"holder":2,"for":"turn","operation":"up 7171 9","milliseconds":N}',
+]
+SESSION_TEXTS = [
+    '{"client":1,"milliseconds":N,"transaction":null}',
+    '{"client":2,"milliseconds":N,"transaction":{"number":3,"milliseconds":N,"operations":0,"did":[],"calls":"up 7171 9"}}',
+    '{"client":3,"milliseconds":N,"transaction":{"number":2,"milliseconds":N,"operations":1,"did":["add 33 4444 added"],'
+    '"calls":"read 7171"}}',
+    '{"client":4,"milliseconds":N,"transaction":{"number":1,"milliseconds":N,"operations":3,"did":["deposit 4242 5 missing",'
+    '"up 7171 3 done","size 34 is 0"],"calls":null}}',
+]
+
+
+def rows_as_text(server, path, before, rows):
+    """Compares what a path tells with rows, which come in any order."""
+    status, kind, body = answer(server, path)
+    same((status, kind), (200, JSON), path)
+    text = re.sub('"milliseconds":[0-9]+', '"milliseconds":N', body.decode())
+    holds(text in [f'{{"{before}":[{",".join(some)}]}}\n' for some in itertools.permutations(rows)], f"{path} tells {text}")
+
+
+@test
+def waits_and_sessions_as_texts(mltx):
+    """Byte by byte: none of either, and then an operation of each kind of thing, with a number and without one."""
+    with operated(mltx) as server, ExitStack() as open_ones:
+        rows_as_text(server, "/waits", "waits", [])
+        rows_as_text(server, "/sessions", "sessions", [])
+        _silent, third, waiter, holder = [open_ones.enter_context(served(server)) for _ in range(4)]
+        says(holder, "begin", "begun 1", "deposit 4242 5", "missing", "up 7171 3", "done", "size 34", "is 0")
+        says(waiter, "begin", "begun 2", "add 33 4444", "added")
+        waiter.send("read 7171\n")
+        comes(server, "/waits", lambda told: told["waits"], "one waits")
+        says(third, "begin", "begun 3")
+        third.send("up 7171 9\n")
+        comes(server, "/waits", lambda told: len(told["waits"]) == 2, "two wait")
+        rows_as_text(server, "/waits", "waits", WAIT_TEXTS)
+        rows_as_text(server, "/sessions", "sessions", SESSION_TEXTS)
+
+
+PAGE_WAIT_TEXT = (
+    r'\{"waiter":[0-9]+,"client":[0-8],"holder":[0-9]+,"for":"page","operation":(null|"(add|remove) [1-8] [0-9]"),'
+    r'"milliseconds":[0-9]+\}'
+)
+
+
+def add_and_remove(server, number, ended):
+    """A client that puts elements into a set of its own and takes them out, until it is told to end."""
+    with server.connect() as peer:
+        for element in itertools.cycle(range(10)):
+            if ended.is_set():
+                return
+            peer.send(f"begin\nadd {number} {element}\nremove {number} {element}\ncommit\n")
+            same([peer.line() for _ in range(4)][1:3], ["added", "removed"], "a client")
+
+
+@test(seconds=1)
+def wait_for_a_page_as_text(mltx):
+    """Eight clients that work on the same pages wait for each other's operations. Whose wait has just begun may not be
+    known to be of a client, nor what it has called."""
+    ended = threading.Event()
+    with operated(mltx, "--sessions", 8) as server, ThreadPoolExecutor(8) as threads:
+        working = [threads.submit(add_and_remove, server, number, ended) for number in range(1, 9)]
+        try:
+            deadline, text = time.monotonic() + PATIENCE, ""
+            while '"page"' not in text:
+                holds(time.monotonic() < deadline, f"nobody waited for a page: {text}")
+                text = answer(server, "/waits")[2].decode()
+        finally:
+            ended.set()
+        for one in working:
+            one.result()
+    holds(re.fullmatch(rf'\{{"waits":\[{PAGE_WAIT_TEXT}(,{PAGE_WAIT_TEXT})*\]\}}\n', text), text)
+
+
 # What is answered to anything else.
 
 
@@ -372,6 +534,34 @@ def other_requests_are_refused(mltx):
                 same(answer(server, path, "POST", headers)[0], 403, f"POST {path} with {headers}")
         says(peer, "begin", "begun 1", "up 1 1", "done")
         same(counts(server, "stopping", "sessions"), {"stopping": 0, "sessions": 1}, "the server")
+
+
+# What each other answer is: its status, a header of its own, its type and its body.
+NOTHING, ANOTHER, UNMARKED = "Nothing is here.\n", "This wants another method.\n", "This wants the header X-Mltx: 1.\n"
+ANSWERS = {
+    ("GET", "/nosuch"): ("404 Not Found", "", TEXT, NOTHING),
+    ("DELETE", "/status"): ("405 Method Not Allowed", "allow: GET\r\n", TEXT, ANOTHER),
+    ("GET", "/sessions/1/end"): ("405 Method Not Allowed", "allow: POST\r\n", TEXT, ANOTHER),
+    ("POST", "/stop"): ("403 Forbidden", "", TEXT, UNMARKED),
+    ("POST X-Mltx: 1", "/sessions/9/end"): ("404 Not Found", "", TEXT, "No such client is served.\n"),
+    ("POST X-Mltx: 1", "/sessions/1/end"): ("200 OK", "", JSON, '{"ended":1}\n'),
+    ("POST X-Mltx: 1", "/stop"): ("200 OK", "", JSON, '{"stopping":true}\n'),
+}
+
+
+@test
+def other_answers_byte_by_byte(mltx):
+    """Their status, each of their headers and their body: those that refuse, and those to what is done."""
+    with operated(mltx) as server, served(server):
+        for (words, path), (status, allow, kind, body) in ANSWERS.items():
+            method, _, mark = words.partition(" ")
+            request = f"{method} {path} HTTP/1.1\r\nHost: here\r\n" + (f"{mark}\r\n\r\n" if mark else "\r\n")
+            with socket.create_connection(server.admin, PATIENCE) as operator:
+                operator.sendall(request.encode())
+                told = b"".join(iter(lambda: operator.recv(65_536), b""))
+            head = f"HTTP/1.1 {status}\r\nconnection: close\r\ncontent-type: {kind}\r\ncache-control: no-store\r\n"
+            wanted = f"{head}{allow}content-length: {len(body)}\r\n\r\n{body}"
+            same(told, wanted.encode(), f"{words} {path}")
 
 
 @test
@@ -498,6 +688,7 @@ def operator_sees_that_the_server_stops(mltx):
         began = time.monotonic()
         same(posted(server, "/stop"), (200, {"stopping": True}), "the command")
         same(counts(server, "stopping", "sessions"), {"stopping": 1, "sessions": 1}, "while it stops")
+        holds(b"\nmltx_stopping 1\n" in answer(server, "/metrics")[2], "it stops, as metrics tell it")
         same(posted(server, "/stop"), (200, {"stopping": True}), "the command again")
         ended = server.end(said="")
         took = time.monotonic() - began
@@ -529,9 +720,14 @@ def operators_at_once(mltx):
 # The page.
 
 
+def words_of(page):
+    """What a page shows, in one line."""
+    return " ".join(re.sub(r"(?s)<(script|style).*?</\1>|<[^>]*>", " ", page).split())
+
+
 @test
 def page_asks_nobody_else(mltx):
-    """It is one text, which names no other address."""
+    """It is one text, which names no other address; of its words these stand there before its script has run."""
     with operated(mltx) as server:
         status, kind, body = answer(server, "/")
     # The name of a kind of node is no address.
@@ -540,6 +736,7 @@ def page_asks_nobody_else(mltx):
     named = re.findall(r"""(?:src|href|action)\s*=\s*["']?([^"'\s>]*)|url\(([^)]*)\)|(@import|https?:|//[a-z]+\.)""", page)
     holds(all("".join(found).startswith(("data:", "#")) for found in named), f"the page names {named}")
     same([path for path in ("/status", "/sessions", "/waits") if path not in page], [], "what the page does not ask for")
+    same(words_of(page), "mltx mltx … Stop the server Who waits for whom Sessions Nobody is connected.", "the words")
 
 
 @test(seconds=8)
@@ -559,6 +756,6 @@ def page_in_a_browser(mltx):
         ran = subprocess.run([browser, *words], capture_output=True, timeout=PATIENCE)
         says(holder, "commit", "committed 1")
         same(waiter.line(), "is 3", "the one that waited")
-    shown = " ".join(re.sub(r"(?s)<(script|style).*?</\1>|<[^>]*>", " ", ran.stdout.decode(errors="replace")).split())
+    shown = words_of(ran.stdout.decode(errors="replace"))
     for words in ("read 7171", "deposit 4242 5 missing", "up 7171 3 done", "add 33 4444 added"):
         holds(words in shown, f"the page does not show {words!r}: {shown[-1500:]}")
