@@ -1,9 +1,4 @@
 pub mod Answers
-pub mod Figures
-pub mod Json
-pub mod Lists
-pub mod Metrics
 pub mod Resources
 pub mod Replies
 pub mod Routes
-pub mod Status

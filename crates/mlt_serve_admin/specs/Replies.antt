@@ -1,7 +1,7 @@
--- Replies to requests.
-use Rattle.std.specs.Prelude.{ℕ, List, [], ◌∷◌, codes}
+-- Replies to requests: their status and their headers.
+use Rattle.std.specs.Prelude.{◌≡◌, ℕ, List, [], ◌∷◌, codes}
 use Rattle.http_server.specs.declared.response.Response.{Response}
-use Rattle.http_server.specs.Response.{IsResponse}
+use Rattle.http_server.specs.Response.{fields_of}
 use Rattle.mlt_serve_admin.specs.declared.replies.Content.{Content}
 
 -- the content type of a body
@@ -19,6 +19,10 @@ headers_of content =
     ∷ (codes "cache-control", codes "no-store")
     ∷ []
 
--- the response is a reply with this status, of this content, with this body
-abbrev pub IsReply : ℕ → Content → List ℕ → Response → Type 0
-IsReply status content body response = IsResponse status (headers_of content) body response
+-- the response has this status and these headers, whatever its body is
+abbrev pub HasHead : ℕ → List (List ℕ × List ℕ) → Response → Type 0
+HasHead status headers response = (response.status ≡ status) × (fields_of response ≡ headers)
+
+-- the response is a reply with this status, of this content
+abbrev pub IsReply : ℕ → Content → Response → Type 0
+IsReply status content response = HasHead status (headers_of content) response

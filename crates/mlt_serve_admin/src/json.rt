@@ -1,158 +1,54 @@
-//! JSON of numbers, and of words that want no escape.
+//! What a server is, in JSON.
 
-ghost use Rattle.std.specs.Prelude.{◌≡◌, ◌∷◌, ◌++◌, ℕ, List, OnOk};
-ghost use Rattle.std.specs.List.{flat_map, join_by};
-ghost use Rattle.std.specs.String.{string_bytes};
-ghost use Rattle.mlt_serve_admin.specs.Json.{array, comma, member};
-
+use crate::view::{SessionView, WaitView};
 use mlt_object_kinds::{Done, ObjOp};
 use mlt_types::TxId;
-use std::alloc::AllocError;
+use serde::{Serialize, Serializer};
+use std::alloc::{AllocError, Global};
 
-/// What has a text in JSON.
-pub(crate) trait Json {
-    // its text
-    ghost json: { Self → List ℕ };
-
-    /// Appends its text.
-    fn push_json(&self, text: &mut String) -> Result<(), AllocError>
-        ensures { OnOk result (string_bytes text.new ≡ string_bytes text.old ++ json self.now) };
+/// Who waits for whom, as /waits tells it.
+#[derive(Clone, Copy, Serialize)]
+pub(crate) struct Waits<'a> {
+    pub(crate) waits: &'a [WaitView],
 }
 
-impl Json for u32 {
-    ghost use Rattle.std.specs.Fmt.{decimal};
-
-    ghost json = { decimal };
-
-    fn push_json(&self, text: &mut String) -> Result<(), AllocError> {
-        write!(text, "{self}")
-    }
+/// The sessions that are served, as /sessions tells them.
+#[derive(Clone, Copy, Serialize)]
+pub(crate) struct Sessions<'a> {
+    pub(crate) sessions: &'a [SessionView],
 }
 
-impl Json for u64 {
-    ghost use Rattle.std.specs.Fmt.{decimal};
-
-    ghost json = { decimal };
-
-    fn push_json(&self, text: &mut String) -> Result<(), AllocError> {
-        write!(text, "{self}")
-    }
-}
-
-impl Json for TxId {
-    ghost use Rattle.std.specs.Fmt.{decimal};
-
-    ghost json = { decimal };
-
-    fn push_json(&self, text: &mut String) -> Result<(), AllocError> {
-        self.0.push_json(text)
-    }
-}
-
-impl Json for ObjOp {
-    ghost use Rattle.mlt_serve_admin.specs.Json.{op_json};
-
-    ghost json = { op_json };
-
-    fn push_json(&self, text: &mut String) -> Result<(), AllocError> {
-        write!(text, "\"{self}\"")
-    }
-}
-
-impl Json for Done {
-    ghost use Rattle.mlt_serve_admin.specs.Json.{done_json};
-
-    ghost json = { done_json };
-
-    fn push_json(&self, text: &mut String) -> Result<(), AllocError> {
-        write!(text, "\"{self}\"")
-    }
-}
-
-impl<T: Json> Json for Option<T> {
-    ghost use Rattle.mlt_serve_admin.specs.Json.{or_null};
-
-    ghost json = { or_null T.json };
-
-    fn push_json(&self, text: &mut String) -> Result<(), AllocError> {
-        match self {
-            Some(value) => value.push_json(text),
-            None => text.push_str("null"),
-        }
-    }
-}
-
-impl<T: Json> Json for Vec<T> {
-    ghost use Rattle.mlt_serve_admin.specs.Json.{array};
-
-    ghost json = { λ values. array T.json values.items };
-
-    fn push_json(&self, text: &mut String) -> Result<(), AllocError> {
-        push_array(text, self.as_slice())
-    }
-}
-
-/// Appends a name and its value.
-#[tactic(auto, unfolding(crate::specs::Json::member))]
-pub(crate) fn push_member<T: Json>(
-    text: &mut String,
-    name: &str,
-    value: &T,
-) -> Result<(), AllocError>
-    ensures { OnOk result
-        (string_bytes text.new ≡ string_bytes text.old ++ member name.now (T.json value.now)) }
-{
-    write!(text, "\"{name}\":")?;
-    value.push_json(text)
-}
-
-/// Appends a comma.
-#[tactic(auto, unfolding(crate::specs::Json::comma))]
-pub(crate) fn push_comma(text: &mut String) -> Result<(), AllocError>
-    ensures { OnOk result (string_bytes text.new ≡ string_bytes text.old ++ comma) }
-{
-    text.push(',')
-}
-
-/// Appends a comma, a name and its value.
-pub(crate) fn push_next<T: Json>(text: &mut String, name: &str, value: &T) -> Result<(), AllocError>
-    ensures { OnOk result (string_bytes text.new
-        ≡ string_bytes text.old ++ (comma ++ member name.now (T.json value.now))) }
-{
-    push_comma(text)?;
-    push_member(text, name, value)
-}
-
-/// Appends values in brackets, with commas between them.
-pub(crate) fn push_array<T: Json>(text: &mut String, values: &[T]) -> Result<(), AllocError>
-    ensures { OnOk result
-        (string_bytes text.new ≡ string_bytes text.old ++ array T.json values.now) }
-{
-    text.push('[')?;
-    push_joined(text, values)?;
-    text.push(']')
-}
-
-// Appends values with commas between them.
-fn push_joined<T: Json>(text: &mut String, values: &[T]) -> Result<(), AllocError>
-    ensures { OnOk result (string_bytes text.new
-        ≡ string_bytes text.old ++ join_by T.json comma values.now) }
-{
-    let [first, rest @ ..] = values else {
-        return Ok(());
+/// A value as a line of JSON. It fails for want of memory alone.
+pub(crate) fn json_line<T: Serialize>(alloc: Global, value: &T) -> Result<String, AllocError> {
+    let Ok(mut text) = serde_json::to_string(alloc, value) else {
+        return Err(AllocError);
     };
-    first.push_json(text)?;
-    push_rest(text, rest)
+    text.push('\n')?;
+    Ok(text)
 }
 
-// Appends values, each behind a comma.
-fn push_rest<T: Json>(text: &mut String, values: &[T]) -> Result<(), AllocError>
-    ensures { OnOk result (string_bytes text.new
-        ≡ string_bytes text.old ++ flat_map (λ value. comma ++ T.json value) values.now) }
-{
-    for value in values {
-        push_comma(text)?;
-        value.push_json(text)?;
+// How fields are written whose types are not those of this crate: a flag is 1 or 0, and an operation is as a script has it, or null.
+
+pub(crate) fn flag<S: Serializer>(is_so: &bool, out: &mut S) -> Result<(), S::Error> {
+    out.u64(u64::from(*is_so))
+}
+
+pub(crate) fn number<S: Serializer>(tx: &TxId, out: &mut S) -> Result<(), S::Error> {
+    out.u64(u64::from(tx.0))
+}
+
+pub(crate) fn operation<S: Serializer>(op: &Option<ObjOp>, out: &mut S) -> Result<(), S::Error> {
+    match op {
+        Some(op) => out.collect_str(op),
+        None => out.unit(),
     }
-    Ok(())
+}
+
+// Each with its reply, as a trace has them.
+pub(crate) fn all_done<S: Serializer>(did: &Vec<Done>, out: &mut S) -> Result<(), S::Error> {
+    out.begin_seq(Some(did.len()))?;
+    for done in did {
+        out.collect_str(done)?;
+    }
+    out.end_seq()
 }

@@ -1,9 +1,7 @@
 //! What an operator sees of a server, and may do to it, over HTTP.
 #![tactic(auto)]
 
-mod figures;
 mod json;
-mod lists;
 mod metrics;
 mod operated;
 mod page;
@@ -12,7 +10,6 @@ mod resources;
 mod routes;
 mod service;
 mod serving;
-mod status;
 mod view;
 
 pub use operated::Operated;

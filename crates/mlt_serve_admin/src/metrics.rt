@@ -1,80 +1,72 @@
 //! The numbers of a server, in the text format of Prometheus, version 0.0.4.
 
-ghost use Rattle.std.specs.Prelude.{◌≡◌, ◌++◌, IfOk, OnOk};
-ghost use Rattle.std.specs.String.{string_bytes};
-ghost use Rattle.std.specs.List.{flat_map};
-ghost use Rattle.mlt_serve_admin.specs.Metrics.{help_line, kind_line, kind_of, metric_text, metrics_text, value_line};
-
-use crate::figures::Figure;
 use crate::view::Counts;
 use std::alloc::{AllocError, Global};
 
+/// One of the numbers of a server.
+#[derive(Clone, Copy)]
+struct Metric {
+    /// Its name, behind `mltx_`.
+    name: &'static str,
+    /// `counter` where it never falls, and else `gauge`.
+    kind: &'static str,
+    /// What it is.
+    words: &'static str,
+    /// How much it is.
+    value: u64,
+}
+
+// The rows of a table as an array.
+macro_rules! metrics {
+    ($($name:ident $kind:ident $words:literal $value:expr;)*) => {
+        [$(Metric {
+            name: stringify!($name),
+            kind: stringify!($kind),
+            words: $words,
+            value: $value,
+        }),*]
+    };
+}
+
+// All numbers, in the order in which they are told.
+fn metrics(counts: &Counts) -> [Metric; 20] {
+    metrics! {
+        uptime_seconds gauge "Seconds since the server listens." counts.seconds;
+        sessions gauge "Connections that are served." counts.sessions;
+        session_threads gauge "Threads that serve sessions." counts.session_threads;
+        queued_connections gauge "Connections that are accepted and not yet served." counts.queued;
+        connections_total counter "Connections that were accepted." counts.connections;
+        connection_limit gauge "How many connections are accepted in all." counts.limit;
+        open_transactions gauge "Transactions that are open." counts.open;
+        transactions_begun_total counter "Transactions that were begun." counts.begun;
+        operations_total counter "Operations that were done." counts.operations;
+        commits_total counter "Transactions that committed." counts.commits;
+        aborts_total counter "Transactions that aborted." counts.aborts;
+        gave_up_total counter "Operations that were given up." counts.gave_up;
+        deadlocks_total counter "Operations that were given up to end a circle of waits." counts.deadlocks;
+        events_total counter "Events of the manager." counts.events;
+        history_items gauge "Items of the history." counts.items;
+        history_bytes gauge "Bytes that the history and the outcomes take." counts.bytes;
+        pages gauge "Pages that are there." counts.pages;
+        most_pages gauge "How many pages there may be." counts.most_pages;
+        directory_depth gauge "Depth of the directory." counts.depth;
+        stopping gauge "Whether the server was told to end: 1, or 0." u64::from(counts.is_stopping);
+    }
+}
+
 /// The numbers, as /metrics tells them.
-pub(crate) fn metrics_text(alloc: Global, counts: &Counts) -> Result<String, AllocError>
-    ensures { IfOk result (λ text. string_bytes text ≡ metrics_text counts.now) }
-{
+pub(crate) fn metrics_text(alloc: Global, counts: &Counts) -> Result<String, AllocError> {
     let mut text = String::new(alloc);
-    push_metrics(&mut text, counts, Figure::all())?;
+    for metric in &metrics(counts) {
+        let Metric {
+            name,
+            kind,
+            words,
+            value,
+        } = metric;
+        write!(text, "# HELP mltx_{name} {words}\n")?;
+        write!(text, "# TYPE mltx_{name} {kind}\n")?;
+        write!(text, "mltx_{name} {value}\n")?;
+    }
     Ok(text)
-}
-
-fn push_metrics(text: &mut String, counts: &Counts, figures: &[Figure]) -> Result<(), AllocError>
-    ensures { OnOk result (string_bytes text.new
-        ≡ string_bytes text.old ++ flat_map (metric_text counts.now) figures.now) }
-{
-    for figure in figures {
-        push_metric(text, counts, *figure)?;
-    }
-    Ok(())
-}
-
-// Appends the lines of a number.
-fn push_metric(text: &mut String, counts: &Counts, figure: Figure) -> Result<(), AllocError>
-    ensures { OnOk result
-        (string_bytes text.new ≡ string_bytes text.old ++ metric_text counts.now figure) }
-{
-    push_help(text, figure)?;
-    push_kind(text, figure)?;
-    push_value(text, counts, figure)
-}
-
-#[tactic(auto, unfolding(crate::specs::Metrics::help_line))]
-fn push_help(text: &mut String, figure: Figure) -> Result<(), AllocError>
-    ensures { OnOk result (string_bytes text.new ≡ string_bytes text.old ++ help_line figure) }
-{
-    let name = figure.metric();
-    let words = figure.words();
-    write!(text, "# HELP mltx_{name} {words}\n")?;
-    Ok(())
-}
-
-#[tactic(auto, unfolding(crate::specs::Metrics::kind_line))]
-fn push_kind(text: &mut String, figure: Figure) -> Result<(), AllocError>
-    ensures { OnOk result (string_bytes text.new ≡ string_bytes text.old ++ kind_line figure) }
-{
-    let name = figure.metric();
-    let kind = kind_of(figure);
-    write!(text, "# TYPE mltx_{name} {kind}\n")?;
-    Ok(())
-}
-
-#[tactic(auto, unfolding(crate::specs::Metrics::value_line))]
-fn push_value(text: &mut String, counts: &Counts, figure: Figure) -> Result<(), AllocError>
-    ensures { OnOk result
-        (string_bytes text.new ≡ string_bytes text.old ++ value_line counts.now figure) }
-{
-    let name = figure.metric();
-    let value = figure.value(counts);
-    write!(text, "mltx_{name} {value}\n")?;
-    Ok(())
-}
-
-fn kind_of(figure: Figure) -> &'static str
-    ensures { result.now ≡ kind_of figure }
-{
-    if figure.is_counter() {
-        "counter"
-    } else {
-        "gauge"
-    }
 }

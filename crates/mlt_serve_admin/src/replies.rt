@@ -45,7 +45,7 @@ pub(crate) fn fill(
     body: &str,
 ) -> Result<(), AllocError>
     requires { IsBlank response.old }
-    ensures { OnOk result (IsReply status content body.now response.new) }
+    ensures { OnOk result (IsReply status content response.new) }
 {
     response.status = status;
     response.add_header(

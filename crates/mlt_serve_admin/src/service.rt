@@ -3,20 +3,18 @@
 ghost use Rattle.std.specs.Prelude.{◌≡◌, ◌↔◌, ◌⊎◌, codes, IsTrue, OnErr, OnOk};
 ghost use Rattle.http.specs.Request.{head_of};
 ghost use Rattle.http_server.specs.Response.{IsBlank};
-ghost use Rattle.mlt_serve_admin.specs.declared.resources.Resource.TheVariants.{Metrics, SessionEnd, Sessions, Status, Stop, Waits};
 ghost use Rattle.mlt_serve_admin.specs.declared.replies.Content.TheVariants as content;
 ghost use Rattle.mlt_serve_admin.specs.Replies.{IsReply};
 ghost use Rattle.mlt_serve_admin.specs.Answers.{IsAnswerAt, IsAnswerBy, IsMarked, IsRefusedMethod, IsRouteFor};
 ghost use Rattle.mlt_serve_admin.specs.Resources.{method_of};
 
-use crate::lists::{sessions_text, waits_text};
+use crate::json::{Sessions, Waits, json_line};
 use crate::metrics::metrics_text;
 use crate::operated::Operated;
 use crate::page::page;
 use crate::replies::{Content, fill};
 use crate::resources::Resource;
 use crate::routes::{Route, route_of};
-use crate::status::status_text;
 use bytes::Bytes;
 use http::{HeaderName, HeaderValue, Request, StatusCode};
 use http_server::{Response, Service};
@@ -32,7 +30,8 @@ pub(crate) struct OperatorService<'a, O> {
 impl<O: Operated> Service for OperatorService<'_, O> {
     ghost use Rattle.mlt_serve_admin.specs.Answers.{IsAnswer};
 
-    ghost answers = { λ old request response new. IsAnswer request response };
+    ghost answers = { λ old request response new.
+        IsAnswer (O.is_stopped old.operated.now) (O.is_cut old.operated.now) request response };
 
     fn call(
         &mut self,
@@ -49,7 +48,8 @@ impl<O: Operated> OperatorService<'_, O> {
     // Answers by this route.
     fn answer_by(&self, route: Route, response: &mut Response) -> Result<(), AllocError>
         requires { IsBlank response.old }
-        ensures { OnOk result (IsAnswerBy route response.new) }
+        ensures { OnOk result (IsAnswerBy (O.is_stopped self.now.operated.now)
+            (O.is_cut self.now.operated.now) route response.new) }
     {
         match route {
             Route::Open(resource) => self.answer_at(resource, response),
@@ -74,7 +74,8 @@ impl<O: Operated> OperatorService<'_, O> {
     // Shows what stands there, or does it.
     fn answer_at(&self, resource: Resource, response: &mut Response) -> Result<(), AllocError>
         requires { IsBlank response.old }
-        ensures { OnOk result (IsAnswerAt resource response.new) }
+        ensures { OnOk result (IsAnswerAt (O.is_stopped self.now.operated.now)
+            (O.is_cut self.now.operated.now) resource response.new) }
     {
         match resource {
             Resource::Page => fill(response, StatusCode::OK, Content::Page, page()),
@@ -89,17 +90,17 @@ impl<O: Operated> OperatorService<'_, O> {
 
     fn show_status(&self, response: &mut Response) -> Result<(), AllocError>
         requires { IsBlank response.old }
-        ensures { OnOk result (IsAnswerAt Status response.new) }
+        ensures { OnOk result (IsReply 200 content.Json response.new) }
     {
         let view = self.operated.view(self.alloc)?;
-        let text = status_text(self.alloc, &view.counts)?;
+        let text = json_line(self.alloc, &view.counts)?;
         fill(response, StatusCode::OK, Content::Json, text.as_str())?;
         Ok(())
     }
 
     fn show_metrics(&self, response: &mut Response) -> Result<(), AllocError>
         requires { IsBlank response.old }
-        ensures { OnOk result (IsAnswerAt Metrics response.new) }
+        ensures { OnOk result (IsReply 200 content.Metrics response.new) }
     {
         let view = self.operated.view(self.alloc)?;
         let text = metrics_text(self.alloc, &view.counts)?;
@@ -109,27 +110,30 @@ impl<O: Operated> OperatorService<'_, O> {
 
     fn show_waits(&self, response: &mut Response) -> Result<(), AllocError>
         requires { IsBlank response.old }
-        ensures { OnOk result (IsAnswerAt Waits response.new) }
+        ensures { OnOk result (IsReply 200 content.Json response.new) }
     {
         let view = self.operated.view(self.alloc)?;
-        let text = waits_text(self.alloc, view.waits.as_slice())?;
+        let waits = view.waits.as_slice();
+        let text = json_line(self.alloc, &Waits { waits })?;
         fill(response, StatusCode::OK, Content::Json, text.as_str())?;
         Ok(())
     }
 
     fn show_sessions(&self, response: &mut Response) -> Result<(), AllocError>
         requires { IsBlank response.old }
-        ensures { OnOk result (IsAnswerAt Sessions response.new) }
+        ensures { OnOk result (IsReply 200 content.Json response.new) }
     {
         let view = self.operated.view(self.alloc)?;
-        let text = sessions_text(self.alloc, view.sessions.as_slice())?;
+        let sessions = view.sessions.as_slice();
+        let text = json_line(self.alloc, &Sessions { sessions })?;
         fill(response, StatusCode::OK, Content::Json, text.as_str())?;
         Ok(())
     }
 
     fn stop(&self, response: &mut Response) -> Result<(), AllocError>
         requires { IsBlank response.old }
-        ensures { OnOk result (IsAnswerAt Stop response.new) }
+        ensures { OnOk result (O.is_stopped self.now.operated.now
+            × IsReply 200 content.Json response.new) }
     {
         self.operated.stop();
         fill(
@@ -143,7 +147,9 @@ impl<O: Operated> OperatorService<'_, O> {
     // Cuts the session of this client.
     fn end_session(&self, client: u32, response: &mut Response) -> Result<(), AllocError>
         requires { IsBlank response.old }
-        ensures { OnOk result (IsAnswerAt (SessionEnd client) response.new) }
+        ensures { OnOk result
+            ((O.is_cut self.now.operated.now client × IsReply 200 content.Json response.new)
+            ⊎ IsReply 404 content.Line response.new) }
     {
         if self.operated.end_session(client) {
             let text = format!(in self.alloc; "{{\"ended\":{client}}}\n")?;

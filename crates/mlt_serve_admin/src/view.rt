@@ -1,7 +1,9 @@
 //! What a server is at one moment.
 
+use crate::json::{all_done, flag, number, operation};
 use mlt_object_kinds::{Done, ObjOp};
 use mlt_types::TxId;
+use serde::Serialize;
 
 /// What a server is at one moment.
 #[derive(Drop)]
@@ -15,7 +17,7 @@ pub struct ServerView {
 }
 
 /// The numbers of a whole server. What is counted is counted since the server began.
-#[derive(Clone, Copy, Debug, PartialEq, Eq)]
+#[derive(Clone, Copy, Debug, PartialEq, Eq, Serialize)]
 pub struct Counts {
     /// For how many seconds the server has listened.
     pub seconds: u64,
@@ -56,11 +58,12 @@ pub struct Counts {
     /// The depth of the directory.
     pub depth: u64,
     /// Whether the server was told to end.
+    #[serde(rename = "stopping", serialize_with = "flag")]
     pub is_stopping: bool,
 }
 
 /// A session that is served.
-#[derive(Drop)]
+#[derive(Drop, Serialize)]
 pub struct SessionView {
     /// The number of its client.
     pub client: u32,
@@ -71,39 +74,47 @@ pub struct SessionView {
 }
 
 /// A transaction that is open.
-#[derive(Drop)]
+#[derive(Drop, Serialize)]
 pub struct TransactionView {
     /// Its number.
+    #[serde(serialize_with = "number")]
     pub number: TxId,
     /// For how many thousandths of a second it has been open.
     pub milliseconds: u64,
     /// How many operations it has done.
     pub operations: u64,
     /// The last of these, the oldest first; some 16.
+    #[serde(serialize_with = "all_done")]
     pub did: Vec<Done>,
     /// The operation that it has called and that is not done, if there is one.
+    #[serde(serialize_with = "operation")]
     pub calls: Option<ObjOp>,
 }
 
 /// A transaction that waits for another one.
-#[derive(Clone, Copy, Debug, PartialEq, Eq)]
+#[derive(Clone, Copy, Debug, PartialEq, Eq, Serialize)]
 pub struct WaitView {
     /// The transaction that waits.
+    #[serde(serialize_with = "number")]
     pub waiter: TxId,
     /// The number of the client whose transaction waits.
     pub client: u32,
     /// The transaction that it waits for.
+    #[serde(serialize_with = "number")]
     pub holder: TxId,
     /// What it waits for.
+    #[serde(rename = "for")]
     pub awaited: WaitReason,
     /// The operation that it has called, if there is one.
+    #[serde(serialize_with = "operation")]
     pub operation: Option<ObjOp>,
     /// For how many thousandths of a second it has waited.
     pub milliseconds: u64,
 }
 
 /// What a transaction waits for.
-#[derive(Clone, Copy, Debug, PartialEq, Eq)]
+#[derive(Clone, Copy, Debug, PartialEq, Eq, Serialize)]
+#[serde(rename_all = "lowercase")]
 pub enum WaitReason {
     /// An operation of the other one conflicts with its own: the end of the other transaction.
     Object,

@@ -2,7 +2,7 @@ use Rattle.std.proofs.Common.{◌≡◌, sym, subst}
 use mathlib.Core.Option.{some}
 use lib.ListN.{get_elem?}
 use Rattle.mlt_work_clients.proofs.Moves.{learns}
-use Rattle.mlt_work_clients.proofs.seats.Counter.close.Goals as goal
+use Rattle.mlt_work_clients.proofs.seats.ClientCounter.close.Goals as goal
 
 pub returns : goal.returns
 returns c =
