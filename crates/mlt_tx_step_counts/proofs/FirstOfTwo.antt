@@ -2,7 +2,7 @@
 use Rattle.std.proofs.Common.{ℕ, suc, ◌≡◌, ◌≤◌, ◌+◌, ◌⊎◌, Option, None, Some, IsSome, List, [], ◌∷◌, refl, ap, ◌∙◌, inl, inr, arith}
 use Rattle.mlt_tx_step_counts.proofs.Names.{ObjOp, ObjReply, Do, size_key_of, target_of, local, View, PairFields, find_by, least_steps, most_steps, WalkContext, WalkFields, one_key, TwoRecordWalk, First, Owing, Wide, WideStage, GoesOnBy, TellsLast, wide_to, Two, access_path_for, started_for, Answer, At, Transaction, IsDoneOrBlocked, started_wide, AreOwnSteps, GoesThen, GoesToTurn, OwnStep, answers_of, context_at, view_in, with_answer}
 use Rattle.mlt_hash_pair.specs.declared.descent.Descent.{Descent}
-use Rattle.mlt_tx_two_records.specs.TwoRecordWalks as two_records
+use Rattle.mlt_tx_two_records.specs.TwoRecordWalks as walks
 use Rattle.mlt_tx_step_counts.specs.CountsOfTwo.{FindsBoth, FindsNoRoomForTwo, OwesEarlier}
 use Rattle.mlt_tx_step_counts.specs.OwnSteps.{GoesBelow}
 use Rattle.mlt_tx_step_counts.proofs.Answers.{then_after_going, then_after_wait, turn_after_going, turn_after_wait, turn_here}
@@ -78,7 +78,7 @@ module _ (context : WalkContext) (op : ObjOp) (Then : List OwnStep → Type 0) (
   finds least most ends = inr (1, least, most, turn_here step more (one_key context) (FindsBoth (one_key context) op Then) t going (record { pair = pair; is_at = pending_at (Do op) (First pair) t s; ends = ends }) own)
 
   goes_from : ((pair' : PairFields) → StandsAt (Do op) (First pair') step.after → 1 ≤ most_steps pair'.left_descent pair'.right_descent → EndsFrom (one_key context) op Then pair' more) → (after : TwoRecordWalk) → StandsAt (Do op) after step.after
-      → two_records.Stands after (context_at (one_key context) step) (Do op) (view_in step.after step.new)
+      → walks.Stands after (context_at (one_key context) step) (Do op) (view_in step.after step.new)
       → GoesOnBy (First pair) after (context_at (one_key context) step) (local t.subtx step.old.pages) (local step.after.subtx step.new.pages) (Do op) → EndsFrom (one_key context) op Then pair (step ∷ more)
   goes_from rest (First pair') s' holds on =
       let under = holds.under_way in

@@ -1,14 +1,14 @@
 -- Where an operation on two records stands, and what its next step makes of that
 use Rattle.std.proofs.Common.{ℕ, ◌≡◌, ◌⊎◌, List, [], ◌∷◌, Option, None, Some, IsSome, is_some, refl, sym, ap, subst, inl, inr}
 use Rattle.mlt_tx_step_counts.proofs.Names.{ObjReply, Request, LocalState, local, View, view_of, WalkContext, one_key, TwoRecordWalk, First, Wide, WideStage, GoesOnBy, TellsLast, StepAnswer, AccessPath, One, Two, TellsOfStep, IsInFirst, OperationFields, Answer, At, Transaction, TellsOfTransaction, IsDoneOrBlocked, IsRefusal, IsPendingAt, AreOwnSteps, GoesThen, OwnStep, answers_of, context_at, view_in}
-use Rattle.mlt_tx_two_records.specs.TwoRecordWalks as two_records
+use Rattle.mlt_tx_two_records.specs.TwoRecordWalks as walks
 use Rattle.mlt_tx_operation.specs.Answers.{TwoRecordRestarts}
 use Rattle.mlt_tx_step_counts.proofs.Answers.{ended_then}
 use Rattle.mlt_tx_step_counts.proofs.PendingSteps.{Goes, last_step, one_step}
 
 -- the reply is not told yet, and the operation has gone on so; or it is told now
 abbrev pub GoesOnOrTells : Option ObjReply → TwoRecordWalk → TwoRecordWalk → WalkContext → LocalState → LocalState → Request → Type 0
-GoesOnOrTells None before after context old new request = two_records.Stands after context request (view_of new) × GoesOnBy before after context old new request
+GoesOnOrTells None before after context old new request = walks.Stands after context request (view_of new) × GoesOnBy before after context old new request
 GoesOnOrTells (Some reply) before after context old new request = TellsLast before after
 
 -- what becomes of an operation on two records that goes on
@@ -25,10 +25,10 @@ restarts_go_on before after context old new request r = absurd r
 by_reply : (context : WalkContext) (old new : LocalState) (request : Request) (before after : TwoRecordWalk) (reply : Option ObjReply) (request' : Request) → request' ≡ request
     → TellsOfStep context old new (record { request = request; reply = None; access_path = Two before }) (record { request = request'; reply = reply; access_path = Two after }) StepAnswer.Going
     → GoesOnOrTells reply before after context old new request
-by_reply context old new request before after None request' same (inl on) = (subst (λ (r : Request). two_records.Stands after context r (view_of new)) same on.operates, on.how)
+by_reply context old new request before after None request' same (inl on) = (subst (λ (r : Request). walks.Stands after context r (view_of new)) same on.operates, on.how)
 by_reply context old new request before after (Some reply) request' same (inl on) = on.how
 by_reply context old new request before after reply request' same (inr (inl splits)) = absurd splits.how
-by_reply context old new request before after None request' same (inr (inr again)) = (subst (λ (r : Request). two_records.Stands after context r (view_of new)) same again.operates, restarts_go_on before after context old new request again.how)
+by_reply context old new request before after None request' same (inr (inr again)) = (subst (λ (r : Request). walks.Stands after context r (view_of new)) same again.operates, restarts_go_on before after context old new request again.how)
 by_reply context old new request before after (Some reply) request' same (inr (inr again)) = let none : Some reply ≡ None = again.untold.1 in cc
 
 by_access_path : (context : WalkContext) (old new : LocalState) (request : Request) (before : TwoRecordWalk) (request' : Request) (reply : Option ObjReply) (access_path : AccessPath)
@@ -80,7 +80,7 @@ pub record GoesAt (context : WalkContext) (request : Request) (before : TwoRecor
   pub going : own.told ≡ Answer.Going
   pub after : TwoRecordWalk
   pub stands : StandsAt request after own.after
-  pub holds : two_records.Stands after (context_at (one_key context) own) request (view_in own.after own.new)
+  pub holds : walks.Stands after (context_at (one_key context) own) request (view_in own.after own.new)
   pub how : GoesOnBy before after (context_at (one_key context) own) (local t.subtx own.old.pages) (local own.after.subtx own.new.pages) request
 
 pub record TellsNow (before : TwoRecordWalk) (own : OwnStep) : Type 0 where
@@ -91,7 +91,7 @@ pub record TellsNow (before : TwoRecordWalk) (own : OwnStep) : Type 0 where
 
 pub record IsRefusedAt (two_records : TwoRecordWalk) (own : OwnStep) : Type 0 where
   pub refused : IsRefusal own.told
-  pub later : two_records.IsFirst two_records → ⊥
+  pub later : walks.IsFirst two_records → ⊥
 
 abbrev pub OutcomeOfTwo : WalkContext → Request → TwoRecordWalk → Transaction → OwnStep → Type 0
 OutcomeOfTwo context request two_records t own = WaitsAt request two_records t own ⊎ GoesAt (one_key context) request two_records t own ⊎ TellsNow two_records own ⊎ IsRefusedAt two_records own

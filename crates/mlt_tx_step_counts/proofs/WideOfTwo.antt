@@ -8,7 +8,7 @@ use Rattle.mlt_hash_split.specs.Rests.{held_page}
 use Rattle.mlt_hash.specs.Splitting.{IsUnderWay}
 use Rattle.mlt_hash.specs.StepsLeft.{steps_of_splits}
 use Rattle.mlt_hash.specs.Walks.{context_after}
-use Rattle.mlt_tx_two_records.specs.TwoRecordWalks as two_records
+use Rattle.mlt_tx_two_records.specs.TwoRecordWalks as walks
 use Rattle.mlt_tx_two_records.specs.WalkSteps.{BeginsToSplit, GoesNearer, steps_to_change}
 use Rattle.mlt_tx_two_records.specs.WidePass.{HasChangedNow, PutsBehind}
 use Rattle.mlt_tx_step_counts.specs.Counts.{IsToSplit}
@@ -127,7 +127,7 @@ module _ (context : WalkContext) (request : Request) where
     adds_here = let adding = b.needs.later not_first in (adding.0, adding.1)
 
   own_on : (walk : WalkFields) (t : Transaction) (own : OwnStep) → own.told ≡ Answer.Going → (after : TwoRecordWalk) → StandsAt request after own.after
-      → two_records.Stands after (context_at (one_key context) own) request (view_in own.after own.new)
+      → walks.Stands after (context_at (one_key context) own) request (view_in own.after own.new)
       → GoesOnBy (Wide WideStage.Own walk) after (context_at (one_key context) own) (local t.subtx own.old.pages) (local own.after.subtx own.new.pages) request → WideStageOutcome (one_key context) request WideStage.Own walk t own
   own_on walk t own going (First pair) s holds none = absurd none
   own_on walk t own going (Owing pair reply) s holds none = absurd none
@@ -158,7 +158,7 @@ module _ (context : WalkContext) (request : Request) where
   }))))
 
   size_on : (walk : WalkFields) (t : Transaction) (own : OwnStep) → own.told ≡ Answer.Going → (after : TwoRecordWalk) → StandsAt request after own.after
-      → two_records.Stands after (context_at (one_key context) own) request (view_in own.after own.new)
+      → walks.Stands after (context_at (one_key context) own) request (view_in own.after own.new)
       → GoesOnBy (Wide WideStage.Size walk) after (context_at (one_key context) own) (local t.subtx own.old.pages) (local own.after.subtx own.new.pages) request → WideStageOutcome (one_key context) request WideStage.Size walk t own
   size_on walk t own going (First pair) s holds none = absurd none
   size_on walk t own going (Owing pair reply) s holds none = absurd none

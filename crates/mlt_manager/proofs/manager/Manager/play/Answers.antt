@@ -8,7 +8,7 @@ pub loop-event-init : goal.loop-event-init
 loop-event-init g c = (
   record {
     opening = c.in_ok-manager.manager;
-    active = c.in_ok-manager.ensures.opening;
+    is_new = c.in_ok-manager.ensures.opening;
     run = subst (λ (ts : List Told). IsRun g.P.Pseudo.bits_of c.in_ok-manager.manager [] ts c.in_ok-manager.manager) (sym c.in_ok-tolds.ensures.items) refl;
   },
   c.in_ok-manager.ensures.opening.handed,
