@@ -373,7 +373,9 @@ def waits_in_a_load(mltx):
                 rows = [row for row in asked(server, "/waits")["waits"] if row["client"] == 2]
                 same(at_rest(rows), [wait(2, 2, 1, "object", "read 77")], "the one that waits")
                 others = [row for row in asked(server, "/waits")["waits"] if row["client"] != 2]
-                holds(all(re.fullmatch("(up|down) [0-3] 1", str(row["operation"])) for row in others), f"{others}")
+                # One whose session goes on meanwhile has none.
+                calls = [row["operation"] for row in others if row["operation"] is not None]
+                holds(all(re.fullmatch("(up|down) [0-3] 1", call) for call in calls), f"{others}")
                 same({row["client"] for row in asked(server, "/sessions")["sessions"]} >= {1, 2}, True, "the sessions")
                 time.sleep(0.02)
         holds(len(told) > 30, f"{len(told)} commits beside an operator that asks")
