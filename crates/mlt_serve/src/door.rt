@@ -1,6 +1,6 @@
 //! Where connections come in.
 
-use mlt_serve_socket::{Accepted, accept, refuse_all};
+use mlt_serve_connections::{Accepted, accept, refuse_all};
 use std::net::TcpListener;
 use std::sync::atomic::{AtomicBool, AtomicU64, Ordering};
 

@@ -4,10 +4,9 @@ ghost use Rattle.std.specs.Prelude.{◌≡◌, true};
 
 use crate::door::Door;
 use crate::options::ServeOptions;
-use mlt_serve_admission::{AdmissionQueue, RestartQueue};
+use mlt_serve_connections::{AdmissionQueue, RestartQueue, SpinPolicy};
 use mlt_serve_notes::Notes;
 use mlt_serve_seats::Seats;
-use mlt_serve_socket::SpinPolicy;
 use mlt_types::Pseudo;
 use mlt_work_desk::{MadeWith, Shared};
 use std::sync::atomic::AtomicU64;

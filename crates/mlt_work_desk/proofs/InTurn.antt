@@ -3,8 +3,8 @@ use Rattle.std.proofs.Common.{◌≡◌, ◌∙◌, ◌⊎◌, ℕ, ◌==◌, �
 use Rattle.std.specs.List.{list_all}
 use Rattle.std.specs.Option.{option_or}
 use Rattle.mlt_work_desk.proofs.Names.{false≢true, ObjOp, Waiting, Whose, is_for, others_in, with_blocked, without}
-use Rattle.mlt_work_queue.specs.declared.blocked_queue.Blocked.{Blocked}
-use Rattle.mlt_work_queue.specs.Queues.{last_before, may_clash, stands}
+use Rattle.mlt_work_waits.specs.declared.blocked_queue.Blocked.{Blocked}
+use Rattle.mlt_work_waits.specs.Queues.{last_before, may_clash, stands}
 use Rattle.mlt_work_desk.specs.Waits.{AreInTurn, waits_in_turn}
 
 -- the same by cases

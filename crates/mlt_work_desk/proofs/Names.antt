@@ -18,7 +18,7 @@ pub use Rattle.mlt_work_desk.specs.Waits.{waiting}
 pub use Rattle.mlt_work_desk.specs.declared.turn.SleepingThread.{SleepingThread}
 pub use Rattle.mlt_work_log.specs.Prefixes.{StartsWith}
 pub use Rattle.mlt_work_log.specs.Seats.{first_items}
-pub use Rattle.mlt_work_queue.specs.Queues.{with_blocked, without}
+pub use Rattle.mlt_work_waits.specs.Queues.{with_blocked, without}
 pub use Rattle.mlt_work_waits.specs.Waits.{Waits, is_for, others_in, released}
 pub use Rattle.mlt_work_waits.specs.declared.wait.Awaited.{Awaited}
 pub use Rattle.mlt_work_waits.specs.declared.wait.Waiting.{Waiting}

@@ -9,8 +9,8 @@ use Rattle.mlt_work_waits.specs.declared.wait.Awaited.{Awaited}
 use Rattle.mlt_work_waits.specs.declared.wait.Waker.{Waker}
 use Rattle.mlt_work_waits.specs.declared.wait.Waiting.{Waiting}
 use Rattle.mlt_work_waits.specs.declared.wait.Whose.{Whose}
-use Rattle.mlt_work_queue.specs.declared.blocked_queue.Blocked.{Blocked}
-use Rattle.mlt_work_queue.specs.Queues.{stands, with_blocked, without}
+use Rattle.mlt_work_waits.specs.declared.blocked_queue.Blocked.{Blocked}
+use Rattle.mlt_work_waits.specs.Queues.{stands, with_blocked, without}
 use Rattle.mlt_work_desk.specs.declared.turn.GivenBack.{GivenBack}
 use Rattle.mlt_work_desk.specs.declared.turn.SleepingThread.{SleepingThread}
 use Rattle.mlt_work_desk.specs.declared.turn.Turn.{Turn}

@@ -2,15 +2,14 @@
 
 ghost use Rattle.std.specs.Prelude.{ℕ, ◌≡◌, ◌++◌, ◌+◌, ◌-◌, ◌<◌, ◌≤◌, ◌^◌, ◌⊎◌, [], List, true, false, None, Some, length, min, IfSome};
 ghost use Rattle.mlt_work_waits.specs.Waits.{joined};
-ghost use Rattle.mlt_work_queue.specs.Queues.{last_before};
+ghost use Rattle.mlt_work_waits.specs.Queues.{last_before};
 ghost use Rattle.mlt_work_desk.specs.Waits.{AreInTurn, CanSleep, CantSleep, ObjectTurns, PageTurns, precedence_after, precedence_if, precedence_with, queue_after, queue_if, queue_with, turn_behind, TurnsIfWaits, wait_for, wait_if, waiting, waits_after, waits_in_turn, waits_of_others, waits_without, woken_by, woken_by_end, woken_of};
 
 use crate::turn::{GivenBack, SleepingThread, Turn, wait_for, wait_of};
 use mlt_event::{Answer, Told};
 use mlt_object_kinds::ObjOp;
 use mlt_types::TxId;
-use mlt_work_queue::BlockedQueue;
-use mlt_work_waits::{Awaited, Waiting, WaitsFor, Waker, Wakers, Whose};
+use mlt_work_waits::{Awaited, BlockedQueue, Waiting, WaitsFor, Waker, Wakers, Whose};
 
 /// How many desks there are, and whose transactions wait for which. Not all wait, and none in a cycle.
 #[derive(Debug, Drop)]

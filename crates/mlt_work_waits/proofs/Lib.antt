@@ -3,3 +3,4 @@ pub mod Ways
 pub mod Acyclic
 pub mod Ends
 pub mod Youngest
+pub mod Exact

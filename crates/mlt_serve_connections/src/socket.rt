@@ -1,0 +1,274 @@
+//! The socket of one client.
+
+ghost use Rattle.std.specs.Prelude.{◌≡◌, IfSome};
+ghost use Rattle.std.specs.Io.{ReadsAtMost, WritesAtMost};
+
+use crate::socket_tuning::{FEWEST_READS_WITHOUT_SPIN, MOST_READS_WITHOUT_SPIN, READ_SPINS};
+use crate::spin_policy::SpinPolicy;
+use std::cell::Cell;
+use std::hint::spin_loop;
+use std::io;
+use std::io::{ErrorKind, Read, Write};
+use std::net::TcpStream;
+use std::time::{Clock, Duration, Instant};
+
+/// How a read or a write failed.
+#[derive(Clone, Copy, Debug, PartialEq, Eq)]
+pub enum Failure {
+    /// Nothing came or could go for the idle time.
+    Idle,
+    /// Any other way.
+    Broken,
+}
+
+/// A connection on which a read first looks for bytes for some microseconds, so that a client that sends its next line at once finds
+/// its session awake. It looks while sessions are few, and ever more seldom where it was in vain, as for a client that is slow or far
+/// away.
+///
+/// Where a socket has an idle time, a stop of the program interrupts what waits there. It waits on then, for what is left of the time.
+#[derive(Drop)]
+pub struct Socket<'a, C: Clock> {
+    clock: &'a C,
+    stream: &'a TcpStream,
+    spin_policy: &'a SpinPolicy,
+    /// For how long a read or a write waits, if that has an end.
+    idle: Option<Duration>,
+    /// Whether a read or a write that can't go on at once waits until it can.
+    waits: Cell<bool>,
+    /// How many reads are to come that do not spin.
+    rest: Cell<u32>,
+    /// How many these are after the next spin in vain.
+    gap: Cell<u32>,
+    /// How the last one that failed did.
+    failed: Cell<Option<Failure>>,
+}
+
+impl<'a, C: Clock> Socket<'a, C> {
+    /// The socket of a client whose session begins. A read or a write that waits longer than the idle time fails, if there is one.
+    pub fn new(
+        clock: &'a C,
+        stream: &'a TcpStream,
+        spin_policy: &'a SpinPolicy,
+        idle: Option<Duration>,
+    ) -> Socket<'a, C> {
+        // Without this an answer may be held back; where it fails it still comes.
+        let _ = stream.set_nodelay(true);
+        // Where this fails, a wait has no end; an open socket takes it.
+        let _ = set_timeouts(stream, idle);
+        spin_policy.enter();
+        Socket {
+            clock,
+            stream,
+            spin_policy,
+            idle,
+            waits: Cell::new(true),
+            rest: Cell::new(0),
+            gap: Cell::new(FEWEST_READS_WITHOUT_SPIN),
+            failed: Cell::new(None),
+        }
+    }
+
+    /// How the last read or write that failed did, if one did.
+    pub fn failure(&self) -> Option<Failure> {
+        self.failed.get()
+    }
+
+    /// What a read or a write gave. Where it failed, this is noted.
+    fn noted(&self, done: io::Result<usize>) -> io::Result<usize>
+        ensures { result ≡ done }
+    {
+        match done {
+            Ok(count) => Ok(count),
+            Err(error) => {
+                self.failed.set(Some(failure_of(error.kind())));
+                Err(error)
+            }
+        }
+    }
+
+    /// The session ends. Reads and writes of the stream wait again.
+    pub fn close(self) {
+        // Where this fails, what the client still sends is not waited for.
+        let _ = self.put_waits(true);
+        self.spin_policy.leave();
+    }
+
+    /// From now on a read or a write that can't go on at once waits, or it fails.
+    fn put_waits(&self, waits: bool) -> io::Result<()> {
+        if self.waits.get() != waits {
+            self.stream.set_nonblocking(!waits)?;
+            self.waits.set(waits);
+        }
+        Ok(())
+    }
+
+    /// Counts a read, and answers whether it is to spin.
+    fn is_to_spin(&self) -> bool {
+        let rest = self.rest.get();
+        self.rest.set(rest.saturating_sub(1));
+        rest == 0 && self.spin_policy.allows_spinning()
+    }
+
+    /// What a read gives at one of some looks, if it gives anything but that it would wait.
+    fn spin(&self, buf: &mut [u8]) -> Option<io::Result<usize>>
+        ensures { IfSome result (λ read. ReadsAtMost read buf.new) }
+    {
+        let mut stream = self.stream;
+        for _ in 0..READ_SPINS {
+            let read = stream.read(buf);
+            if !comes_later(&read) {
+                self.gap.set(FEWEST_READS_WITHOUT_SPIN);
+                return Some(read);
+            }
+            spin_loop();
+        }
+        let gap = self.gap.get();
+        self.rest.set(gap);
+        self.gap
+            .set(gap.saturating_mul(2).min(MOST_READS_WITHOUT_SPIN));
+        None
+    }
+
+    /// Reads bytes, once there are some.
+    pub fn read(&self, buf: &mut [u8]) -> io::Result<usize>
+        ensures { ReadsAtMost result buf.new }
+    {
+        let read = self.read_some(buf);
+        self.noted(read)
+    }
+
+    fn read_some(&self, buf: &mut [u8]) -> io::Result<usize>
+        ensures { ReadsAtMost result buf.new }
+    {
+        if self.is_to_spin() && self.put_waits(false).is_ok() {
+            if let Some(read) = self.spin(buf) {
+                return read;
+            }
+        }
+        self.put_waits(true)?;
+        let start = self.now()?;
+        let mut stream = self.stream;
+        let read = stream.read(buf);
+        if !is_interrupted(&read) {
+            return read;
+        }
+        let read = self.read_again(start, buf);
+        // Where this fails, the next wait is as short as the rest of this one.
+        let _ = set_timeouts(self.stream, self.idle);
+        read
+    }
+
+    /// Reads bytes after an interruption, once there are some.
+    fn read_again(&self, start: Option<Instant>, buf: &mut [u8]) -> io::Result<usize>
+        ensures { ReadsAtMost result buf.new }
+    {
+        let mut stream = self.stream;
+        for _ in 0..u64::MAX {
+            self.put_rest(start)?;
+            let read = stream.read(buf);
+            if !is_interrupted(&read) {
+                return read;
+            }
+        }
+        Err(io::Error::from(ErrorKind::Interrupted))
+    }
+
+    /// Writes bytes, once some can be taken.
+    pub fn write(&self, buf: &[u8]) -> io::Result<usize>
+        ensures { WritesAtMost result buf.now }
+    {
+        let written = self.write_some(buf);
+        if let Ok(0) = written {
+            self.failed.set(Some(Failure::Broken));
+        }
+        self.noted(written)
+    }
+
+    fn write_some(&self, buf: &[u8]) -> io::Result<usize>
+        ensures { WritesAtMost result buf.now }
+    {
+        let mut stream = self.stream;
+        if !self.waits.get() {
+            let written = stream.write(buf);
+            if !comes_later(&written) {
+                return written;
+            }
+            self.put_waits(true)?;
+        }
+        let start = self.now()?;
+        let written = stream.write(buf);
+        if !is_interrupted(&written) {
+            return written;
+        }
+        let written = self.write_again(start, buf);
+        // Where this fails, the next wait is as short as the rest of this one.
+        let _ = set_timeouts(self.stream, self.idle);
+        written
+    }
+
+    /// Writes bytes after an interruption, once some can be taken.
+    fn write_again(&self, start: Option<Instant>, buf: &[u8]) -> io::Result<usize>
+        ensures { WritesAtMost result buf.now }
+    {
+        let mut stream = self.stream;
+        for _ in 0..u64::MAX {
+            self.put_rest(start)?;
+            let written = stream.write(buf);
+            if !is_interrupted(&written) {
+                return written;
+            }
+        }
+        Err(io::Error::from(ErrorKind::Interrupted))
+    }
+
+    /// When a wait begins, if it has an end.
+    fn now(&self) -> io::Result<Option<Instant>> {
+        match self.idle {
+            Some(_) => Ok(Some(Instant::now(self.clock)?)),
+            None => Ok(None),
+        }
+    }
+
+    /// From now on a read or a write waits for what is left of the idle time of a wait that began then. Where nothing is left it does
+    /// not wait, but takes what came in the meantime.
+    fn put_rest(&self, start: Option<Instant>) -> io::Result<()> {
+        let (Some(idle), Some(start)) = (self.idle, start) else {
+            return Ok(());
+        };
+        let rest = idle.saturating_sub(start.elapsed(self.clock)?);
+        if rest.is_zero() {
+            return self.put_waits(false);
+        }
+        set_timeouts(self.stream, Some(rest))
+    }
+}
+
+/// How one failed of this kind.
+fn failure_of(kind: ErrorKind) -> Failure {
+    match kind {
+        ErrorKind::WouldBlock | ErrorKind::TimedOut => Failure::Idle,
+        _ => Failure::Broken,
+    }
+}
+
+/// From now on a read or a write waits for so long, or without an end.
+fn set_timeouts(stream: &TcpStream, timeout: Option<Duration>) -> io::Result<()> {
+    stream.set_read_timeout(timeout)?;
+    stream.set_write_timeout(timeout)
+}
+
+fn is_interrupted(done: &io::Result<usize>) -> bool {
+    match done {
+        Ok(_) => false,
+        Err(error) => error.kind() == ErrorKind::Interrupted,
+    }
+}
+
+/// Whether a read or a write that does not wait has nothing to tell yet.
+fn comes_later(done: &io::Result<usize>) -> bool {
+    match done {
+        Ok(_) => false,
+        Err(error) => error.kind() == ErrorKind::WouldBlock
+            || error.kind() == ErrorKind::Interrupted,
+    }
+}
