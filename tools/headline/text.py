@@ -186,7 +186,7 @@ READING: list[Part] = [
          pages that it holds exclusively, is the field `locks`. By `run` a step that ends no operation leaves the clean pages as
          they are: so an image is the page as it was.""", [
              Block("Clean pages of a manager", "mlt_manager/specs/Bases.antt"),
-             Block("Who keeps a first image", "mlt_tx_open/specs/Tables.antt", "KeepsImage KeepsNoImage Table"),
+             Block("Who keeps a first image", "mlt_tx/specs/Tables.antt", "KeepsImage KeepsNoImage Table"),
              Block("A first image", "mlt_page_subtx/specs/Images.antt"),
          ]),
 ]
@@ -198,7 +198,7 @@ VIEWS: list[Part] = [
          images that its open transactions keep. Each can be read by a call, and the contract of the call says what is seen:
          whatever the memory looks like, the call answers just that.""", [
              Block("The three things", "mlt_manager/src/manager.rt"),
-             Block("A page of the store", "mlt_page_store/src/store.rt"),
+             Block("A page of the store", "mlt_page/src/store.rt"),
              Block("An item of the history", "mlt_trace/src/kept.rt"),
              Block("An operation with its reply", "mlt_object_kinds/src/done.rt"),
          ]),

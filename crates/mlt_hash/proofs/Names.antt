@@ -24,7 +24,7 @@ pub use Rattle.mlt_hash_form.specs.File.{FilePages, HasForm, IsPath, bucket_of, 
 pub use Rattle.mlt_hash_form.specs.Form.{slot_at, value_in}
 pub use Rattle.mlt_hash_form.specs.Held.{Agrees, KeepsFile, RearrangesSlots, over, own_or_clean}
 pub use Rattle.mlt_hash_form.specs.Room.{crowds, is_crowded}
-pub use Rattle.mlt_hash_record.specs.Plans.{IsNowhere, SetsFirst, WriteFields, has_room, planned_page}
+pub use Rattle.mlt_hash_form.specs.Plans.{IsNowhere, SetsFirst, WriteFields, has_room, planned_page}
 pub use Rattle.mlt_hash_split.proofs.Closing.{HasClean}
 pub use Rattle.mlt_hash_split.proofs.Few.{rest_holds_few}
 pub use Rattle.mlt_hash_split.specs.Rests.{IsAtRest, KeepsNoMore, SplitTarget, held_page}
@@ -42,7 +42,7 @@ pub use Rattle.mlt_page.specs.declared.slot.Slot.TheVariants.{Free, Ghost, Live}
 pub use Rattle.mlt_page_locks.proofs.LockLaws.{stronger_exclusive}
 pub use Rattle.mlt_page_locks.specs.LockTables.{Modes, can_read, can_write, mode_held}
 pub use Rattle.mlt_page_locks.specs.Requests.{stronger, with_page}
-pub use Rattle.mlt_page_store.specs.Stores.{page_at}
+pub use Rattle.mlt_page.specs.Stores.{page_at}
 pub use Rattle.mlt_types.specs.declared.mode.Mode.{Mode}
 pub use Rattle.mlt_types.specs.declared.mode.Mode.TheVariants.{Exclusive}
 pub use Rattle.mlt_types.specs.declared.refusal.Refusal.{Refusal}

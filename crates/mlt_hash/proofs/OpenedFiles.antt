@@ -2,7 +2,7 @@
 use Rattle.std.proofs.Common.{◌≡◌, ℕ, ◌<◌, ◌+◌, ◌⊎◌, None, Some, Result, Ok, Err, IfErr, replicate, sym, ap, ◌∙◌, inl, inr, arith, nat_cmp, IsErrAnd}
 use Rattle.mlt_hash.proofs.Names.{nat_cmp_total, nat_tests, Refusal, Page, Free, page_at}
 use Rattle.std.specs.FinMap as map
-use Rattle.mlt_page_store.specs.Stores.{PageStore, Pages}
+use Rattle.mlt_page.specs.Stores.{PageStore, Pages}
 use Rattle.mlt_page_locks.proofs.Maps.{get_inserted}
 use Rattle.mlt_hash_form.specs.Changes.{IsOpening}
 

@@ -14,7 +14,7 @@ use Rattle.mlt_hash_access.specs.LocalStates.{LocalState}
 use Rattle.mlt_hash_access.specs.PageSteps.{WritesHeldPage, WritesHeldSlot}
 use Rattle.mlt_hash_access.specs.Views.{ReadsHeldBucket, View, WritesPage}
 use Rattle.mlt_hash_split.specs.declared.environment.Environment.{Environment}
-use Rattle.mlt_hash_record.specs.Plans.{SetsFirst, WriteFields, has_room, planned_page}
+use Rattle.mlt_hash_form.specs.Plans.{SetsFirst, WriteFields, has_room, planned_page}
 use Rattle.mlt_hash.specs.Passes.{HasRoomFrom, IsNextPass, NeverHasRoom}
 use Rattle.mlt_hash.specs.Walks.{WalkContext, IsStanding, MayWalk, WalkFields, nothing_before, view_for}
 use Rattle.mlt_hash.specs.Steps.{IsSameWalk}

@@ -6,7 +6,7 @@ ghost use Rattle.mlt_page.specs.Slots.{is_live_of};
 ghost use Rattle.mlt_page.specs.Values.{BucketFields};
 ghost use Rattle.mlt_page.specs.declared.page.Page.TheVariants as page;
 ghost use Rattle.mlt_page.specs.declared.slot.Slot.TheVariants.{Live};
-ghost use Rattle.mlt_hash_record.specs.Plans.{IsNowhere, SetsFirst, has_room};
+ghost use Rattle.mlt_hash_form.specs.Plans.{IsNowhere, SetsFirst, has_room};
 ghost use Rattle.mlt_page_locks.specs.LockTables.{can_read};
 ghost use Rattle.mlt_hash_access.specs.LocalStates.{MayStep, local};
 ghost use Rattle.mlt_hash_access.specs.PageSteps.{HasNoPageLeft, Leaves};
@@ -21,7 +21,7 @@ use crate::change::write_change;
 use crate::pass::{Change, Phase};
 use crate::walk::Walk;
 use mlt_hash_access::{LockedStore, read_held_bucket};
-use mlt_hash_record::SlotWrite;
+use mlt_hash_form::SlotWrite;
 use mlt_hash_split::{Environment, Split, SplitAnswer};
 use mlt_page_subtx::Subtx;
 use mlt_types::{OpenSet, PageNo, Pseudo, Refusal, Value};
@@ -95,7 +95,7 @@ fn plan_to_put(
         return None;
     }
     let bucket = read_held_bucket(subtx, pages, number);
-    mlt_hash_record::insert(number, bucket, walk.key, value, active)
+    mlt_hash_form::insert(number, bucket, walk.key, value, active)
 }
 
 // Notes the split that began.

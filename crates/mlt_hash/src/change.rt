@@ -15,7 +15,7 @@ use crate::pass::{Change, Pass, Phase};
 use crate::room::next_pass;
 use crate::walk::Walk;
 use mlt_hash_access::{LockedStore, read_held_bucket, write_slot};
-use mlt_hash_record::SlotWrite;
+use mlt_hash_form::SlotWrite;
 use mlt_hash_split::Environment;
 use mlt_page::Bucket;
 use mlt_page_subtx::Subtx;
@@ -45,10 +45,10 @@ impl Walk {
             (view_for context (local subtx.new pages.new)) self.old value }
     {
         let (number, bucket) = held_bucket(self, subtx, pages);
-        if let Some(write) = mlt_hash_record::revive(number, bucket, self.key, subtx.tx(), value) {
+        if let Some(write) = mlt_hash_form::revive(number, bucket, self.key, subtx.tx(), value) {
             return write_change(self, write, Change::Revive(value), subtx, pages);
         }
-        if let Some(write) = mlt_hash_record::insert(
+        if let Some(write) = mlt_hash_form::insert(
             number,
             bucket,
             self.key,
@@ -73,7 +73,7 @@ impl Walk {
             self.new (change.Set value) result }
     {
         let (number, bucket) = held_bucket(self, subtx, pages);
-        let Some(write) = mlt_hash_record::update(number, bucket, self.key, value) else {
+        let Some(write) = mlt_hash_form::update(number, bucket, self.key, value) else {
             unreachable!()
         };
         write_change(self, write, Change::Set(value), subtx, pages)
@@ -93,7 +93,7 @@ impl Walk {
             self.new change.Remove result }
     {
         let (number, bucket) = held_bucket(self, subtx, pages);
-        let Some(write) = mlt_hash_record::remove(number, bucket, self.key, subtx.tx()) else {
+        let Some(write) = mlt_hash_form::remove(number, bucket, self.key, subtx.tx()) else {
             unreachable!()
         };
         write_change(self, write, Change::Remove, subtx, pages)
@@ -118,8 +118,7 @@ impl Walk {
             self.old (page_of self.old.phase) value }
     {
         let (number, bucket) = held_bucket(self, subtx, pages);
-        let Some(write) = mlt_hash_record::revive(number, bucket, self.key, subtx.tx(), value)
-        else {
+        let Some(write) = mlt_hash_form::revive(number, bucket, self.key, subtx.tx(), value) else {
             unreachable!()
         };
         write_change(self, write, Change::Revive(value), subtx, pages)

@@ -2,11 +2,10 @@
 
 ghost use Rattle.std.specs.Prelude.{◌≡◌, ◌≤◌, ℕ, IsOkUnless, IfOk, OnOk};
 ghost use Rattle.std.specs.FinMap as map;
-ghost use Rattle.mlt_page_store.specs.Stores.{page_at};
+ghost use Rattle.mlt_page.specs.Stores.{page_at};
 ghost use Rattle.mlt_hash_form.specs.Changes.{IsOpening};
 
-use mlt_page::{Bucket, DirPage, HeadPage, Page};
-use mlt_page_store::Store;
+use mlt_page::{Bucket, DirPage, HeadPage, Page, Store};
 use mlt_types::{PageNo, Refusal};
 
 /// Makes the pages of a file without records in a store without pages: a bucket, a page of the directory, which has

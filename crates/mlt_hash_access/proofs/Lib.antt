@@ -9,3 +9,9 @@ pub mod Since
 pub mod Turns
 pub mod Unwritten
 pub mod Views
+mod SubtxNames
+pub mod AllEvents
+pub mod AllRunning
+pub mod CleanLaws
+pub mod Others
+pub mod RunningLaws

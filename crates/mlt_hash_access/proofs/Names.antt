@@ -13,7 +13,7 @@ pub use Rattle.mlt_page_locks.proofs.LockLaws.{pages_of-granted, writer_reads}
 pub use Rattle.mlt_page_locks.proofs.Maps.{get_inserted}
 pub use Rattle.mlt_page_locks.specs.LockTables.{LockTable, can_read, can_write, page_count, pages_of}
 pub use Rattle.mlt_page_locks.specs.Requests.{IsNobody, conflicts, granted, stronger, with_page}
-pub use Rattle.mlt_page_store.specs.Stores.{PageStore, Pages, page_at}
+pub use Rattle.mlt_page.specs.Stores.{PageStore, Pages, page_at}
 pub use Rattle.mlt_page_subtx.proofs.ImageLaws.{fresh_has_no_image, image_of-with_image, not_true}
 pub use Rattle.mlt_page_subtx.specs.Images.{Images, Running, image_of, with_image}
 pub use Rattle.mlt_types.specs.declared.mode.Mode.{Mode}

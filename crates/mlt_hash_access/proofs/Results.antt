@@ -2,7 +2,7 @@
 use Rattle.std.proofs.Common.{◌≡◌, ℕ, true, Option, None, Some, is_some, Result, Ok, Err, IfOk, OnErr, OnOk, refl, sym, ap, subst, ◌∙◌, MatchResult}
 use Rattle.std.specs.FinMap as map
 use Rattle.mlt_hash_access.proofs.Names.{Mode, Exclusive, Page, Slot, BucketFields, page_with_slot, PageStore, page_at, LockTable, can_read, can_write, writer_reads, IsNobody, conflicts, granted, Running, with_image, own_or_clean, seen_as, MayStep, LocalState, page_before, Leaves, LocksPage, MakesLockedPage, WritesHeldPage, MakesPage, ReadsHeldPage, WritesPage, WritesSlot, own_at, seen_at, view_of}
-use Rattle.mlt_page_store.specs.Stores.{SetsSlot}
+use Rattle.mlt_page.specs.Stores.{SetsSlot}
 use Rattle.mlt_hash_form.proofs.Paths.{one_page}
 use Rattle.mlt_hash_access.specs.PageSteps.{WritesHeldSlot}
 use Rattle.mlt_hash_access.specs.Views.{ReadsHeldBucket}

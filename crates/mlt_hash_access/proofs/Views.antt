@@ -3,7 +3,7 @@ use Rattle.std.proofs.Common.{◌≡◌, ◌≢◌, ℕ, ◌≤◌, ◌+◌, Boo
 use Rattle.mlt_hash_access.proofs.Names.{nat_cmp_total, cases_eq, false≢true, nat_tests, Mode, Exclusive, Page, Pages, page_at, get_inserted, LockTable, can_read, can_write, page_count, pages_of, granted, stronger, with_page, pages_of-granted, writer_reads, Images, image_of, with_image, fresh_has_no_image, image_of-with_image, not_true, Agrees, over, own_or_clean, IsCleanFor, MayStep, LocalState, page_before, LocksPage, MakesLockedPage, WritesHeldPage, MakesPage, ReadsHeldPage, ReadsPage, View, WritesPage, own_at, seen_at, view_of}
 use Rattle.std.specs.FinMap as map
 use Rattle.mlt_types.specs.declared.mode.Mode.TheVariants.{Shared}
-use Rattle.mlt_page_store.proofs.Numbered.{page_inserted}
+use Rattle.mlt_page.proofs.Numbered.{page_inserted}
 use Rattle.mlt_page_locks.specs.LockTables.{Modes, allows_write}
 use Rattle.mlt_page_locks.proofs.LockLaws.{can_read-granted}
 use Rattle.mlt_page_subtx.specs.Images.{or_image}

@@ -3,3 +3,5 @@ pub mod PageSteps
 pub mod PageTurns
 pub mod Reading
 pub mod Views
+pub mod CleanPages
+pub mod Running

@@ -2,7 +2,7 @@
 use Rattle.std.specs.Prelude.{ℕ, ◌≡◌, ◌≢◌, ◌<◌, true, false, is_some, Option, None}
 use Rattle.mlt_types.specs.declared.mode.Mode.{Mode}
 use Rattle.mlt_page.specs.declared.page.Page.{Page}
-use Rattle.mlt_page_store.specs.Stores.{Pages, PageStore, page_at}
+use Rattle.mlt_page.specs.Stores.{Pages, PageStore, page_at}
 use Rattle.mlt_page_locks.specs.LockTables.{AreCompatible, HasRoom, LockTable, can_write, page_count}
 use Rattle.mlt_page_locks.specs.Requests.{granted}
 use Rattle.mlt_page_subtx.specs.Images.{AreThere, Images, Running, image_of, or_image}

@@ -7,7 +7,7 @@ use Rattle.mlt_page.specs.declared.page.Page.{Page}
 use Rattle.mlt_page.specs.declared.slot.Slot.{Slot}
 use Rattle.mlt_page.specs.Values.{BucketFields}
 use Rattle.mlt_page.specs.Pages.{page_with_slot}
-use Rattle.mlt_page_store.specs.Stores.{PageStore, page_at}
+use Rattle.mlt_page.specs.Stores.{PageStore, page_at}
 use Rattle.mlt_page_locks.specs.LockTables.{can_write}
 use Rattle.mlt_page_locks.specs.Requests.{IsNobody, conflicts, granted}
 use Rattle.mlt_page_subtx.specs.Images.{with_image}

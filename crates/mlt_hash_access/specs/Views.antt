@@ -6,7 +6,7 @@ use Rattle.mlt_page.specs.declared.page.Page.{Page}
 use Rattle.mlt_page.specs.declared.slot.Slot.{Slot}
 use Rattle.mlt_page.specs.Values.{BucketFields}
 use Rattle.mlt_page.specs.Pages.{page_with_slot}
-use Rattle.mlt_page_store.specs.Stores.{page_at}
+use Rattle.mlt_page.specs.Stores.{page_at}
 use Rattle.mlt_page_locks.specs.LockTables.{Modes, can_read, pages_of}
 use Rattle.mlt_page_locks.specs.Requests.{with_page}
 use Rattle.mlt_page_subtx.specs.Images.{image_of}

@@ -1,7 +1,7 @@
 //! Pages with their locks.
 
+use mlt_page::Store;
 use mlt_page_locks::PageLocks;
-use mlt_page_store::Store;
 
 /// The pages of all transactions, and who holds which of them.
 #[derive(Drop)]

@@ -4,7 +4,7 @@ ghost use Rattle.std.specs.Prelude.{ℕ, List, ◌≡◌, ◌<◌, ◌≤◌, �
 ghost use Rattle.std.specs.FinMap as map;
 ghost use Rattle.mlt_page.specs.Values.{BucketFields, HeadFields};
 ghost use Rattle.mlt_page.specs.declared.page.Page.TheVariants as page;
-ghost use Rattle.mlt_page_store.specs.Stores.{page_at};
+ghost use Rattle.mlt_page.specs.Stores.{page_at};
 ghost use Rattle.mlt_page_locks.specs.LockTables.{can_read, can_write, page_count};
 ghost use Rattle.mlt_page_locks.specs.Requests.{IsLowest, conflicts};
 ghost use Rattle.mlt_page_subtx.specs.Images.{image_of};

@@ -31,8 +31,8 @@ pub use Rattle.mlt_page.specs.declared.page.Page.{Page}
 pub use Rattle.mlt_page_locks.proofs.LockLaws.{writer_reads}
 pub use Rattle.mlt_page_locks.proofs.Maps.{get_inserted, get_removed, same_entries}
 pub use Rattle.mlt_page_locks.specs.LockTables.{LockTable, Modes, can_read, can_write}
-pub use Rattle.mlt_page_store.proofs.Numbered.{same_pages}
-pub use Rattle.mlt_page_store.specs.Stores.{PageStore, Pages, page_at}
+pub use Rattle.mlt_page.proofs.Numbered.{same_pages}
+pub use Rattle.mlt_page.specs.Stores.{PageStore, Pages, page_at}
 pub use Rattle.mlt_page_subtx.proofs.ImageLaws.{page_at-put_back}
 pub use Rattle.mlt_page_subtx.specs.Images.{Running, image_of, or_image, put_back}
 pub use Rattle.mlt_types.specs.declared.mode.Mode.{Mode}

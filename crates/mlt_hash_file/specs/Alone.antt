@@ -4,7 +4,7 @@ use Rattle.std.specs.Coded.{Coded, code_by, coded×}
 use Rattle.std.specs.FinMap as map
 use Rattle.std.specs.FinSet as set
 use Rattle.mlt_page.specs.declared.page.Page.{Page}
-use Rattle.mlt_page_store.specs.Stores.{PageStore, coded_store}
+use Rattle.mlt_page.specs.Stores.{PageStore, coded_store}
 use Rattle.mlt_hash_form.specs.Held.{over}
 use Rattle.mlt_page_locks.specs.LockTables.{LockTable, coded_table, is_holder}
 use Rattle.mlt_page_subtx.specs.Images.{Running, coded_running}

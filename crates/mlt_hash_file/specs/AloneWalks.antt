@@ -7,7 +7,7 @@ use Rattle.std.specs.FinSet as set
 use Rattle.mlt_types.specs.declared.refusal.Refusal.{Refusal}
 use Rattle.mlt_page.specs.Slots.{is_kept}
 use Rattle.mlt_page.specs.declared.page.Page.{Page}
-use Rattle.mlt_page_store.specs.Stores.{page_at}
+use Rattle.mlt_page.specs.Stores.{page_at}
 use Rattle.mlt_hash_form.specs.File.{HasForm, buckets_of, depth_of, look_up}
 use Rattle.mlt_hash_form.specs.Room.{IsCrowded}
 use Rattle.mlt_hash_form.specs.declared.root.Root.{Root}

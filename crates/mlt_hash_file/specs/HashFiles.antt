@@ -4,7 +4,7 @@ use Rattle.std.specs.Coded.{Coded, code_by, coded×, coded_ℕ}
 use Rattle.std.specs.FinMap as map
 use Rattle.mlt_page.specs.contracts.page.Page.{the_row}
 use Rattle.mlt_types.specs.declared.refusal.Refusal.{Refusal}
-use Rattle.mlt_page_store.specs.Stores.{Pages, page_at}
+use Rattle.mlt_page.specs.Stores.{Pages, page_at}
 use Rattle.mlt_hash_file.specs.AloneWalks.{IsHashFile, RefusesFor}
 use Rattle.mlt_hash_file.specs.SplitPages.{BoundedFile}
 

@@ -2,7 +2,7 @@
 
 ghost use Rattle.std.specs.Prelude.{◌≡◌, IfErr, IsOkUnless, IfOk, IsSome, None, OnErr, OnOk, true};
 ghost use Rattle.std.specs.FinMap as map;
-ghost use Rattle.mlt_page_store.specs.Stores.{page_at};
+ghost use Rattle.mlt_page.specs.Stores.{page_at};
 ghost use Rattle.mlt_hash_form.specs.File.{depth_of};
 ghost use Rattle.mlt_hash_form.specs.Records.{live_records};
 ghost use Rattle.mlt_hash_file.specs.HashFiles.{IsFileOf, Refuses};
@@ -11,9 +11,8 @@ use crate::runner::Runner;
 use mlt_hash::{Walk, WalkAnswer, open_file};
 use mlt_hash_access::LockedStore;
 use mlt_hash_form::Root;
-use mlt_page::Page;
+use mlt_page::{Page, Store};
 use mlt_page_locks::PageLocks;
-use mlt_page_store::Store;
 use mlt_page_subtx::Subtx;
 use mlt_types::{Key, Limits, Mode, OpenSet, Pseudo, Refusal, TxId, Value};
 use std::alloc::Global;
@@ -30,7 +29,7 @@ pub struct HashFile<P: Pseudo> {
 }
 
 impl<P: Pseudo> Model for HashFile<P> {
-    ghost use Rattle.mlt_page_store.specs.Stores.{page_at};
+    ghost use Rattle.mlt_page.specs.Stores.{page_at};
     ghost use Rattle.mlt_hash_file.specs.Alone.{IsIdle};
     ghost use Rattle.mlt_hash_file.specs.AloneWalks.{IsHashFile};
     ghost use Rattle.mlt_hash_file.specs.HashFiles.{HashFileFields, hash_file_code};

@@ -2,7 +2,7 @@
 
 ghost use Rattle.std.specs.Prelude.{◌≡◌, ◌≢◌, ◌≤◌, ◌<◌, ◌+◌, ℕ, None, Some};
 ghost use Rattle.mlt_types.specs.declared.mode.Mode.{Mode};
-ghost use Rattle.mlt_page_store.specs.Stores.{page_at};
+ghost use Rattle.mlt_page.specs.Stores.{page_at};
 ghost use Rattle.mlt_hash_form.specs.File.{look_up};
 ghost use Rattle.mlt_hash_access.specs.Views.{HasWritten, view_of, view_over};
 ghost use Rattle.mlt_hash.specs.Walks.{Before, IsAtStart, nothing_before};
@@ -20,7 +20,7 @@ ghost use Rattle.mlt_hash.specs.declared.pass.Phase.{Phase};
 use mlt_hash::{Environment, Walk, WalkAnswer};
 use mlt_hash_access::LockedStore;
 use mlt_hash_form::Root;
-use mlt_page_store::Store;
+use mlt_page::Store;
 use mlt_page_subtx::Subtx;
 use mlt_types::{OpenSet, Pseudo, Value};
 use std::marker::Model;

@@ -23,3 +23,5 @@ mod Slots
 mod SplitDone
 pub mod SplitSteps
 pub mod Splitting
+mod Places
+mod Changes

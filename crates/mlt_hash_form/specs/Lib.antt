@@ -6,3 +6,5 @@ pub mod Prefixes
 pub mod Records
 pub mod Room
 pub mod Splits
+pub mod Pairs
+pub mod Plans

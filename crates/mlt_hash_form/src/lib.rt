@@ -1,7 +1,11 @@
 //! The form of an extendible hash file in pages (Fagin, Nievergelt, Pippenger and Strong, Extendible Hashing,
 //! ACM TODS 4(3), 1979), and the laws of its changes. Each law is the contract of a function that does nothing.
+//!
+//! Records in one bucket: each change is a plan of slots to set, and says what it does to the bucket's live pairs.
+//! No call takes memory, and none writes: whoever holds the page does.
 #![tactic(auto)]
 
+mod change;
 mod change_laws;
 mod directory_page;
 mod form_laws;
@@ -11,8 +15,10 @@ mod place;
 mod record_laws;
 mod room;
 mod root;
+mod slot_write;
 mod split_laws;
 
+pub use change::{insert, remove, revive, update};
 pub use change_laws::{
     put_adds_the_record, revive_adds_the_record, set_value_changes_the_record,
     to_ghost_removes_the_record,
@@ -43,6 +49,7 @@ pub use room::{
     fewer_kept_slots_are_no_more_crowded, half_is_no_more_crowded, is_crowded,
 };
 pub use root::Root;
+pub use slot_write::SlotWrite;
 pub use split_laws::{
     directory_page_has_its_entries, named_page_makes_the_list_longer, pages_of_a_doubled_directory,
     split_begins_in_place, split_begins_to_double, split_closes_by_header, split_closes_in_place,

@@ -2,15 +2,14 @@
 
 ghost use Rattle.std.specs.Prelude.{◌≡◌, ℕ, MatchOption};
 ghost use Rattle.mlt_page.specs.Values.{BucketFields};
-ghost use Rattle.mlt_page_store.specs.Stores.{page_at};
+ghost use Rattle.mlt_page.specs.Stores.{page_at};
 ghost use Rattle.mlt_hash_form.specs.Changes.{IsHome};
 ghost use Rattle.mlt_hash_form.specs.File.{HasForm, LeadsTo};
 ghost use Rattle.mlt_hash_form.specs.Form.{value_in};
 
 use crate::place::DirSlot;
 use crate::root::Root;
-use mlt_page::{Bucket, Page, Slot};
-use mlt_page_store::Store;
+use mlt_page::{Bucket, Page, Slot, Store};
 use mlt_types::{Key, PageNo, Pseudo, Value};
 
 /// The bucket that a key leads to, and its page, in any store. Where there is no header of a depth of at most 16, or no

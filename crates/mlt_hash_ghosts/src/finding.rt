@@ -7,13 +7,13 @@ ghost use Rattle.mlt_page.specs.Slots.{is_ghost_of, is_live_of};
 ghost use Rattle.mlt_page.specs.Values.{BucketFields};
 ghost use Rattle.mlt_hash_form.specs.Form.{value_in};
 ghost use Rattle.mlt_hash_form.specs.File.{FilePages, HasForm, LeadsTo, buckets_of, lead_of};
-ghost use Rattle.mlt_page_store.specs.Stores.{page_at};
+ghost use Rattle.mlt_page.specs.Stores.{page_at};
 ghost use Rattle.mlt_hash_ghosts.specs.Ghosts.{IsGhostAt, PagesMatchOperations};
 ghost use Rattle.mlt_hash_ghosts.specs.Ledgers.{IsOpenIn, Ledger, home_slots, last_by};
 ghost use Rattle.mlt_hash_ghosts.specs.Operations.{Added, Removed};
 
 use mlt_hash_form::{Root, home_bucket};
-use mlt_page_store::Store;
+use mlt_page::Store;
 use mlt_types::{Key, PageNo, Pseudo, TxId};
 
 /// The ghost that `owner` left of the key, as the page and the slot where it stands: found exactly where the bucket

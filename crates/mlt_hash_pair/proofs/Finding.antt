@@ -1,7 +1,7 @@
 -- A step of a pair to its buckets
 use Rattle.std.proofs.Common.{◌≡◌, ℕ, ◌<◌, ◌≤◌, true, Option, Some, is_some, refl, sym, ap, subst, ◌∙◌, inl, inr, arith}
 use Rattle.mlt_hash_pair.proofs.Names.{Mode, Page, HeadFields, HasForm, header_of, Agrees, LocalState, view_of, GoTogether, IsFinding, IsUnderWay, MayFind, PairFields, later_of, mode_next, most_steps, page_next, next_page, next_descent, descent_after, TellsOfStep, told_by, IsThere, page_of, pages_to_read, Descent, PairAnswer}
-use Rattle.mlt_page_store.specs.Stores.{page_at}
+use Rattle.mlt_page.specs.Stores.{page_at}
 use Rattle.mlt_page_locks.specs.LockTables.{page_count}
 use Rattle.mlt_hash_access.specs.PageSteps.{Leaves, LocksPage}
 use Rattle.mlt_hash_access.specs.Views.{ReadsHeldPage, ReadsPage, SeesPage}

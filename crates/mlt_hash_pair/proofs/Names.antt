@@ -22,7 +22,7 @@ pub use Rattle.mlt_hash_pair.specs.declared.asked.PairChanges.{PairChanges}
 pub use Rattle.mlt_hash_pair.specs.declared.asked.RecordChange.{RecordChange}
 pub use Rattle.mlt_hash_pair.specs.declared.descent.Descent.{Descent}
 pub use Rattle.mlt_hash_pair.specs.declared.plan.SlotPlan.{SlotPlan}
-pub use Rattle.mlt_hash_record.specs.Plans.{SetsFirst, WriteFields, has_room, planned_page}
+pub use Rattle.mlt_hash_form.specs.Plans.{SetsFirst, WriteFields, has_room, planned_page}
 pub use Rattle.mlt_page.specs.Slots.{is_ghost_of, is_live_of}
 pub use Rattle.mlt_page.specs.Values.{BucketFields, HeadFields}
 pub use Rattle.mlt_page.specs.declared.page.Page.{Page}

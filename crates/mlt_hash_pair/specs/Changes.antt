@@ -9,7 +9,7 @@ use Rattle.mlt_hash_form.specs.File.{FilePages, GivesPseudokeys, HasForm, lead_o
 use Rattle.mlt_hash_form.specs.Held.{Agrees, AreKeptToo, over}
 use Rattle.mlt_hash_access.specs.LocalStates.{LocalState}
 use Rattle.mlt_hash_access.specs.Views.{IsSameView, ReadsHeldBucket, View, WritesPage, view_of}
-use Rattle.mlt_hash_record.specs.Plans.{WriteFields, planned_page}
+use Rattle.mlt_hash_form.specs.Plans.{WriteFields, planned_page}
 use Rattle.mlt_hash_pair.specs.Pairs.{HoldsDescents, IsFound, PairFields, later_page}
 use Rattle.mlt_hash_pair.specs.Plans.{FitsFound, HasNoPlan, IsPlan}
 use Rattle.mlt_hash_pair.specs.Descents.{HasRead, found_of, page_of}

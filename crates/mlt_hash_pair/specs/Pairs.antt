@@ -5,7 +5,7 @@ use Rattle.mlt_types.specs.declared.mode.Mode.{Mode}
 use Rattle.mlt_hash_form.specs.File.{GivesPseudokeys}
 use Rattle.mlt_hash_access.specs.LocalStates.{HasCleanFile, MayStep, LocalState}
 use Rattle.mlt_hash_access.specs.Views.{IsUnwritten, View, view_of}
-use Rattle.mlt_hash_record.specs.Plans.{WriteFields}
+use Rattle.mlt_hash_form.specs.Plans.{WriteFields}
 use Rattle.mlt_hash_pair.specs.Reading.{next_mode, next_page, next_descent}
 use Rattle.mlt_hash_pair.specs.Descents.{HasRead, IsLocked, IsThere, page_of}
 use Rattle.mlt_hash_pair.specs.declared.descent.Descent.{Descent}

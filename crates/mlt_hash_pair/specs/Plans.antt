@@ -6,7 +6,7 @@ use Rattle.mlt_page.specs.Slots.{is_ghost_of, is_live_of}
 use Rattle.mlt_page.specs.declared.slot.Slot.{Slot}
 use Rattle.mlt_page.specs.declared.slot.Slot.TheVariants.{Free, Ghost, Live}
 use Rattle.mlt_page.specs.Values.{BucketFields, with_slot}
-use Rattle.mlt_hash_record.specs.Plans.{IsNowhere, SetsFirst, WriteFields, has_room}
+use Rattle.mlt_hash_form.specs.Plans.{IsNowhere, SetsFirst, WriteFields, has_room}
 use Rattle.mlt_hash_pair.specs.declared.asked.RecordChange.{RecordChange}
 use Rattle.mlt_hash_pair.specs.declared.plan.SlotPlan.{SlotPlan}
 

@@ -5,7 +5,7 @@ ghost use Rattle.mlt_page_locks.specs.LockTables.{can_read, can_write};
 ghost use Rattle.mlt_hash_access.specs.LocalStates.{MayStep, local};
 ghost use Rattle.mlt_hash_access.specs.PageSteps.{Leaves, WritesAtMost, WritesHeldSlot};
 ghost use Rattle.mlt_hash_access.specs.Views.{IsUnwritten, view_of};
-ghost use Rattle.mlt_hash_record.specs.Plans.{WriteFields};
+ghost use Rattle.mlt_hash_form.specs.Plans.{WriteFields};
 ghost use Rattle.mlt_hash_pair.specs.Descents.{IsThere, page_of};
 ghost use Rattle.mlt_hash_pair.specs.Changes.{FitsBoth, HoldsOn, MakesOwed, MayWriteEarlier, StandsBehind, TellsOfChanges, TellsOfTwo, task_in, task_of};
 ghost use Rattle.mlt_hash_pair.specs.Pairs.{FileRoot, IsFinding, IsFound, later_of, later_page};

@@ -4,7 +4,7 @@ ghost use Rattle.std.specs.Prelude.{◌≡◌, Option, Some};
 ghost use Rattle.mlt_hash_pair.specs.Plans.{FitsSlots, IsPlanned, IsWithin, bucket_after};
 
 use crate::asked::RecordChange;
-use mlt_hash_record::SlotWrite;
+use mlt_hash_form::SlotWrite;
 use mlt_page::Bucket;
 use mlt_types::{Key, OpenSet, PageNo, TxId};
 
@@ -53,19 +53,19 @@ fn plan_of(
 {
     match change {
         RecordChange::Insert(value) => {
-            if let Some(write) = mlt_hash_record::revive(number, bucket, *key, owner, value) {
+            if let Some(write) = mlt_hash_form::revive(number, bucket, *key, owner, value) {
                 return SlotPlan::Set(write);
             }
-            match mlt_hash_record::insert(number, bucket, *key, value, active) {
+            match mlt_hash_form::insert(number, bucket, *key, value, active) {
                 Some(write) => SlotPlan::Set(write),
                 None => SlotPlan::Full,
             }
         }
-        RecordChange::Update(value) => match mlt_hash_record::update(number, bucket, *key, value) {
+        RecordChange::Update(value) => match mlt_hash_form::update(number, bucket, *key, value) {
             Some(write) => SlotPlan::Set(write),
             None => unreachable!(),
         },
-        RecordChange::Remove => match mlt_hash_record::remove(number, bucket, *key, owner) {
+        RecordChange::Remove => match mlt_hash_form::remove(number, bucket, *key, owner) {
             Some(write) => SlotPlan::Set(write),
             None => unreachable!(),
         },

@@ -2,8 +2,8 @@
 use Rattle.std.proofs.Common.{ℕ, ◌≡◌, ◌<◌, ◌≤◌, ◌+◌, ◌-◌, ◌^◌, is_some, List, Option, Some, refl, sym, ◌∙◌, ap, subst, arith}
 use Rattle.std.specs.FinMap as map
 use Rattle.mlt_hash_split.proofs.Names.{Exclusive, BucketFields, HeadFields, Page, page_at, HasForm, Writes, bucket_of, buckets_of, depth_of, header_of, lead_of, half_of, Agrees, over, own_or_clean, keeps_more, MakesPage, View, view_over, LocalState, SplitTarget, HoldsAmong, IsAtRest, held_page, most_held, seed_of, Begins, IsAtOldBucket, IsUnderWay, SplitFields, SplitPhase, page_count, made_is_not_clean, makes_over}
-use Rattle.mlt_page_store.specs.Stores.{PageStore, Pages}
-use Rattle.mlt_page_store.proofs.Numbered.{page_inserted}
+use Rattle.mlt_page.specs.Stores.{PageStore, Pages}
+use Rattle.mlt_page.proofs.Numbered.{page_inserted}
 use Rattle.mlt_hash_access.specs.PageSteps.{MakesLockedPage}
 use Rattle.mlt_hash_split.specs.Splits.{HasHalves, MayBegin}
 use Rattle.mlt_hash_split.proofs.Among.{among_after_make, count_is_few, most_is_small}

@@ -29,7 +29,7 @@ pub use Rattle.mlt_page.specs.declared.slot.Slot.TheVariants.{Free}
 pub use Rattle.mlt_page_locks.proofs.LockLaws.{stronger_exclusive}
 pub use Rattle.mlt_page_locks.specs.LockTables.{Modes, can_write, page_count}
 pub use Rattle.mlt_page_locks.specs.Requests.{with_page}
-pub use Rattle.mlt_page_store.specs.Stores.{page_at}
+pub use Rattle.mlt_page.specs.Stores.{page_at}
 pub use Rattle.mlt_types.specs.declared.mode.Mode.TheVariants.{Exclusive}
 pub use Rattle.std.proofs.Math.Nat.{pow-le-pow_right}
 pub use Rattle.std.proofs.lemmas.Bool.{both_ways, cases_eq, cases_lt, cond-false, cond-true}

@@ -8,7 +8,7 @@ ghost use Rattle.mlt_page.specs.Slots.{is_kept};
 ghost use Rattle.mlt_page.specs.Values.{BucketFields, HeadFields};
 ghost use Rattle.mlt_page.specs.declared.page.Page.{Page};
 ghost use Rattle.mlt_page.specs.declared.slot.Slot.TheVariants.{Free};
-ghost use Rattle.mlt_page_store.specs.Stores.{page_at};
+ghost use Rattle.mlt_page.specs.Stores.{page_at};
 ghost use Rattle.mlt_page_locks.specs.LockTables.{mode_held};
 ghost use Rattle.mlt_hash_form.specs.File.{HasForm, bucket_of};
 ghost use Rattle.mlt_hash_form.specs.Held.{Agrees};

@@ -1,8 +1,7 @@
 //! Ghosts in a small file made by hand.
 
 use mlt_hash_ghosts::{Root, ghost_of, kept_room, reclaimable};
-use mlt_page::{Bucket, DirPage, HeadPage, Page, Slot};
-use mlt_page_store::Store;
+use mlt_page::{Bucket, DirPage, HeadPage, Page, Slot, Store};
 use mlt_test_tools::same;
 use mlt_types::{Cell, Key, Limits, Mult, OpenSet, PageNo, Refusal, TxId};
 use std::alloc::Global;

@@ -5,9 +5,8 @@ ghost use Rattle.mlt_page_locks.specs.LockTables.{HasAtMost};
 ghost use Rattle.mlt_page_subtx.specs.Images.{AreThere};
 ghost use Rattle.mlt_page_subtx.specs.Locking.{LocksPagesThere};
 
-use mlt_page::{Bucket, Page};
+use mlt_page::{Bucket, Page, Store};
 use mlt_page_locks::PageLocks;
-use mlt_page_store::Store;
 use mlt_page_subtx::Subtx;
 use mlt_test_tools::same;
 use mlt_types::{Limits, PageNo, Refusal, TxId};

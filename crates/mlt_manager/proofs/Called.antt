@@ -2,12 +2,12 @@
 use Rattle.std.proofs.Common.{◌≡◌, ℕ, length, Some, refl, sym, ap, subst, ◌∙◌, arith}
 use Rattle.std.specs.FinMap as map
 use Rattle.mlt_manager.proofs.Names.{ObjOp, cell_of, SameReservations, reservation_of, Running, HoldsNothing, clean_of, OperationFields, At, Transaction, IsPending, Table, KeepsCleanPages, FitsAt, all_of, images_kept, pending_room, ChangesOpen, HasCalled, IsIdleWith, IsOpenAt, MayCall, KeepsWhatCounts, IsManager, ManagerFields, state_of}
-use Rattle.mlt_hash_subtx_laws.specs.Running.{AllRunning, KeepsRunning}
-use Rattle.mlt_tx_open.specs.Tables.{CallsNone, CancelsOne}
+use Rattle.mlt_hash_access.specs.Running.{AllRunning, KeepsRunning}
+use Rattle.mlt_tx.specs.Tables.{CallsNone, CancelsOne}
 use Rattle.mlt_manager_invariant.specs.Events.{Calls, with_transaction}
 use Rattle.mlt_manager_invariant.specs.States.{is_undoing}
 use Rattle.mlt_manager_invariant.proofs.Calls.{called_sound, cancelled_sound}
-use Rattle.mlt_manager_trace.proofs.Stays.{called_traced}
+use Rattle.mlt_manager_invariant.proofs.TraceStays.{called_traced}
 use Rattle.mlt_manager.proofs.Counts.{cancel_counts, same_counts}
 use Rattle.mlt_manager.proofs.Keeping.{IsStill, changed_keeps, same_manager}
 use Rattle.mlt_manager.proofs.Stepped.{keeps_what_counts, still}

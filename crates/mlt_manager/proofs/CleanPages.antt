@@ -8,8 +8,8 @@ use Rattle.std.specs.List.{list_any}
 use Rattle.std.specs.FinMap as map
 use Rattle.mlt_page_locks.proofs.LockLaws.{writer_reads}
 use Rattle.mlt_page_subtx.specs.Images.{or_image}
-use Rattle.mlt_hash_subtx_laws.specs.CleanPages.{image_at}
-use Rattle.mlt_hash_subtx_laws.proofs.CleanLaws.{clean_page_of, clean_page_unwritten, others_have_none}
+use Rattle.mlt_hash_access.specs.CleanPages.{image_at}
+use Rattle.mlt_hash_access.proofs.CleanLaws.{clean_page_of, clean_page_unwritten, others_have_none}
 
 -- the image of a page that an open transaction keeps, of its images
 abbrev kept_in : Option Images → ℕ → Option (Option Page)

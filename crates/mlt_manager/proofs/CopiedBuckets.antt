@@ -12,8 +12,8 @@ use Rattle.mlt_hash_form.proofs.Bits.{first_bits-with_first_bits, first_bits_bel
 use Rattle.mlt_hash_form.proofs.Lookup.{found as record_found, live_from_value}
 use Rattle.mlt_hash_form.proofs.MapChanges.{map_is_look_up}
 use Rattle.mlt_hash_form.proofs.Paths.{path_of}
-use Rattle.mlt_manager_base.specs.Copies.{IsPartOf}
-use Rattle.mlt_manager_base.proofs.Nothing.{empty_part}
+use Rattle.mlt_manager_invariant.specs.Copies.{IsPartOf}
+use Rattle.mlt_manager_invariant.proofs.Nothing.{empty_part}
 use Rattle.mlt_manager.specs.CleanBuckets.{IsCleanBucket, IsCleanDirectory, IsCleanHead, IsTrueOfClean}
 use Rattle.mlt_manager.proofs.CleanPages.{pages_clean, same_clean}
 use Rattle.mlt_manager.proofs.Headline.{contained, record_of_slot}

@@ -9,8 +9,8 @@ use Rattle.mlt_manager_invariant.specs.Transactions.{Begins, BeginsAbort, Ends}
 use Rattle.mlt_manager_invariant.proofs.Aborts.{abort_sound}
 use Rattle.mlt_manager_invariant.proofs.Begins.{begin_sound}
 use Rattle.mlt_manager_invariant.proofs.Ends.{close_sound, commit_sound}
-use Rattle.mlt_manager_trace.proofs.Items.{begin_traced, close_traced, commit_traced}
-use Rattle.mlt_manager_trace.proofs.Stays.{abort_traced}
+use Rattle.mlt_manager_invariant.proofs.Items.{begin_traced, close_traced, commit_traced}
+use Rattle.mlt_manager_invariant.proofs.TraceStays.{abort_traced}
 use Rattle.mlt_manager.specs.Answers.{HasBegun, HasBegunAbort, HasClosed, HasCommitted}
 use Rattle.mlt_manager.proofs.Called.{was_idle, was_with}
 use Rattle.mlt_manager.proofs.Counts.{no_more_commits}

@@ -7,7 +7,7 @@ use Rattle.mlt_tx_operation.specs.Operating.{MayOperate}
 use Rattle.mlt_tx_operation.specs.Fast.{NobodyHolds}
 use Rattle.mlt_tx.specs.Fast.{MayCallFast}
 use Rattle.mlt_tx.specs.Transactions.{MayStepAt}
-use Rattle.mlt_tx_open.specs.Tables.{DoesOneFast, StepsOneFast}
+use Rattle.mlt_tx.specs.Tables.{DoesOneFast, StepsOneFast}
 use Rattle.mlt_manager.proofs.Called.{called_keeps}
 use Rattle.mlt_manager.proofs.Keeping.{len_removed, nobody}
 use Rattle.mlt_manager.proofs.Stepping.{stepped}

@@ -128,26 +128,3 @@ pages_mean pages base is_map means = record { within = within; beyond = beyond }
 
     beyond : (cell : Cell) → (IsInRange cell → ⊥) → HoldsIn base cell None
     beyond cell out = held base cell None (means.elsewhere cell out) (none_told cell out)
-
--- **and the other way round, where the records are such as cells can have.**
-pub records_mean : (pages : map.FinMap nat_cmp Page) (base : Base) → IsRecordMap (live_records pages) (map.get pages)
-    → ((cell : Cell) → IsInRange cell → IsRecord cell (map.get (live_records pages) (key_number cell))) → PagesMean pages base → Means (live_records pages) base
-records_mean pages base is_map can_be mean = record {
-  can_be = can_be;
-  holds = λ cell in_range.
-      let one = mean.within cell in_range in
-      state_held base cell (map.get records (key_number cell)) (subst (HoldsIn base cell) (same cell one.0 one.1) one.2);
-  elsewhere = λ cell out. state_held base cell None (mean.beyond cell out);
-  sized = λ s in_range.
-      let one = mean.within (Size s) in_range in
-      counted (map.get records (key_number (Size s))) ∙ sym (subst (HoldsIn base (Size s)) (same (Size s) one.0 one.1) one.2);
-}
-  where
-    records : map.FinMap nat_cmp ℕ
-    records = live_records pages
-
-    same : (cell : Cell) (live : Option ℕ) → IsRecordOf pages (key_number cell) live → live ≡ map.get records (key_number cell)
-    same cell live is = same_option live (map.get records (key_number cell)) (λ value. (
-      (λ (has : live ≡ Some value). (is_map (key_number cell) value).1 (record_of_slot pages (key_number cell) value ((is value).1 has))),
-      (λ has. (is value).0 (slot_of_record pages (key_number cell) value ((is_map (key_number cell) value).0 has))),
-    ))

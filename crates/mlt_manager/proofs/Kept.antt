@@ -5,7 +5,7 @@ use Rattle.std.specs.FinSet as set
 use Rattle.mlt_manager.proofs.Names.{Limits, Refusal, empty_base, ObjOp, commit_count, GivesPseudokeys, Answer, IsSound, Transaction, IsTraced, AnswersAbort, AnswersBegin, AnswersCall, AnswersCancel, AnswersCommit, AnswersStep, LeavesBase, IsManager, ManagerFields, state_of, IsNew, AnswersWholeUndo, GoesOnBack, StopsBack, AnswersWhole}
 use Rattle.mlt_manager_invariant.specs.Opening.{opening_state}
 use Rattle.mlt_manager_invariant.proofs.Opening.{opening_sound}
-use Rattle.mlt_manager_trace.proofs.Stays.{opening_traced}
+use Rattle.mlt_manager_invariant.proofs.TraceStays.{opening_traced}
 use Rattle.mlt_manager.proofs.Called.{called_keeps, cancelled_keeps, not_called_keeps}
 use Rattle.mlt_manager.proofs.Ended.{abort_begun_keeps, begun_keeps, closed_keeps, committed_keeps}
 use Rattle.mlt_manager.proofs.Keeping.{same_manager}

@@ -4,8 +4,8 @@ use Rattle.std.specs.FinMap as map
 use Rattle.mlt_manager.proofs.Names.{Base, Step, UndoneTo, Transaction, with_base, HasBase, IsManager, ManagerFields, state_of, IsCommittedBaseOf, lists_by}
 use Rattle.mlt_order.specs.Histories.Stage.{Running}
 use Rattle.mlt_order.proofs.UndoLaws.{undone_to_same}
-use Rattle.mlt_trace_laws.proofs.Histories.{nothing_of_others}
-use Rattle.mlt_tx_open.specs.Standing.{entries_of, standing_in}
+use Rattle.mlt_trace_check.proofs.Histories.{nothing_of_others}
+use Rattle.mlt_tx.specs.Standing.{entries_of, standing_in}
 use Rattle.mlt_manager.proofs.Promises.{committed_of}
 use Rattle.mlt_manager.proofs.Stepped.{same_base}
 

@@ -8,8 +8,8 @@ pub use Rattle.mlt_hash_access.specs.LocalStates.{LocalState, local}
 pub use Rattle.mlt_hash_access.specs.Views.{View, view_of}
 pub use Rattle.mlt_hash_form.specs.File.{FilePages, GivesPseudokeys, HasForm, bucket_of, header_of}
 pub use Rattle.mlt_hash_form.specs.Records.{IsRecordMap, live_records}
-pub use Rattle.mlt_hash_subtx_laws.specs.CleanPages.{RunningImages, clean_pages}
-pub use Rattle.mlt_hash_subtx_laws.specs.Running.{HoldsNothing, clean_of}
+pub use Rattle.mlt_hash_access.specs.CleanPages.{RunningImages, clean_pages}
+pub use Rattle.mlt_hash_access.specs.Running.{HoldsNothing, clean_of}
 pub use Rattle.mlt_manager.specs.Answers.{AnswersAbort, AnswersBegin, AnswersCall, AnswersCancel, AnswersCommit, AnswersStep, ChangesOpen, HasCalled, HasEnded, HasStepped, IsBusy, IsByAnother, IsIdleWith, IsOpenAt, IsRunning, IsUndoing, MayCall, active_after, counted, txs_after}
 pub use Rattle.mlt_manager.specs.Bases.{HasBase, HasCleanPage, HasCleanPages, HasDepth, IsPendingWith, KeepsWhatCounts, LeavesBase, TakesStepBack, UndoingLeavesBase, WholeLeavesBase}
 pub use Rattle.mlt_manager.specs.Chains.{StepsBy, StepsUpTo}
@@ -21,14 +21,14 @@ pub use Rattle.mlt_manager.specs.Parts.{fields_of}
 pub use Rattle.mlt_manager.specs.Promises.{IsCommittedBaseOf, KeepsPromises, PassesTheChecker, lists_by}
 pub use Rattle.mlt_manager.specs.Undoings.{AnswersWholeUndo, GoesOnBack, StopsBack}
 pub use Rattle.mlt_manager.specs.Wholes.{AnswersWhole, DropsIfItStands, HasRun, LetsGoOn, StepsOnUpTo, Stops}
-pub use Rattle.mlt_manager_base.specs.Copies.{AreSlotsOf, CopiesSlots}
+pub use Rattle.mlt_manager_invariant.specs.Copies.{AreSlotsOf, CopiesSlots}
 pub use Rattle.mlt_manager_invariant.proofs.MaySteps.{may_step}
 pub use Rattle.mlt_manager_invariant.proofs.Tables.{inserted_elsewhere, inserted_here, removed_here}
 pub use Rattle.mlt_manager_invariant.specs.Events.{KeepsCleanPages}
 pub use Rattle.mlt_manager_invariant.specs.Sound.{FitsAt, IsSound}
 pub use Rattle.mlt_manager_invariant.specs.States.{State, abstract_state_of, all_of, images_kept, pending_room, room_of}
-pub use Rattle.mlt_manager_trace.proofs.CommittedBases.{with_base}
-pub use Rattle.mlt_manager_trace.specs.Traced.{IsTraced}
+pub use Rattle.mlt_manager_invariant.proofs.CommittedBases.{with_base}
+pub use Rattle.mlt_manager_invariant.specs.Traced.{IsTraced}
 pub use Rattle.mlt_object_base.specs.Meaning.{Means}
 pub use Rattle.mlt_object_base.specs.Records.{IsRecord, state_of_record}
 pub use Rattle.mlt_object_base.specs.declared.request.Request.{Request}
@@ -38,13 +38,13 @@ pub use Rattle.mlt_object_kinds.specs.Operations.{cell_of}
 pub use Rattle.mlt_object_kinds.specs.declared.operation.ObjOp.{ObjOp}
 pub use Rattle.mlt_object_kinds.specs.declared.operation.ObjReply.{ObjReply}
 pub use Rattle.mlt_object_locks.specs.Locks.{Held, IsLowestClash, SameReservations, reservation_of}
-pub use Rattle.mlt_object_undo.specs.Undo.{Undo}
+pub use Rattle.mlt_object_base.specs.Undo.{Undo}
 pub use Rattle.mlt_order.specs.Interleavings.{UndoneTo}
 pub use Rattle.mlt_page.specs.Values.{BucketFields, HeadFields}
 pub use Rattle.mlt_page.specs.declared.page.Page.{Page}
 pub use Rattle.mlt_page.specs.declared.slot.Slot.{Slot}
 pub use Rattle.mlt_page_locks.specs.LockTables.{Modes, is_holder}
-pub use Rattle.mlt_page_store.specs.Stores.{Pages, page_at}
+pub use Rattle.mlt_page.specs.Stores.{Pages, page_at}
 pub use Rattle.mlt_page_subtx.proofs.ImageLaws.{not_true}
 pub use Rattle.mlt_page_subtx.specs.Images.{Images, Running, image_of}
 pub use Rattle.mlt_trace.proofs.RoomLaws.{room_within_total}
@@ -59,7 +59,7 @@ pub use Rattle.mlt_tx.specs.declared.transaction.At.{At}
 pub use Rattle.mlt_tx.specs.declared.transaction.Transaction.{Transaction}
 pub use Rattle.mlt_tx_meaning.specs.AbstractStates.{context_of}
 pub use Rattle.mlt_tx_meaning.specs.Presences.{IsOpInRange}
-pub use Rattle.mlt_tx_open.specs.Tables.{CallsOneFast, KeepsImage, KeepsNoImage, Table}
+pub use Rattle.mlt_tx.specs.Tables.{CallsOneFast, KeepsImage, KeepsNoImage, Table}
 pub use Rattle.mlt_tx_operation.specs.Answers.{TellsOfStep}
 pub use Rattle.mlt_tx_operation.specs.Operating.{OperationFields, started_for}
 pub use Rattle.mlt_tx_operation.specs.declared.answer.StepAnswer.{StepAnswer}

@@ -34,7 +34,7 @@ use Rattle.mlt_tx_operation.specs.declared.access_path.AccessPath.{AccessPath}
 use Rattle.mlt_tx_operation.specs.declared.access_path.AccessPath.TheVariants.{One, Two}
 use Rattle.mlt_tx_operation.specs.Operating.{OperatesBy, StandsOrTold}
 use Rattle.mlt_tx_operation.specs.Walking.{FitsPhase, WalkingFields, walking}
-use Rattle.mlt_hash_subtx_laws.specs.Running.{images_by, local_of}
+use Rattle.mlt_hash_access.specs.Running.{images_by, local_of}
 use Rattle.mlt_manager_invariant.proofs.Openness.{agrees_in}
 use Rattle.mlt_manager.specs.PassLocks.{HoldsBoth, HoldsOver, HoldsPair, HoldsWay, IsOnWay, KeysWay, LocksAt, LocksBy, LocksOf, LocksOfTwo, LocksOverAt, images_at, running_at, running_of}
 

@@ -6,15 +6,15 @@ use Rattle.std.specs.FinSet as set
 use Rattle.mlt_hash_form.specs.Prefixes.{IsExtendibleHashFile}
 use Rattle.mlt_hash_ghosts.proofs.Transactions.{kept_by_match}
 use Rattle.mlt_trace.specs.Ranges.{AllFit}
-use Rattle.mlt_trace_laws.specs.Writable.{AreWritable}
+use Rattle.mlt_trace_check.specs.Writable.{AreWritable}
 use Rattle.mlt_order.specs.Histories.{IsCommitOrderSerializable}
 use Rattle.mlt_order.specs.Runs.{IsSerialBase}
 use Rattle.mlt_trace.specs.Items.{trace_text}
 use Rattle.mlt_trace.specs.Numbers.{committed_txs}
 use Rattle.mlt_trace_check.specs.Traces.{IsAcceptedTrace, told}
-use Rattle.mlt_trace_laws.proofs.Histories.{serializable}
+use Rattle.mlt_trace_check.proofs.Histories.{serializable}
 use Rattle.mlt_tx_meaning.specs.AbstractStates.{ledger_of}
-use Rattle.mlt_manager_trace.specs.Traced.{IsCommittedBase}
+use Rattle.mlt_manager_invariant.specs.Traced.{IsCommittedBase}
 use Rattle.mlt_manager.specs.Headline.{KeepsMainPromise}
 use Rattle.mlt_manager.proofs.CleanPages.{pages_clean}
 use Rattle.mlt_manager.proofs.Headline.{pages_mean, same_transcripts}

@@ -1,19 +1,13 @@
 -- Events that are refused
 use Rattle.std.proofs.Common.{◌≡◌, ℕ, Result, Ok, Err, OnOk, refl, ◌∙◌}
 use Rattle.mlt_manager.proofs.Names.{Refusal, ObjOp, IsOpInRange, AnswersCall, ChangesOpen, ManagerFields}
-use Rattle.mlt_tx_open.specs.OpenAt.{TriesCall}
+use Rattle.mlt_tx.specs.OpenAt.{TriesCall}
 use Rattle.mlt_manager.specs.Answers.{IsNotIdle}
 
 -- what is so on Ok, where there is no error
 pub told_ok : {A E Q : Type 0} (r : Result A E) → ((reason : E) → r ≡ Err reason → ⊥) → OnOk r Q → Q
 told_ok (Ok a) not is = is
 told_ok (Err reason) not is = absurd (not reason refl)
-
--- a transaction that is not idle is not called
-pub not_called : {P : Type 0} (reason : Refusal) (m m' : ManagerFields P) (tx : ℕ) (op : ObjOp) → m' ≡ m → IsNotIdle reason m.txs tx → AnswersCall m m' tx op (Err reason)
-not_called Refusal.OutOfMemory m m' tx op same why = absurd why
-not_called Refusal.LogFull m m' tx op same why = absurd why
-not_called other m m' tx op same why = (why, same)
 
 -- what a try to call one answers is what the manager does
 pub call_answers : {P : Type 0} (m m' : ManagerFields P) (tx : ℕ) (op : ObjOp) (r : Result (Unit {0}) Refusal) → IsOpInRange op → TriesCall tx op m.max_ops m.txs m'.txs m.shared m'.shared r → ChangesOpen m m' → AnswersCall m m' tx op r

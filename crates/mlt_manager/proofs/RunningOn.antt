@@ -127,7 +127,3 @@ pub not_dropped : {P : Type 0} (told : Answer) (m : ManagerFields P) (tx : ℕ) 
 not_dropped (Answer.Waiting page by) m tx waiting blocked = absurd (waiting page by refl)
 not_dropped (Answer.Blocked by) m tx waiting blocked = absurd (blocked by refl)
 not_dropped other m tx waiting blocked = refl
-
--- **What a whole operation answers.**
-pub whole_answers : {P : Type 0} (bits_of : P → ℕ → ℕ) (m m' : ManagerFields P) (tx : ℕ) (op : ObjOp) (reason : Refusal) → AnswersCall m m' tx op (Err reason) → AnswersWhole bits_of m m' tx op (Err reason)
-whole_answers bits_of m m' tx op reason a = a

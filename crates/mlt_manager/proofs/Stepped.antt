@@ -14,8 +14,8 @@ use Rattle.mlt_manager_invariant.proofs.Replied.{reply_is_step}
 use Rattle.mlt_manager_invariant.proofs.Stays.{stays_sound}
 use Rattle.mlt_manager_invariant.proofs.Tables.{removed_inserted}
 use Rattle.mlt_manager_invariant.proofs.Undoing.{undone_sound}
-use Rattle.mlt_manager_trace.proofs.Items.{done_traced, last_undone_traced, undone_traced}
-use Rattle.mlt_manager_trace.proofs.Stays.{clean_traced}
+use Rattle.mlt_manager_invariant.proofs.Items.{done_traced, last_undone_traced, undone_traced}
+use Rattle.mlt_manager_invariant.proofs.TraceStays.{clean_traced}
 use Rattle.mlt_manager.specs.Bases.{MakesStep}
 use Rattle.mlt_manager.proofs.CleanPages.{clean_alike, pages_clean, same_clean}
 use Rattle.mlt_manager.proofs.Counts.{KeepsCounts, step_counts}

@@ -5,8 +5,8 @@ use Rattle.mlt_manager.proofs.Names.{room_within_total, Refusal, WalkContext, co
 use Rattle.mlt_page_subtx.specs.Images.{AreThere}
 use Rattle.mlt_tx.specs.Transactions.{MayStepIn}
 use Rattle.std.specs.FinSet as set
-use Rattle.mlt_tx_open.specs.OpenAt.{MayStepIfBusy, TriesStep}
-use Rattle.mlt_tx_open.specs.Tables.{StepsOne}
+use Rattle.mlt_tx.specs.OpenAt.{MayStepIfBusy, TriesStep}
+use Rattle.mlt_tx.specs.Tables.{StepsOne}
 
 not_idle : (a : At) → IsBusy a → a ≢ At.Idle
 not_idle a busy is = subst IsBusy is busy

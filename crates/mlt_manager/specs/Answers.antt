@@ -14,8 +14,8 @@ use Rattle.mlt_tx.specs.declared.transaction.Transaction.{Transaction}
 use Rattle.mlt_tx.specs.Transactions.{IsPending}
 pub use Rattle.mlt_tx.specs.Transactions.{IsUndoing}
 use Rattle.mlt_hash.specs.Walks.{context_by}
-pub use Rattle.mlt_tx_open.specs.OpenAt.{IsBusy, IsCauseAtCallOf, IsCauseAtStep, IsIdle, IsIdleWith, IsNotIdle, IsNotOpen, IsOpenAt, MayCallOne}
-use Rattle.mlt_tx_open.specs.Tables.{CallsNone, CallsOne, CancelsOne, PutsOneAt, StepsOne, Table}
+pub use Rattle.mlt_tx.specs.OpenAt.{IsBusy, IsCauseAtCallOf, IsCauseAtStep, IsIdle, IsIdleWith, IsNotIdle, IsNotOpen, IsOpenAt, MayCallOne}
+use Rattle.mlt_tx.specs.Tables.{CallsNone, CallsOne, CancelsOne, PutsOneAt, StepsOne, Table}
 use Rattle.mlt_tx_meaning.specs.Presences.{IsOpInRange}
 use Rattle.mlt_manager.specs.Managers.{ManagerFields}
 

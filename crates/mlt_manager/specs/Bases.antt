@@ -16,7 +16,7 @@ use Rattle.mlt_object_base.specs.declared.request.Request.TheVariants.{Do}
 use Rattle.mlt_event.specs.declared.answer.Answer.{Answer}
 use Rattle.mlt_tx.specs.declared.transaction.At.{At}
 use Rattle.mlt_tx.specs.declared.transaction.Transaction.{Transaction}
-use Rattle.mlt_tx_open.specs.Tables.{KeepsImage, KeepsNoImage}
+use Rattle.mlt_tx.specs.Tables.{KeepsImage, KeepsNoImage}
 use Rattle.mlt_manager.specs.Answers.{IsOpenAt}
 use Rattle.mlt_manager.specs.Managers.{ManagerFields}
 

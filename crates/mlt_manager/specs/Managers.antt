@@ -7,14 +7,14 @@ use Rattle.std.specs.FinSet as set
 use Rattle.mlt_object_kinds.specs.Bases.{Base}
 use Rattle.mlt_trace.specs.Numbers.{commit_count}
 use Rattle.mlt_hash_form.specs.declared.root.Root.{Root}
-use Rattle.mlt_hash_subtx_laws.specs.CleanPages.{RunningImages}
+use Rattle.mlt_hash_access.specs.CleanPages.{RunningImages}
 use Rattle.mlt_tx.specs.declared.shared.SharedState.{SharedState}
 use Rattle.mlt_tx.specs.contracts.shared.SharedState.{the_row as shared_row}
 use Rattle.mlt_tx.specs.contracts.transaction.Transaction.{the_row as transaction_row}
-use Rattle.mlt_tx_open.specs.Tables.{Table}
+use Rattle.mlt_tx.specs.Tables.{Table}
 use Rattle.mlt_manager_invariant.specs.Sound.{IsSound}
 use Rattle.mlt_manager_invariant.specs.States.{State}
-use Rattle.mlt_manager_trace.specs.Traced.{IsTraced}
+use Rattle.mlt_manager_invariant.specs.Traced.{IsTraced}
 
 -- what contracts see of a manager
 pub record ManagerFields (P : Type 0) : Type 0 where

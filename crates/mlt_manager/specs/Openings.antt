@@ -3,7 +3,7 @@ use Rattle.std.specs.Prelude.{ℕ, ◌≡◌, []}
 use Rattle.std.specs.FinMap as map
 use Rattle.std.specs.FinSet as set
 use Rattle.mlt_types.specs.declared.limits.Limits.{Limits}
-use Rattle.mlt_page_store.specs.Stores.{page_at}
+use Rattle.mlt_page.specs.Stores.{page_at}
 use Rattle.mlt_page_locks.specs.LockTables.{no_locks}
 use Rattle.mlt_object_locks.specs.Locks as objects
 use Rattle.mlt_hash_form.specs.Changes.{IsOpening}

@@ -4,7 +4,7 @@ use Rattle.mlt_tx.specs.Transactions.{IsPending}
 use Rattle.mlt_manager.specs.declared.parts.Parts.{Parts}
 use Rattle.mlt_manager.specs.declared.parts.TxStage.{TxStage}
 use Rattle.mlt_manager.specs.Answers.{IsIdleWith, IsNotOpen, IsOpenAt, IsUndoing}
-use Rattle.mlt_tx_open.specs.Tables.{Table}
+use Rattle.mlt_tx.specs.Tables.{Table}
 use Rattle.mlt_manager.specs.Managers.{ManagerFields}
 
 -- a manager as contracts see it, of its parts

@@ -4,7 +4,7 @@ use Rattle.mlt_types.specs.declared.refusal.Refusal.{Refusal}
 use Rattle.mlt_object_kinds.specs.declared.operation.ObjOp.{ObjOp}
 use Rattle.mlt_event.specs.declared.answer.Answer.{Answer}
 use Rattle.mlt_tx.specs.Transactions.{IsPending}
-use Rattle.mlt_tx_open.specs.Tables.{CancelsOne}
+use Rattle.mlt_tx.specs.Tables.{CancelsOne}
 use Rattle.mlt_manager.specs.Answers.{AnswersCall, ChangesOpen, HasCalled, IsOpenAt}
 use Rattle.mlt_manager.specs.Chains.{StepsUpTo}
 use Rattle.mlt_manager.specs.Managers.{ManagerFields}

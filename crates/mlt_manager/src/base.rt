@@ -8,7 +8,7 @@ ghost use Rattle.mlt_manager.specs.Parts.{fields_of};
 ghost use Rattle.mlt_manager.specs.Promises.{IsCommittedBaseOf};
 
 use crate::parts::Parts;
-use mlt_manager_base::copy_slots;
+use mlt_manager_invariant::copy_slots;
 use mlt_object_base::Base;
 use mlt_page::{Bucket, DirPage, HeadPage, Page};
 use mlt_types::{Pseudo, Refusal};

@@ -18,13 +18,11 @@ use mlt_hash_access::LockedStore;
 use mlt_hash_form::Root;
 use mlt_object_kinds::ObjOp;
 use mlt_object_locks::ObjectLocks;
-use mlt_page::Page;
+use mlt_page::{Page, Store};
 use mlt_page_locks::PageLocks;
-use mlt_page_store::Store;
 use mlt_trace::{History, KeptItem, TraceItem};
-use mlt_tx::{ActivityState, SharedState};
+use mlt_tx::{ActivityState, OpenTransactions, SharedState};
 use mlt_tx_meaning::operation_is_in_range;
-use mlt_tx_open::OpenTransactions;
 use mlt_types::{Limits, OpenSet, PageNo, Pseudo, Refusal, TxId};
 use std::alloc::Global;
 

@@ -7,8 +7,8 @@ use Rattle.mlt_order.specs.Histories.Entry.{Begun}
 use Rattle.mlt_trace.proofs.ItemLaws.{begin_keeps_order, begins_counted}
 use Rattle.mlt_trace.proofs.RoomLaws.{total_room-insert_new}
 use Rattle.mlt_page_subtx.proofs.ImageLaws.{not_there, not_true}
-use Rattle.mlt_hash_subtx_laws.specs.Running.{after_begin}
-use Rattle.mlt_hash_subtx_laws.proofs.AllEvents.{begin_clean, begin_keeps, nothing_at_begin}
+use Rattle.mlt_hash_access.specs.Running.{after_begin}
+use Rattle.mlt_hash_access.proofs.AllEvents.{begin_clean, begin_keeps, nothing_at_begin}
 use Rattle.mlt_tx_meaning.specs.Events.{with_begun}
 use Rattle.mlt_tx_meaning.proofs.OpenNumbers as numbers
 use Rattle.mlt_tx_meaning.proofs.Transactions as meeting

@@ -24,3 +24,11 @@ pub mod Tables
 pub mod Turned
 pub mod Turning
 pub mod Undoing
+mod TraceNames
+pub mod CommittedBases
+pub mod Places
+pub mod Wholes
+pub mod Items
+pub mod TraceStays
+pub mod Nothing
+mod OneByOne

@@ -5,7 +5,7 @@ use Rattle.mlt_manager_invariant.proofs.Names.{false≢true, Contains-append_rig
 use Rattle.mlt_trace.proofs.RoomLaws.{room_within_total}
 use Rattle.mlt_page_locks.specs.LockTables.{Modes, pages_of}
 use Rattle.mlt_page_subtx.specs.Images.{AreThere}
-use Rattle.mlt_hash_subtx_laws.proofs.AllRunning.{clean_for_each, each_may_step}
+use Rattle.mlt_hash_access.proofs.AllRunning.{clean_for_each, each_may_step}
 use Rattle.mlt_tx_operation.specs.Operating.{CanDo, CanDoBy, MayOperate}
 use Rattle.mlt_tx_meaning.proofs.Matches.{in_range_there}
 use Rattle.mlt_tx_meaning.proofs.TwoEnds.{can_do_both, can_take_back_both}

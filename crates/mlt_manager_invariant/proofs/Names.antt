@@ -7,10 +7,10 @@ pub use Rattle.mlt_hash_access.specs.PageTurns.{TakesTurn, TurnsBack}
 pub use Rattle.mlt_hash_access.specs.Views.{View, view_of}
 pub use Rattle.mlt_hash_access.specs.declared.locked_store.LockedStore.{LockedStore}
 pub use Rattle.mlt_hash_form.specs.Held.{Agrees}
-pub use Rattle.mlt_hash_subtx_laws.proofs.AllEvents.{close_clean, close_keeps, end_clean, end_keeps, nothing_after_roll_back, nothing_at_end}
-pub use Rattle.mlt_hash_subtx_laws.proofs.AllRunning.{agrees_with_each}
-pub use Rattle.mlt_hash_subtx_laws.specs.CleanPages.{RunningImages, clean_pages}
-pub use Rattle.mlt_hash_subtx_laws.specs.Running.{AllMayStep, AllRunning, HoldsNothing, KeepsRunning, after_close, after_end, after_roll_back, after_step, clean_of, images_by, is_open, local_of}
+pub use Rattle.mlt_hash_access.proofs.AllEvents.{close_clean, close_keeps, end_clean, end_keeps, nothing_after_roll_back, nothing_at_end}
+pub use Rattle.mlt_hash_access.proofs.AllRunning.{agrees_with_each}
+pub use Rattle.mlt_hash_access.specs.CleanPages.{RunningImages, clean_pages}
+pub use Rattle.mlt_hash_access.specs.Running.{AllMayStep, AllRunning, HoldsNothing, KeepsRunning, after_close, after_end, after_roll_back, after_step, clean_of, images_by, is_open, local_of}
 pub use Rattle.mlt_manager_invariant.specs.Events.{KeepsCleanPages, with_transaction}
 pub use Rattle.mlt_manager_invariant.specs.Sound.{Fits, FitsAt, HasInverse, HasPending, IsSound}
 pub use Rattle.mlt_manager_invariant.specs.States.{State, abstract_state_of, all_of, images_kept, is_undoing, is_undoing_at, pending_room, room_of, undoing_of}
@@ -26,7 +26,7 @@ pub use Rattle.mlt_object_kinds.specs.Operations.{cell_of}
 pub use Rattle.mlt_object_kinds.specs.declared.operation.ObjOp.{ObjOp}
 pub use Rattle.mlt_object_kinds.specs.declared.operation.ObjReply.{ObjReply}
 pub use Rattle.mlt_object_locks.specs.Locks.{Held, HoldsClash, Locks, SameReservations, is_of_other, reservation_of}
-pub use Rattle.mlt_object_undo.specs.Undo.{Undo}
+pub use Rattle.mlt_object_base.specs.Undo.{Undo}
 pub use Rattle.mlt_order.proofs.Growing.{after_entries-push, but_last-push}
 pub use Rattle.mlt_order.proofs.Tables.{changed}
 pub use Rattle.mlt_order.specs.Histories.{Entry, Lists, after_entry, but_last, lists_of, no_lists}

@@ -3,7 +3,7 @@ use Rattle.std.proofs.Common.{◌≡◌, ℕ, Option, is_some, true, unwrap_or, 
 use Rattle.std.specs.FinMap as map
 use Rattle.mlt_manager_invariant.proofs.Names.{Images, LocalState, AllMayStep, AllRunning, KeepsRunning, after_roll_back, after_step, clean_of, is_open, local_of, TakesTurn, TurnsBack}
 use Rattle.mlt_hash_access.proofs.OwnSteps.{step_keeps_tx}
-use Rattle.mlt_hash_subtx_laws.proofs.AllEvents.{roll_back_clean, roll_back_keeps, step_leaves_clean, step_leaves_views}
+use Rattle.mlt_hash_access.proofs.AllEvents.{roll_back_clean, roll_back_keeps, step_leaves_clean, step_leaves_views}
 use Rattle.mlt_manager_invariant.proofs.Tables.{inserted_here}
 use Rattle.mlt_manager_invariant.proofs.Closing.{one_after_another}
 

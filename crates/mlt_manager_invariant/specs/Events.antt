@@ -1,7 +1,7 @@
 -- Events of one transaction
 use Rattle.std.specs.Prelude.{length, ◌<◌, ◌≤◌, ℕ, ◌≡◌, ◌+◌, Some}
 use Rattle.std.specs.FinMap as map
-use Rattle.mlt_hash_subtx_laws.specs.CleanPages.{RunningImages}
+use Rattle.mlt_hash_access.specs.CleanPages.{RunningImages}
 use Rattle.mlt_object_kinds.specs.declared.operation.ObjOp.{ObjOp}
 use Rattle.mlt_object_kinds.specs.Operations.{cell_of}
 use Rattle.mlt_tx_meaning.specs.Presences.{IsOpInRange}
@@ -9,7 +9,7 @@ use Rattle.mlt_object_base.specs.declared.request.Request.TheVariants.{Do}
 use Rattle.mlt_object_locks.specs.Locks.{SameReservations, reservation_of}
 use Rattle.mlt_object_kinds.specs.Bases.{Base}
 use Rattle.mlt_object_kinds.specs.declared.operation.ObjReply.{ObjReply}
-use Rattle.mlt_hash_subtx_laws.specs.Running.{KeepsRunning, clean_of}
+use Rattle.mlt_hash_access.specs.Running.{KeepsRunning, clean_of}
 use Rattle.mlt_tx_operation.specs.Operating.{OperationFields, started_for}
 use Rattle.mlt_event.specs.declared.answer.Answer.{Answer}
 use Rattle.mlt_tx.specs.Transactions.{tx_state_of}

@@ -4,3 +4,5 @@ pub mod Sound
 pub mod States
 pub mod Transactions
 pub mod Undoing
+pub mod Traced
+pub mod Copies

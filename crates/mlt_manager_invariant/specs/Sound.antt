@@ -11,7 +11,7 @@ use Rattle.mlt_object_locks.specs.Locks.{reservation_of}
 use Rattle.mlt_trace.specs.Numbers.{AreBegunInOrder, AreCounted, begin_count}
 use Rattle.mlt_trace.specs.Rooms.{total_room}
 use Rattle.mlt_hash_access.specs.Views.{view_of}
-use Rattle.mlt_hash_subtx_laws.specs.Running.{AllMayStep, HoldsNothing, local_of}
+use Rattle.mlt_hash_access.specs.Running.{AllMayStep, HoldsNothing, local_of}
 use Rattle.mlt_object_base.specs.declared.request.Request.TheVariants.{Do}
 use Rattle.mlt_tx_operation.specs.Operating.{IsOperating, OperationFields}
 use Rattle.mlt_tx_meaning.specs.Presences.{IsOpInRange}

@@ -5,9 +5,9 @@ use Rattle.std.specs.FinMap as map
 use Rattle.std.specs.FinSet as set
 use Rattle.mlt_object_kinds.specs.Bases.{Base}
 use Rattle.mlt_trace.specs.Entries.{entries_of}
-use Rattle.mlt_hash_subtx_laws.specs.CleanPages.{RunningImages, clean_pages}
+use Rattle.mlt_hash_access.specs.CleanPages.{RunningImages, clean_pages}
 use Rattle.mlt_page_subtx.specs.Images.{Images}
-use Rattle.mlt_hash_subtx_laws.specs.Running.{AllRunning}
+use Rattle.mlt_hash_access.specs.Running.{AllRunning}
 use Rattle.mlt_tx_meaning.specs.AbstractStates.{AbstractState}
 use Rattle.mlt_tx.specs.declared.shared.SharedState.{SharedState}
 use Rattle.mlt_tx.specs.declared.transaction.At.{At}

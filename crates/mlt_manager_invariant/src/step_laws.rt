@@ -7,7 +7,7 @@ ghost use Rattle.mlt_manager_invariant.specs.Events.{KeepsClean, with_transactio
 ghost use Rattle.mlt_manager_invariant.specs.Sound.{IsSound};
 ghost use Rattle.mlt_manager_invariant.specs.States.{State};
 ghost use Rattle.mlt_tx.specs.declared.shared.SharedState.{SharedState};
-ghost use Rattle.mlt_hash_subtx_laws.specs.CleanPages.{RunningImages};
+ghost use Rattle.mlt_hash_access.specs.CleanPages.{RunningImages};
 
 /// An event of one transaction that leaves the clean pages, the items of the history and what is held keeps all that is
 /// always true, if it leaves the transaction where it may be.

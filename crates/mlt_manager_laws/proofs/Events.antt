@@ -4,7 +4,7 @@ use Rattle.std.specs.FinMap as map
 use Rattle.mlt_types.specs.declared.refusal.Refusal.{Refusal}
 use Rattle.mlt_manager_laws.proofs.Names.{ObjOp, Answer, Event, Told, At, Transaction, Table, inserted_elsewhere, removed_elsewhere, view_in, Meets, IsManager, ManagerFields, state_of, one_there}
 use Rattle.mlt_tx.specs.Transactions.{IsPending}
-use Rattle.mlt_tx_open.specs.Tables.{CancelsOne}
+use Rattle.mlt_tx.specs.Tables.{CancelsOne}
 use Rattle.mlt_manager_invariant.proofs.Calls.{cancelled_sound}
 use Rattle.mlt_manager.specs.Answers.{AnswersAbort, AnswersCall, AnswersStep, ChangesOpen, HasCalled, IsOpenAt}
 use Rattle.mlt_manager.specs.Chains.{StepsBy, StepsUpTo}

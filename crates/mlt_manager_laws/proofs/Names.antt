@@ -12,5 +12,5 @@ pub use Rattle.mlt_manager_invariant.proofs.Tables.{inserted_elsewhere, removed_
 pub use Rattle.mlt_object_kinds.specs.declared.operation.ObjOp.{ObjOp}
 pub use Rattle.mlt_tx.specs.declared.transaction.At.{At}
 pub use Rattle.mlt_tx.specs.declared.transaction.Transaction.{Transaction}
-pub use Rattle.mlt_tx_open.specs.Tables.{Table}
+pub use Rattle.mlt_tx.specs.Tables.{Table}
 pub use Rattle.mlt_tx_step_counts.specs.OwnSteps.{view_in}

@@ -6,8 +6,8 @@ use Rattle.mlt_page_subtx.specs.Images.{Images, Running}
 use Rattle.mlt_hash_access.specs.declared.locked_store.LockedStore.{LockedStore}
 use Rattle.mlt_hash_access.specs.LocalStates.{local}
 use Rattle.mlt_hash_access.specs.Views.{view_of}
-use Rattle.mlt_hash_subtx_laws.specs.Running.{AllRunning, KeepsRunning, after_end, local_of}
-use Rattle.mlt_hash_subtx_laws.proofs.AllEvents.{end_keeps}
+use Rattle.mlt_hash_access.specs.Running.{AllRunning, KeepsRunning, after_end, local_of}
+use Rattle.mlt_hash_access.proofs.AllEvents.{end_keeps}
 use Rattle.mlt_manager_laws.proofs.Names.{context_by, Answer, At, Transaction, Table, inserted_elsewhere, removed_elsewhere, view_in, HasStepped, txs_after, IsManager, ManagerFields, state_of}
 use Rattle.mlt_tx_operation.specs.Operating.{OperationFields}
 use Rattle.mlt_tx_meaning.specs.AbstractStates.{context_of}

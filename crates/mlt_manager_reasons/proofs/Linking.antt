@@ -9,13 +9,6 @@ abbrev pub IsLinked : Pendings → ℕ → ℕ → ℕ → List (ℕ × ℕ) →
 IsLinked pendings tx count last links =
     cycle_of pendings tx ≡ option_map (λ further. links ++ further) (links_to pendings tx (64 - count) last)
 
-same_found : (found : Option (List (ℕ × ℕ))) → found ≡ option_map (λ further. [] ++ further) found
-same_found None = refl
-same_found (Some links) = refl
-
-pub nothing_linked : (pendings : Pendings) (tx : ℕ) → IsLinked pendings tx 0 tx []
-nothing_linked pendings tx = same_found (links_to pendings tx 64 tx)
-
 unfold_one : (pendings : Pendings) (tx most last : ℕ) → links_to pendings tx (suc most) last ≡ links_by tx last (blocker_of (pendings last)) (links_to pendings tx most)
 unfolding links_to
 unfold_one pendings tx most last = refl

@@ -11,9 +11,8 @@ ghost use Rattle.mlt_manager_reasons.specs.Tables.{Knows};
 
 use crate::replies::reply_in;
 use crate::tx_ops::{TxOps, put_tx_ops, take_tx_ops};
-use mlt_object_base::Base;
+use mlt_object_base::{Base, take_back};
 use mlt_object_kinds::{Done, ObjOp, ObjReply};
-use mlt_object_undo::take_back;
 use mlt_trace::{KeptItem, TraceItem};
 use mlt_types::{Refusal, TxId};
 use std::alloc::Global;

@@ -1,11 +1,11 @@
 -- Scripts at a desk over a manager of which nobody else is open
 use Rattle.std.proofs.Common.{◌≡◌, ℕ, [], ◌∷◌, Bool, true, false, Result, Ok, Err, inl, inr, refl, sym, subst, ◌∙◌}
 use Rattle.mlt_manager_solo.proofs.Names.{Refusal, Transcript, ObjOp, ObjReply, Ending, ScriptForm, End, Committed, Aborted, Refused, Answer, Event, Told, counted, Meets, ManagerFields, HasOneIdle, HasOneUndoing, IsAtRest, CanMark, HasAsked, HasDone, HasEndedScript, HasRunScript, IsRefused, IsTakenBack, IsUndone, done_by}
-use Rattle.mlt_script_tree.specs.declared.statement.Ending.TheVariants.{Commit, Abort}
-use Rattle.mlt_script_cursor.specs.declared.call.DeskAnswer.{DeskAnswer}
-use Rattle.mlt_script_cursor.specs.Calls.{Moves, answer_by}
-use Rattle.mlt_script_cursor.specs.Plays.{Gives, PlaysAt}
-use Rattle.mlt_script_desk.specs.Runs.{ClosesAs, IsRunAt, refusal_of_script}
+use Rattle.mlt_script.specs.declared.statement.Ending.TheVariants.{Commit, Abort}
+use Rattle.mlt_script_serial.specs.declared.call.DeskAnswer.{DeskAnswer}
+use Rattle.mlt_script_serial.specs.Calls.{Moves, answer_by}
+use Rattle.mlt_script_serial.specs.Plays.{Gives, PlaysAt}
+use Rattle.mlt_script_serial.specs.DeskRuns.{ClosesAs, IsRunAt, refusal_of_script}
 use Rattle.mlt_manager_solo.specs.Desks.{MeetsAbort, MeetsCall, MeetsOperation, MeetsUndoing, abort_told, reply_told}
 use Rattle.mlt_manager_solo.proofs.Ends.{abort_is_told, begins_abort, closes_it, commit_is_told, keeps_it, takes_it_back, undo_is_told, undoes_it}
 use Rattle.mlt_manager_solo.proofs.Scripts.{asked_alone, asked_done, asked_first, asked_in_vain, asked_nothing, asked_refused, begun_alone, ended_aborted, ended_committed, ended_refused, not_begun_rests, refused_after, run_begun, run_not_begun}

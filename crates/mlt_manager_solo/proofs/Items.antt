@@ -9,7 +9,7 @@ use Rattle.mlt_order.specs.Histories.Stage.{Running}
 use Rattle.mlt_order.proofs.Growing.{after_entries-push}
 use Rattle.mlt_order.proofs.RunLemmas.{serial_to_one}
 use Rattle.mlt_trace.specs.Entries.{entry_of}
-use Rattle.mlt_trace_laws.proofs.Histories.{nothing_of_others, serializable}
+use Rattle.mlt_trace_check.proofs.Histories.{nothing_of_others, serializable}
 use Rattle.mlt_object_conflicts.proofs.BaseOrder.{base_functional}
 use Rattle.mlt_manager.proofs.Stepped.{same_base}
 

@@ -25,12 +25,12 @@ pub use Rattle.mlt_script_serial.specs.Texts.{outcome_text}
 pub use Rattle.mlt_script_serial.specs.declared.outcome.End.{End}
 pub use Rattle.mlt_script_serial.specs.declared.outcome.End.TheVariants.{Aborted, Committed, Refused}
 pub use Rattle.mlt_script_serial.specs.declared.outcome.Outcome.{Outcome}
-pub use Rattle.mlt_script_tree.specs.Scripts.{ScriptForm}
-pub use Rattle.mlt_script_tree.specs.declared.statement.Ending.{Ending}
+pub use Rattle.mlt_script.specs.Scripts.{ScriptForm}
+pub use Rattle.mlt_script.specs.declared.statement.Ending.{Ending}
 pub use Rattle.mlt_trace.proofs.ItemLaws.{entries_of-append}
 pub use Rattle.mlt_trace.specs.Entries.{entries_of}
 pub use Rattle.mlt_trace.specs.declared.item.TraceItem.{TraceItem}
 pub use Rattle.mlt_tx.specs.declared.transaction.At.{At}
 pub use Rattle.mlt_tx.specs.declared.transaction.Transaction.{Transaction}
-pub use Rattle.mlt_tx_open.specs.Tables.{Table}
+pub use Rattle.mlt_tx.specs.Tables.{Table}
 pub use Rattle.mlt_types.specs.declared.refusal.Refusal.{Refusal}

@@ -6,11 +6,11 @@ use Rattle.mlt_manager_solo.proofs.Names.{Refusal, Base, Step, Transcript, empty
 use Rattle.mlt_object_kinds.specs.Bases.{TranscriptLeads}
 use Rattle.mlt_order.specs.Histories.Entry.{Begun}
 use Rattle.mlt_order.specs.Histories.Stage.{Fresh}
-use Rattle.mlt_script_cursor.specs.declared.cursor.Next.{Next}
-use Rattle.mlt_script_cursor.specs.Follows.{Follows, IsNext, IsPartial, Questions, Reaches, questions_of_script}
-use Rattle.mlt_script_cursor.specs.Follows.Questions.{Asks, Ends}
+use Rattle.mlt_script_serial.specs.declared.cursor.Next.{Next}
+use Rattle.mlt_script_serial.specs.Follows.{Follows, IsNext, IsPartial, Questions, Reaches, questions_of_script}
+use Rattle.mlt_script_serial.specs.Follows.Questions.{Asks, Ends}
 use Rattle.mlt_script_serial.specs.Serial.{IsScriptRun}
-use Rattle.mlt_script_cursor.proofs.Transcripts.{is_partial}
+use Rattle.mlt_script_serial.proofs.Transcripts.{is_partial}
 use Rattle.mlt_manager.specs.Answers.{HasBegun, IsCauseAtBegin}
 use Rattle.mlt_manager.proofs.Ended.{begun_keeps}
 use Rattle.mlt_manager.proofs.Kept.{whole_kept}

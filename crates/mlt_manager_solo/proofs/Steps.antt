@@ -13,7 +13,7 @@ use Rattle.mlt_tx_operation.specs.Answers.{CauseBy, IsCauseOf}
 use Rattle.mlt_tx_operation.specs.Operating.{OperationFields}
 use Rattle.mlt_tx.specs.declared.shared.SharedState.{SharedState}
 use Rattle.mlt_tx.specs.Transactions.{TellsAt}
-use Rattle.mlt_tx_open.specs.Tables.{ChangesOne}
+use Rattle.mlt_tx.specs.Tables.{ChangesOne}
 use Rattle.mlt_manager.specs.Answers.{ChangesOpen, HasStepped, txs_after}
 use Rattle.mlt_manager.specs.Chains.{StepsBy}
 

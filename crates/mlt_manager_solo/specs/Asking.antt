@@ -5,8 +5,8 @@ use Rattle.mlt_object_kinds.specs.Bases.{Base, TranscriptLeads, Step, Transcript
 use Rattle.mlt_object_kinds.specs.declared.operation.ObjOp.{ObjOp}
 use Rattle.mlt_object_kinds.specs.declared.operation.ObjReply.{ObjReply}
 use Rattle.mlt_order.specs.Runs.{IsSerialBase}
-use Rattle.mlt_script_tree.specs.Scripts.{ScriptForm}
-use Rattle.mlt_script_cursor.specs.Follows.{IsPartial}
+use Rattle.mlt_script.specs.Scripts.{ScriptForm}
+use Rattle.mlt_script_serial.specs.Follows.{IsPartial}
 use Rattle.mlt_script_serial.specs.declared.outcome.End.{End}
 use Rattle.mlt_script_serial.specs.declared.outcome.End.TheVariants.{Refused}
 use Rattle.mlt_script_serial.specs.declared.outcome.Outcome.{Outcome}

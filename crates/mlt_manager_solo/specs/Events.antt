@@ -4,9 +4,9 @@ use Rattle.mlt_types.specs.declared.refusal.Refusal.{Refusal}
 use Rattle.mlt_object_kinds.specs.Bases.{Transcript}
 use Rattle.mlt_object_kinds.specs.declared.operation.ObjOp.{ObjOp}
 use Rattle.mlt_object_kinds.specs.declared.operation.ObjReply.{ObjReply}
-use Rattle.mlt_script_tree.specs.Scripts.{ScriptForm}
-use Rattle.mlt_script_cursor.specs.Follows.{Questions, Reaches, questions_of_script}
-use Rattle.mlt_script_cursor.specs.Follows.Questions.{Asks}
+use Rattle.mlt_script.specs.Scripts.{ScriptForm}
+use Rattle.mlt_script_serial.specs.Follows.{Questions, Reaches, questions_of_script}
+use Rattle.mlt_script_serial.specs.Follows.Questions.{Asks}
 use Rattle.mlt_script_serial.specs.declared.outcome.End.{End}
 use Rattle.mlt_script_serial.specs.declared.outcome.End.TheVariants.{Committed, Aborted, Refused}
 use Rattle.mlt_script_serial.specs.declared.outcome.Outcome.{Outcome}

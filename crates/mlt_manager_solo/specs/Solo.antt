@@ -4,7 +4,7 @@ use Rattle.mlt_types.specs.declared.limits.Limits.{Limits}
 use Rattle.mlt_types.specs.declared.refusal.Refusal.{Refusal}
 use Rattle.mlt_object_kinds.specs.Bases.{Base}
 use Rattle.mlt_script.specs.Grammar.{Spells}
-use Rattle.mlt_script_tree.specs.Scripts.{ScriptForm}
+use Rattle.mlt_script.specs.Scripts.{ScriptForm}
 use Rattle.mlt_script_serial.specs.declared.outcome.Outcome.{Outcome}
 use Rattle.mlt_script_serial.specs.declared.report.ReportForm.TheVariants.{Solo}
 use Rattle.mlt_script_serial.specs.Serial.{AreNumbered, IsSerialRun}

@@ -6,8 +6,7 @@ ghost use Rattle.mlt_manager_solo.specs.Desks.{reply_told};
 use mlt_event::{Answer, Event, Told};
 use mlt_manager::Manager;
 use mlt_object_kinds::{ObjOp, ObjReply};
-use mlt_script_cursor::Answering;
-use mlt_script_desk::Desk;
+use mlt_script_serial::{Answering, Desk};
 use mlt_types::{Pseudo, Refusal, TxId};
 
 /// A desk over a manager that nobody else asks. Each of its calls is one event, but for an abort that has something to take

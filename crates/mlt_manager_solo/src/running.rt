@@ -5,9 +5,8 @@ ghost use Rattle.mlt_manager_solo.specs.Alone.{IsAtRest};
 ghost use Rattle.mlt_manager_solo.specs.Asking.{HasRunAll};
 
 use crate::manager_desk::ManagerDesk;
-use mlt_script_desk::run_script;
-use mlt_script_serial::Outcomes;
-use mlt_script_tree::Script;
+use mlt_script::Script;
+use mlt_script_serial::{Outcomes, run_script};
 use mlt_types::{Pseudo, Refusal};
 use std::alloc::Global;
 

@@ -20,7 +20,7 @@ use Rattle.mlt_event.specs.declared.event.Event.{Event}
 use Rattle.mlt_event.specs.declared.told.Told.{Told}
 use Rattle.mlt_event_text.specs.TellTexts.{told_line}
 use Rattle.mlt_tx.specs.declared.transaction.Transaction.{Transaction}
-use Rattle.mlt_tx_open.specs.Tables.{Table}
+use Rattle.mlt_tx.specs.Tables.{Table}
 use Rattle.mlt_manager.specs.Answers.{counted}
 use Rattle.mlt_manager.specs.Bases.{IsBlockedBy}
 use Rattle.mlt_manager.specs.Events.{IsRun, Meets}

@@ -6,3 +6,4 @@ pub mod OperationChanges
 pub mod SizeRecords
 pub mod Steps
 pub mod Texts
+mod TakingBack

@@ -5,3 +5,5 @@ pub mod Kept
 pub mod Meaning
 pub mod Records
 pub mod Requests
+pub mod TakingBack
+pub mod Undo

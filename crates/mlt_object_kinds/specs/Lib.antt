@@ -10,3 +10,4 @@ pub mod Operations
 pub mod Packing
 pub mod Sizes
 pub mod Texts
+pub mod Ranges

@@ -109,13 +109,6 @@ column_in_the_way set requested class is column = record {
   only = λ k h. let found = column.only k h in (found.0, class, is, found.1, found.2);
 }
 
--- and nothing hinders one that has no class
-pub none_in_the_way : (requested : ObjOp × ObjReply) → class_of requested ≡ None → AreInTheWay 0 requested
-none_in_the_way requested is = record {
-  has = λ k h. absurd (let a = h.2 in cc);
-  only = λ k h. absurd (none_in_set k h);
-}
-
 -- ---- sizes that are told
 
 -- a reply tells a size, or has no class as one

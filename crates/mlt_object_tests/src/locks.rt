@@ -2,9 +2,9 @@
 
 ghost use Rattle.std.specs.Prelude.{◌≡◌};
 
+use mlt_object_base::UndoList;
 use mlt_object_kinds::{AccountOp, Done, ElementOp, ObjOp, ObjReply};
 use mlt_object_locks::ObjectLocks;
-use mlt_object_undo::UndoList;
 use mlt_test_tools::{same, same_at};
 use mlt_types::{Cell, Refusal, TxId};
 use std::alloc::Global;

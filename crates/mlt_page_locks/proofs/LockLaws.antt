@@ -95,9 +95,6 @@ among_granted table tx q mode active among one u holds = grind (arith, nat_tests
 pub no_holder-released : (table : LockTable) (tx : ℕ) → is_holder (released table tx) tx ≡ false
 no_holder-released table tx = grind (arith, nat_tests, get_removed table.held tx tx)
 
-pub among_released : (table : LockTable) (tx : ℕ) (active : List ℕ) → HoldersAreAmong table active → HoldersAreAmong (released table tx) active
-among_released table tx active among u holds = grind (arith, nat_tests, get_removed table.held tx u, among u)
-
 pub not_some : {X : Type 0} (o : Option X) → ¬ (is_some o ≡ true) → o ≡ None
 not_some None h = refl
 not_some (Some x) h = absurd (h refl)
@@ -156,15 +153,3 @@ few_none n = record {
   holders = grind (arith, map.len-empty nat_cmp Modes);
   pages = λ u. grind (arith, map.get-empty {X = Modes} nat_cmp u, map.len-empty nat_cmp Mode);
 }
-
-pub few_released : (table : LockTable) (tx n : ℕ) → HasAtMost n table → HasAtMost n (released table tx)
-few_released table tx n few = record {
-  holders = grind (arith, few.holders, map.len-remove nat_cmp_total table.held tx);
-  pages = λ u. grind (arith, few.pages u, pages_of-released table tx u, map.len-empty nat_cmp Mode);
-}
-
--- whatever a request is told, it adds at most one to each
-pub few_answered : (old : LockTable) (tx q n : ℕ) (mode : Mode) (grant : Grant) (new : LockTable) → HasAtMost n old → Answers old tx q mode grant new → HasAtMost (n + 1) new × (new.max_open ≡ old.max_open)
-few_answered old tx q n mode Held new few is = (subst (λ (t : LockTable). HasAtMost (n + 1) t) (sym is.1) (few_granted old tx q n mode few), ap (λ (t : LockTable). t.max_open) is.1)
-few_answered old tx q n mode (Waiting by) new few is =
-    (subst (λ (t : LockTable). HasAtMost (n + 1) t) (sym is.1) (record { holders = grind (arith, few.holders); pages = λ u. grind (arith, few.pages u) }), ap (λ (t : LockTable). t.max_open) is.1)

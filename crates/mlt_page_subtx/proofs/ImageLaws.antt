@@ -47,11 +47,6 @@ pub put_back-made : (images : Images) (pages : Pages) (k : ℕ) (page : Page) �
 put_back-made images pages k page fresh none = same_pages _ _ (λ q.
     grind (arith, nat_tests, page_at-put_back (map.insert images k None) (map.insert pages k page) q, page_at-put_back images pages q, get_inserted images k None q, get_inserted pages k page q))
 
--- a change of a page that has no image stays
-pub put_back-other : (images : Images) (pages : Pages) (k : ℕ) (first : Option Page) → image_of images k ≡ None → put_back images (with_first pages k first) ≡ with_first (put_back images pages) k first
-put_back-other images pages k first none = same_pages _ _ (λ q.
-    grind (arith, nat_tests, page_at-put_back images (with_first pages k first) q, page_at-put_back images pages q, page_at-with_first pages k first q, page_at-with_first (put_back images pages) k first q))
-
 -- pages with images stay there through the subtransaction's own writes
 pub there_written : (images : Images) (pages : Pages) (k : ℕ) (page : Page) → AreThere images pages → AreThere (with_image images k (page_at pages k)) (map.insert pages k page)
 there_written images pages k page there q some = grind (arith, nat_tests, image_of-with_image images k (page_at pages k) q, get_inserted pages k page q, there q)

@@ -191,10 +191,6 @@ kept_near near far near' image kept none room is =
       images = ap images_of all ∙ images_of-append (near ++ far) image none;
     }
 
--- where the first two places are taken, there are two images at least
-pub two_images : (near far : List Image) → IsKept near far → length near ≡ 2 → 2 ≤ map.len (images_of (near ++ far))
-two_images near far kept full = omega (arith, kept.once)
-
 pub none_left : {X : Type 0} (xs : List X) → length xs ≡ 0 → xs ≡ []
 none_left [] none = refl
 none_left (x ∷ xs) none = absurd (omega arith)

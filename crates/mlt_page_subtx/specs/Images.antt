@@ -5,7 +5,7 @@ use Rattle.std.specs.Coded.{Coded, code_by, coded×, coded_ℕ, coded_option}
 use Rattle.std.specs.FinMap as map
 use Rattle.mlt_page.specs.declared.page.Page.{Page}
 use Rattle.mlt_page.specs.contracts.page.Page.{the_row}
-use Rattle.mlt_page_store.specs.Stores.{Pages, page_at}
+use Rattle.mlt_page.specs.Stores.{Pages, page_at}
 
 -- what each page that was written or made had at first; a page that was made had nothing
 abbrev pub Images : Type 0

@@ -3,7 +3,7 @@ use Rattle.std.specs.Prelude.{◌≡◌, ℕ, true, false, is_some}
 use Rattle.mlt_page_locks.specs.LockTables.{LockTable, can_read, HasRoom}
 use Rattle.mlt_page_locks.specs.Requests.{granted}
 use Rattle.mlt_types.specs.declared.mode.Mode.TheVariants.{Exclusive}
-use Rattle.mlt_page_store.specs.Stores.{Pages, page_at}
+use Rattle.mlt_page.specs.Stores.{Pages, page_at}
 
 -- only pages that are there are locked
 abbrev pub LocksPagesThere : LockTable → Pages → Type 0

@@ -1,11 +1,10 @@
 //! First images of pages.
 
 ghost use Rattle.std.specs.Prelude.{◌≡◌, ◌==◌, true, is_some, find, option_copied};
-ghost use Rattle.mlt_page_store.specs.Stores.{page_at};
+ghost use Rattle.mlt_page.specs.Stores.{page_at};
 ghost use Rattle.mlt_page_subtx.specs.Images.{with_first};
 
-use mlt_page::Page;
-use mlt_page_store::Store;
+use mlt_page::{Page, Store};
 use mlt_types::PageNo;
 
 /// What a page had before a subtransaction first wrote it: nothing, where it was made then.

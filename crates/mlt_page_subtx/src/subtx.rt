@@ -3,7 +3,7 @@
 ghost use Rattle.std.specs.Prelude.{◌≡◌, ◌≤◌, ◌<◌, ◌+◌, ◌==◌, ◌++◌, [], ◌∷◌, ◌⊎◌, ◌↔◌, ℕ, length, true, false, is_some, None, Some, Err, IfOk, IfErr, IsOkUnless, OnOk, OnErr, option_copied};
 ghost use Rattle.std.specs.FinMap as map;
 ghost use Rattle.mlt_types.specs.declared.mode.Mode.TheVariants.{Exclusive};
-ghost use Rattle.mlt_page_store.specs.Stores.{HasBucketAt, SetsSlot, page_at};
+ghost use Rattle.mlt_page.specs.Stores.{HasBucketAt, SetsSlot, page_at};
 ghost use Rattle.mlt_page_locks.specs.LockTables.{AreCompatible};
 ghost use Rattle.mlt_page_locks.specs.Requests.{granted, released};
 ghost use Rattle.mlt_page_subtx.specs.Images.{image_of, with_image, put_back, AreThere, started};
@@ -13,9 +13,8 @@ ghost use Rattle.mlt_page_subtx.specs.Locking.{LocksPagesThere, HasRoomForOneMor
 use crate::image::{Image, find_image};
 use crate::near::NearImages;
 use indexmap::IndexMap;
-use mlt_page::{Page, Slot};
+use mlt_page::{Page, Slot, Store};
 use mlt_page_locks::{Grant, PageLocks};
-use mlt_page_store::Store;
 use mlt_types::{Mode, PageNo, Refusal, TxId};
 use std::alloc::Global;
 use std::marker::Model;

@@ -1,3 +1,4 @@
+pub mod Parting
 mod Names
 pub mod Placing
 pub mod Scanning
@@ -8,3 +9,5 @@ pub mod Deciding
 pub mod Numbers
 pub mod Saying
 pub mod PlainForms
+pub mod Rereading
+pub mod Printed

@@ -9,17 +9,17 @@ pub use Rattle.mlt_script.specs.declared.forms.LineForm.TheVariants.{Begins, Clo
 pub use Rattle.mlt_script.specs.declared.frame.Frame.{Frame}
 pub use Rattle.mlt_script.specs.declared.line.ScriptReading.{ScriptReading}
 pub use Rattle.mlt_script.specs.declared.line.ScriptReading.TheVariants.{Bad, Form, Skip}
-pub use Rattle.mlt_script_tree.specs.Blocks.{Block, Open, deepest, depth, grow, join, longest, nesting, path, widest}
-pub use Rattle.mlt_script_tree.specs.Blocks.Block.{If, Nothing, Then}
-pub use Rattle.mlt_script_tree.specs.Blocks.Open.{InFirst, InSecond, Top}
-pub use Rattle.mlt_script_tree.specs.Scripts.{IsScript, ScriptForm, one_more, open_of, whole}
-pub use Rattle.mlt_script_tree.specs.declared.statement.Asking.{Asking}
-pub use Rattle.mlt_script_tree.specs.declared.statement.Ending.TheVariants.{Commit}
-pub use Rattle.mlt_script_tree.specs.declared.statement.Line.{Line}
-pub use Rattle.mlt_script_tree.specs.declared.statement.Line.TheVariants.{Else, End, Plain}
-pub use Rattle.mlt_script_tree.specs.declared.statement.Statement.{Statement}
-pub use Rattle.mlt_script_tree.specs.declared.statement.Statement.TheVariants.{Ask}
-pub use Rattle.mlt_script_tree.specs.declared.statement.Wanted.{Wanted}
+pub use Rattle.mlt_script.specs.Blocks.{Block, Open, deepest, depth, grow, join, longest, nesting, path, widest}
+pub use Rattle.mlt_script.specs.Blocks.Block.{If, Nothing, Then}
+pub use Rattle.mlt_script.specs.Blocks.Open.{InFirst, InSecond, Top}
+pub use Rattle.mlt_script.specs.Scripts.{IsScript, ScriptForm, one_more, open_of, whole}
+pub use Rattle.mlt_script.specs.declared.statement.Asking.{Asking}
+pub use Rattle.mlt_script.specs.declared.statement.Ending.TheVariants.{Commit}
+pub use Rattle.mlt_script.specs.declared.statement.Line.{Line}
+pub use Rattle.mlt_script.specs.declared.statement.Line.TheVariants.{Else, End, Plain}
+pub use Rattle.mlt_script.specs.declared.statement.Statement.{Statement}
+pub use Rattle.mlt_script.specs.declared.statement.Statement.TheVariants.{Ask}
+pub use Rattle.mlt_script.specs.declared.statement.Wanted.{Wanted}
 pub use Rattle.mlt_text_words.specs.Fronts.{TextIs}
 pub use Rattle.mlt_text_words.specs.Lines.{Raw, is_allowed, is_comment}
 pub use Rattle.mlt_text_words.specs.Words.{number_at, word_at, words_of}

@@ -2,10 +2,10 @@
 use Rattle.std.proofs.Common.{◌≡◌, ℕ, ◌+◌, ◌≤◌, ◌<◌, max, List, [], ◌∷◌, ◌++◌, length, ltb, Bool, true, false, cond, Option, Some, None, refl, sym, ap, subst, ◌∙◌, append_assoc, arith, lt-ltb, le-ltb, ltb-true}
 use Rattle.mlt_script.proofs.Names.{ScriptCause, Frame, Asking, Wanted, Statement, Line, Block, Open, join, grow, longest, nesting, path, depth, widest, deepest, Nothing, Then, If, Top, InFirst, InSecond, line_fault, open_of, one_more, whole}
 use Rattle.mlt_types.specs.declared.refusal.ScriptCause.TheVariants.{Place, Deep, Long}
-use Rattle.mlt_script_tree.specs.Blocks.{lines_of, lines_open}
+use Rattle.mlt_script.specs.Blocks.{lines_of, lines_open}
 use Rattle.mlt_script.specs.Frames.{frames_of}
 use Rattle.mlt_script.specs.Scan.{long_fault, else_fault, end_fault}
-use Rattle.mlt_script_tree.specs.Scripts.{read_on, turned, closed}
+use Rattle.mlt_script.specs.Scripts.{read_on, turned, closed}
 
 lines_join : (b c : Block) → lines_of (join b c) ≡ lines_of b ++ lines_of c
 lines_join Nothing c = refl
@@ -188,19 +188,10 @@ abbrev pub else_by : List Frame → Option ScriptCause
 else_by [] = Some Place
 else_by (f ∷ fs) = cond f.turned (Some Place) None
 
-abbrev pub end_by : List Frame → Option ScriptCause
-end_by [] = Some Place
-end_by (f ∷ fs) = None
-
 pub else_is : (o : Open) → else_fault o ≡ else_by (frames_of o)
 else_is (Top b) = refl
 else_is (InFirst o a w first) = refl
 else_is (InSecond o a w first second) = refl
-
-pub end_is : (o : Open) → end_fault o ≡ end_by (frames_of o)
-end_is (Top b) = refl
-end_is (InFirst o a w first) = refl
-end_is (InSecond o a w first second) = refl
 
 -- no line is long where the longest path is shorter
 pub not_long : (o : Open) → long_fault o ≡ None → path o < 256

@@ -4,9 +4,9 @@ use denote.Ref.{Bor}
 use Rattle.mlt_object_kinds.specs.declared.operation.ObjOp.{ObjOp}
 use Rattle.mlt_object_kinds.specs.declared.operation.ObjReply.{ObjReply}
 use Rattle.mlt_script.proofs.Names.{LineForm, Begins, Says, Closes, Asking, Commit, Ask, Line, Keyword, Word, Key, Number, TextIs, is_comment, number_at}
-use Rattle.mlt_script_tree.specs.Amounts.{with_amount}
-use Rattle.mlt_script_tree.specs.declared.statement.AmountOp.{AmountOp}
-use Rattle.mlt_script_tree.specs.declared.statement.Asking.TheVariants.{Fixed, By}
+use Rattle.mlt_script.specs.Amounts.{with_amount}
+use Rattle.mlt_script.specs.declared.statement.AmountOp.{AmountOp}
+use Rattle.mlt_script.specs.declared.statement.Asking.TheVariants.{Fixed, By}
 use Rattle.mlt_text_words.specs.Fronts.{BeginsWithWords}
 use Rattle.mlt_text_words.specs.Lines.{lines}
 use Rattle.mlt_text_words.specs.Words.{spelling}

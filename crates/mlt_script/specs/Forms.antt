@@ -13,15 +13,15 @@ use Rattle.mlt_text_words.specs.declared.keyword.Keyword.{Keyword}
 use Rattle.mlt_text_words.specs.declared.keyword.Word.{Word}
 use Rattle.mlt_text_words.specs.declared.keyword.Word.TheVariants.{Key, Variable, Number, Other}
 use Rattle.mlt_text_words.specs.declared.letter.Letter.{Letter}
-use Rattle.mlt_script_tree.specs.declared.statement.AmountOp.{AmountOp}
-use Rattle.mlt_script_tree.specs.declared.statement.Asking.{Asking}
-use Rattle.mlt_script_tree.specs.declared.statement.Asking.TheVariants.{Fixed, By}
-use Rattle.mlt_script_tree.specs.declared.statement.Wanted.{Wanted}
-use Rattle.mlt_script_tree.specs.declared.statement.Source.{Source}
-use Rattle.mlt_script_tree.specs.declared.statement.Ending.TheVariants.{Commit, Abort}
-use Rattle.mlt_script_tree.specs.declared.statement.Statement.TheVariants.{Ask, Need, Let}
-use Rattle.mlt_script_tree.specs.declared.statement.Line.{Line}
-use Rattle.mlt_script_tree.specs.Amounts.{with_amount}
+use Rattle.mlt_script.specs.declared.statement.AmountOp.{AmountOp}
+use Rattle.mlt_script.specs.declared.statement.Asking.{Asking}
+use Rattle.mlt_script.specs.declared.statement.Asking.TheVariants.{Fixed, By}
+use Rattle.mlt_script.specs.declared.statement.Wanted.{Wanted}
+use Rattle.mlt_script.specs.declared.statement.Source.{Source}
+use Rattle.mlt_script.specs.declared.statement.Ending.TheVariants.{Commit, Abort}
+use Rattle.mlt_script.specs.declared.statement.Statement.TheVariants.{Ask, Need, Let}
+use Rattle.mlt_script.specs.declared.statement.Line.{Line}
+use Rattle.mlt_script.specs.Amounts.{with_amount}
 use Rattle.mlt_text_words.specs.Words.{number_at, words_of, word_at}
 
 infixl 10 ◌>>=◌

@@ -1,8 +1,8 @@
 -- The open ifs of a script that is read up to somewhere.
 use Rattle.std.specs.Prelude.{◌+◌, List, [], ◌∷◌, true, false}
 use Rattle.mlt_script.specs.declared.frame.Frame.{Frame}
-use Rattle.mlt_script_tree.specs.Blocks.{Open, path, longest}
-use Rattle.mlt_script_tree.specs.Blocks.Open.{Top, InFirst, InSecond}
+use Rattle.mlt_script.specs.Blocks.{Open, path, longest}
+use Rattle.mlt_script.specs.Blocks.Open.{Top, InFirst, InSecond}
 
 -- the open ifs, the innermost first
 abbrev pub frames_of : Open → List Frame

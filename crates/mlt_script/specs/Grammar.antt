@@ -5,15 +5,15 @@ use Rattle.mlt_script.specs.declared.forms.LineForm.{LineForm}
 use Rattle.mlt_script.specs.declared.forms.LineForm.TheVariants.{Begins, Says, Closes}
 use Rattle.mlt_script.specs.declared.line.ScriptReading.{ScriptReading}
 use Rattle.mlt_script.specs.declared.line.ScriptReading.TheVariants.{Bad, Form}
-use Rattle.mlt_script_tree.specs.declared.statement.Asking.{Asking}
-use Rattle.mlt_script_tree.specs.declared.statement.Wanted.{Wanted}
-use Rattle.mlt_script_tree.specs.declared.statement.Line.{Line}
-use Rattle.mlt_script_tree.specs.Blocks.{Block, Open, path, depth, IsWithin}
-use Rattle.mlt_script_tree.specs.Blocks.Block.{Nothing, Then, If}
-use Rattle.mlt_script_tree.specs.Blocks.Open.{Top, InFirst, InSecond}
+use Rattle.mlt_script.specs.declared.statement.Asking.{Asking}
+use Rattle.mlt_script.specs.declared.statement.Wanted.{Wanted}
+use Rattle.mlt_script.specs.declared.statement.Line.{Line}
+use Rattle.mlt_script.specs.Blocks.{Block, Open, path, depth, IsWithin}
+use Rattle.mlt_script.specs.Blocks.Block.{Nothing, Then, If}
+use Rattle.mlt_script.specs.Blocks.Open.{Top, InFirst, InSecond}
 use Rattle.mlt_text_words.specs.Lines.{Raw, lines}
 use Rattle.mlt_script.specs.Readings.{reading}
-use Rattle.mlt_script_tree.specs.Scripts.{ScriptForm, IsScript}
+use Rattle.mlt_script.specs.Scripts.{ScriptForm, IsScript}
 
 abbrev pub AreScripts : List ScriptForm → Type 0
 AreScripts [] = Unit {0}

@@ -1,3 +1,9 @@
+pub mod Amounts
+pub mod Blocks
+pub mod Scripts
+pub mod TreeLaws
+pub mod LineTexts
+pub mod Clients
 pub mod Forms
 pub mod Readings
 pub mod Grammar
@@ -5,3 +11,6 @@ pub mod Scan
 pub mod Frames
 pub mod Parsers
 pub mod Plain
+pub mod Printing
+pub mod Again
+pub mod Ranges

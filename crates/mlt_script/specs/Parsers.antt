@@ -4,7 +4,7 @@ use Rattle.mlt_script.specs.declared.open_script.OpenScript.{OpenScript}
 use Rattle.mlt_script.specs.declared.parser.Parser.{Parser}
 use Rattle.mlt_script.specs.Scan.{ScanState}
 use Rattle.mlt_script.specs.Scan.ScanState.{Outside, Inside}
-use Rattle.mlt_script_tree.specs.Scripts.{ScriptForm, open_of}
+use Rattle.mlt_script.specs.Scripts.{ScriptForm, open_of}
 
 abbrev pub state_with : List ScriptForm → Option OpenScript → ScanState
 state_with scripts None = Outside scripts

@@ -6,7 +6,7 @@ use Rattle.mlt_script.specs.declared.forms.LineForm.{LineForm}
 use Rattle.mlt_script.specs.declared.line.ScriptReading.TheVariants.{Form}
 use Rattle.mlt_script.specs.Forms.{asking_at, op_at, reply_at}
 use Rattle.mlt_script.specs.Readings.{reading}
-use Rattle.mlt_script_tree.specs.declared.statement.Asking.TheVariants.{Fixed}
+use Rattle.mlt_script.specs.declared.statement.Asking.TheVariants.{Fixed}
 use Rattle.mlt_text_words.specs.declared.keyword.Keyword.{Keyword}
 use Rattle.mlt_text_words.specs.declared.keyword.Word.{Word}
 use Rattle.mlt_text_words.specs.Fronts.{BeginsWithWords, TextIs}

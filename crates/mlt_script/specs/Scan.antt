@@ -8,14 +8,14 @@ use Rattle.mlt_script.specs.declared.forms.LineForm.{LineForm}
 use Rattle.mlt_script.specs.declared.forms.LineForm.TheVariants.{Begins, Says, Closes}
 use Rattle.mlt_script.specs.declared.line.ScriptReading.{ScriptReading}
 use Rattle.mlt_script.specs.declared.line.ScriptReading.TheVariants.{Bad, Skip, Form}
-use Rattle.mlt_script_tree.specs.declared.statement.Ending.{Ending}
-use Rattle.mlt_script_tree.specs.declared.statement.Line.{Line}
-use Rattle.mlt_script_tree.specs.Blocks.{Open, path, depth}
-use Rattle.mlt_script_tree.specs.Blocks.Block.{Nothing}
-use Rattle.mlt_script_tree.specs.Blocks.Open.{Top, InFirst}
+use Rattle.mlt_script.specs.declared.statement.Ending.{Ending}
+use Rattle.mlt_script.specs.declared.statement.Line.{Line}
+use Rattle.mlt_script.specs.Blocks.{Open, path, depth}
+use Rattle.mlt_script.specs.Blocks.Block.{Nothing}
+use Rattle.mlt_script.specs.Blocks.Open.{Top, InFirst}
 use Rattle.mlt_text_words.specs.Lines.{Raw}
 use Rattle.mlt_script.specs.Readings.{reading}
-use Rattle.mlt_script_tree.specs.Scripts.{ScriptForm, one_more}
+use Rattle.mlt_script.specs.Scripts.{ScriptForm, one_more}
 
 -- after these scripts: outside a script, or inside one of this client, up to here
 pub data ScanState : Type 0 where

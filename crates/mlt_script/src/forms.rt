@@ -5,7 +5,7 @@ ghost use Rattle.mlt_script.specs.Forms.{Reads, number_below, letter_at, asking_
 ghost use Rattle.mlt_text_words.specs.Words.{words_of};
 
 use crate::operations::{asking, keyword, number_16, number_32, wanted};
-use mlt_script_tree::{Asking, Ending, Line, Source, Statement, Wanted};
+use crate::statement::{Asking, Ending, Line, Source, Statement, Wanted};
 use mlt_text_words::{Keyword, Letter, Word, has_word, next_number, next_word};
 
 /// What a line says.

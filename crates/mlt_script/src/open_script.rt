@@ -1,15 +1,15 @@
 //! Scripts whose ending has not come yet.
 
 ghost use Rattle.std.specs.Prelude.{◌≡◌, ◌<◌, ◌≤◌, None, [], IfOk, OnOk, OnErr, reverse};
-ghost use Rattle.mlt_script_tree.specs.Blocks.{path, widest, deepest, lines_open};
-ghost use Rattle.mlt_script_tree.specs.Blocks.Block.{Nothing};
-ghost use Rattle.mlt_script_tree.specs.Blocks.Open.{Top};
+ghost use Rattle.mlt_script.specs.Blocks.{path, widest, deepest, lines_open};
+ghost use Rattle.mlt_script.specs.Blocks.Block.{Nothing};
+ghost use Rattle.mlt_script.specs.Blocks.Open.{Top};
 ghost use Rattle.mlt_script.specs.Frames.{frames_of};
 ghost use Rattle.mlt_script.specs.Scan.{line_fault, long_fault, else_fault};
-ghost use Rattle.mlt_script_tree.specs.Scripts.{open_of, one_more};
+ghost use Rattle.mlt_script.specs.Scripts.{open_of, one_more};
 
 use crate::frame::Frame;
-use mlt_script_tree::{Asking, Line, Statement, Wanted};
+use crate::statement::{Asking, Line, Statement, Wanted};
 use mlt_types::ScriptCause;
 use std::alloc::{AllocError, Global};
 

@@ -4,8 +4,8 @@ ghost use Rattle.std.specs.Prelude.{◌≡◌, ◌≤◌, ◌^◌};
 ghost use Rattle.mlt_script.specs.Forms.{Reads, if_below, key_at, number_below, amount_at, op_of_one, op_of_amount, element_op, op_of_element, asking_at, op_at, reply_word, reply_at, wanted_at};
 ghost use Rattle.mlt_text_words.specs.Words.{words_of};
 
+use crate::statement::{AmountOp, Asking, Wanted};
 use mlt_object_kinds::{AccountOp, CounterOp, ElementOp, ObjOp, ObjReply};
-use mlt_script_tree::{AmountOp, Asking, Wanted};
 use mlt_text_words::{Keyword, Word, next_number, next_word};
 
 /// A keyword.

@@ -7,13 +7,14 @@ ghost use Rattle.mlt_text_words.specs.Lines.{lines};
 ghost use Rattle.mlt_script.specs.Readings.{IsReading};
 ghost use Rattle.mlt_script.specs.Scan.{scan, step, advance, at_end, Gives, Advances};
 ghost use Rattle.mlt_script.specs.Scan.ScanState.{Outside};
-ghost use Rattle.mlt_script_tree.specs.Scripts.{ScriptForm};
+ghost use Rattle.mlt_script.specs.Scripts.{ScriptForm};
 
 use crate::forms::LineForm;
 use crate::line::{ScriptReading, read_first};
 use crate::open_script::{OpenScript, give_back};
 use crate::plain::op_line;
-use mlt_script_tree::{Asking, Ending, Line, Script, Statement};
+use crate::script::Script;
+use crate::statement::{Asking, Ending, Line, Statement};
 use mlt_types::{Refusal, ScriptCause};
 use std::alloc::Global;
 

@@ -8,8 +8,8 @@ ghost use Rattle.mlt_text_words.specs.Words.{spelling};
 
 use crate::forms::LineForm;
 use crate::operations::{op_of_amount, op_of_element, op_of_one, reply};
+use crate::statement::Ending;
 use mlt_object_kinds::{ObjOp, ObjReply};
-use mlt_script_tree::Ending;
 use mlt_text_words::{Keyword, Word, after, front_keyword, front_number};
 
 // A number below 2^64, and the text behind it.

@@ -4,17 +4,17 @@ use Rattle.mlt_object_kinds.specs.declared.operation.ObjOp.{ObjOp}
 use Rattle.mlt_object_kinds.specs.declared.operation.ObjReply.{ObjReply}
 use Rattle.mlt_object_kinds.proofs.BaseLaws.{base_one_answer}
 use Rattle.mlt_object_kinds.specs.Bases.{Base, Step, TranscriptLeads, Transcript}
-use Rattle.mlt_script_tree.specs.declared.statement.Ending.{Ending}
-use Rattle.mlt_script_tree.specs.declared.statement.Ending.TheVariants.{Commit, Abort}
-use Rattle.mlt_script_tree.specs.Scripts.{ScriptForm}
-use Rattle.mlt_script_cursor.specs.Follows.{Questions, Reaches, Follows, questions_of_script}
+use Rattle.mlt_script.specs.declared.statement.Ending.{Ending}
+use Rattle.mlt_script.specs.declared.statement.Ending.TheVariants.{Commit, Abort}
+use Rattle.mlt_script.specs.Scripts.{ScriptForm}
+use Rattle.mlt_script_serial.specs.Follows.{Questions, Reaches, Follows, questions_of_script}
 use Rattle.mlt_types.specs.declared.refusal.Refusal.{Refusal}
 use Rattle.mlt_script_serial.specs.declared.outcome.End.{End}
 use Rattle.mlt_script_serial.specs.declared.outcome.End.TheVariants.{Committed, Aborted, Refused}
 use Rattle.mlt_script_serial.specs.declared.outcome.Outcome.{Outcome}
 use Rattle.mlt_script_serial.specs.Serial.{IsScriptRun, AreRuns, mark_of, mark_of_end, answers_of}
-use Rattle.mlt_script_cursor.proofs.Transcripts.{reaches_front}
-use Rattle.mlt_script_cursor.specs.Follows.Questions.{Ends, Asks}
+use Rattle.mlt_script_serial.proofs.Transcripts.{reaches_front}
+use Rattle.mlt_script_serial.specs.Follows.Questions.{Ends, Asks}
 
 -- Two transcripts of the same questions from one base are one, where both come to an end.
 one_transcript : (p : Questions) (b m n : Base) (t u : Transcript) (e f : Ending) → Reaches p t (Ends e) → Reaches p u (Ends f) → TranscriptLeads b t m → TranscriptLeads b u n

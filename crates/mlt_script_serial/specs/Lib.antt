@@ -1,3 +1,12 @@
+pub mod Follows
+pub mod Runs
+pub mod Hearing
+pub mod Cursors
+pub mod Calls
+pub mod Plays
 pub mod Serial
 pub mod Texts
 pub mod Answering
+pub mod DeskRuns
+pub mod Clients
+pub mod Fakes

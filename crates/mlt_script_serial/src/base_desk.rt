@@ -1,8 +1,8 @@
 //! A base that answers the operations of scripts.
 
+use crate::answering::Answering;
 use mlt_object_base::Base;
 use mlt_object_kinds::{ObjOp, ObjReply};
-use mlt_script_cursor::Answering;
 use mlt_types::{Refusal, TxId};
 
 /// A base, at which scripts are played one after another.

@@ -3,19 +3,19 @@
 ghost use Rattle.std.specs.Prelude.{◌≡◌, ◌+◌, ◌<◌, ◌^◌, ℕ, List, [], map, Option, Ok, IfOk, IsOkUnless, replicate, vec_capacity};
 ghost use Rattle.mlt_types.specs.declared.refusal.Refusal.{Refusal as RefusalForm};
 ghost use Rattle.mlt_object_kinds.specs.Bases.{Base as ObjectBase};
-ghost use Rattle.mlt_script_cursor.specs.Follows.{AsksAtMost, questions_of_script};
-ghost use Rattle.mlt_script_tree.specs.Scripts.{ScriptForm};
+ghost use Rattle.mlt_script_serial.specs.Follows.{AsksAtMost, questions_of_script};
+ghost use Rattle.mlt_script.specs.Scripts.{ScriptForm};
 ghost use Rattle.mlt_script_serial.specs.Serial.{AreMarksOf, AreNumbered, AreWithoutTx, IsScriptRun, IsSerialRun, commits_after, mark_of, answers_of, unmarked};
 ghost use Rattle.mlt_script_serial.specs.declared.outcome.Outcome.{Outcome as OutcomeForm};
 
 use crate::base_desk::BaseDesk;
+use crate::most::most_asked;
 use crate::outcome::{End, Outcome, Outcomes, Transcript};
+use crate::playing::play;
 use crate::report::Report;
-use mlt_object_base::Base;
+use mlt_object_base::{Base, take_back};
 use mlt_object_kinds::Done;
-use mlt_object_undo::take_back;
-use mlt_script_cursor::{most_asked, play};
-use mlt_script_tree::{Ending, Script};
+use mlt_script::{Ending, Script};
 use mlt_types::{Refusal, TxId};
 use std::alloc::Global;
 

@@ -1,10 +1,8 @@
 //! Texts of scripts, cursors, and the clients of scripts.
 
 use mlt_object_kinds::{AccountOp, CounterOp, ElementOp, ObjOp, ObjReply};
-use mlt_script::{front_op, front_reply, parse};
-use mlt_script_cursor::{Cursor, Next};
-use mlt_script_print::print;
-use mlt_script_tree::by_client;
+use mlt_script::{by_client, front_op, front_reply, parse, print};
+use mlt_script_serial::{Cursor, Next};
 use mlt_test_tools::{same, same_at};
 use mlt_types::{Refusal, ScriptCause};
 use std::alloc::{AllocError, Global};

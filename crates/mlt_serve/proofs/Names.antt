@@ -1,5 +1,5 @@
 -- Names of other crates, of std and of specs/ that two files of these proofs or more import. Declares nothing.
-pub use Rattle.mlt_script_cursor.specs.Calls.{Moves}
+pub use Rattle.mlt_script_serial.specs.Calls.{Moves}
 pub use Rattle.mlt_script_serial.specs.declared.outcome.Outcome.{Outcome}
 pub use Rattle.mlt_serve.specs.Clients.{AreOfClients, GrowsFor, IsOf, IsOfClient}
 pub use Rattle.mlt_serve.specs.Tellings.{TellsOutcomes}

@@ -7,8 +7,8 @@ use mathlib.Core.Logic.{∥∥₁_map}
 use Rattle.mlt_object_kinds.specs.declared.operation.ObjOp.{ObjOp}
 use Rattle.mlt_object_kinds.specs.declared.operation.ObjReply.{ObjReply}
 use Rattle.mlt_script_serial.specs.declared.outcome.End.{End}
-use Rattle.mlt_script_cursor.specs.declared.call.DeskAnswer.{DeskAnswer}
-use Rattle.mlt_script_cursor.specs.declared.call.DeskCall.{DeskCall}
+use Rattle.mlt_script_serial.specs.declared.call.DeskAnswer.{DeskAnswer}
+use Rattle.mlt_script_serial.specs.declared.call.DeskCall.{DeskCall}
 use Rattle.mlt_serve_session.specs.Desks.{Answers}
 use Rattle.mlt_serve_session.specs.Given.{Gave, GaveAll, GaveEnd, GaveReply}
 use Rattle.mlt_work_desk.specs.Holds as desk

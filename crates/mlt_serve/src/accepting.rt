@@ -7,7 +7,7 @@ use crate::door::Door;
 use crate::tuning::ACCEPT_PAUSE_MILLISECONDS;
 use crossbeam_channel::Sender;
 use mlt_serve_connections::Accepted;
-use mlt_serve_notes::{ListenerEnd, Note, Notes};
+use mlt_serve_seats::{ListenerEnd, Note, Notes};
 use mlt_types::Refusal;
 use std::alloc::Global;
 use std::io::Write;

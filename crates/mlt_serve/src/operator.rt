@@ -6,8 +6,7 @@ use mlt_script_serial::Outcome;
 use mlt_serve_admin::{
     Counts, Operated, ServerView, SessionView, TransactionView, WaitReason, WaitView,
 };
-use mlt_serve_notes::Cut;
-use mlt_serve_seats::{OpenTransaction, SessionState};
+use mlt_serve_seats::{Cut, OpenTransaction, SessionState};
 use mlt_trace::KeptItem;
 use mlt_types::{Pseudo, TxId};
 use mlt_work_desk::{DeskStatistics, MadeWith};

@@ -6,7 +6,7 @@ ghost use Rattle.mlt_work_log.specs.Seats.{first_items};
 ghost use Rattle.mlt_serve.specs.Clients.{GrowsFor};
 
 use mlt_serve_connections::{Admission, Failure, Outside, Socket};
-use mlt_serve_notes::Cut;
+use mlt_serve_seats::Cut;
 use mlt_serve_session::{Receipts, Summary, session};
 use mlt_types::{Pseudo, Refusal};
 use mlt_work_desk::{LockDesk, MadeWith};

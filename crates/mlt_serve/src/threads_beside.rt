@@ -13,7 +13,7 @@ use crate::supervising::supervise;
 use crate::trace_keeping::{keep_trace, room_for_items};
 use mlt_serve_admin::{Operated, serve_admin};
 use mlt_serve_connections::refuse_all;
-use mlt_serve_notes::{Outlet, write_notes};
+use mlt_serve_seats::{Outlet, write_notes};
 use mlt_serve_session::Receipts;
 use mlt_types::Pseudo;
 use mlt_work_desk::MadeWith;

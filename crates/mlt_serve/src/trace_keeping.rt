@@ -1,15 +1,14 @@
 //! A trace that is written as the server goes.
 
 ghost use Rattle.std.specs.Prelude.{◌≡◌, ◌≤◌, ◌<◌, true, IfOk, length, take};
-ghost use Rattle.mlt_trace_live.specs.Lines.{AddsLines};
+ghost use Rattle.mlt_trace.specs.Lines.{AddsLines};
 
 use crate::ending::DoneSignal;
 use crate::operating::TraceFile;
 use crate::service::Service;
 use crate::tuning::{ITEMS_PER_HOLD, LEAST_PAUSE_MILLISECONDS, LOOK_MILLISECONDS, MANY_ITEMS};
-use mlt_serve_notes::{Note, Notes};
-use mlt_trace::KeptItem;
-use mlt_trace_live::write_block;
+use mlt_serve_seats::{Note, Notes};
+use mlt_trace::{KeptItem, write_block};
 use mlt_types::{Pseudo, Refusal};
 use mlt_work_desk::{MadeWith, Shared};
 use std::alloc::{AllocError, Global};

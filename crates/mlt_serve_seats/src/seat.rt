@@ -3,8 +3,8 @@
 ghost use Rattle.std.specs.Prelude.{◌≡◌, ◌+◌, ◌-◌, ◌^◌, min};
 
 use crate::count::Count;
+use crate::note::Cut;
 use crate::session::{Session, SessionState};
-use mlt_serve_notes::Cut;
 use mlt_types::TxId;
 use std::alloc::{AllocError, Global};
 use std::array;

@@ -2,8 +2,8 @@
 
 ghost use Rattle.std.specs.Prelude.{◌≡◌, IfSome, None};
 
+use crate::note::Cut;
 use mlt_object_kinds::{Done, ObjOp};
-use mlt_serve_notes::Cut;
 use mlt_types::TxId;
 use std::alloc::{AllocError, Global};
 use std::net::TcpStream;

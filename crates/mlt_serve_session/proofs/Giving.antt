@@ -2,7 +2,7 @@
 use Rattle.std.proofs.Common.{◌≡◌, ◌⊎◌, inl, inr, ℕ, ◌+◌, List, [], ◌∷◌, All, Option, Some, None, refl, sym, ap, subst, ◌∙◌}
 use Rattle.mlt_serve_session.proofs.Names.{All-nil, ObjOp, Command, SessionLine, Says, TooLong, End, DeskAnswer, Begun, Replied, Committed, Aborted, Refused, DeskCall, Moves, GaveAll, all_done, before_next, begins_by, begun_in, call_of, done_in, end_in, ended_by, outcome_behind, outcome_if, outcomes_of, up_to, Turn, call_for, open_after, Asked, Goes, TalkState}
 use Rattle.std.proofs.lemmas.List.Elements.{All-append, All-push}
-use Rattle.mlt_script_cursor.specs.Calls.{answer_to}
+use Rattle.mlt_script_serial.specs.Calls.{answer_to}
 use Rattle.mlt_serve_session.specs.Given.{Gave, GaveEnd, GaveReply, LeadsTo}
 
 -- the transaction is open, or none is

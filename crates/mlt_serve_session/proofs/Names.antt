@@ -7,10 +7,10 @@ pub use Rattle.mlt_event_text.specs.declared.session_line.SessionLine.{SessionLi
 pub use Rattle.mlt_event_text.specs.declared.session_line.SessionLine.TheVariants.{Says, TooLong}
 pub use Rattle.mlt_object_kinds.specs.declared.operation.ObjOp.{ObjOp}
 pub use Rattle.mlt_object_kinds.specs.declared.operation.ObjReply.{ObjReply}
-pub use Rattle.mlt_script_cursor.specs.Calls.{Moves}
-pub use Rattle.mlt_script_cursor.specs.declared.call.DeskAnswer.{DeskAnswer}
-pub use Rattle.mlt_script_cursor.specs.declared.call.DeskAnswer.TheVariants.{Aborted, Begun, Committed, Refused, Replied}
-pub use Rattle.mlt_script_cursor.specs.declared.call.DeskCall.{DeskCall}
+pub use Rattle.mlt_script_serial.specs.Calls.{Moves}
+pub use Rattle.mlt_script_serial.specs.declared.call.DeskAnswer.{DeskAnswer}
+pub use Rattle.mlt_script_serial.specs.declared.call.DeskAnswer.TheVariants.{Aborted, Begun, Committed, Refused, Replied}
+pub use Rattle.mlt_script_serial.specs.declared.call.DeskCall.{DeskCall}
 pub use Rattle.mlt_script_serial.specs.declared.outcome.End.{End}
 pub use Rattle.mlt_script_serial.specs.declared.outcome.Outcome.{Outcome}
 pub use Rattle.mlt_serve_session.specs.Batches.{Covers, IsRest, Reaches, front, lines_in}

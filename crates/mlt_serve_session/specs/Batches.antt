@@ -4,7 +4,7 @@ use Rattle.mlt_event_text.specs.declared.session_line.SessionLine.{SessionLine}
 use Rattle.mlt_event_text.specs.Inputs.{lines_of, Splits, Begins}
 use Rattle.mlt_serve_session.specs.Talks.{Turn, turn_text}
 use Rattle.mlt_serve_session.specs.Turns.{TalkState, Goes}
-use Rattle.mlt_script_cursor.specs.Calls.{Moves}
+use Rattle.mlt_script_serial.specs.Calls.{Moves}
 
 -- a text, and how far into it
 pub record Front : Type 0 where

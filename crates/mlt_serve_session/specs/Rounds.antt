@@ -5,7 +5,7 @@ use Rattle.mlt_text.specs.Texts.{AppendsFront}
 use Rattle.mlt_event_text.specs.declared.session_line.SessionLine.{SessionLine}
 use Rattle.mlt_serve_session.specs.Batches.{Covers, Front, IsRest, lines_in}
 use Rattle.mlt_event_text.specs.Inputs.{lines_of, Splits, Begins}
-use Rattle.mlt_script_cursor.specs.Calls.{Moves}
+use Rattle.mlt_script_serial.specs.Calls.{Moves}
 use Rattle.mlt_serve_session.specs.Talks.{Turn, turn_text}
 use Rattle.mlt_serve_session.specs.Turns.{TalkState, Goes}
 

@@ -5,10 +5,10 @@ use Rattle.mlt_types.specs.declared.refusal.Refusal.TheVariants.{Io, LineTooLong
 use Rattle.mlt_script_serial.specs.declared.outcome.Outcome.{Outcome}
 use Rattle.std.specs.Io.KnownBytes.{Appends, Consumes, IsAtEnd}
 use Rattle.mlt_text.specs.Texts.{AppendsFront}
-use Rattle.mlt_script_cursor.specs.declared.call.DeskAnswer.{DeskAnswer}
-use Rattle.mlt_script_cursor.specs.declared.call.DeskCall.{DeskCall}
+use Rattle.mlt_script_serial.specs.declared.call.DeskAnswer.{DeskAnswer}
+use Rattle.mlt_script_serial.specs.declared.call.DeskCall.{DeskCall}
 use Rattle.mlt_serve_session.specs.declared.sessions.Summary.{Summary}
-use Rattle.mlt_script_cursor.specs.Calls.{Moves}
+use Rattle.mlt_script_serial.specs.Calls.{Moves}
 use Rattle.mlt_serve_session.specs.Desks.{Answers}
 use Rattle.mlt_serve_session.specs.Given.{GaveAll}
 use Rattle.mlt_serve_session.specs.Outcomes.{outcomes_of}

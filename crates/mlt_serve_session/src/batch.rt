@@ -9,7 +9,7 @@ use crate::receipts::Receipts;
 use crate::said::push_said;
 use crate::turn::take_turn;
 use mlt_event_text::next_line;
-use mlt_script_desk::Desk;
+use mlt_script_serial::Desk;
 use std::alloc::AllocError;
 
 /// Answers each complete line of the text, and tells how many bytes these lines take. What is left is no

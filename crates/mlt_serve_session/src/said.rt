@@ -3,8 +3,7 @@
 ghost use Rattle.std.specs.Prelude.{◌≡◌, ◌++◌, OnOk};
 ghost use Rattle.mlt_serve_session.specs.Texts.{answer_text, error_text, said_text};
 
-use mlt_script_cursor::DeskAnswer;
-use mlt_script_serial::push_reply;
+use mlt_script_serial::{DeskAnswer, push_reply};
 use mlt_text::push_numbered;
 use mlt_types::Refusal;
 use std::alloc::AllocError;

@@ -14,7 +14,7 @@ use crate::batch::answer_lines;
 use crate::notes::SessionRecord;
 use crate::receipts::Receipts;
 use crate::turn::abort;
-use mlt_script_desk::Desk;
+use mlt_script_serial::Desk;
 use mlt_text::{MAX_INPUT, read_some, write_text};
 use mlt_types::Refusal;
 use std::alloc::Global;

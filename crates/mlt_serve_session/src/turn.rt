@@ -10,9 +10,7 @@ use crate::receipts::Receipts;
 use crate::said::Said;
 use mlt_event_text::{Command, SessionLine};
 use mlt_object_kinds::{Done, ObjOp};
-use mlt_script_cursor::{DeskAnswer, DeskCall};
-use mlt_script_desk::Desk;
-use mlt_script_serial::End;
+use mlt_script_serial::{Desk, DeskAnswer, DeskCall, End};
 use mlt_types::{Refusal, TxId};
 use std::alloc::AllocError;
 

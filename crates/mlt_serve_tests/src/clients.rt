@@ -2,9 +2,7 @@
 
 use mlt_object_kinds::ObjReply;
 use mlt_script::parse;
-use mlt_script_cursor::DeskAnswer;
-use mlt_script_desk::{FakeDesk, run_client};
-use mlt_script_serial::{Outcomes, write_outcomes};
+use mlt_script_serial::{DeskAnswer, FakeDesk, Outcomes, run_client, write_outcomes};
 use mlt_test_tools::same_at;
 use mlt_types::Refusal;
 use std::alloc::Global;

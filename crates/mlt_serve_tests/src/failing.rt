@@ -1,7 +1,7 @@
 //! Sessions, and scripts side by side, beside readers and writers that fail, and inputs that end anywhere.
 
 use crate::sessions::{ANSWERS, LINES};
-use mlt_script_desk::FakeDesk;
+use mlt_script_serial::FakeDesk;
 use mlt_serve_session::session;
 use mlt_test_tools::{
     Case, Engine, FaultyReader, FaultyWriter, KINDS, same_at, withstands_failures,

@@ -2,8 +2,7 @@
 
 use crate::talks::{Wanted, WantedOutcome, talk_unkept, talk_with};
 use mlt_object_kinds::{AccountOp, CounterOp, ObjOp, ObjReply};
-use mlt_script_cursor::DeskAnswer;
-use mlt_script_serial::End;
+use mlt_script_serial::{DeskAnswer, End};
 use mlt_test_tools::{FaultyReader, FaultyWriter, with_spaces};
 use mlt_types::Refusal;
 use std::alloc::Global;

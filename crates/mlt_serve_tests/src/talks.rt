@@ -1,9 +1,7 @@
 //! What comes of a session, and what is wanted of it.
 
 use mlt_object_kinds::{Done, ObjOp, ObjReply};
-use mlt_script_cursor::DeskAnswer;
-use mlt_script_desk::{Desk, FakeDesk};
-use mlt_script_serial::{End, Outcome};
+use mlt_script_serial::{Desk, DeskAnswer, End, FakeDesk, Outcome};
 use mlt_serve_session::{NoReceipts, Summary, session};
 use mlt_test_tools::{FaultyReader, FaultyWriter, same_at};
 use mlt_types::Refusal;

@@ -8,11 +8,6 @@ use Rattle.std.specs.Io.KnownBytes.{Appends, Consumes, IsAtEnd, Keeps}
 use Rattle.std.proofs.KnownBytes.{Appends-trans, Appends-kept, Consumes-trans, Consumes-whole}
 use Rattle.mlt_text.specs.Texts.{AppendsFront}
 
--- a reader that was read to its end had no more than was read
-pub whole_fits : (a b : Option (List ℕ)) (bs : List ℕ) (most : ℕ) (P : Type 0) → Consumes a b bs → IsAtEnd b → length bs ≤ most
-    → IfSome a (λ input. most < length input → P)
-whole_fits a b bs most P p q fits = Consumes-whole a b bs (λ input. most < length input → P) p q (λ long. absurd (omega arith))
-
 pub if_some_all : (a : Option (List ℕ)) (P : List ℕ → Type 0) → ((input : List ℕ) → P input) → IfSome a P
 if_some_all None P all = tt
 if_some_all (Some input) P all = all input
@@ -25,10 +20,6 @@ nothing_read (Some xs) (Some ys) keeps = sym keeps
 pub on_err_all : {T E : Type 0} → (r : Result T E) (P : Type 0) → P → OnErr r P
 on_err_all (Ok x) P p = tt
 on_err_all (Err e) P p = p
-
--- one piece more
-pub piece_read : (a b c : Option (List ℕ)) (old new bs : List ℕ) → Consumes a b old → Consumes b c bs → new ≡ old ++ bs → Consumes a c new
-piece_read a b c old new bs p q e = subst (Consumes a c) (sym e) (Consumes-trans a b c old bs p q)
 
 -- what was read before and in a last piece
 pub last_piece_read : (a b c : Option (List ℕ)) (old bs : List ℕ) (most : ℕ) → Consumes a b old → Consumes b c bs → length old + length bs ≤ most
@@ -45,7 +36,3 @@ piece_written a b c text i n p q =
 -- the writer has i bytes of the text, and takes no more
 pub front_written : (a b c : Option (List ℕ)) (text : List ℕ) (i : ℕ) → Appends a b (take i text) → Keeps b c → AppendsFront a c text
 front_written a b c text i p q = (take i text, drop i text, sym (take-append-drop i text), Appends-kept a b c (take i text) p q)
-
--- the writer has the whole text
-pub whole_written : (a b c : Option (List ℕ)) (text : List ℕ) → Appends a b text → Keeps b c → AppendsFront a c text
-whole_written a b c text p q = (text, [], sym (append-nil text), Appends-kept a b c text p q)

@@ -5,9 +5,6 @@ use Rattle.mlt_trace.proofs.Names.{contains-nothing, TraceItem, FitsItem}
 use Rattle.mlt_order.proofs.Stages.{contains-one}
 use Rattle.mlt_trace.specs.Ranges.{AllFit}
 
-pub none_misfits : AllFit []
-none_misfits item h = absurd (contains-nothing item h)
-
 pub one_more_fits : (items : List TraceItem) (item : TraceItem) → AllFit items → FitsItem item → AllFit (items ++ item ∷ [])
 one_more_fits items item all one other h = elim (Contains-append_cases items (item ∷ []) other h) [
   | inl before ↦ all other before

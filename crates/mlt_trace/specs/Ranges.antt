@@ -1,6 +1,6 @@
 -- What numbers items can have.
 use Rattle.std.specs.Prelude.{◌<◌, ◌^◌, List, Contains}
-use Rattle.mlt_object_ranges.specs.Ranges.{FitsDone}
+use Rattle.mlt_object_kinds.specs.Ranges.{FitsDone}
 use Rattle.mlt_trace.specs.declared.item.TraceItem.{TraceItem}
 use Rattle.mlt_trace.specs.declared.item.TraceItem.TheVariants.{Begin, Op, Back, Commit, Abort}
 

@@ -3,8 +3,11 @@
 //!
 //! The laws say what one more item makes of a history's entries and numbers, and what the rooms of its
 //! transactions add up to. Each law is the contract of a function that does nothing.
+//!
+//! The lines of a trace that is written as a server goes, so that a killed process leaves no part of a line.
 #![tactic(auto)]
 
+mod block;
 mod handed_out;
 mod history;
 mod item;
@@ -14,6 +17,7 @@ mod ranges;
 mod rooms;
 mod trace;
 
+pub use block::write_block;
 pub use history::History;
 pub use item::TraceItem;
 pub use kept::KeptItem;

@@ -3,7 +3,7 @@
 ghost use Rattle.mlt_trace.specs.Ranges.{FitsItem};
 
 use crate::item::TraceItem;
-use mlt_object_ranges::{done_fits, fits_64};
+use mlt_object_kinds::{done_fits, fits_64};
 use mlt_types::TxId;
 
 /// The numbers of an item are those of their types. It does nothing.

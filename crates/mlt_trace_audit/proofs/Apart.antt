@@ -11,12 +11,6 @@ pub record HaveSame (tx : ℕ) (one other : List TraceItem) : Type 0 where
   pub ops : ops_of tx one ≡ ops_of tx other
   pub closed : closings_of tx one ≡ closings_of tx other
 
-pub same_itself : (tx : ℕ) (items : List TraceItem) → HaveSame tx items items
-same_itself tx items = record { ops = refl; closed = refl }
-
-pub same_on : (tx : ℕ) (one other third : List TraceItem) → HaveSame tx one other → HaveSame tx other third → HaveSame tx one third
-same_on tx one other third h k = record { ops = h.ops ∙ k.ops; closed = h.closed ∙ k.closed }
-
 -- the item is no operation and no close of the transaction
 abbrev pub IsApart : ℕ → TraceItem → Type 0
 IsApart tx item = is_told item ≡ true → tx_of item ≡ tx → ⊥
@@ -30,12 +24,6 @@ same_past tx (Commit i number) rest apart =
     let other : tx ≢ i = λ e. apart refl (sym e) in record { ops = ops_other tx (Commit i number) rest other; closed = closings_other tx (Commit i number) rest other }
 same_past tx (Abort i) rest apart =
     let other : tx ≢ i = λ e. apart refl (sym e) in record { ops = ops_other tx (Abort i) rest other; closed = closings_other tx (Abort i) rest other }
-
-pub nothing_same : (tx : ℕ) (one other : List TraceItem) → HaveSame tx one other → HasNothing tx one → HasNothing tx other
-nothing_same tx one other same h = record { ops = sym same.ops ∙ h.ops; closed = sym same.closed ∙ h.closed }
-
-pub same_nothing : (tx : ℕ) (one other : List TraceItem) → HaveSame tx one other → HasNothing tx other → HasNothing tx one
-same_nothing tx one other same h = record { ops = same.ops ∙ h.ops; closed = same.closed ∙ h.closed }
 
 pub nothing_none : (tx : ℕ) → HasNothing tx []
 nothing_none tx = record { ops = refl; closed = refl }
@@ -53,17 +41,6 @@ same_behind tx front rest none = record {
   ops = ops_of-append tx front rest ∙ ap (λ l. l ++ ops_of tx rest) none.ops;
   closed = closings_of-append tx front rest ∙ ap (λ l. l ++ closings_of tx rest) none.closed;
 }
-
--- a list that has such an item has something
-pub something_at : (tx : ℕ) (item : TraceItem) (rest : List TraceItem) → is_told item ≡ true → tx_of item ≡ tx → HasNothing tx (item ∷ rest) → ⊥
-something_at tx (Begin i) rest told own none = absurd (cc told)
-something_at tx (Back i) rest told own none = absurd (cc told)
-something_at tx (Op i done) rest told own none =
-    let f : done ∷ ops_of i rest ≡ [] = sym (ops_own i done rest) ∙ (subst (λ n. ops_of n (Op i done ∷ rest) ≡ []) (sym own) none.ops) in absurd (cc f)
-something_at tx (Commit i number) rest told own none =
-    let f : ByCommit number ∷ closings_of i rest ≡ [] = sym (closings_commit i number rest) ∙ (subst (λ n. closings_of n (Commit i number ∷ rest) ≡ []) (sym own) none.closed) in absurd (cc f)
-something_at tx (Abort i) rest told own none =
-    let f : ByAbort ∷ closings_of i rest ≡ [] = sym (closings_abort i rest) ∙ (subst (λ n. closings_of n (Abort i ∷ rest) ≡ []) (sym own) none.closed) in absurd (cc f)
 
 -- ---- stories
 

@@ -42,9 +42,6 @@ in_order_more outcomes i before here some at_before at_here next order j k one o
       ])
 ]
 
-pub in_order_all : (outcomes : List Outcome) (i : ℕ) → length outcomes ≤ i → InOrderBelow outcomes i → AreInOrder outcomes
-in_order_all outcomes i past order j k one other at_one at_other below = order j k one other at_one at_other below (let w = slice_get_within outcomes k other at_other in omega (arith, w, past))
-
 -- ---- commits of outcomes in order
 
 -- the outcomes before a place rise, and of those of one client the last commit is the greatest
@@ -139,9 +136,6 @@ module _ (outcomes : List Outcome) (order : AreInOrder outcomes) (last i : ℕ) 
       ];
     }
 
-pub rise_none : (outcomes : List Outcome) → RiseBelow outcomes 0 0
-rise_none outcomes = record { rising = λ j k one other at_one at_other below within. absurd (omega (arith, within)); top = λ j m one final at_one at_final below. absurd (omega (arith, below)) }
-
 pub rise_all : (outcomes : List Outcome) (last i : ℕ) → AreInOrder outcomes → length outcomes ≤ i → RiseBelow outcomes last i → CommitsRise outcomes
 rise_all outcomes last i order past rise j d within k e below =
     let one = get_or outcomes j d in
@@ -160,10 +154,3 @@ rise_all outcomes last i order past rise j d within k e below =
             absurd (omega (arith, larger, smaller))
       ]
     ]
-
-pub pair_rises : (outcomes : List Outcome) (j k : ℕ) (one other : Outcome) → IsAt outcomes j one → IsAt outcomes k other → CommitsRise outcomes → RisesTo one other
-pair_rises outcomes j k one other at_one at_other all =
-    let w = slice_get_within outcomes j one at_one in
-    let v = slice_get_within outcomes k other at_other in
-    subst (λ o. RisesTo o other) (get_or_from_slice_get outcomes j one one at_one)
-    (subst (λ o. RisesTo (get_or outcomes j one) o) (get_or_from_slice_get outcomes k other other at_other) (all j one w k other v))

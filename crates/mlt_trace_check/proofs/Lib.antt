@@ -13,3 +13,13 @@ pub mod Judging
 pub mod Allowed
 pub mod PlainItems
 pub mod Said
+pub mod Lines
+pub mod Places
+pub mod Histories
+mod LongNames
+pub mod Behind
+pub mod Settling
+pub mod LongStepping
+pub mod Filling
+pub mod Pieces
+pub mod Saying

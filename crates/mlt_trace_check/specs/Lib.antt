@@ -6,3 +6,9 @@ pub mod Checkers
 pub mod Answering
 pub mod Plain
 pub mod OrderTexts
+pub mod Writable
+pub mod Settled
+pub mod Goings
+pub mod Pieces
+pub mod LongTexts
+pub mod LongChecks

@@ -1,7 +1,7 @@
 -- The ends of inverses
 use Rattle.std.proofs.Common.{◌≡◌, List, [], ◌∷◌, ◌++◌, Option, refl, sym, ap, ◌∙◌}
 use Rattle.mlt_tx.proofs.Names.{Running, WalkContext, OperationFields, Answer, SharedState}
-use Rattle.mlt_object_undo.specs.Undo.{Undo}
+use Rattle.mlt_object_base.specs.Undo.{Undo}
 use Rattle.mlt_tx.specs.Endings.{tx_state}
 use Rattle.mlt_tx.specs.Steps.{EndsBack, TellsOfBack}
 

@@ -2,7 +2,7 @@
 use Rattle.std.proofs.Common.{◌≡◌, ℕ, ◌+◌, [], ◌∷◌, ◌++◌, refl, sym, ap, subst, ◌∙◌}
 use Rattle.mlt_tx.proofs.Names.{ObjOp, ObjReply, HoldsClash, SameReservations, Running, LocalState, local, WalkContext, OperationFields, started_for, TraceItem, Answer, StepsFast, called_with, SharedState, At, Transaction}
 use Rattle.mlt_object_base.specs.declared.request.Request.TheVariants.{Do}
-use Rattle.mlt_page_store.specs.Stores.{PageStore}
+use Rattle.mlt_page.specs.Stores.{PageStore}
 use Rattle.mlt_page_subtx.specs.Images.{started}
 use Rattle.mlt_tx_operation.specs.Fast.{GoesOn, PassesFast}
 use Rattle.mlt_tx.specs.Fast.{TakesStep}

@@ -3,3 +3,9 @@ pub mod FastPath
 pub mod Backing
 pub mod Inverses
 pub mod Pending
+mod OpenNames
+pub mod Fast
+pub mod Images
+pub mod TakingBack
+pub mod TxSlots
+pub mod Trying

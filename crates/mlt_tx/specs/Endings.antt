@@ -4,7 +4,7 @@ use Rattle.mlt_object_kinds.specs.declared.operation.ObjOp.{ObjOp}
 use Rattle.mlt_object_kinds.specs.declared.operation.ObjReply.{ObjReply}
 use Rattle.mlt_page_locks.specs.Requests.{released}
 use Rattle.mlt_page_subtx.specs.Images.{Running, put_back, started}
-use Rattle.mlt_object_undo.specs.Undo.{Undo}
+use Rattle.mlt_object_base.specs.Undo.{Undo}
 use Rattle.mlt_object_locks.specs.Locks.{HoldsClash, IsLowestClash, SameReservations}
 use Rattle.mlt_trace.specs.declared.item.TraceItem.{TraceItem}
 use Rattle.mlt_event.specs.declared.answer.Answer.{Answer}

@@ -3,3 +3,7 @@ pub mod Fast
 pub mod Endings
 pub mod Steps
 pub mod Transactions
+pub mod Standing
+pub mod Tables
+pub mod TxSlots
+pub mod OpenAt

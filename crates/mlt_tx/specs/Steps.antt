@@ -6,7 +6,7 @@ use Rattle.mlt_object_kinds.specs.Operations.{cell_of}
 use Rattle.mlt_object_base.specs.declared.request.Request.TheVariants.{Do, TakeBack}
 use Rattle.mlt_object_base.specs.Effects.{inverse_of}
 use Rattle.mlt_page_subtx.specs.Images.{AreThere, Running}
-use Rattle.mlt_object_undo.specs.Undo.{Undo}
+use Rattle.mlt_object_base.specs.Undo.{Undo}
 use Rattle.mlt_object_locks.specs.Locks.{SameReservations, is_of_other, reservation_of}
 use Rattle.mlt_hash_access.specs.LocalStates.{LocalState, local}
 use Rattle.mlt_hash.specs.Walks.{WalkContext}

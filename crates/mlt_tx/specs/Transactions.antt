@@ -4,7 +4,7 @@ use Rattle.mlt_object_kinds.specs.declared.operation.ObjOp.{ObjOp}
 use Rattle.mlt_object_kinds.specs.Operations.{cell_of}
 use Rattle.mlt_object_base.specs.declared.request.Request.TheVariants.{Do}
 use Rattle.mlt_object_locks.specs.Locks.{SameReservations, reservation_of}
-use Rattle.mlt_object_undo.specs.Undo.{Undo}
+use Rattle.mlt_object_base.specs.Undo.{Undo}
 use Rattle.mlt_page_subtx.specs.Images.{Running}
 use Rattle.mlt_hash.specs.Walks.{WalkContext}
 use Rattle.mlt_tx_operation.specs.Operating.{OperationFields, started_for}

@@ -8,8 +8,8 @@ ghost use Rattle.mlt_tx.specs.Endings.{TellsOfEnd, tx_state};
 
 use crate::shared::SharedState;
 use mlt_event::Answer;
+use mlt_object_base::UndoList;
 use mlt_object_kinds::Done;
-use mlt_object_undo::UndoList;
 use mlt_page_subtx::Subtx;
 use mlt_trace::TraceItem;
 

@@ -20,7 +20,7 @@ pub use Rattle.mlt_hash_access.specs.Views.{View, view_of}
 pub use Rattle.mlt_hash_form.specs.File.{IsPath}
 pub use Rattle.mlt_hash_form.specs.Form.{value_in}
 pub use Rattle.mlt_hash_form.specs.Held.{Agrees}
-pub use Rattle.mlt_hash_record.specs.Plans.{SetsFirst, WriteFields}
+pub use Rattle.mlt_hash_form.specs.Plans.{SetsFirst, WriteFields}
 pub use Rattle.mlt_object_base.specs.Records.{CanChange}
 pub use Rattle.mlt_object_base.specs.Requests.{decision, size_key_of, target_of}
 pub use Rattle.mlt_object_base.specs.declared.record.RecChange.{RecChange}
@@ -37,7 +37,7 @@ pub use Rattle.mlt_page.specs.declared.page.Page.{Page}
 pub use Rattle.mlt_page.specs.declared.slot.Slot.TheVariants.{Live}
 pub use Rattle.mlt_page_locks.specs.LockTables.{can_write, pages_of}
 pub use Rattle.mlt_page_locks.specs.Requests.{released}
-pub use Rattle.mlt_page_store.specs.Stores.{page_at}
+pub use Rattle.mlt_page.specs.Stores.{page_at}
 pub use Rattle.mlt_tx_operation.specs.Answers.{HasToRestart, IsRefused, StepsOn, TellsOfStep, Waits}
 pub use Rattle.mlt_tx_operation.specs.AtBucket.{Finishes, IsThereFor, MayDecide, TellsAtBucket}
 pub use Rattle.mlt_tx_operation.specs.Fast.{NobodyHolds, PassesFast, store_after}

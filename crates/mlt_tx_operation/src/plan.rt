@@ -9,11 +9,10 @@ ghost use Rattle.mlt_tx_operation.specs.Fast.{CanWrite, NobodyHolds, PassesFast,
 
 use mlt_hash::Environment;
 use mlt_hash_access::LockedStore;
-use mlt_hash_form::{home_bucket, value_in};
-use mlt_hash_record::{SlotWrite, update};
+use mlt_hash_form::{SlotWrite, home_bucket, update, value_in};
 use mlt_object_base::Request;
 use mlt_object_kinds::{ObjOp, ObjReply};
-use mlt_page_store::Store;
+use mlt_page::Store;
 use mlt_page_subtx::Subtx;
 use mlt_types::Pseudo;
 

@@ -1,7 +1,7 @@
 -- One step of an inverse, of an operation on one record or on two
 use Rattle.std.proofs.Common.{ℕ, ◌≡◌, ◌⊎◌, List, [], ◌∷◌, ◌++◌, Option, None, Some, IsSome, refl, sym, ap, subst, ◌∙◌, inl, inr}
 use Rattle.mlt_tx_step_counts.proofs.Names.{ObjOp, ObjReply, inverse_of, local, View, view_of, WalkContext, one_key, StepsOn, OperationFields, Answer, At, Transaction, inverse_from, TellsAt, TellsOfTransaction, IsTakenBack, IsToTakeBack, AreOwnSteps, GoesThen, OwnStep, answers_of, context_at, view_in, with_answer}
-use Rattle.mlt_object_undo.specs.Undo.{Undo}
+use Rattle.mlt_object_base.specs.Undo.{Undo}
 use Rattle.mlt_tx_operation.specs.Answers.{Waits}
 use Rattle.mlt_tx.specs.Transactions.{StepsBack}
 use Rattle.mlt_tx.proofs.Backing.{one_last}

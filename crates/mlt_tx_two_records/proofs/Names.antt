@@ -32,7 +32,7 @@ pub use Rattle.mlt_hash_pair.specs.Pairs.{IsFinding, IsFound, PairFields, later_
 pub use Rattle.mlt_hash_pair.specs.Plans.{FitsFound}
 pub use Rattle.mlt_hash_pair.specs.declared.asked.RecordChange.{RecordChange}
 pub use Rattle.mlt_hash_pair.specs.declared.descent.Descent.{Descent}
-pub use Rattle.mlt_hash_record.specs.Plans.{WriteFields, planned_page}
+pub use Rattle.mlt_hash_form.specs.Plans.{WriteFields, planned_page}
 pub use Rattle.mlt_hash_split.specs.Rests.{KeepsNoMore}
 pub use Rattle.mlt_object_base.specs.Effects.{size_change_of}
 pub use Rattle.mlt_object_base.specs.Records.{CanChange, record_after}

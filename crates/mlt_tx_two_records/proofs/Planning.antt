@@ -6,7 +6,7 @@ use Rattle.std.proofs.lemmas.Bool.{not-true}
 use Rattle.mlt_page.specs.Slots.{is_live_of}
 use Rattle.mlt_hash_form.specs.Form.{slot_value, value_in}
 use Rattle.mlt_hash_access.specs.Views.{IsUnwritten}
-use Rattle.mlt_hash_record.specs.Plans.{IsNowhere, SetsFirst, has_room}
+use Rattle.mlt_hash_form.specs.Plans.{IsNowhere, SetsFirst, has_room}
 use Rattle.mlt_hash_pair.specs.Changes.{MakesChange, OwesChange}
 use Rattle.mlt_hash_pair.specs.Plans.{FitsSlots, IsPlan}
 use Rattle.mlt_hash_pair.specs.Descents.{HasRead, page_of}

@@ -8,7 +8,7 @@ use Rattle.mlt_page_locks.specs.Requests.{IsLowest, conflicts}
 use Rattle.mlt_hash_access.specs.LocalStates.{LocalState}
 use Rattle.mlt_hash_access.specs.PageTurns.{TakesTurn, TurnsBack}
 use Rattle.mlt_hash_access.specs.Views.{IsUnwritten, View, view_of}
-use Rattle.mlt_hash_record.specs.Plans.{WriteFields}
+use Rattle.mlt_hash_form.specs.Plans.{WriteFields}
 use Rattle.mlt_hash_pair.specs.Changes.{HasChanged, IsFull, IsFullBehind, IsHolding, Task, WritesBucketsAlone, task_of}
 use Rattle.mlt_hash_pair.specs.Pairs.{IsFinding, IsFound, IsUnderWay, PairFields, least_steps, mode_next, most_steps, page_next}
 use Rattle.mlt_hash_pair.specs.Descents.{found_of, page_of}

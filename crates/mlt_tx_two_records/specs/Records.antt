@@ -3,7 +3,7 @@ use Rattle.std.specs.Prelude.{ℕ, ◌≡◌, ◌<◌, slice_index_or}
 use Rattle.mlt_page.specs.declared.slot.Slot.TheVariants.{Free}
 use Rattle.mlt_page.specs.Values.{BucketFields}
 use Rattle.mlt_hash_access.specs.Views.{ReadsHeldBucket, View, WritesPage}
-use Rattle.mlt_hash_record.specs.Plans.{WriteFields, planned_page}
+use Rattle.mlt_hash_form.specs.Plans.{WriteFields, planned_page}
 use Rattle.mlt_hash.specs.Passes.{slot_after}
 use Rattle.mlt_hash.specs.Walks.{WalkContext, StoodBefore}
 use Rattle.mlt_hash.specs.declared.pass.Change.{Change}

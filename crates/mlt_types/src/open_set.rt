@@ -78,14 +78,6 @@ impl OpenSet {
         self.numbers.len()
     }
 
-    /// Whether there is no number.
-    #[tactic(auto, using(crate::proofs::Numbers::len_is_length))]
-    pub fn is_empty(&self) -> bool
-        ensures { IsTrue result ↔ (set.len self.now ≡ 0) }
-    {
-        self.numbers.is_empty()
-    }
-
     /// Whether there is no room for a further number.
     #[tactic(auto, using(crate::proofs::Numbers::len_is_length))]
     pub fn is_full(&self) -> bool

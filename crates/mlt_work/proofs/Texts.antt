@@ -3,9 +3,9 @@ use Rattle.std.proofs.Common.{◌≡◌, ◌∙◌, ℕ, List, ap, map, refl, su
 use Rattle.std.specs.Global.{Vec}
 use Rattle.mlt_types.specs.declared.limits.Limits.{Limits}
 use Rattle.mlt_script.specs.Grammar.{Spells}
-use Rattle.mlt_script_tree.specs.declared.script.Script.{Script}
-use Rattle.mlt_script_tree.specs.Clients.{parts_of}
-use Rattle.mlt_script_tree.specs.Scripts.{ScriptForm}
+use Rattle.mlt_script.specs.declared.script.Script.{Script}
+use Rattle.mlt_script.specs.Clients.{parts_of}
+use Rattle.mlt_script.specs.Scripts.{ScriptForm}
 use Rattle.mlt_work_clients.specs.Places.{scripts_of_clients}
 use Rattle.mlt_script_serial.specs.declared.report.ReportForm.TheVariants.{Run}
 use Rattle.mlt_script_serial.specs.declared.report.Report.{Report}

@@ -3,8 +3,8 @@ use Rattle.std.specs.Prelude.{◌≡◌, ℕ, List, Option}
 use Rattle.mlt_types.specs.declared.limits.Limits.{Limits}
 use Rattle.mlt_text.specs.Inputs.{GivesWhole}
 use Rattle.mlt_script.specs.Grammar.{Spells}
-use Rattle.mlt_script_tree.specs.Clients.{parts_of}
-use Rattle.mlt_script_tree.specs.Scripts.{ScriptForm}
+use Rattle.mlt_script.specs.Clients.{parts_of}
+use Rattle.mlt_script.specs.Scripts.{ScriptForm}
 use Rattle.mlt_script_serial.specs.declared.report.ReportForm.TheVariants.{Run}
 use Rattle.mlt_script_serial.specs.declared.report.Report.{Report}
 use Rattle.mlt_script_serial.specs.Texts.{report_text}

@@ -1,6 +1,6 @@
 -- What the scripts of clients have done, once they were run side by side.
 use Rattle.std.specs.Prelude.{◌≡◌, List}
-use Rattle.mlt_script_tree.specs.Scripts.{ScriptForm}
+use Rattle.mlt_script.specs.Scripts.{ScriptForm}
 use Rattle.mlt_script_serial.specs.declared.report.Report.{Report}
 use Rattle.mlt_trace_audit.specs.Agreement.{Agrees}
 use Rattle.mlt_trace_audit.specs.Committed.{IsBaseOfOutcomes}

@@ -4,8 +4,8 @@ ghost use Rattle.std.specs.Prelude.{◌≡◌, [], length};
 ghost use Rattle.mlt_work_clients.specs.Places.{scripts_of_clients};
 ghost use Rattle.mlt_work_clients.specs.Workers.{HasWorked, IsFresh};
 
-use mlt_script_desk::run_client;
-use mlt_script_tree::Script;
+use mlt_script::Script;
+use mlt_script_serial::run_client;
 use mlt_types::Pseudo;
 use mlt_work_clients::{ClaimHandle, ClientCounter, ClientRun, Worked, WorkerJob};
 use mlt_work_desk::{Gate, LockDesk, MadeWith, Shared, Tries};

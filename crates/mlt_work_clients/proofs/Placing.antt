@@ -6,7 +6,7 @@ use Rattle.mlt_work_clients.specs.declared.view.SeatView.{SeatView}
 use Rattle.mlt_work_clients.specs.Claims.{view, times, once_below, after_draw}
 use Rattle.mlt_work_clients.proofs.Moves.{times-append}
 use Rattle.mlt_script_serial.specs.declared.outcome.Outcome.{Outcome}
-use Rattle.mlt_script_tree.specs.Scripts.{ScriptForm}
+use Rattle.mlt_script.specs.Scripts.{ScriptForm}
 use Rattle.mlt_work_clients.specs.declared.forms.ClientRun.{ClientRun}
 use Rattle.mlt_work_clients.specs.Places.{AllHaveRuns, AreAllOutcomes, AreClientOutcomes, AreInPlace, HaveRuns, IsClientRun, KeepsRuns, place_of}
 
@@ -14,11 +14,6 @@ use Rattle.mlt_work_clients.specs.Places.{AllHaveRuns, AreAllOutcomes, AreClient
 pub draws_client : (v w : SeatView) (clients n : ℕ) (drawn : List ℕ) → v ≡ view 1 1 clients drawn → w ≡ after_draw v n → n < clients → w ≡ view 1 1 clients (drawn ++ n ∷ [])
 draws_client v w clients n drawn e f small =
     f ∙ ap (λ (u : SeatView). after_draw u n) e ∙ ap (λ (b : Bool). view 1 (cond b 1 (1 - 1)) clients (drawn ++ n ∷ [])) (lt-ltb n clients small)
-
--- any draw
-pub draws_any : (v w : SeatView) (clients n : ℕ) (drawn : List ℕ) → v ≡ view 1 1 clients drawn → w ≡ after_draw v n → (w.parts ≡ 1) × (w.drawn ≡ drawn ++ n ∷ [])
-draws_any v w clients n drawn e f =
-    (ap (λ (u : SeatView). u.parts) f ∙ ap (λ (u : SeatView). u.parts) e, ap (λ (u : SeatView). u.drawn) f ∙ ap (λ (u : SeatView). u.drawn ++ n ∷ []) e)
 
 pub get_any : {X : Type 0} → (l : List X) (i : ℕ) (d e : X) → i < length l → get_or l i d ≡ get_or l i e
 get_any [] i d e h = absurd (omega arith)
@@ -41,9 +36,6 @@ still_some slots r i within h =
     (λ t. subst (λ (s : Option ClientRun). IsSome s) (sym (ap (λ (k : ℕ). get_or (set slots r.place (Some r)) k None) t.1 ∙ get_or-set_same slots r.place (Some r) None within)) refl)
     (λ t. subst (λ (s : Option ClientRun). IsSome s) (sym (get_or-set_other slots r.place i (Some r) None t.1)) h)
     (eqb_tells i r.place)
-
-one_time : (i n : ℕ) → 0 < times i (n ∷ []) → i ≡ n
-one_time i n h = grind (arith, nat_tests)
 
 pub its_time : (n : ℕ) → 0 < times n (n ∷ [])
 its_time n = grind (arith, nat_tests)
@@ -89,21 +81,7 @@ past_join n first drawn places e =
     let one = its_time n in
     omega arith
 
-pub past_more : (n : ℕ) (first drawn : List ℕ) → 0 < times n first → 0 < times n (first ++ drawn)
-past_more n first drawn h = let sum = times-append n first drawn in omega arith
-
 -- one more client
 pub all_push : (ls : List (List ScriptForm)) (os : List Outcome) (c : List ScriptForm) (front : List Outcome) → AreAllOutcomes ls os → AreClientOutcomes c front → AreAllOutcomes (ls ++ c ∷ []) (os ++ front)
 all_push [] os c front h o = (front, [], (ap (λ (l : List Outcome). l ++ front) h ∙ sym (append-nil front)), o, refl)
 all_push (l ∷ ls) os c front h o = (h.0, h.1 ++ front, (ap (λ (z : List Outcome). z ++ front) h.2 ∙ append_assoc h.0 h.1 front), h.3, all_push ls h.1 c front h.4 o)
-
--- the clients were all claimed
-pub all_filled : (clients word : ℕ) (drawn : List ℕ) (slots : List (Option ClientRun)) (n : ℕ) → length slots ≡ clients → ((x : ℕ) → times x drawn ≡ once_below x word) → HaveRuns drawn slots
-    → clients ≤ n → 0 < times n drawn → AllHaveRuns slots
-all_filled clients word drawn slots n long claims filled past some i below =
-    let end : n < word = below_word n word (omega (arith, claims n)) in
-    let one : once_below i word ≡ 1 = ap (λ (b : Bool). cond b 1 0) (lt-ltb i word (omega arith)) in
-    filled i below (omega (arith, claims i, one))
-  where
-    below_word : (n word : ℕ) → 0 < once_below n word → n < word
-    below_word n word h = grind (arith, nat_tests)

@@ -9,8 +9,8 @@ ghost use Rattle.mlt_work_clients.specs.Workers.{HasDrawnPast, HasWorked, view_a
 use crate::forms::{ClientRun, Worked};
 use crate::seats::{ClaimHandle, ClientCounter};
 use crate::slots::place_all;
+use mlt_script::Script;
 use mlt_script_serial::{Outcome, Outcomes};
-use mlt_script_tree::Script;
 use mlt_types::Refusal;
 use std::alloc::{AllocError, Global};
 use std::sync::ledger::{Ledger, Share};

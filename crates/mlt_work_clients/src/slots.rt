@@ -4,7 +4,7 @@ ghost use Rattle.std.specs.Prelude.{◌≡◌, All, IfOk, None, length, map, rep
 ghost use Rattle.mlt_work_clients.specs.Places.{HaveRuns, AreInPlace, IsClientRun, KeepsRuns, place_of, scripts_of_clients};
 
 use crate::forms::ClientRun;
-use mlt_script_tree::Script;
+use mlt_script::Script;
 use std::alloc::{AllocError, Global};
 
 /// A place for the run of each client, none of which is filled.

@@ -6,7 +6,7 @@ use Rattle.mlt_object_base.specs.declared.request.Request.{Request}
 use Rattle.mlt_object_base.specs.declared.request.Request.TheVariants.{Do}
 use Rattle.mlt_tx.specs.declared.transaction.At.{At}
 use Rattle.mlt_tx.specs.declared.transaction.Transaction.{Transaction}
-use Rattle.mlt_tx_open.specs.Tables.{Table}
+use Rattle.mlt_tx.specs.Tables.{Table}
 use Rattle.mlt_manager.specs.Bases.{IsPendingWith}
 use Rattle.mlt_manager.proofs.Tolds.{event_tells}
 

@@ -145,10 +145,6 @@ last_stands op (first ∷ more) y found =
 pub stay_in_turn : (given : Whose) (waits : List Waiting) (queue : List Blocked) → AreInTurn waits queue → AreInTurn (others_in given waits) queue
 stay_in_turn given waits queue were = all_of (others_in given waits) queue (stay given waits queue (each_of waits queue were))
 
-pub one_more_in_turn : (waits : List Waiting) (one : Waiting) (queue : List Blocked) → AreInTurn waits queue → waits_in_turn queue one ≡ true → AreInTurn (waits ++ one ∷ []) queue
-one_more_in_turn waits one queue were is =
-    all_of (waits ++ one ∷ []) queue (one_more waits one queue (each_of waits queue were) (by_cases one.timestamp (stands one.holder queue) is))
-
 -- **What comes to stand in the queue changes nobody's turn.**
 pub turns_with : (waits : List Waiting) (x : ℕ) (op : ObjOp) (queue : List Blocked) → AreInTurn waits queue → AreInTurn waits (with_blocked x op queue)
 turns_with waits x op queue were = all_of waits (with_blocked x op queue) (also_with waits x op queue (each_of waits queue were))

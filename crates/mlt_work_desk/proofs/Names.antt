@@ -8,8 +8,8 @@ pub use Rattle.mlt_manager.specs.Managers.{ManagerFields}
 pub use Rattle.mlt_manager.specs.Tolds.{AddsItems, CalledOps}
 pub use Rattle.mlt_object_kinds.specs.declared.operation.ObjOp.{ObjOp}
 pub use Rattle.mlt_object_kinds.specs.declared.operation.ObjReply.{ObjReply}
-pub use Rattle.mlt_script_cursor.specs.declared.call.DeskAnswer.TheVariants.{Aborted, Replied}
-pub use Rattle.mlt_script_cursor.specs.declared.call.DeskCall.{DeskCall}
+pub use Rattle.mlt_script_serial.specs.declared.call.DeskAnswer.TheVariants.{Aborted, Replied}
+pub use Rattle.mlt_script_serial.specs.declared.call.DeskCall.{DeskCall}
 pub use Rattle.mlt_trace.specs.declared.item.TraceItem.{TraceItem}
 pub use Rattle.mlt_types.specs.declared.refusal.Refusal.{Refusal}
 pub use Rattle.mlt_work_desk.specs.Holds.{EndsWithOp, IfReply, IsToldTo, SeesAnswer, SeesEvent, goes_on, is_done}

@@ -1,6 +1,6 @@
 -- How the tries of a desk are spent, and why an operation gives up.
 use Rattle.std.specs.Prelude.{ℕ, ◌≡◌, ◌+◌, ◌-◌, ◌^◌, ◌<◌, ◌⊎◌, min, true, false}
-use Rattle.mlt_script_cursor.specs.declared.call.DeskCall.{DeskCall}
+use Rattle.mlt_script_serial.specs.declared.call.DeskCall.{DeskCall}
 use Rattle.mlt_work_waits.specs.Waits.{Waits, IsYoungest}
 use Rattle.mlt_work_waits.specs.declared.wait.Waiting.{Waiting}
 use Rattle.mlt_work_desk.specs.declared.tries.Tries.{Tries}

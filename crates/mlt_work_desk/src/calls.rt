@@ -1,10 +1,10 @@
 //! The calls of a desk over a shared manager.
 
 ghost use Rattle.std.specs.Prelude.{◌≡◌, ◌+◌, ◌-◌, ◌^◌, min, true, false, IfSome};
-ghost use Rattle.mlt_script_cursor.specs.Calls.{answer_by};
+ghost use Rattle.mlt_script_serial.specs.Calls.{answer_by};
 ghost use Rattle.mlt_work_log.specs.Prefixes.{StartsWith};
 ghost use Rattle.mlt_work_log.specs.Seats.{IsOf, first_items};
-ghost use Rattle.mlt_script_cursor.specs.declared.call.DeskCall.TheVariants as call;
+ghost use Rattle.mlt_script_serial.specs.declared.call.DeskCall.TheVariants as call;
 ghost use Rattle.mlt_event.specs.declared.event.Event.TheVariants as event;
 ghost use Rattle.mlt_work_desk.specs.Holds.{EndsWithOp, IfReply, IsToldTo, MayAnswerOperation, SeesAnswer, SeesEvent, desk_view, is_done};
 ghost use Rattle.mlt_work_desk.specs.Tries.{GivesUp, IsYoungestOfCycle, SpendsByWaits, tries_spent};
@@ -20,8 +20,7 @@ use crate::tuning::WAITS_BEFORE_PRECEDENCE;
 use crate::turn::{SleepingThread, Turn, goes_on, is_done};
 use mlt_event::{Answer, Event, Told};
 use mlt_object_kinds::{ObjOp, ObjReply};
-use mlt_script_cursor::{Answering, DeskAnswer};
-use mlt_script_desk::Desk;
+use mlt_script_serial::{Answering, Desk, DeskAnswer};
 use mlt_types::{Pseudo, Refusal, TxId};
 use mlt_work_log::LogSnapshot;
 use mlt_work_waits::Wakers;

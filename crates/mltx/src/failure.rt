@@ -1,8 +1,7 @@
 //! A fault, and what else is known of it.
 
 use crate::input::Input;
-use mlt_cli::{Job, Run};
-use mlt_cli_verbose::{Detail, TextFault, report_verbose};
+use mlt_cli::{Detail, Job, Run, TextFault, report_verbose};
 use mlt_text::MAX_INPUT;
 use mlt_types::{Refusal, ScriptCause};
 use std::io;

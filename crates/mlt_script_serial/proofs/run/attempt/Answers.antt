@@ -1,7 +1,7 @@
 use Rattle.std.proofs.Common.{◌≡◌, Err, refl, sym, subst}
 use Rattle.mlt_object_kinds.specs.Bases.{Base, TranscriptLeads, Transcript}
-use Rattle.mlt_script_tree.specs.declared.statement.Ending.{Ending}
-use Rattle.mlt_script_cursor.specs.Follows.{Follows}
+use Rattle.mlt_script.specs.declared.statement.Ending.{Ending}
+use Rattle.mlt_script_serial.specs.Follows.{Follows}
 use Rattle.mlt_script_serial.specs.declared.base_desk.BaseDesk.{BaseDesk}
 use Rattle.mlt_script_serial.proofs.Playing.{plays_partial, plays_runs}
 use Rattle.mlt_script_serial.proofs.run.attempt.Goals as goal

@@ -2,7 +2,7 @@ use Rattle.std.proofs.Common.{◌≡◌, ◌+◌, ◌<◌, ◌≤◌, ◌++◌, 
 use Rattle.std.proofs.lemmas.List.{take_more, get_or-replicate, length-replicate}
 use Rattle.mlt_types.specs.declared.refusal.Refusal.TheVariants.{OutOfMemory}
 use Rattle.mlt_object_kinds.specs.Bases.{empty_base}
-use Rattle.mlt_script_tree.specs.Scripts.{ScriptForm}
+use Rattle.mlt_script.specs.Scripts.{ScriptForm}
 use Rattle.mlt_script_serial.specs.Serial.{commits_after}
 use Rattle.mlt_script_serial.proofs.Appends.{runs_push, numbered_push, outcome_marks_push, without_tx_push, counted_push, next_number, commits_after-le}
 use Rattle.mlt_script_serial.proofs.run.serial_with_marks.Goals as goal

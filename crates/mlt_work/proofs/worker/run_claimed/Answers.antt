@@ -3,8 +3,8 @@ use Rattle.std.proofs.lemmas.List.{map-append, get_or-map, length-map}
 use Rattle.std.proofs.lemmas.List.Elements.{All-push}
 use Rattle.mlt_work_clients.specs.Claims.{view}
 use Rattle.mlt_work_clients.specs.Seats.{view_of}
-use Rattle.mlt_script_tree.specs.declared.script.Script.{Script}
-use Rattle.mlt_script_tree.specs.Scripts.{ScriptForm}
+use Rattle.mlt_script.specs.declared.script.Script.{Script}
+use Rattle.mlt_script.specs.Scripts.{ScriptForm}
 use Rattle.mlt_work_clients.specs.declared.forms.ClientRun.{ClientRun}
 use Rattle.mlt_work_clients.specs.Places.{AreClientOutcomes, IsClientRun, place_of, scripts_of_clients}
 use Rattle.mlt_work_clients.proofs.Placing.{draws_client}

@@ -4,8 +4,8 @@ use Rattle.std.proofs.lemmas.List.Elements.{All-pop}
 use Rattle.mlt_work_clients.specs.declared.view.SeatView.{SeatView}
 use Rattle.mlt_work_clients.specs.Claims.{times}
 use Rattle.mlt_work_clients.specs.Seats.{view_of}
-use Rattle.mlt_script_tree.specs.declared.script.Script.{Script}
-use Rattle.mlt_script_tree.specs.Scripts.{ScriptForm}
+use Rattle.mlt_script.specs.declared.script.Script.{Script}
+use Rattle.mlt_script.specs.Scripts.{ScriptForm}
 use Rattle.mlt_work_clients.specs.Workers.{HasWorked}
 use Rattle.mlt_work_clients.specs.Places.{HaveRuns, place_of}
 use Rattle.mlt_work_clients.proofs.Placing.{filled_join, past_join}

@@ -1,8 +1,8 @@
 use Rattle.std.proofs.Common.{◌<◌, List, length, ◌∙◌, arith, Vec, Global, Some, length-set}
 use Rattle.std.proofs.lemmas.List.{length-map}
 use Rattle.std.proofs.lemmas.List.Elements.{All-pop}
-use Rattle.mlt_script_tree.specs.declared.script.Script.{Script}
-use Rattle.mlt_script_tree.specs.Scripts.{ScriptForm}
+use Rattle.mlt_script.specs.declared.script.Script.{Script}
+use Rattle.mlt_script.specs.Scripts.{ScriptForm}
 use Rattle.mlt_work_clients.specs.Places.{IsClientRun, scripts_of_clients}
 use Rattle.mlt_work_clients.proofs.Placing.{in_place_set, still_some, filled_step}
 use Rattle.mlt_work_clients.proofs.slots.place_all.Goals as goal

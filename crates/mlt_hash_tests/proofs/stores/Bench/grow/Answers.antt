@@ -2,7 +2,7 @@ use Rattle.std.proofs.Common.{◌≡◌, ◌+◌, true, is_some, ap, sym, subst,
 use Rattle.std.proofs.lemmas.Bool.Decides.{nat_tests}
 use Rattle.std.specs.FinMap as map
 use Rattle.mlt_types.specs.declared.mode.Mode.TheVariants.{Exclusive}
-use Rattle.mlt_page_store.specs.Stores.{PageStore, Pages, page_at}
+use Rattle.mlt_page.specs.Stores.{PageStore, Pages, page_at}
 use Rattle.mlt_page_locks.proofs.Maps.{get_inserted}
 use Rattle.mlt_page_locks.specs.LockTables.{LockTable, HasAtMost}
 use Rattle.mlt_page_locks.proofs.LockLaws.{room_for_few, few_granted}

@@ -1,5 +1,5 @@
 use Rattle.std.proofs.Common.{◌≡◌, Result, Ok, Err, OnOk, OnErr, sym, subst}
-use Rattle.mlt_page_store.specs.Stores.{PageStore}
+use Rattle.mlt_page.specs.Stores.{PageStore}
 use Rattle.mlt_page_subtx.specs.Images.{Running, AreThere}
 use Rattle.mlt_page_subtx.proofs.ImageLaws.{there_written}
 use Rattle.mlt_page_subtx.specs.Locking.{LocksPagesThere}

@@ -1,5 +1,5 @@
 use Rattle.std.proofs.Common.{rules, ◌≡◌, subst}
-use Rattle.mlt_script_cursor.specs.Calls.{answer_by}
+use Rattle.mlt_script_serial.specs.Calls.{answer_by}
 use Rattle.mlt_work_desk.proofs.Names.{Replied, DeskCall, StartsWith, first_items, SeesAnswer, SpendsByWaits}
 use Rattle.mlt_work_desk.specs.Holds.{MayAnswerOperation, desk_view}
 use Rattle.mlt_work_desk.specs.Tries.{tries_called}

@@ -1,5 +1,0 @@
-use Rattle.mlt_hash_subtx_laws.proofs.AllEvents.{step_adds_one_page}
-use Rattle.mlt_hash_subtx_laws.proofs.clean_laws.step_adds_one_page_at_most.Goals as goal
-
-pub returns : goal.returns
-returns c = step_adds_one_page

@@ -1,8 +1,0 @@
-use Rattle.mlt_hash_subtx_laws.proofs.AllEvents.{step_leaves_clean, step_leaves_views}
-use Rattle.mlt_hash_subtx_laws.proofs.clean_laws.step_leaves_clean_pages.Goals as goal
-
-pub returns-clause-keeps : goal.returns-clause-keeps
-returns-clause-keeps c = step_leaves_views
-
-pub returns-clause-clean : goal.returns-clause-clean
-returns-clause-clean c = step_leaves_clean

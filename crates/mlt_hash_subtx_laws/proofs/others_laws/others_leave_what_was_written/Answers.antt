@@ -1,5 +1,0 @@
-use Rattle.mlt_hash_subtx_laws.proofs.Others.{same_writes}
-use Rattle.mlt_hash_subtx_laws.proofs.others_laws.others_leave_what_was_written.Goals as goal
-
-pub returns : goal.returns
-returns c = same_writes

@@ -1,2 +1,0 @@
-pub mod CleanPages
-pub mod Running

@@ -1,2 +1,0 @@
-pub mod Nothing
-mod OneByOne

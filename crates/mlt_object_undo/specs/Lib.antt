@@ -1,2 +1,0 @@
-pub mod TakingBack
-pub mod Undo

@@ -1,2 +1,0 @@
-pub mod Rereading
-pub mod Printed

@@ -1,0 +1,14 @@
+-- What a cursor still asks.
+use Rattle.std.specs.Prelude.{ℕ, ◌-◌, length, drop}
+use Rattle.mlt_script_serial.specs.declared.cursor.Cursor.{Cursor}
+use Rattle.mlt_script_serial.specs.declared.skipping.Skipping.TheVariants.{Nowhere}
+use Rattle.mlt_script_serial.specs.Follows.{Questions}
+use Rattle.mlt_script_serial.specs.Runs.{run}
+
+-- what a script still asks, from the cursor on
+abbrev pub questions_of : Cursor → Questions
+questions_of c = run (drop c.at c.lines.now) Nowhere c.variables c.ending
+
+-- how many lines are left, of which each asks at most one operation
+abbrev pub left_of : Cursor → ℕ
+left_of c = length c.lines.now - c.at

@@ -1,0 +1,185 @@
+-- The lines of a written trace say its items.
+use Rattle.std.proofs.Common.{◌≡◌, ◌≢◌, ℕ, ◌+◌, ◌^◌, ◌<◌, ◌≤◌, List, [], ◌∷◌, ◌++◌, length, map, true, Some, codes, refl, ap, ◌∙◌, append_assoc, arith, decimal, le-ltb, lt-ltb, ne_eqb}
+use Rattle.std.specs.List.{list_all}
+use Rattle.mlt_object_kinds.specs.declared.operation.ObjOp.{ObjOp}
+use Rattle.mlt_object_kinds.specs.declared.operation.ObjReply.{ObjReply}
+use Rattle.mlt_object_kinds.specs.Texts.{with_number, op_text, reply_text, done_text}
+use Rattle.mlt_order.proofs.RunLemmas.{contains-first, contains-later}
+use Rattle.mlt_text_words.specs.declared.keyword.Keyword.{Keyword}
+use Rattle.mlt_text_words.specs.declared.keyword.Word.{Word}
+use Rattle.mlt_text_words.specs.declared.keyword.Word.TheVariants.{Key, Number}
+use Rattle.mlt_text_words.specs.Lines.{lines}
+use Rattle.mlt_text_words.specs.Words.{raw_words, words_of, words_from, spelling, word_of}
+use Rattle.mlt_text_words.specs.Fronts.{TextIs, is_printable}
+use Rattle.mlt_text_words.proofs.Cutting.{line_cut}
+use Rattle.mlt_text_words.proofs.Pieces.{at_most, beside, key_text, number_again, number_alone, number_is}
+use Rattle.mlt_script.specs.Forms.{key_at, number_below, reply_after, reply_at, reply_word}
+use Rattle.mlt_text_words.proofs.Allowed.{all_allowed}
+use Rattle.mlt_object_kinds.specs.Ranges.{FitsDone, FitsReply}
+use Rattle.mlt_script.proofs.Printed.{no_lines}
+use Rattle.mlt_script.proofs.Rereading.{keeps_its_end, op_again, op_is, op_words}
+use Rattle.mlt_trace.specs.declared.item.TraceItem.{TraceItem}
+use Rattle.mlt_trace.specs.declared.item.TraceItem.TheVariants.{Begin, Op, Back, Commit, Abort}
+use Rattle.mlt_trace.specs.Items.{item_text, trace_text}
+use Rattle.mlt_trace_check.specs.declared.reading.TraceReading.TheVariants.{Says}
+use Rattle.mlt_trace_check.specs.Plain.{PieceIs}
+use Rattle.mlt_trace_check.proofs.PlainItems.{both}
+use Rattle.mlt_trace_check.specs.Readings.{item_of, item_with, reading}
+use Rattle.mlt_trace_check.specs.Words.{done_at, positive_at}
+use Rattle.mlt_trace_check.specs.Writable.{AreWritable, IsWritable}
+
+-- ---- pieces of a line
+
+begin_alone : PieceIs (codes "begin") (codes "begin" ∷ []) 8
+unfolding words_from
+begin_alone = (refl, refl, omega arith)
+
+op_alone : PieceIs (codes "op") (codes "op" ∷ []) 8
+unfolding words_from
+op_alone = (refl, refl, omega arith)
+
+back_alone : PieceIs (codes "back") (codes "back" ∷ []) 8
+unfolding words_from
+back_alone = (refl, refl, omega arith)
+
+commit_alone : PieceIs (codes "commit") (codes "commit" ∷ []) 8
+unfolding words_from
+commit_alone = (refl, refl, omega arith)
+
+abort_alone : PieceIs (codes "abort") (codes "abort" ∷ []) 8
+unfolding words_from
+abort_alone = (refl, refl, omega arith)
+
+numbered : (t : List ℕ) (ws : List (List ℕ)) (n number : ℕ) → PieceIs t ws n → number < 2 ^ 64 → PieceIs (with_number t number) (ws ++ decimal number ∷ []) (n + 21)
+numbered t ws n number h k =
+    let is = number_is number k in
+    let p = both t (decimal number) ws (decimal number ∷ []) n 20 h (number_alone number k, is.1, is.2) in
+    (p.0, p.1, let l = p.2 in omega (arith, l))
+
+-- ---- an operation and its reply
+
+abbrev reply_words : ObjReply → List Word
+reply_words (ObjReply.Is v) = Key Keyword.Is ∷ Number v ∷ []
+reply_words ObjReply.Opened = Key Keyword.Opened ∷ []
+reply_words ObjReply.Exists = Key Keyword.Exists ∷ []
+reply_words ObjReply.Closed = Key Keyword.Closed ∷ []
+reply_words ObjReply.NotEmpty = Key Keyword.NotEmpty ∷ []
+reply_words ObjReply.Done = Key Keyword.Done ∷ []
+reply_words ObjReply.Over = Key Keyword.Over ∷ []
+reply_words ObjReply.Short = Key Keyword.Short ∷ []
+reply_words ObjReply.Missing = Key Keyword.Missing ∷ []
+reply_words ObjReply.Added = Key Keyword.Added ∷ []
+reply_words ObjReply.Present = Key Keyword.Present ∷ []
+reply_words ObjReply.Removed = Key Keyword.Removed ∷ []
+reply_words ObjReply.Absent = Key Keyword.Absent ∷ []
+reply_words ObjReply.Yes = Key Keyword.Yes ∷ []
+reply_words ObjReply.No = Key Keyword.No ∷ []
+
+reply_is : (r : ObjReply) → FitsReply r → TextIs (reply_text r) (reply_words r) 29
+reply_is (ObjReply.Is v) h = beside (spelling Keyword.Is) (decimal v) (Key Keyword.Is ∷ []) (Number v ∷ []) 8 20 (key_text Keyword.Is) (number_is v h)
+reply_is ObjReply.Opened h = at_most (spelling Keyword.Opened) (Key Keyword.Opened ∷ []) 8 29 (omega arith) (key_text Keyword.Opened)
+reply_is ObjReply.Exists h = at_most (spelling Keyword.Exists) (Key Keyword.Exists ∷ []) 8 29 (omega arith) (key_text Keyword.Exists)
+reply_is ObjReply.Closed h = at_most (spelling Keyword.Closed) (Key Keyword.Closed ∷ []) 8 29 (omega arith) (key_text Keyword.Closed)
+reply_is ObjReply.NotEmpty h = at_most (spelling Keyword.NotEmpty) (Key Keyword.NotEmpty ∷ []) 8 29 (omega arith) (key_text Keyword.NotEmpty)
+reply_is ObjReply.Done h = at_most (spelling Keyword.Done) (Key Keyword.Done ∷ []) 8 29 (omega arith) (key_text Keyword.Done)
+reply_is ObjReply.Over h = at_most (spelling Keyword.Over) (Key Keyword.Over ∷ []) 8 29 (omega arith) (key_text Keyword.Over)
+reply_is ObjReply.Short h = at_most (spelling Keyword.Short) (Key Keyword.Short ∷ []) 8 29 (omega arith) (key_text Keyword.Short)
+reply_is ObjReply.Missing h = at_most (spelling Keyword.Missing) (Key Keyword.Missing ∷ []) 8 29 (omega arith) (key_text Keyword.Missing)
+reply_is ObjReply.Added h = at_most (spelling Keyword.Added) (Key Keyword.Added ∷ []) 8 29 (omega arith) (key_text Keyword.Added)
+reply_is ObjReply.Present h = at_most (spelling Keyword.Present) (Key Keyword.Present ∷ []) 8 29 (omega arith) (key_text Keyword.Present)
+reply_is ObjReply.Removed h = at_most (spelling Keyword.Removed) (Key Keyword.Removed ∷ []) 8 29 (omega arith) (key_text Keyword.Removed)
+reply_is ObjReply.Absent h = at_most (spelling Keyword.Absent) (Key Keyword.Absent ∷ []) 8 29 (omega arith) (key_text Keyword.Absent)
+reply_is ObjReply.Yes h = at_most (spelling Keyword.Yes) (Key Keyword.Yes ∷ []) 8 29 (omega arith) (key_text Keyword.Yes)
+reply_is ObjReply.No h = at_most (spelling Keyword.No) (Key Keyword.No ∷ []) 8 29 (omega arith) (key_text Keyword.No)
+
+reply_again : (r : ObjReply) → FitsReply r → reply_at (reply_words r) ≡ Some (r, [])
+unfolding reply_at reply_after reply_word key_at number_below
+reply_again (ObjReply.Is v) h = rw (lt-ltb v (2 ^ 64) h) refl
+reply_again ObjReply.Opened h = refl
+reply_again ObjReply.Exists h = refl
+reply_again ObjReply.Closed h = refl
+reply_again ObjReply.NotEmpty h = refl
+reply_again ObjReply.Done h = refl
+reply_again ObjReply.Over h = refl
+reply_again ObjReply.Short h = refl
+reply_again ObjReply.Missing h = refl
+reply_again ObjReply.Added h = refl
+reply_again ObjReply.Present h = refl
+reply_again ObjReply.Removed h = refl
+reply_again ObjReply.Absent h = refl
+reply_again ObjReply.Yes h = refl
+reply_again ObjReply.No h = refl
+
+done_is : (done : ObjOp × ObjReply) → FitsDone done → TextIs (done_text done) (op_words done.0 ++ reply_words done.1) 90
+done_is done h = beside (op_text done.0) (reply_text done.1) (op_words done.0) (reply_words done.1) 60 29 (op_is done.0 h.op) (reply_is done.1 h.reply)
+
+done_again : (done : ObjOp × ObjReply) → FitsDone done → done_at (map word_of (raw_words (done_text done))) ≡ Some done
+unfolding done_at words_of
+done_again done h = rw ((done_is done h).0, op_again done.0 (reply_words done.1) h.op, reply_again done.1 h.reply) refl
+
+-- ---- an item
+
+positive_again : (n : ℕ) (ws : List (List ℕ)) → 1 ≤ n → n < 2 ^ 64 → positive_at (decimal n ∷ ws) ≡ Some (n, ws)
+unfolding positive_at
+positive_again n ws from_one h = let not_zero : n ≢ 0 = omega (arith, from_one) in rw (number_again n h, ne_eqb n 0 not_zero) refl
+
+-- a line of such words says the item
+abbrev Reads : TraceItem → Type 0
+Reads item = (ws : List (List ℕ)) × PieceIs (item_text item) ws 200 × (item_of ws ≡ Some item)
+
+at_most_200 : (t : List ℕ) (ws : List (List ℕ)) (n : ℕ) → n ≤ 200 → PieceIs t ws n → PieceIs t ws 200
+at_most_200 t ws n l h = (h.0, h.1, let p = h.2 in omega (arith, p, l))
+
+begin_reads : (tx : ℕ) → 1 ≤ tx → tx < 2 ^ 64 → Reads (Begin tx)
+unfolding item_of item_with
+begin_reads tx from_one h = (codes "begin" ∷ decimal tx ∷ [], at_most_200 _ _ 29 (omega arith) (numbered (codes "begin") (codes "begin" ∷ []) 8 tx begin_alone h), rw (positive_again tx [] from_one h) refl)
+
+back_reads : (tx : ℕ) → 1 ≤ tx → tx < 2 ^ 64 → Reads (Back tx)
+unfolding item_of item_with
+back_reads tx from_one h = (codes "back" ∷ decimal tx ∷ [], at_most_200 _ _ 29 (omega arith) (numbered (codes "back") (codes "back" ∷ []) 8 tx back_alone h), rw (positive_again tx [] from_one h) refl)
+
+abort_reads : (tx : ℕ) → 1 ≤ tx → tx < 2 ^ 64 → Reads (Abort tx)
+unfolding item_of item_with
+abort_reads tx from_one h = (codes "abort" ∷ decimal tx ∷ [], at_most_200 _ _ 29 (omega arith) (numbered (codes "abort") (codes "abort" ∷ []) 8 tx abort_alone h), rw (positive_again tx [] from_one h) refl)
+
+commit_reads : (tx number : ℕ) → (1 ≤ tx) × (1 ≤ number) → tx < 2 ^ 64 → number < 2 ^ 64 → Reads (Commit tx number)
+unfolding item_of item_with
+commit_reads tx number from_one h k = (
+  codes "commit" ∷ decimal tx ∷ decimal number ∷ [],
+  at_most_200 _ _ 50 (omega arith) (numbered (with_number (codes "commit") tx) (codes "commit" ∷ decimal tx ∷ []) 29 number (numbered (codes "commit") (codes "commit" ∷ []) 8 tx commit_alone h) k),
+  rw (positive_again tx (decimal number ∷ []) from_one.0 h, positive_again number [] from_one.1 k) refl,
+)
+
+op_reads : (tx : ℕ) (done : ObjOp × ObjReply) → 1 ≤ tx → tx < 2 ^ 64 → FitsDone done → Reads (Op tx done)
+unfolding item_of item_with
+op_reads tx done from_one h k =
+    let rest = raw_words (done_text done) in
+    let is = done_is done k in (
+      codes "op" ∷ decimal tx ∷ rest,
+      at_most_200 _ _ 120 (omega arith) (both (with_number (codes "op") tx) (done_text done) (codes "op" ∷ decimal tx ∷ []) rest 29 90 (numbered (codes "op") (codes "op" ∷ []) 8 tx op_alone h) (refl, is.1, is.2)),
+      rw (positive_again tx rest from_one h, done_again done k) refl,
+    )
+
+item_reads : (item : TraceItem) → IsWritable item → Reads item
+item_reads (Begin tx) h = begin_reads tx h.numbered h.fits
+item_reads (Op tx done) h = op_reads tx done h.numbered h.fits.0 h.fits.1
+item_reads (Back tx) h = back_reads tx h.numbered h.fits
+item_reads (Commit tx number) h = commit_reads tx number h.numbered h.fits.0 h.fits.1
+item_reads (Abort tx) h = abort_reads tx h.numbered h.fits
+
+line_says : (t : List ℕ) (ws : List (List ℕ)) (item : TraceItem) → PieceIs t ws 200 → item_of ws ≡ Some item → reading record { bytes = t; ended = true } ≡ Says item
+unfolding reading
+line_says t ws item h is = rw (le-ltb 200 (length t) h.2, keeps_its_end t h.1, all_allowed t h.1, h.0, is) refl
+
+-- ---- all items
+
+first_line : (item : TraceItem) (items : List TraceItem) → list_all is_printable (item_text item) ≡ true → lines (trace_text (item ∷ items)) ≡ record { bytes = item_text item; ended = true } ∷ lines (trace_text items)
+first_line item items h = ap lines (append_assoc (item_text item) (10 ∷ []) (trace_text items)) ∙ line_cut (item_text item) (trace_text items) h
+
+pub lines_say_items : (items : List TraceItem) → AreWritable items → map reading (lines (trace_text items)) ≡ map Says items
+lines_say_items [] h = ap (map reading) no_lines
+lines_say_items (item ∷ items) h =
+    let reads = item_reads item (h item (contains-first item items)) in
+    let said = line_says (item_text item) reads.0 item reads.1 reads.2 in
+    let rest = lines_say_items items (λ one there. h one (contains-later item one items there)) in
+    ap (map reading) (first_line item items reads.1.1) ∙ ap (λ r. r ∷ map reading (lines (trace_text items))) said ∙ ap (λ rs. Says item ∷ rs) rest

@@ -1,0 +1,40 @@
+-- How far a check of a long trace has gone, and what it answers.
+use Rattle.std.specs.Prelude.{ℕ, List, [], Result, Ok, Err}
+use Rattle.std.specs.Io.KnownBytes.{Appends, Consumes, IsAtEnd}
+use Rattle.mlt_types.specs.declared.refusal.Refusal.{Refusal}
+use Rattle.mlt_types.specs.declared.refusal.Refusal.TheVariants.{Io, OutOfMemory, TraceFault}
+use Rattle.mlt_object_kinds.specs.Bases.{Base}
+use Rattle.mlt_trace_check.specs.Answering.{WentOver}
+use Rattle.mlt_trace_check.specs.OrderTexts.{order_text, serial_lines}
+use Rattle.mlt_trace_check.specs.Traces.{IsAcceptedTrace}
+use Rattle.mlt_trace_check.specs.declared.going.Going.{Going}
+use Rattle.mlt_trace_check.specs.LongTexts.{GivesAll, IsFirstFaultRead, KnownBytes}
+
+-- What was read are the lines that were gone over, and behind them the bytes that are held; and the `serial` lines of all
+-- commits so far were written.
+pub record GoesOn (going : Going) (before after old new : KnownBytes) (held : List ℕ) : Type 0 where
+  pub taken : List ℕ
+  pub txs : List ℕ
+  pub consumed : Consumes before after taken
+  pub over : WentOver going.checker going.line txs taken held
+  pub wrote : Appends old new (serial_lines txs)
+
+-- all of the input was gone over
+abbrev pub IsDone : Going → KnownBytes → KnownBytes → KnownBytes → KnownBytes → Type 0
+IsDone going before after old new = GoesOn going before after old new [] × IsAtEnd after
+
+-- a fault is the first one
+abbrev pub IsToldOf : Refusal → KnownBytes → KnownBytes → Type 0
+IsToldOf OutOfMemory before after = Unit {0}
+IsToldOf Io before after = Unit {0}
+IsToldOf (TraceFault line cause) before after = IsFirstFaultRead before after line cause
+IsToldOf refusal before after = ⊥
+
+-- all of the input is a trace, and what is said of it was written; or it was refused
+abbrev pub IsAnswer : Result (Unit {0}) Refusal → KnownBytes → KnownBytes → KnownBytes → KnownBytes
+    → Type 0
+IsAnswer (Ok done) before after old new =
+    (input : List ℕ) × (txs : List ℕ) × (base : Base)
+    × GivesAll before after input × IsAcceptedTrace input txs base
+    × Appends old new (order_text txs base)
+IsAnswer (Err refusal) before after old new = IsToldOf refusal before after

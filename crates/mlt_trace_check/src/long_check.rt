@@ -1,0 +1,144 @@
+//! A trace of any length from a reader, and what the check says of it to a writer.
+
+ghost use Rattle.std.specs.Prelude.{◌≡◌, ◌⊎◌, ◌≤◌, ◌<◌, ◌+◌, ◌-◌, ◌++◌, ℕ, List, Err, length, take, drop, vec_len, IfErr, IfOk, IsErrAnd, IsOkUnless, MatchResult, OnErr, OnOk, Some};
+ghost use Rattle.std.specs.Io.KnownBytes.{Appends, Consumes, IsAtEnd, Keeps};
+ghost use Rattle.mlt_types.specs.declared.refusal.TraceCause.{TraceCause};
+ghost use Rattle.mlt_text.specs.Failures.{IsTraceFault, IsWant};
+ghost use Rattle.mlt_object_kinds.specs.Bases.{Base as ObjectBase};
+ghost use Rattle.mlt_trace_check.specs.Traces.{IsAcceptedTrace, IsFirstFault};
+ghost use Rattle.mlt_trace_check.specs.OrderTexts.{order_text};
+ghost use Rattle.mlt_trace_check.specs.LongChecks.{IsAnswer, IsDone, IsToldOf};
+ghost use Rattle.mlt_trace_check.specs.LongTexts.{IsFirstFaultRead, IsLongCheckOf, StopsEarly, WritesOfFront};
+
+use crate::going::Going;
+use crate::piece::take_piece;
+use mlt_object_base::write_base;
+use mlt_text::read_some;
+use mlt_types::Refusal;
+use std::alloc::Global;
+use std::io::{Read, Write};
+
+// How many bytes are held at most: a line that goes on, and a piece behind it.
+const BUFFER: usize = 262_144;
+
+// Reads behind the bytes that are held, and answers how many bytes came.
+fn fill<R: Read>(reader: &mut R, buffer: &mut [u8], held: usize) -> Result<usize, Refusal>
+    requires room { held < length buffer.old }
+    ensures ok { IfOk result (λ count. (piece : List ℕ)
+        × (take (held + count) buffer.new ≡ take held buffer.old ++ piece)
+        × (length piece ≡ count) × (held + count ≤ length buffer.old)
+        × Consumes (R.remaining reader.old) (R.remaining reader.new) piece
+        × (count ≡ 0 → IsAtEnd (R.remaining reader.new))) }
+    ensures err { OnErr result (Keeps (R.remaining reader.old) (R.remaining reader.new)) }
+    ensures refusal { IsOkUnless result Refusal.Io }
+{
+    read_some(reader, &mut buffer[held..])
+}
+
+// Moves the bytes from `at` to `end` to the start, and answers how many they are.
+fn keep(buffer: &mut [u8], at: usize, end: usize) -> usize
+    requires { (at ≤ end) × (end ≤ length buffer.old) }
+    ensures held { result ≡ end - at }
+    ensures bytes { take result buffer.new ≡ drop at (take end buffer.old) }
+{
+    buffer.copy_within(at..end, 0);
+    end - at
+}
+
+// Goes over the lines of the input, piece by piece, up to its end, and writes what their commits say.
+fn go_over<R: Read, W: Write>(
+    alloc: Global,
+    reader: &mut R,
+    writer: &mut W,
+    buffer: &mut [u8],
+) -> Result<Going, Refusal>
+    requires room { 200 < length buffer.old }
+    ensures ok { IfOk result
+        (λ going. IsDone going (R.remaining reader.old) (R.remaining reader.new)
+        (W.contents writer.old) (W.contents writer.new)) }
+    ensures told { IfErr result
+        (λ refusal. IsToldOf refusal (R.remaining reader.old) (R.remaining reader.new)) }
+    ensures stopped { OnErr result (WritesOfFront (R.remaining reader.old) (R.remaining reader.new)
+        (W.contents writer.old) (W.contents writer.new)) }
+    ensures refusals { IfErr result (λ refusal. IsWant refusal ⊎ IsTraceFault refusal) }
+{
+    let mut going = Going::new(alloc);
+    let mut out = String::new(alloc);
+    let mut held = 0;
+    'pieces: for _ in 0..u64::MAX {
+        let count = fill(reader, buffer, held)?;
+        let end = held + count;
+        let ended = count == 0;
+        let left = take_piece(&mut going, alloc, writer, &mut out, &buffer[..end], ended)?;
+        if ended {
+            return Ok(going);
+        }
+        held = keep(buffer, end - left, end);
+    }
+    Err(Refusal::Io)
+}
+
+// So many zeros.
+fn zeros(alloc: Global, count: usize) -> Result<Vec<u8>, Refusal>
+    ensures length { IfOk result (λ zeros. vec_len zeros ≡ count) }
+    ensures refusal { IsOkUnless result Refusal.OutOfMemory }
+{
+    Ok(vec![in alloc; 0; count]?)
+}
+
+// The check, with its buffer.
+fn check_pieces<R: Read, W: Write>(
+    alloc: Global,
+    reader: &mut R,
+    writer: &mut W,
+) -> Result<(), Refusal>
+    ensures answer { IsAnswer result (R.remaining reader.old) (R.remaining reader.new)
+        (W.contents writer.old) (W.contents writer.new) }
+    ensures failure { OnErr result (StopsEarly (R.remaining reader.old) (R.remaining reader.new)
+        (W.contents writer.old) (W.contents writer.new)) }
+    ensures refusals { IfErr result (λ refusal. IsWant refusal ⊎ IsTraceFault refusal) }
+{
+    let mut buffer = zeros(alloc, BUFFER)?;
+    let going = go_over(alloc, reader, writer, buffer.as_mut_slice())?;
+    write_base(going.checker.base(), writer)
+}
+
+/// Reads a trace of any length to the end of the input, and checks it line by line as it comes. It writes a line
+/// `serial T` for each transaction that commits, as it goes, and at the end the text of the base that the commits lead
+/// to: so of an accepted trace it writes just what `check_trace` does. Its memory grows with the transactions that are
+/// open and their operations, and with the objects that there are, and not with the input.
+///
+/// # Errors
+/// `TraceFault` exactly for an input that is no accepted trace, with its first fault: the input was read up to some byte
+/// behind the fault. `Io` where a read or a write fails, or more than 2^64 - 1 lines or reads came; `OutOfMemory` where a
+/// growth was refused. What was written then is a prefix of the `serial` lines of a front of the input that is a trace,
+/// or of what is said of the whole.
+pub fn check_long_trace<R: Read, W: Write>(
+    alloc: Global,
+    reader: &mut R,
+    writer: &mut W,
+) -> Result<(), Refusal>
+    // what is written is said of the trace read
+    ensures text { OnOk result ((input text : List ℕ)
+        × IsLongCheckOf (R.remaining reader.old) (R.remaining reader.new) input text
+        × Appends (W.contents writer.old) (W.contents writer.new) text) }
+    // a fault is the first one of what was read, whatever is left
+    ensures fault { (line : ℕ) (cause : TraceCause) → result ≡ Err (Refusal.TraceFault line cause)
+        → IsFirstFaultRead (R.remaining reader.old) (R.remaining reader.new) line cause }
+    // of a trace nothing else is said
+    ensures only_accepted { (input txs : List ℕ) (base : ObjectBase)
+        → R.remaining reader.old ≡ Some input → IsAcceptedTrace input txs base
+        → MatchResult result (λ _. Appends (W.contents writer.old) (W.contents writer.new)
+        (order_text txs base)) IsWant }
+    // nor of a text that is faulty
+    ensures only_faulty { (input : List ℕ) (line : ℕ) (cause : TraceCause)
+        → R.remaining reader.old ≡ Some input → IsFirstFault input line cause
+        → IsErrAnd result (λ refusal. (refusal ≡ Refusal.TraceFault line cause)
+        ⊎ IsWant refusal) }
+    // where it fails, a prefix of what is said of a front of the input was written, or of all of it
+    ensures failure { OnErr result (StopsEarly (R.remaining reader.old) (R.remaining reader.new)
+        (W.contents writer.old) (W.contents writer.new)) }
+    ensures refusals { IfErr result (λ refusal. IsWant refusal ⊎ IsTraceFault refusal) }
+{
+    check_pieces(alloc, reader, writer)
+}

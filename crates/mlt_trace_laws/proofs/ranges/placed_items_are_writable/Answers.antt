@@ -1,5 +1,0 @@
-use Rattle.mlt_trace_laws.proofs.Places.{writable}
-use Rattle.mlt_trace_laws.proofs.ranges.placed_items_are_writable.Goals as goal
-
-pub returns : goal.returns
-returns c = writable

@@ -1,6 +1,0 @@
-use Rattle.mlt_tx_open.proofs.Names.{LackImage}
-use Rattle.mlt_tx_open.proofs.tx_slot.image_in.Given as goal
-
--- nobody that was asked keeps one
-abbrev pub invariant-loop-slot : goal.invariant-loop-slot
-invariant-loop-slot l = LackImage l.slots l.page l.slot-index

@@ -1,4 +1,0 @@
-pub mod Standing
-pub mod Tables
-pub mod TxSlots
-pub mod OpenAt
