@@ -4,7 +4,7 @@ use Rattle.mlt_hash_form.proofs.Names.{first_bits, key_of, Slot, Live, BucketFie
 use Rattle.mlt_hash_form.proofs.Bits.{first_bits_below}
 use Rattle.mlt_hash_form.proofs.Lookup.{found}
 use Rattle.mlt_hash_form.proofs.Same.{form_same}
-use Rattle.mlt_hash_form.proofs.Change.{slot_here, form_after, others_hold, record_other, record_here}
+use Rattle.mlt_hash_form.proofs.RecordChange.{slot_here, form_after, others_hold, record_other, record_here}
 use Rattle.mlt_hash_form.proofs.FillEnds.{page_listed}
 
 -- the kind of a page, told by what can be read of it

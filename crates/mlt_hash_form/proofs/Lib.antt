@@ -1,6 +1,6 @@
 mod Names
 pub mod Bits
-mod Change
+mod RecordChange
 pub mod Crowd
 mod Fill
 pub mod FillEnds

@@ -12,6 +12,7 @@ mod tables;
 
 pub use cell_value::CellValue;
 pub use examples::orders_of;
+pub use matrix::{row_of, size_row};
 pub use named::NamedTable;
 pub use orders::{OpOrder, Orders, push_orders};
 pub use sizes::size_orders;

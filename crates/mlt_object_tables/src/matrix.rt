@@ -8,8 +8,12 @@ use crate::named::NamedTable;
 use mlt_object_kinds::Element;
 use std::alloc::{AllocError, Global};
 
-// What the table marks beside a class that is held, for each class that is asked for, in the order of the table.
-fn row_of<K: NamedTable>(alloc: Global, held: K::Class) -> Result<Vec<bool>, AllocError>
+/// The marks of one row of a table: beside a class that is held, whether each class that is asked for conflicts with it, in the
+/// order of the table.
+///
+/// # Errors
+/// Where a growth was refused.
+pub fn row_of<K: NamedTable>(alloc: Global, held: K::Class) -> Result<Vec<bool>, AllocError>
     ensures marks { IfOk result (λ row. row.items ≡ map (K.marks held) K.all_classes) }
 {
     let mut row = Vec::new(alloc);
@@ -19,8 +23,11 @@ fn row_of<K: NamedTable>(alloc: Global, held: K::Class) -> Result<Vec<bool>, All
     Ok(row)
 }
 
-// Which classes of elements conflict with the size of their set, in the order of the table.
-fn size_row(alloc: Global) -> Result<Vec<bool>, AllocError>
+/// The marks of the row `size`: which classes of elements conflict with the size of their set, in the order of the table.
+///
+/// # Errors
+/// Where a growth was refused.
+pub fn size_row(alloc: Global) -> Result<Vec<bool>, AllocError>
     ensures marks { IfOk result (λ row. row.items ≡ map counts element_classes) }
 {
     let mut row = Vec::new(alloc);

@@ -4,7 +4,7 @@ pub mod Trees
 pub mod Transcripts
 pub mod Longest
 pub mod Giving
-pub mod Playing
+pub mod Played
 pub mod OneRun
 pub mod Appends
 pub mod Runs

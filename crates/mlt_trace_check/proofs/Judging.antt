@@ -4,7 +4,7 @@ use Rattle.mlt_trace_check.proofs.Names.{cases_eq, TraceCause, ObjOp, ObjReply, 
 use Rattle.mlt_order.proofs.RunLemmas.{contains-later, contains-nothing}
 use Rattle.mlt_trace.proofs.BegunLaws.{first_or_later}
 use Rattle.mlt_trace_check.specs.Readings.{reading}
-use Rattle.mlt_trace_check.proofs.Going.{bad_line, placed_more, said_more}
+use Rattle.mlt_trace_check.proofs.GoingOn.{bad_line, placed_more, said_more}
 use Rattle.mlt_trace_check.proofs.Growing.{append_nil, no_cut, told-push}
 use Rattle.mlt_trace_check.proofs.Lasting.{one_more}
 use Rattle.mlt_trace_check.proofs.Standing.{Stands, nothing_stands, stands_more}

@@ -1,7 +1,7 @@
 mod Names
 pub mod Growing
 pub mod Knowing
-pub mod Going
+pub mod GoingOn
 pub mod Fronts
 pub mod Deciding
 pub mod Lasting

@@ -6,7 +6,7 @@ use Rattle.mlt_text.specs.Failures.{IsTraceFault}
 use Rattle.mlt_text_words.specs.Lines.{lines}
 use Rattle.mlt_trace_check.specs.OrderTexts.{serial_line}
 use Rattle.mlt_trace_check.specs.Readings.{reading}
-use Rattle.mlt_trace_check.proofs.Going.{went_on, went_wrong}
+use Rattle.mlt_trace_check.proofs.GoingOn.{went_on, went_wrong}
 use Rattle.mlt_trace_check.specs.Goings.{TakesOne}
 use Rattle.mlt_trace_check.proofs.Behind.{behind_first, lines_behind}
 use Rattle.mlt_trace_check.proofs.Settling.{FirstSays, says_ended, settled_stays}

@@ -6,7 +6,7 @@ use Rattle.mlt_text_words.specs.Lines.{lines}
 use Rattle.mlt_trace_check.specs.declared.checker.Checker.{Checker}
 use Rattle.mlt_trace_check.specs.Checkers.{Knows}
 use Rattle.mlt_trace_check.specs.Readings.{reading}
-use Rattle.mlt_trace_check.proofs.Going.{went_nowhere, went_to_end}
+use Rattle.mlt_trace_check.proofs.GoingOn.{went_nowhere, went_to_end}
 use Rattle.mlt_trace_check.specs.LongTexts.{GivesAll}
 use Rattle.mlt_trace_check.specs.Pieces.{StopsWriting, TakesLines, WritesLines}
 use Rattle.mlt_trace_check.proofs.Behind.{has_front, lines_behind}

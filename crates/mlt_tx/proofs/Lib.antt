@@ -4,7 +4,7 @@ pub mod Backing
 pub mod Inverses
 pub mod Pending
 mod OpenNames
-pub mod Fast
+pub mod FastCalls
 pub mod Images
 pub mod TakingBack
 pub mod TxSlots

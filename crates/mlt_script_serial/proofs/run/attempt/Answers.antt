@@ -3,7 +3,7 @@ use Rattle.mlt_object_kinds.specs.Bases.{Base, TranscriptLeads, Transcript}
 use Rattle.mlt_script.specs.declared.statement.Ending.{Ending}
 use Rattle.mlt_script_serial.specs.Follows.{Follows}
 use Rattle.mlt_script_serial.specs.declared.base_desk.BaseDesk.{BaseDesk}
-use Rattle.mlt_script_serial.proofs.Playing.{plays_partial, plays_runs}
+use Rattle.mlt_script_serial.proofs.Played.{plays_partial, plays_runs}
 use Rattle.mlt_script_serial.proofs.run.attempt.Goals as goal
 use Rattle.mlt_script_serial.proofs.run.attempt.Goals.{in-Ok-Abort, in-Err}
 

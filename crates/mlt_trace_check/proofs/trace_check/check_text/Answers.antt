@@ -1,6 +1,6 @@
 use Rattle.std.proofs.Common.{◌≡◌, ◌+◌, length, sym, rules, arith, subst}
 use Rattle.mlt_trace_check.proofs.Names.{err_from_is_err_and, WentOver, IsAcceptedTrace}
-use Rattle.mlt_trace_check.proofs.Going.{went_nowhere, went_on, went_to_end, went_wrong}
+use Rattle.mlt_trace_check.proofs.GoingOn.{went_nowhere, went_on, went_to_end, went_wrong}
 use Rattle.mlt_trace_check.proofs.trace_check.check_text.Goals as goal
 
 pub loop-rest-init : goal.loop-rest-init

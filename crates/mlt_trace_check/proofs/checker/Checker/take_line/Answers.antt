@@ -1,6 +1,6 @@
 use Rattle.std.proofs.Common.{◌∙◌}
 use Rattle.mlt_trace_check.proofs.Names.{err_from_is_err_and}
-use Rattle.mlt_trace_check.proofs.Going.{bad_line, item_line}
+use Rattle.mlt_trace_check.proofs.GoingOn.{bad_line, item_line}
 use Rattle.mlt_trace_check.proofs.checker.Checker.take_line.Goals as goal
 
 pub returns-in-Bad : goal.returns-in-Bad
