@@ -1,17 +1,13 @@
 //! The lines of an input.
 
 ghost use Rattle.std.specs.Prelude.{◌≡◌};
-ghost use Rattle.std.specs.List.{position};
 ghost use Rattle.mlt_event_text.specs.Inputs.{NextLine};
 ghost use Rattle.mlt_event_text.specs.Commands.{command_of};
-ghost use Rattle.mlt_text_words.specs.Lines.{is_lf, without_cr};
+ghost use Rattle.mlt_text_words.specs.Lines.{without_cr};
 
 use crate::command::{Command, read_command};
 use mlt_script::op_line;
-use mlt_text_words::{after, trimmed};
-
-// How many bytes a line has at most before its LF, a CR among them.
-const MOST_BYTES: usize = 200;
+use mlt_text_words::{MOST_LINE_BYTES, after, find_lf, trimmed};
 
 /// A line of a session.
 #[derive(Clone, Copy, Debug, PartialEq, Eq)]
@@ -20,12 +16,6 @@ pub enum SessionLine {
     Says(Command),
     /// More than 200 bytes before an LF, or without one.
     TooLong,
-}
-
-fn find_lf(text: &[u8]) -> Option<usize>
-    ensures { result ≡ position is_lf text.now }
-{
-    text.iter().position(|byte| *byte == b'\n')
 }
 
 // What a line asks, given its bytes before the LF.
@@ -59,9 +49,9 @@ fn line_of_any_form(text: &[u8]) -> Option<(SessionLine, usize)>
     ensures { NextLine text.now result }
 {
     match find_lf(text) {
-        Some(end) if end > MOST_BYTES => Some((SessionLine::TooLong, text.len())),
+        Some(end) if end > MOST_LINE_BYTES => Some((SessionLine::TooLong, text.len())),
         Some(end) => Some((SessionLine::Says(command_in(&text[..end])), end + 1)),
-        None if text.len() > MOST_BYTES => Some((SessionLine::TooLong, text.len())),
+        None if text.len() > MOST_LINE_BYTES => Some((SessionLine::TooLong, text.len())),
         None => None,
     }
 }

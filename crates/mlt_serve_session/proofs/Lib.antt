@@ -1,6 +1,5 @@
 mod Names
 pub mod Closing
-pub mod Filling
 pub mod Giving
 pub mod Joining
 pub mod Listening

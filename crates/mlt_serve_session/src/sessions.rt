@@ -15,7 +15,7 @@ use crate::notes::SessionRecord;
 use crate::receipts::Receipts;
 use crate::turn::abort;
 use mlt_script_serial::Desk;
-use mlt_text::{MAX_INPUT, read_some, write_text};
+use mlt_text::{MAX_INPUT, fill, keep, write_text, zeros};
 use mlt_types::Refusal;
 use std::alloc::Global;
 use std::io::{Read, Write};
@@ -23,37 +23,6 @@ use std::mem;
 
 // How many bytes a session holds.
 const BUFFER: usize = 16_384;
-
-// Reads behind the bytes that are held, and answers how many bytes came.
-fn fill<R: Read>(
-    reader: &mut R,
-    buffer: &mut [u8],
-    held: usize,
-    most: usize,
-) -> Result<usize, Refusal>
-    requires room { held < length buffer.old }
-    requires most { 0 < most }
-    ensures ok { IfOk result (λ count. (piece : List ℕ)
-        × (take (held + count) buffer.new ≡ take held buffer.old ++ piece)
-        × (length piece ≡ count) × (count ≤ most) × (held + count ≤ length buffer.old)
-        × Consumes (R.remaining reader.old) (R.remaining reader.new) piece
-        × (count ≡ 0 → IsAtEnd (R.remaining reader.new))) }
-    ensures err { OnErr result (Keeps (R.remaining reader.old) (R.remaining reader.new)) }
-    ensures refusal { IsOkUnless result Refusal.Io }
-{
-    let room = most.min(buffer.len() - held);
-    read_some(reader, &mut buffer[held..held + room])
-}
-
-// Moves the bytes from `at` to `end` to the start, and answers how many they are.
-fn keep(buffer: &mut [u8], at: usize, end: usize) -> usize
-    requires { (at ≤ end) × (end ≤ length buffer.old) }
-    ensures held { result ≡ end - at }
-    ensures bytes { take result buffer.new ≡ drop at (take end buffer.old) }
-{
-    buffer.copy_within(at..end, 0);
-    end - at
-}
 
 // Answers all complete lines of the text in one write, and tells how many bytes these lines take.
 fn reply<W: Write, D: Desk, K: Receipts>(
@@ -190,14 +159,6 @@ fn converse<R: Read, W: Write, D: Desk, K: Receipts + Drop>(
         lines: progress.lines,
         commits: progress.commits,
     })
-}
-
-// So many zeros.
-fn zeros(alloc: Global, count: usize) -> Result<Vec<u8>, Refusal>
-    ensures length { IfOk result (λ zeros. vec_len zeros ≡ count) }
-    ensures refusal { IsOkUnless result Refusal.OutOfMemory }
-{
-    Ok(vec![in alloc; 0; count]?)
 }
 
 /// Reads lines, asks the desk and answers each, until the input or a line ends the session. A transaction

@@ -6,6 +6,7 @@ ghost use Rattle.std.specs.Io.KnownBytes.{Consumes, IsAtEnd, Keeps, ReadConsumes
 ghost use Rattle.mlt_text.specs.Failures.{IsWant, ReadsWithinLimit, RefusesLong};
 ghost use Rattle.mlt_text.specs.Inputs.{GivesWhole};
 
+use crate::buffer::zeros;
 use mlt_types::Refusal;
 use std::alloc::Global;
 use std::io::Read;
@@ -38,14 +39,6 @@ pub fn read_input<R: Read>(alloc: Global, reader: &mut R) -> Result<Vec<u8>, Ref
         }
     }
     Err(Refusal::Io)
-}
-
-// So many zeros.
-fn zeros(alloc: Global, count: usize) -> Result<Vec<u8>, Refusal>
-    ensures length { IfOk result (λ zeros. vec_len zeros ≡ count) }
-    ensures refusal { IsOkUnless result Refusal.OutOfMemory }
-{
-    Ok(vec![in alloc; 0; count]?)
 }
 
 // Appends what one read gives, and answers whether the reader was at its end.

@@ -5,8 +5,8 @@ ghost use Rattle.std.specs.List.{list_all, position};
 ghost use Rattle.mlt_text_words.specs.Lines.{Raw, lines, is_lf, is_comment, is_allowed, is_unprintable, without_cr};
 ghost use Rattle.mlt_text_words.specs.ReadLines.{Tells};
 
-// How many bytes a line has at most before its LF, a CR among them.
-const MOST_BYTES: usize = 200;
+/// How many bytes a line has at most before its LF, a CR among them.
+pub const MOST_LINE_BYTES: usize = 200;
 
 /// A line that was read, its bytes without the LF and a CR before it.
 #[derive(Clone, Copy)]
@@ -19,7 +19,8 @@ pub enum LineText<'a> {
     Allowed(&'a [u8], bool),
 }
 
-fn find_lf(text: &[u8]) -> Option<usize>
+/// Where the first LF of a text is.
+pub fn find_lf(text: &[u8]) -> Option<usize>
     ensures { result ≡ position is_lf text.now }
 {
     text.iter().position(|byte| *byte == b'\n')
@@ -98,7 +99,7 @@ fn allowed(line: &[u8]) -> LineText<'_>
     requires { list_all is_allowed line.now ≡ true }
     ensures { Tells result record { bytes = line.now; ended = true } }
 {
-    if line.len() > MOST_BYTES {
+    if line.len() > MOST_LINE_BYTES {
         LineText::TooLong
     } else {
         LineText::Allowed(line, true)
@@ -109,7 +110,7 @@ fn allowed(line: &[u8]) -> LineText<'_>
 fn judged(bytes: &[u8], ended: bool) -> LineText<'_>
     ensures { Tells result record { bytes = bytes.now; ended = ended } }
 {
-    if bytes.len() > MOST_BYTES {
+    if bytes.len() > MOST_LINE_BYTES {
         return LineText::TooLong;
     }
     let line = if ended { trimmed(bytes) } else { bytes };

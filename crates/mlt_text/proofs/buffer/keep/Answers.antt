@@ -1,6 +1,6 @@
 use Rattle.std.proofs.Common.{◌-◌, take, ap, ◌∙◌}
-use Rattle.mlt_serve_session.proofs.Filling.{kept}
-use Rattle.mlt_serve_session.proofs.sessions.keep.Goals as goal
+use Rattle.mlt_text.proofs.Filling.{kept}
+use Rattle.mlt_text.proofs.buffer.keep.Goals as goal
 
 pub returns-clause-bytes : goal.returns-clause-bytes
 returns-clause-bytes c =

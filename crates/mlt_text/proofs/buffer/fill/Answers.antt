@@ -1,6 +1,6 @@
 use Rattle.std.proofs.Common.{◌≡◌, ◌≤◌, ℕ, length, ◌+◌, ◌∙◌, arith, length-take, length-drop}
-use Rattle.mlt_serve_session.proofs.Filling.{filled}
-use Rattle.mlt_serve_session.proofs.sessions.fill.Goals as goal
+use Rattle.mlt_text.proofs.Filling.{filled}
+use Rattle.mlt_text.proofs.buffer.fill.Goals as goal
 
 pub returns-clause-ok : goal.returns-clause-ok
 returns-clause-ok g c =
