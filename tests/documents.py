@@ -1,19 +1,17 @@
-"""Documents: each link leads somewhere, counts are what they say, and README shows what the program writes."""
+"""Documents: each link leads somewhere, counts are what they say, and what pages show is what the program writes."""
 import re
 import shutil
 import subprocess
 from itertools import zip_longest
 from pathlib import Path
 
-from harness import ROOT, expect, holds, same, test
+from harness import ROOT, each, holds, same, test
 
 LINK = re.compile(r"\]\(([^)\s]+)\)")
 # A link to a line of code: the name that is defined there, the file and the line.
 LINE_LINK = re.compile(r"\[`(?:\w+::)?(\w+)`\]\(([^)\s#]+)#L(\d+)\)")
 # A link to a name of a crate: the name, the crate, and the file in it.
 NAME_LINK = re.compile(r"\[`(\w+)`\]\(\.\./crates/(\w+)/([^)\s#]+)\)")
-# The most words of a document that is to be short.
-MOST_WORDS = {"README.md": 1_000, "docs/TEXTBOOK.md": 700}
 
 
 def pages():
@@ -40,23 +38,24 @@ def in_text(words):
     return r"\s+".join(map(re.escape, words.split()))
 
 
-def block_after(text, words):
-    """The first block of a document, without its indent, behind the paragraph that has these words."""
-    found = re.search(rf"(?s){in_text(words)}.*?\n\n    (.*?)\n\n", text)
-    holds(found, f"no paragraph before a block has: {words}")
-    return re.sub("(?m)^    ", "", found[1]) + "\n"
+def blocks_of(text):
+    """The indented blocks of a document, without their indents, each with the paragraph before it."""
+    found, paragraph, block, is_new = [], "", [], True
+    for line in [*text.splitlines(), "the end"]:
+        if line.startswith("    ") or block and not line:
+            block.append(line[4:])
+            continue
+        if block:
+            found.append((paragraph, "\n".join(block).rstrip("\n") + "\n"))
+            paragraph, block = "", []
+        paragraph = f"{paragraph} {line}".strip() if line and not is_new else line or paragraph
+        is_new = not line
+    return found
 
 
-def columns_after(text, words):
-    """The two columns of such a block: the lines that go in, and those that come out."""
-    rows = [re.split(" {2,}", line) for line in block_after(text, words).splitlines()]
-    left, right = ["".join(f"{row[at]}\n" for row in rows if row[at:] and row[at]) for at in (0, 1)]
-    return left, right
-
-
-def without_comments(path):
-    """The lines of a file but comments and blank ones."""
-    return "".join(line for line in path.read_text().splitlines(keepends=True) if line.strip() and not line.startswith("#"))
+def commands_of(block):
+    """What a block shows of commands, each behind a dollar: its words, and the text that it writes."""
+    return [(line.split(), wanted) for line, wanted in re.findall(r"(?m)^\$ (.*)\n((?:(?!\$ ).*\n)*)", block)]
 
 
 @test
@@ -85,13 +84,6 @@ def each_link_to_a_line_leads_to_what_it_names(_mltx):
             holds(re.search(rf"\bfn {name}\b", line), f"{page.relative_to(ROOT)}: line {number} of {path} is {line!r}")
     linked = [(name, path) for name, path, _ in LINE_LINK.findall((ROOT / "README.md").read_text())]
     same(linked, [("play", "crates/mlt_manager/src/manager.rt")], "the lines that README links")
-
-
-@test
-def short_documents_stay_short(_mltx):
-    """Words are counted as between blanks, also in what is shown."""
-    counts = {page: len((ROOT / page).read_text().split()) for page in MOST_WORDS}
-    holds(all(counts[page] <= most for page, most in MOST_WORDS.items()), f"{counts}, and at most {MOST_WORDS} are to be")
 
 
 def defines(text, name):
@@ -176,14 +168,14 @@ def edits_that_must_fail_are_counted(_mltx):
 
 @test
 def each_library_that_is_trusted_is_named(_mltx):
-    """README names just the libraries of the kit that the program is linked from: where a row of crates.txt, or such a library,
+    """THEOREM names just the libraries of the kit that the program is linked from: where a row of crates.txt, or such a library,
     takes up another one, it fails. On a machine without the kit only the rows are read."""
-    section = (ROOT / "README.md").read_text().partition("## What is trusted")[2].partition("\n## ")[0]
+    section = (ROOT / "docs/THEOREM.md").read_text().partition("## What one has to trust")[2].partition("\n## ")[0]
     named, rt = set(re.findall(r"`(\w+)`", section)), shutil.which("rt")
     linked = linked_libraries(Path(rt).resolve().parent.parent if rt else None)
-    holds(linked <= named, f"README does not name {sorted(linked - named)}")
+    holds(linked <= named, f"THEOREM does not name {sorted(linked - named)}")
     if rt:
-        same(sorted(named), sorted(linked), "the libraries that README names")
+        same(sorted(named), sorted(linked), "the libraries that THEOREM names")
 
 
 @test
@@ -274,39 +266,23 @@ def each_view_that_counts_is_linked(_mltx):
     same(sorted(linked), sorted(typed), "the files of views")
 
 
-def shown_by_readme(subcommand):
-    """What README shows of a subcommand: its words, those that name an example as a path, and both columns."""
-    readme = (ROOT / "README.md").read_text()
-    words = re.search(rf"as `\./mltx\s+({subcommand}\s[^`]*)`", readme)[1].split()
-    return [ROOT / word if word.startswith("examples/") else word for word in words], *columns_after(readme, f"**`{subcommand}`**")
+# The pages that show commands with what they write.
+PAGES_WITH_COMMANDS = ("README.md",)
 
 
-@test
-def readme_shows_what_is_written(mltx):
-    """Of `solo` and `steps` a whole example with all that it writes; of `run` too, as one worker runs it, and with the trace that
-    `check` then checks. By more workers the counter is the same."""
-    for subcommand in ("solo", "steps", "run"):
-        words, given, wanted = shown_by_readme(subcommand)
-        same(without_comments(words[1]), given, f"the example of {subcommand}")
-        expect(mltx.run(*words, *["--workers", 1][: 2 * (subcommand == "run")]), out=wanted, what=subcommand)
-    trace, given, wanted = shown_by_readme("check")
-    same((mltx.folder / trace[1]).read_text(), given, "the trace")
-    expect(mltx.run(*trace), out=wanted, what="check")
-    ran = mltx.run(*words)
-    same((ran.status, ran.out.decode().splitlines()[-1], ran.err), (0, "counter 7 7", b""), "more workers")
+@each({f"commands-of-{page.rpartition('/')[2].partition('.')[0].lower()}": page for page in PAGES_WITH_COMMANDS})
+def page_shows_what_is_written(mltx, page):
+    """Each command of `mltx` writes what the page shows, on both outputs, in a folder with the files that the page shows before:
+    a block is a file where the paragraph before it ends with its name and a colon. Scripts side by side are run by one worker."""
+    for paragraph, block in blocks_of((ROOT / page).read_text()):
+        if name := re.search(r"`([\w-]+\.\w+)`:$", paragraph):
+            mltx.file(name[1], block)
+        for words, wanted in commands_of(block):
+            if words[0] == "cat":
+                same((mltx.folder / words[1]).read_text(), wanted, " ".join(words))
+            elif words[0].endswith("mltx") and words[1] != "serve":
+                words += ["--workers", "1"] if words[1] == "run" else []
+                ran = mltx.run(*(ROOT / word if word.startswith("examples/") else word for word in words[1:]))
+                same((ran.out + ran.err).decode(), wanted, " ".join(words))
 
 
-@test
-def readme_shows_a_session(mltx):
-    """Lines and answers, over a connection of a server whose only option is its address."""
-    left, right = columns_after((ROOT / "README.md").read_text(), "**`serve`** is a server")
-    with mltx.serve(limit=None) as server, server.connect() as peer:
-        same([peer.ask(line) for line in left.splitlines()], right.splitlines(), "the answers")
-
-
-@test
-def readme_lists_the_operations(_mltx):
-    """They are those of the table of scripts in FORMATS."""
-    listed = re.search(r"(?s)Operations are (.*?)\. ", (ROOT / "README.md").read_text())[1]
-    table = (ROOT / "docs/FORMATS.md").read_text().partition("| OP | On | Asks for |")[2].partition("\n\n")[0]
-    same(re.findall(r"`(\w+)`", listed), re.findall(r"(?m)^\| `(\w+) ", table), "the operations")
