@@ -768,3 +768,17 @@ def readme_of_the_client_runs(mltx):
         ran = subprocess.run([sys.executable, path], capture_output=True, env=env, timeout=PATIENCE)
         same((ran.stdout.decode(), ran.stderr), (shown_in(page, "It writes"), b""), "what the program writes")
         expect(server.end(), out="served 2\n")
+
+
+@test
+def program_of_the_tutorial_runs(mltx):
+    """The program in the tutorial writes what the tutorial shows."""
+    page = (ROOT / "docs/TUTORIAL.md").read_text()
+    program = shown_in(page, "`move.py`:").replace('"127.0.0.1", 7000', '"%s", %d')
+    with mltx.serve(limit=2) as server:
+        connected(server).close()
+        path = mltx.file("move.py", program % server.address)
+        env = {"PYTHONPATH": str(FOLDER), "PYTHONDONTWRITEBYTECODE": "1"}
+        ran = subprocess.run([sys.executable, path], capture_output=True, env=env, timeout=PATIENCE)
+        same((ran.stdout.decode(), ran.stderr), (shown_in(page, "`python3 move.py` prints"), b""), "what the program writes")
+        expect(server.end(), out="served 2\n")

@@ -267,7 +267,7 @@ def each_view_that_counts_is_linked(_mltx):
 
 
 # The pages that show commands with what they write.
-PAGES_WITH_COMMANDS = ("README.md",)
+PAGES_WITH_COMMANDS = ("README.md", "docs/TUTORIAL.md")
 
 
 @each({f"commands-of-{page.rpartition('/')[2].partition('.')[0].lower()}": page for page in PAGES_WITH_COMMANDS})
@@ -286,3 +286,16 @@ def page_shows_what_is_written(mltx, page):
                 same((ran.out + ran.err).decode(), wanted, " ".join(words))
 
 
+@test
+def tutorial_shows_two_sessions(mltx):
+    """The lines of two clients of a server, in the order of the table, get the answers of its last column. One that gets none yet is
+    answered in a later row."""
+    rows = re.findall(r"(?m)^\| (first|second) \| (?:`(.*?)` )?\| (?:`(.*)`)?.*\|$", (ROOT / "docs/TUTORIAL.md").read_text())
+    holds(len(rows) > 10, "the page has its rows")
+    with mltx.serve("--endless", limit=None) as server, server.connect() as first, server.connect() as second:
+        for client, line, answer in rows:
+            peer = first if client == "first" else second
+            if line:
+                peer.send(f"{line}\n")
+            if answer:
+                same(peer.line(), answer, f"what the {client} client gets to {line!r}")
