@@ -92,17 +92,15 @@ def defines(text, name):
 
 
 @test
-def each_name_of_the_textbook_page_is_defined(_mltx):
-    """A name in code is defined in the file that it links, whose crate its row names. What else is set as code stands so in
-    FORMATS, as a word of a script, a reply, a refusal or a command."""
-    text, formats = (ROOT / "docs/TEXTBOOK.md").read_text(), (ROOT / "docs/FORMATS.md").read_text()
+def each_name_of_the_concepts_is_defined(_mltx):
+    """A name in code is defined in the file that it links. What else is set as code stands so in FORMATS, as a word of a script, a
+    reply, a refusal or a command."""
+    text, formats = (ROOT / "docs/CONCEPTS.md").read_text(), (ROOT / "docs/FORMATS.md").read_text()
     rows = [row for row in text.splitlines() if NAME_LINK.search(row)]
     holds(len(rows) > 15, "the page has its rows")
     for row in rows:
-        found = NAME_LINK.findall(row)
-        lost = [name for name, crate, path in found if not defines((ROOT / "crates" / crate / path).read_text(), name)]
+        lost = [name for name, crate, path in NAME_LINK.findall(row) if not defines((ROOT / "crates" / crate / path).read_text(), name)]
         same(lost, [], f"names that their files do not define, in {row}")
-        same(re.findall(r"`(mlt_\w+)`", row), list(dict.fromkeys(crate for _, crate, _ in found)), f"the crates of {row}")
     words = [word for quoted in re.findall(r"`([^`]+)`", NAME_LINK.sub("", text)) for word in quoted.split()]
     strange = [word for word in words if not word.isdecimal() and not re.match("mlt_", word) and not re.search(rf"\b{word}\b", formats)]
     same(strange, [], "words that FORMATS does not have")
