@@ -1,9 +1,9 @@
-"""Exercises: what docs/EXERCISES.md answers is what the program writes of what it asks."""
+"""Exercises: what docs/ANSWERS.md shows is what the program writes of what docs/EXERCISES.md asks."""
 import re
 
 from harness import ROOT, Program, expect, holds, same, test
 
-PAGE = ROOT / "docs/EXERCISES.md"
+EXERCISES, ANSWERS = ROOT / "docs/EXERCISES.md", ROOT / "docs/ANSWERS.md"
 # How many exercises there are.
 COUNT = 12
 
@@ -41,13 +41,13 @@ def run_as_said(mltx: Program, exercise: str, given: str, wanted: str) -> None:
 
 @test(seconds=1)
 def each_exercise_is_answered(mltx: Program) -> None:
-    """Each schedule, script and trace of the page is run, and all that is written of it is compared."""
-    text = PAGE.read_text()
-    exercises, answers = parts_of(text, r"(\d+)\. "), parts_of(text, r"Answer (\d+)")
+    """Each schedule, script and trace of both pages is run, and all that is written of it is compared."""
+    asked, answered = EXERCISES.read_text(), ANSWERS.read_text()
+    exercises, answers = parts_of(asked, r"(\d+)\. "), parts_of(answered, r"Answer (\d+)")
     same((list(exercises), list(answers)), (list(range(1, COUNT + 1)),) * 2, "the exercises, and the answers")
     pairs = {number: asked_and_answered(exercises[number], answers[number]) for number in exercises}
     holds(all(pairs.values()), "each exercise has something to run")
-    same(sum(2 * len(found) for found in pairs.values()), len(blocks_of(text)), "the blocks that are run or compared")
+    same(sum(2 * len(found) for found in pairs.values()), len(blocks_of(asked) + blocks_of(answered)), "the blocks that are run or compared")
     for number, found in pairs.items():
         for given, wanted in found:
             run_as_said(mltx, exercises[number], given, wanted)
