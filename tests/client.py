@@ -136,9 +136,9 @@ def each_call_has_each_reply(mltx):
         ends_well(mltx, server, trace, served=1, checked=f"serial 2|{base}")
 
 
-def replies_of_formats():
-    """The replies of each operation, as the tables of docs/FORMATS.md have them."""
-    text, found = (ROOT / "docs/FORMATS.md").read_text(), {}
+def replies_of_language():
+    """The replies of each operation, as the tables of docs/LANGUAGE.md have them."""
+    text, found = (ROOT / "docs/LANGUAGE.md").read_text(), {}
     for title in ("Accounts", "Elements", "Sizes", "Counters"):
         table = text.partition(f"\n## {title}\n")[2].partition("\n## ")[0]
         for words, reply in re.findall(r"(?m)^\| ([a-z, ]+?)(?: n)? / (\w+)", table):
@@ -148,13 +148,13 @@ def replies_of_formats():
 
 
 @test
-def client_knows_the_replies_of_formats(_mltx):
-    """Each operation has the replies that FORMATS lists, and no others; each of them comes in the test above."""
+def client_knows_the_replies_of_language(_mltx):
+    """Each operation has the replies that LANGUAGE lists, and no others; each of them comes in the test above."""
     known = {word: {reply.value for reply in form.results} for word, form in FORMS.items()}
     known = {word: replies | ({"is"} if FORMS[word].tells_number else set()) for word, replies in known.items()}
-    formats = replies_of_formats()
-    formats["up"] = formats["down"] = {"done"}
-    same(known, formats, "the replies of each operation")
+    wanted_replies = replies_of_language()
+    wanted_replies["up"] = wanted_replies["down"] = {"done"}
+    same(known, wanted_replies, "the replies of each operation")
     tried = {(word, "is" if FORMS[word].tells_number and result is not None else result) for word, _, result in RESULTS}
     wanted = {(word, result) for word, form in FORMS.items() for result in form.results.values()}
     same(tried, wanted | {(word, "is") for word, form in FORMS.items() if form.tells_number}, "what is tried")

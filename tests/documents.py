@@ -1,11 +1,13 @@
 """Documents: each link leads somewhere, counts are what they say, and what pages show is what the program writes."""
+import json
 import re
 import shutil
 import subprocess
 from itertools import zip_longest
 from pathlib import Path
+from urllib.request import urlopen
 
-from harness import ROOT, each, holds, same, test
+from harness import ROOT, each, free_address, holds, same, test
 
 LINK = re.compile(r"\]\(([^)\s]+)\)")
 # A link to a line of code: the name that is defined there, the file and the line.
@@ -93,9 +95,10 @@ def defines(text, name):
 
 @test
 def each_name_of_the_concepts_is_defined(_mltx):
-    """A name in code is defined in the file that it links. What else is set as code stands so in FORMATS, as a word of a script, a
-    reply, a refusal or a command."""
-    text, formats = (ROOT / "docs/CONCEPTS.md").read_text(), (ROOT / "docs/FORMATS.md").read_text()
+    """A name in code is defined in the file that it links. What else is set as code stands so in
+    the pages on formats, as a word of a script, a reply, a refusal or a command."""
+    text = (ROOT / "docs/CONCEPTS.md").read_text()
+    formats = "".join((ROOT / f"docs/{page}.md").read_text() for page in ("LANGUAGE", "SCHEDULES", "PROTOCOL", "OPERATING", "CLI"))
     rows = [row for row in text.splitlines() if NAME_LINK.search(row)]
     holds(len(rows) > 15, "the page has its rows")
     for row in rows:
@@ -103,7 +106,7 @@ def each_name_of_the_concepts_is_defined(_mltx):
         same(lost, [], f"names that their files do not define, in {row}")
     words = [word for quoted in re.findall(r"`([^`]+)`", NAME_LINK.sub("", text)) for word in quoted.split()]
     strange = [word for word in words if not word.isdecimal() and not re.match("mlt_", word) and not re.search(rf"\b{word}\b", formats)]
-    same(strange, [], "words that FORMATS does not have")
+    same(strange, [], "words that no page on formats has")
 
 
 @test
@@ -265,7 +268,7 @@ def each_view_that_counts_is_linked(_mltx):
 
 
 # The pages that show commands with what they write.
-PAGES_WITH_COMMANDS = ("README.md", "docs/TUTORIAL.md")
+PAGES_WITH_COMMANDS = ("README.md", "docs/TUTORIAL.md", "docs/CLI.md")
 
 
 @each({f"commands-of-{page.rpartition('/')[2].partition('.')[0].lower()}": page for page in PAGES_WITH_COMMANDS})
@@ -282,6 +285,49 @@ def page_shows_what_is_written(mltx, page):
                 words += ["--workers", "1"] if words[1] == "run" else []
                 ran = mltx.run(*(ROOT / word if word.startswith("examples/") else word for word in words[1:]))
                 same((ran.out + ran.err).decode(), wanted, " ".join(words))
+
+
+def columns_of(page):
+    """The two columns of the first block of a page: the lines that go in, and those that come out."""
+    rows = [re.split(" {2,}", line) for line in blocks_of((ROOT / page).read_text())[0][1].splitlines()]
+    return [[row[at] for row in rows if row[at:] and row[at]] for at in (0, 1)]
+
+
+@test
+def schedules_begin_with_a_schedule(mltx):
+    """SCHEDULES shows a schedule and the answers, and says below what follows them."""
+    left, right = columns_of("docs/SCHEDULES.md")
+    ran = mltx.run("steps", "-", given="".join(f"{line}\n" for line in left))
+    same(ran.out.decode().splitlines(), [*right, "account 101 7", "depth 0"], "the answers")
+
+
+@test
+def protocol_begins_with_a_session(mltx):
+    """Lines and answers, over a connection of a server whose only option is its address."""
+    left, right = columns_of("docs/PROTOCOL.md")
+    with mltx.serve(limit=None) as server, server.connect() as peer:
+        same([peer.ask(line) for line in left], right, "the answers")
+
+
+@test
+def numbers_of_an_operator_are_told_of(mltx):
+    """OPERATING names each number of /status and of /metrics, and alerts by no other."""
+    page, admin = (ROOT / "docs/OPERATING.md").read_text(), free_address()
+    with mltx.serve("--endless", limit=None, admin=admin) as server:
+        server.connect().ask("quit")
+        told = {path: urlopen("http://%s:%d/%s" % (*admin, path)).read().decode() for path in ("status", "metrics")}
+    rows = re.findall(r"(?m)^\| ([^|]*) \| ([^|]*mltx_[^|]*) \|", page)
+    same([name for cell, _ in rows for name in re.findall(r"`(\w+)`", cell)], list(json.loads(told["status"])), "the numbers")
+    named = [name for _, cell in rows for name in re.findall(r"`(\w+)`", cell)]
+    same(named, re.findall(r"(?m)^(mltx_\w+) ", told["metrics"]), "the metrics")
+    same(set(re.findall(r"\bmltx_\w+", page)) - set(named), set(), "names that no metric has")
+
+
+@test
+def pages_of_the_help_are_written(mltx):
+    """docs/CLI.md and the man page are what tools/cli-page makes of the help of the program."""
+    is_written_by(ROOT / "docs/CLI.md", "cli-page", mltx.path)
+    is_written_by(ROOT / "docs/mltx.1", "cli-page", "--man", mltx.path)
 
 
 @test

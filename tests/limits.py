@@ -1,4 +1,4 @@
-"""Each limit, and one past it: what docs/FORMATS.md says comes on each side.
+"""Each limit, and one past it: what docs/OPERATING.md and the pages on formats say comes on each side.
 
 Many of these refuse a program that gives up early for no good reason: it would be within its contracts, since no
 contract can say that memory really ran out, and only a test sees it."""

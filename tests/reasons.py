@@ -1,5 +1,5 @@
 """What `steps --explain` says of each block, of each wait for a page, and of circles of waits. The rows are worked out by
-hand from the tables of docs/FORMATS.md; of random schedules the model says which lines are wanted.
+hand from the tables of docs/SCHEDULES.md; of random schedules the model says which lines are wanted.
 
 A row is written as in schedules.py. The lines that begin with `#` are the reasons of the answer before them, and
 `# example Held, Asked` stands for the example of two classes, as `mltx tables` prints it (tables.py tests that)."""
@@ -380,7 +380,7 @@ def parted(text):
 
 
 def checked_form(line, reasons, examples):
-    """Fails where what stands behind a line is none of the forms in FORMATS."""
+    """Fails where what stands behind a line is none of the forms in SCHEDULES."""
     if line.startswith("waiting by "):
         found = [OF_PAGE.fullmatch(it) for it in reasons]
         holds(len(found) == 1 and found[0] and found[0][2] == line.split()[2], f"{line!r} has the reasons {reasons}")
@@ -440,9 +440,9 @@ def each_schedule_of_the_examples_is_explained(_mltx):
 
 
 @test
-def reasons_of_formats(mltx):
-    """The reason that FORMATS shows is the one of its example, and the page of that example shows it."""
-    text = (ROOT / "docs/FORMATS.md").read_text().partition("Of [`block-by-reply.txt`](../examples/block-by-reply.txt):\n\n")[2]
+def reasons_of_schedules(mltx):
+    """The reason that SCHEDULES shows is the one of its example, and the page of that example shows it."""
+    text = (ROOT / "docs/SCHEDULES.md").read_text().partition("Here is [`block-by-reply.txt`]")[2].partition("\n\n")[2]
     shown = [line.removeprefix("    ") for line in text.partition("\n\n")[0].splitlines()]
     same(shown[1], in_the_way("withdraw 1 3 done", 2, "withdraw 1 4", "short"))
     ran = mltx.run("steps", "--explain", ROOT / "examples/block-by-reply.txt")

@@ -1,4 +1,4 @@
-"""The conflict tables that `mltx tables` prints: cell by cell those of docs/FORMATS.md, and an example of each conflict,
+"""The conflict tables that `mltx tables` prints: cell by cell those of docs/LANGUAGE.md, and an example of each conflict,
 which is played by the model in both orders. The matrices, and all that stands in the table of sets, are also written here
 by hand, byte for byte."""
 import errno
@@ -9,29 +9,29 @@ from harness import ROOT, each, expect, holds, same, test
 from model import apply, cell_of, clash
 
 TABLES = {"tables-of-accounts": "account", "tables-of-sets": "set", "tables-of-counters": "counter"}
-# The kind of each table, as FORMATS has it, and the classes of the sizes of sets, under their own names there.
+# The kind of each table, as LANGUAGE has it, and the classes of the sizes of sets, under their own names there.
 KINDS = {"account": "account", "set": "element", "counter": "counter"}
 
 
-def rows_of_formats(head):
-    """The cells of each row of the table in FORMATS that has this head."""
-    text = (ROOT / "docs/FORMATS.md").read_text().partition(head + "\n")[2].partition("\n\n")[0]
+def rows_of_language(head):
+    """The cells of each row of the table in LANGUAGE that has this head."""
+    text = (ROOT / "docs/LANGUAGE.md").read_text().partition(head + "\n")[2].partition("\n\n")[0]
     return [[cell.strip() for cell in row.strip("|").split("|")] for row in text.splitlines()[1:]]
 
 
 def classes_of(kind):
-    """The classes of a kind in FORMATS, in their order, each with its operations and replies."""
+    """The classes of a kind in LANGUAGE, in their order, each with its operations and replies."""
     found, at = {}, None
-    for name, classes, operations in rows_of_formats("| Kind | Class | Operation / reply |"):
+    for name, classes, operations in rows_of_language("| Kind | Class | Operation / reply |"):
         at = name or at
         if at == kind:
             found |= dict.fromkeys(classes.split(", "), operations)
     return list(found)
 
 
-def pairs_of_formats():
-    """The pairs of classes that FORMATS lists as conflicts."""
-    rows = rows_of_formats("| Held | Requested later |")
+def pairs_of_language():
+    """The pairs of classes that LANGUAGE lists as conflicts."""
+    rows = rows_of_language("| Held | Requested later |")
     return {pair for held, asked in rows for pair in product(held.split(", "), asked.split(", "))}
 
 
@@ -53,9 +53,9 @@ def cells_of(matrix):
 
 
 @each(TABLES)
-def table_is_that_of_formats(mltx, name):
-    """Each cell is marked where FORMATS lists its pair, and no other is; rows and columns are the classes in their order."""
-    classes, pairs = classes_of(KINDS[name]), pairs_of_formats()
+def table_is_that_of_language(mltx, name):
+    """Each cell is marked where LANGUAGE lists its pair, and no other is; rows and columns are the classes in their order."""
+    classes, pairs = classes_of(KINDS[name]), pairs_of_language()
     title, marks = cells_of(parts_of(mltx, name)[0])
     same(title, name)
     same(list(marks), list(product(classes, classes)))
@@ -63,9 +63,9 @@ def table_is_that_of_formats(mltx, name):
 
 
 @test
-def sizes_are_those_of_formats(mltx):
-    """What FORMATS has under Counted, on the size of a set, is marked in the row of the size."""
-    counted = next(row[2] for row in rows_of_formats("| Kind | Class | Operation / reply |") if row[0] == "size of a set")
+def sizes_are_those_of_language(mltx):
+    """What LANGUAGE has under Counted, on the size of a set, is marked in the row of the size."""
+    counted = next(row[2] for row in rows_of_language("| Kind | Class | Operation / reply |") if row[0] == "size of a set")
     replies = re.findall(r"/ (\w+)", counted)
     title, marks = cells_of(parts_of(mltx, "set")[2])
     same(title, "size")
@@ -227,13 +227,13 @@ def each_mark_has_its_example(mltx, name):
 
 
 def word_of(done):
-    """The word of the class of an operation with its reply, by the list of classes in FORMATS."""
+    """The word of the class of an operation with its reply, by the list of classes in LANGUAGE."""
     op, reply = done
     if op[0] == "size":
         return "size"
     kind = cell_of(op)[0]
     at, words = None, None
-    for name, classes, operations in rows_of_formats("| Kind | Class | Operation / reply |"):
+    for name, classes, operations in rows_of_language("| Kind | Class | Operation / reply |"):
         at = name or at
         if at == kind and any(is_of(op, reply, part) for part in re.split(r", | or ", operations)):
             words = classes.split(", ")
@@ -244,7 +244,7 @@ def word_of(done):
 
 
 def is_of(op, reply, part):
-    """Whether an operation with its reply is what FORMATS writes so, as `deposit n / done`, or `close` in a list of those
+    """Whether an operation with its reply is what LANGUAGE writes so, as `deposit n / done`, or `close` in a list of those
     that share a reply."""
     names, _, told = part.partition(" / ")
     return names.split()[0] == op[0] and (not told or told.split()[0] == reply.split()[0]) and (
@@ -260,14 +260,12 @@ def tables_are_all_three(mltx):
 
 
 @test
-def examples_of_the_help_and_of_formats_are_true(mltx):
-    """Both show the table of counters, and its examples, behind an indent."""
+def examples_of_the_help_of_tables_are_true(mltx):
+    """It shows the table of counters, and its examples, behind an indent."""
     wanted = mltx.run("tables", "counter").out.decode()
-    formats = (ROOT / "docs/FORMATS.md").read_text()
-    for text, indent in ((mltx.run("tables", "--help").out.decode(), "  "), (formats, "    ")):
-        shown = re.search(rf"(?m)^{indent}counter    Counted Read\n(?:(?:{indent}.*)?\n)+", text)
-        assert shown, "no table of counters"
-        same(re.sub(f"(?m)^{indent}", "", shown[0]).rstrip("\n") + "\n", wanted)
+    shown = re.search(r"(?m)^  counter    Counted Read\n(?:(?:  .*)?\n)+", mltx.run("tables", "--help").out.decode())
+    assert shown, "no table of counters"
+    same(re.sub("(?m)^  ", "", shown[0]).rstrip("\n") + "\n", wanted)
 
 
 @each({"each-write-of-a-table-fails": errno.EIO, "each-write-of-a-table-is-interrupted": errno.EINTR}, seconds=0.5)

@@ -1,4 +1,4 @@
-"""Reads schedules with their answers, and traces, by docs/FORMATS.md: what comes out is a list of moments."""
+"""Reads schedules with their answers, and traces, by docs/SCHEDULES.md: what comes out is a list of moments."""
 import re
 from collections.abc import Iterator
 from dataclasses import dataclass
