@@ -8,9 +8,9 @@ from collections import defaultdict
 from itertools import combinations
 from xml.etree import ElementTree
 
-from harness import ROOT, Ran, each, expect, holds, same, test
+from harness import ROOT, Ran, each, expect, holds, lines, same, test
 from pages import Standing, nothing, page
-from rows import EXAMPLES, shown_examples
+from rows import EXAMPLES, OUTPUTS
 from schedules import ROWS
 
 TOOL = ROOT / "tools/picture"
@@ -199,7 +199,7 @@ def left_by(end):
 def picture_of_an_example(mltx, name):
     """The program's answers are drawn as the page of examples shows them, and the comments stand below."""
     file = ROOT / "examples" / name
-    told, end = told_of(file.read_text(), shown_examples()[name])
+    told, end = told_of(file.read_text(), lines(OUTPUTS[name]))
     seen = picture("--program", mltx.path, *SCHEDULES[name], file)
     check(seen, told)
     comments = " ".join(re.findall(r"(?m)^#(.*)", file.read_text())).replace("`", "")

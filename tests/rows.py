@@ -1,5 +1,6 @@
 """The worked rows of `solo`, `run` and `check`: scripts and traces, with all that is written of them."""
 import dataclasses
+import re
 
 from harness import ROOT, each, expect, lines, same, test
 
@@ -356,18 +357,7 @@ def check_of_a_trace_cut_at_any_byte(mltx):
             expect(mltx.check(begun), status=1, err=f"mltx: 11 TraceFault line {whole + 1} Cut\n", what=f"{begun!r}")
 
 
-def shown_examples():
-    """The blocks of the examples' own page, by the file that is named last before each."""
-    blocks, name = {}, ""
-    for line in (ROOT / "examples" / "README.md").read_text().splitlines(keepends=True):
-        if line.startswith("    "):
-            blocks[name] = blocks.get(name, "") + line[4:]
-        for word in line.split("`")[1::2]:
-            name = word if (ROOT / "examples" / word).is_file() else name
-    return blocks
-
-
-# How each example is run whose output the examples' page shows.
+# How each example is run that is no list of scripts for `solo`.
 EXAMPLES = {
     "two-clients.txt": ("run", "--workers", "1"),
     "side-by-side.txt": ("run", "--workers", "1"),
@@ -378,7 +368,39 @@ EXAMPLES = {
     "split-beside-a-reader.txt": ("steps", "--hash", "low"),
     "abort-under-deposit.trace": ("check",),
 }
-# Scripts of the examples whose output is shown nowhere else: by the tables of replies.
+# What they print.
+OUTPUTS = {
+    "two-clients.txt": "client 1 script 1|done|committed 1|client 2 script 1|done|committed 2|counter 7 7",
+    "side-by-side.txt": (
+        "client 1 script 1|opened|done|done|committed 1|client 1 script 2|done|opened|done|done|committed 2|"
+        "client 2 script 1|opened|done|done|committed 3|client 2 script 2|done|exists|done|done|committed 4|"
+        "client 3 script 1|opened|done|done|committed 5|client 3 script 2|done|exists|done|done|committed 6|"
+        "account 1 70|account 2 70|account 3 70|account 9 90|counter 7 6"
+    ),
+    "wait-for-a-page.txt": (
+        "begun 1|done opened|committed 1|begun 2|called|going|going|going|begun 3|called|going|going|waiting by 2|done done|"
+        "going|done done|committed 2|committed 3|account 1 12|depth 0"
+    ),
+    "block-by-reply.txt": (
+        "begun 1|done opened|done done|committed 1|begun 2|done done|begun 3|called|going|going|going|blocked by 2|cancelled|"
+        "done done|aborting|aborted|called|going|going|going|done done|committed 2|account 1 0|depth 0"
+    ),
+    "size-of-a-set.txt": (
+        "begun 1|done added|committed 1|begun 2|done yes|begun 3|done is 1|blocked by 3|committed 2|done added|begun 4|called|"
+        "going|going|going|blocked by 2|committed 3|going|going|going|done is 2|committed 4|element 4 9|element 4 12|depth 0"
+    ),
+    "abort-under-later-deposit.txt": (
+        "begun 1|done opened|committed 1|begun 2|done done|begun 3|done done|aborting|going|going|going|aborted|committed 2|"
+        "account 1 7|depth 0"
+    ),
+    "split-beside-a-reader.txt": (
+        "begun 1|" + "done opened|" * 17 + "committed 1|begun 2|called|going|going|begun 3|called|" + "going|" * 10 + "done opened|"
+        "going|done missing|committed 2|committed 3|" + "".join(f"account {it} 0|" for it in (*range(9), *range(1024, 1032)))
+        + "account 1536 0|depth 13"
+    ),
+    "abort-under-deposit.trace": "serial 1|serial 3|account 1 7",
+}
+# Scripts of the examples, with their output: by the tables of replies.
 SCRIPTS = {
     "first-run.txt": "opened|done|is 50|committed 1",
     "transfer.txt": (
@@ -393,8 +415,7 @@ SCRIPTS = {
 
 @each({f"example-{name.split('.')[0]}": name for name in EXAMPLES})
 def example(mltx, name):
-    """The program writes what the page of examples shows."""
-    expect(mltx.run(*EXAMPLES[name], ROOT / "examples" / name), out=shown_examples()[name])
+    expect(mltx.run(*EXAMPLES[name], ROOT / "examples" / name), out=lines(OUTPUTS[name]))
 
 
 @each({f"example-{name.split('.')[0]}": name for name in SCRIPTS})
@@ -404,22 +425,24 @@ def example_script(mltx, name):
 
 @test
 def example_of_a_false_reply(mltx):
-    shown = shown_examples()["false-reply.trace"]
-    expect(mltx.run("check", ROOT / "examples" / "false-reply.trace"), status=1, err=shown)
+    """The line is that of the operation, and not that of the commit at which the check finds it."""
+    fault = "mltx: 11 TraceFault line 4 Reply\n"
+    expect(mltx.run("check", ROOT / "examples" / "false-reply.trace"), status=1, err=fault)
 
 
 @test
 def each_example_is_run(mltx):
-    """Each file of the examples is run by a test, and each output that their page shows is compared."""
+    """Each file of the examples is run by a test, and their page says what it shows."""
     run_here = {*EXAMPLES, *SCRIPTS, "false-reply.trace", "move_money.py"}
     same({path.name for path in (ROOT / "examples").iterdir()}, {*run_here, "README.md"}, "the files of examples")
-    same(set(shown_examples()), run_here - set(SCRIPTS), "the files whose output is shown")
+    told = re.findall(r"(?m)^(?:\| )?`([\w.-]+)`", (ROOT / "examples/README.md").read_text())
+    same(sorted(told), sorted(run_here), "the files of the page")
 
 
 @test
 def example_of_side_by_side_by_more_workers(mltx):
     """By more workers the numbers of commits may differ, and the base is the same."""
-    base = "".join(shown_examples()["side-by-side.txt"].splitlines(keepends=True)[-5:])
+    base = "".join(lines(OUTPUTS["side-by-side.txt"]).splitlines(keepends=True)[-5:])
     for workers in (2, 4, 8):
         trace = mltx.folder / "side-by-side.trace"
         ran = mltx.run("run", "--workers", workers, "--trace", trace, ROOT / "examples" / "side-by-side.txt")
