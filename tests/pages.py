@@ -161,7 +161,7 @@ def page_of_a_block(mltx: Program) -> None:
     same(by_step(made, "waits"), {12: [BLOCKED]}, "who waits for whom")
     section = made.sections[12]
     same(section.heading, "12. step 3 blocked by 2", "the heading")
-    holds(section.of("note")[0].startswith("Transaction 3 wants 4 and would be told short."), f"{section.of('note')}")
+    holds(section.of("note")[0].startswith("Transaction 3 wants 4 and would get short."), f"{section.of('note')}")
     running = "transaction 3 holds nothing; runs withdraw 1 4, 3 steps so far"
     same(section.items("open"), ["transaction 2 holds withdraw 1 3 done", running], "what is open")
     takes_back = "transaction 2 holds withdraw 1 3 done; takes back withdraw 1 3"

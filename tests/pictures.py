@@ -19,7 +19,7 @@ STORED = {
     "block-by-reply": "A withdrawal is blocked as long as its reply is not certain",
     "wait-for-a-page": "Of two deposits one waits for a page, and not for a transaction",
     "abort-under-later-deposit": "A deposit is taken back under a later one, which stays",
-    "size-of-a-set": "A set's size waits for an addition, and not for who only looks",
+    "size-of-a-set": "A size conflicts with an addition, and not with another read",
     "split-beside-a-reader": "A bucket is split while another transaction reads",
 }
 # Those that show what was measured, which are not there before it was.
