@@ -766,8 +766,22 @@ def readme_of_the_client_runs(mltx):
         path = mltx.file("program.py", program % server.address)
         env = {"PYTHONPATH": str(FOLDER), "PYTHONDONTWRITEBYTECODE": "1"}
         ran = subprocess.run([sys.executable, path], capture_output=True, env=env, timeout=PATIENCE)
-        same((ran.stdout.decode(), ran.stderr), (shown_in(page, "It writes"), b""), "what the program writes")
+        same((ran.stdout.decode(), ran.stderr), (shown_in(page, "it writes"), b""), "what the program writes")
         expect(server.end(), out="served 2\n")
+
+
+@test
+def recipes_of_the_client_run(mltx):
+    """The recipes on the client's page are one program, which writes what the page shows."""
+    page = (FOLDER / "README.md").read_text().partition("## Recipes")[2].partition("\n## ")[0]
+    *parts, wanted = [re.sub(r"(?m)^    ", "", part) for part in re.findall(r"(?m)(?:^    .*\n(?:\n(?=    ))?)+", page)]
+    holds(len(parts) > 3, "the page has its recipes")
+    with mltx.serve("--endless", "--sessions", 64, limit=None) as server:
+        connected(server).close()
+        path = mltx.file("recipes.py", "\n".join(parts).replace('"127.0.0.1", 7000', '"%s", %d' % server.address))
+        env = {"PYTHONPATH": str(FOLDER), "PYTHONDONTWRITEBYTECODE": "1"}
+        ran = subprocess.run([sys.executable, path], capture_output=True, env=env, timeout=PATIENCE)
+        same((ran.stdout.decode(), ran.stderr), (wanted, b""), "what the program writes")
 
 
 @test
