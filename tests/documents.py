@@ -324,6 +324,24 @@ def numbers_of_an_operator_are_told_of(mltx):
 
 
 @test
+def options_of_the_pages_exist(_mltx):
+    """Each option that a page for users names is one of the program, as its help shows, or of a tool that the page calls."""
+    known = set(re.findall(r"(?m)^ +(?:-\w, )?(--[\w-]+)", (ROOT / "docs/CLI.md").read_text())) | {"--page", "--pid", "--write"}
+    for page in ("README", *(f"docs/{name}" for name in ("TUTORIAL", "CONCEPTS", "LANGUAGE", "SCHEDULES", "PROTOCOL", "OPERATING", "CLI"))):
+        named = set(re.findall(r"(?<![\w-])--[a-z][\w-]*", (ROOT / f"{page}.md").read_text()))
+        same(named - known, set(), f"options in {page}.md that nothing has")
+
+
+@test
+def each_error_is_told_of(_mltx):
+    """The table of errors in PROTOCOL has the names of the refusals, each at its number."""
+    code = (ROOT / "crates/mlt_types/src/refusal.rt").read_text()
+    wanted = re.findall(r"(?m)^    ([A-Z]\w+)\b", code.partition("pub enum Refusal")[2].partition("\n}")[0])
+    rows = re.findall(r"(?m)^\| (\d+) \| (\w+) \|", (ROOT / "docs/PROTOCOL.md").read_text())
+    same(rows, [(str(number), name) for number, name in enumerate(wanted, 1)], "the errors")
+
+
+@test
 def pages_of_the_help_are_written(mltx):
     """docs/CLI.md and the man page are what tools/cli-page makes of the help of the program."""
     is_written_by(ROOT / "docs/CLI.md", "cli-page", mltx.path)
