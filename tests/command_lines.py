@@ -1,5 +1,5 @@
 """Command lines: what is asked by the words, help and the version, and words that are wrong."""
-from harness import each, expect, holds, lines, same, test
+from harness import VERSION, each, expect, holds, lines, same, test
 
 FIRST_RUN = lines("begin|open 1|deposit 1 50|balance 1|commit")
 TOLD = lines("opened|done|is 50|committed 1")
@@ -202,7 +202,7 @@ def help_is_told_where_words_are_missing(mltx):
 @test
 def version(mltx):
     for word in ("--version", "-V"):
-        expect(mltx.run(word, given=FIRST_RUN), out="mltx 0.1.0\n", what=word)
+        expect(mltx.run(word, given=FIRST_RUN), out=f"mltx {VERSION}\n", what=word)
 
 
 @test
@@ -285,8 +285,12 @@ WRONG = {
     "admin-twice": (("serve", "--admin", "127.0.0.1:0", "--admin=127.0.0.1:0", "127.0.0.1:0"), "'--admin <ADDR>'"),
     "endless-twice": (("serve", "--endless", "127.0.0.1:0", "--endless"), "'--endless'"),
     "endless-with-a-value": (("serve", "--endless=yes", "127.0.0.1:0"), "'--endless'"),
-    "endless-with-a-limit": (("serve", "--endless", "--limit", "5", "127.0.0.1:0"), "'--endless' cannot be used with '--limit <N>'"),
-    "endless-behind-a-limit": (("serve", "127.0.0.1:0", "--limit=1", "--endless"), "'--endless' cannot be used with '--limit <N>'"),
+    "endless-with-a-limit": (
+        ("serve", "--endless", "--limit", "5", "127.0.0.1:0"), "'--endless' cannot be used with '--limit <N>'"
+    ),
+    "endless-behind-a-limit": (
+        ("serve", "127.0.0.1:0", "--limit=1", "--endless"), "'--endless' cannot be used with '--limit <N>'"
+    ),
     "run-is-not-endless": (("run", "--endless", "a.txt"), "'--endless'"),
     "until-eof-twice": (("serve", "--until-eof", "127.0.0.1:0", "--until-eof"), "'--until-eof'"),
     "until-eof-with-a-value": (("serve", "--until-eof=true", "127.0.0.1:0"), "'--until-eof'"),

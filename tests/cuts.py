@@ -1,8 +1,8 @@
 """Inputs that end after any of their bytes, and inputs in which one byte is another one.
 
 Each is a lawful text and has the right answer, or it has a fault, the one that the model finds: of a fault nothing but
-its line is written. The model reads texts on its own, by docs/LANGUAGE.md and docs/SCHEDULES.md. A program that is ended by a signal, that
-writes a part before it finds the fault, that names another line or cause, or that drops a cut line, fails here."""
+its line is written. The model reads texts on its own, by docs/LANGUAGE.md and docs/SCHEDULES.md. A program that is ended by a
+signal, that writes a part before it finds the fault, that names another line or cause, or that drops a cut line, fails here."""
 import itertools
 import random
 

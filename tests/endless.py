@@ -64,8 +64,8 @@ def settled(server):
 
 
 def stays_flat(server, first, more):
-    """After so many transactions it holds what it holds after four times as many, but for a twentieth and 2 MB: items and outcomes
-    of the others would take 60 MB. It returns how many connections there were."""
+    """After so many transactions it holds what it holds after four times as many, but for a twentieth and 2 MB: items and
+    outcomes of the others would take 60 MB. It returns how many connections there were."""
     connections = runs(server, first)
     before = settled(server)
     connections += runs(server, more)
@@ -89,8 +89,8 @@ def memory_stays_flat(mltx, has_trace):
 
 @test(seconds=8)
 def memory_stays_flat_on_a_full_disk(mltx):
-    """Where a small disk can be had, the trace on it is full soon: all clients are served, that is noted, and nothing is held for it.
-    What is there is right."""
+    """Where a small disk can be had, the trace on it is full soon: all clients are served, that is noted, and nothing is held for
+    it. What is there is right."""
     with small_disk(mltx, 262_144) as disk:
         trace = disk / "trace" if disk else "/dev/full"
         with endless(mltx, "--sessions", 4, "--trace", trace) as server:
@@ -122,7 +122,8 @@ def trace_is_there_while_it_goes(mltx):
     """What was done stands in the trace some time later, and a transaction that is open at the end is taken back in it."""
     trace = mltx.folder / "trace"
     with endless(mltx, "--trace", trace) as server, server.connect() as peer:
-        for line, told in (("begin", "begun 1"), ("up 7 1", "done"), ("commit", "committed 1"), ("begin", "begun 2"), ("up 7 2", "done")):
+        calls = ("begin", "begun 1"), ("up 7 1", "done"), ("commit", "committed 1"), ("begin", "begun 2"), ("up 7 2", "done")
+        for line, told in calls:
             same(peer.ask(line), told, line)
         time.sleep(0.8)
         first = "begin 1\nop 1 up 7 1 done\ncommit 1 1\nbegin 2\nop 2 up 7 2 done\n"

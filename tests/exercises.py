@@ -47,7 +47,8 @@ def each_exercise_is_answered(mltx: Program) -> None:
     same((list(exercises), list(answers)), (list(range(1, COUNT + 1)),) * 2, "the exercises, and the answers")
     pairs = {number: asked_and_answered(exercises[number], answers[number]) for number in exercises}
     holds(all(pairs.values()), "each exercise has something to run")
-    same(sum(2 * len(found) for found in pairs.values()), len(blocks_of(asked) + blocks_of(answered)), "the blocks that are run or compared")
+    shown = len(blocks_of(asked) + blocks_of(answered))
+    same(sum(2 * len(found) for found in pairs.values()), shown, "the blocks that are run or compared")
     for number, found in pairs.items():
         for given, wanted in found:
             run_as_said(mltx, exercises[number], given, wanted)

@@ -44,8 +44,8 @@ def soon(peer, answer):
     holds(took < AT_ONCE, f"{answer} was told after {took} seconds")
 
 
-# By what it waits for: what the first holds; what is blocked by it, and what others ask that may clash with that; what the two are
-# told, and what the last is told once the one that was blocked has committed.
+# By what it waits for: what the first holds; what is blocked by it, and what others ask that may clash with that; what the two
+# are told, and what the last is told once the one that was blocked has committed.
 BEHIND = {
     "withdraw": ("open 1|deposit 1 9", "balance 1", "withdraw 1 4", "balance 1", "done", "is 5"),
     "read": ("", "up 1 1", "read 1", "up 1 2", "is 1", "done"),
@@ -238,7 +238,7 @@ def moves(ended, peer, seed, count):
 
 @test(seconds=4)
 def long_transactions_get_through_beside_short_ones(mltx):
-    """Two clients with four moves a transaction beside six with one, for three seconds. Without ages the two commit hardly ever."""
+    """Two clients with four moves a transaction beside six with one, for three seconds. Without ages the two hardly commit."""
     work = [4, 4, 1, 1, 1, 1, 1, 1]
     with sessions(mltx, len(work) + 1) as (opener, *peers):
         begin(opener)

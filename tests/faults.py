@@ -2,7 +2,7 @@
 
 A case is a text between bars, as the worked rows have it, with its faulty line and cause. In the tables `RAW_..` it is
 a text as it stands."""
-from harness import each, expect, lines
+from harness import each, expect, lines, test
 
 # Lines that are faulty wherever they stand, in each of the three forms: too long, or with a byte that is not allowed.
 BAD_LINES = {
@@ -34,7 +34,8 @@ NO_OPERATIONS = [
     *("read 4294967296", "deposit 1 18446744073709551616", "up 7 99999999999999999999", "down 7 18446744073709551616"),
     *("open 000000000000000000001", "deposit 1 000000000000000000005"),
     *("open -1", "open +1", "open 0x1", "open 1.0", "open 1_0"),
-    *("open a", "up 7 -1", "up 7 1e3", "add 4 v", "open 1 # made"),
+    *("open a", "up 7 -1", "up 7 1e3", "add 4 v", "open 1 # made", "deposit v 1", "size v", "up 000000000000000000001 1"),
+    *("deposits 1 2", "deposi 1 2", "deposit1 2", "downs 1 2", "removed 1 2", "reads 1", "sizes 1", "up 1 2x", "up 1 2,", "up  "),
 ]
 SCRIPT = {
     # Words.
@@ -45,6 +46,10 @@ SCRIPT = {
     "client-of-21-digits": ("begin 000000000000000000001|commit", 1, "Words"),
     "begin-of-two-clients": ("begin 1 2|commit", 1, "Words"),
     "begin-in-capitals": ("Begin|commit", 1, "Words"),
+    "begin-with-a-letter-more": ("begins|commit", 1, "Words"),
+    "client-with-a-letter": ("begin 7x|commit", 1, "Words"),
+    "client-with-a-comment": ("begin 7 # x|commit", 1, "Words"),
+    "commit-with-a-letter-more": ("begin|commits", 2, "Words"),
     "commit-with-a-word": ("begin|commit 1", 2, "Words"),
     "abort-with-a-word": ("begin|abort now", 2, "Words"),
     "need-without-a-reply": ("begin|need read 7|commit", 2, "Words"),
@@ -390,6 +395,15 @@ TRACES = {
     "reply-behind-lines-of-another": (
         "begin 1|begin 2|op 1 up 1 1 done|op 2 up 2 1 done|op 1 read 1 is 0|commit 2 1|commit 1 2", 5, "Reply",
     ),
+    "reply-of-a-size-that-another-commit-made-false": (
+        "begin 1|begin 2|op 2 size 3 is 0|op 1 add 3 8 added|commit 1 1|commit 2 2", 3, "Reply",
+    ),
+    "reply-over-behind-a-withdrawal-that-committed-first": (
+        f"{OPENED}|op 1 deposit 1 1000000000000000000 done|commit 1 1|begin 2|begin 3|op 2 deposit 1 1 over"
+        "|op 3 withdraw 1 1 done|commit 3 2|commit 2 3",
+        7,
+        "Reply",
+    ),
     "reply-from-what-did-not-commit": (f"{OPENED}|begin 2|op 2 balance 1 is 0|commit 2 1", 4, "Reply"),
     "reply-from-what-was-taken-back": (
         f"{TAKEN_BACK}|back 1|abort 1|begin 2|op 2 deposit 1 5 done|commit 2 1", 8, "Reply",
@@ -401,6 +415,12 @@ TRACES = {
     "reply-in-a-line-before-another-fault": ("begin 1|op 1 open 1 exists|commit 1 1|back|", 2, "Reply"),
     "words-before-place": ("back 0", 1, "Words"),
 }
+# Lines that are just off the form in which a trace is written.
+NO_LINES = [
+    *("begin 2x", "begins 2", "begin x", "back 1x", "commit 1 1x", "commit 1  x", "abort 1x", "aborts 1", "frob 1", "1"),
+    *("op 1 opens 1 opened", "op 1 open 1 openedx", "op 1 open 1 opene", "ops 1 open 1 opened"),
+    *("op 1 read 1 is 0x", "op 1 read 1 isn 0"),
+]
 RAW_TRACES = {
     "cut-in-a-reply": (
         lines("begin 1|begin 2|op 2 open 1 opened|op 2 deposit 1 7 done|commit 2 1") + "op 1 balance 1 is", 6, "Cut",
@@ -428,6 +448,12 @@ RAW_TRACES = {
 def trace(mltx, case):
     text, line, cause = case
     refused(mltx, ("check",), lines(text), line, cause)
+
+
+@test
+def words_of_no_line_of_a_trace(mltx):
+    for words in NO_LINES:
+        refused_input(mltx, "check", lines(f"begin 1|{words}"), 2, "Words")
 
 
 @each(cases("trace", RAW_TRACES))

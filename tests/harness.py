@@ -23,6 +23,8 @@ from pathlib import Path
 from typing import IO, TypeVar, cast, overload
 
 ROOT = Path(__file__).resolve().parent.parent
+# The version of the program and of the client, which is changed there first: tests fail where another text has the old one.
+VERSION = re.findall(r'(?m)^version = "(.*)"$', (ROOT / "clients/python/pyproject.toml").read_text())[0]
 # The greatest number of bytes of an input.
 MOST_BYTES = 16_777_216
 # How long one run may take, in seconds, on a slow machine.

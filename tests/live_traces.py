@@ -103,8 +103,8 @@ BLOCK = 4_096
 
 @test(seconds=2)
 def lines_of_a_trace_end_with_their_blocks(mltx):
-    """Under load: no line goes over the end of a block, where a write of a killed process may be cut. Spaces stand before such an end
-    alone, and the trace is right."""
+    """Under load: no line goes over the end of a block, where a write of a killed process may be cut. Spaces stand before such an
+    end alone, and the trace is right."""
     trace = mltx.folder / "trace"
     with mltx.serve("--trace", trace, "--sessions", 4, limit=4) as server:
         with under_load(server, clients=4):

@@ -11,7 +11,8 @@ from harness import each, expect, holds, lines, same, test
 
 # A trace in which each form stands, with a CR before an LF, and its lines in another order of commits.
 ALL_FORMS = lines(
-    "begin 1|begin 2|op 2 open 1 opened|op 2 deposit 1 7 done|commit 2 1|op 1 balance 1 is 7|op 1 up 7 3 done|back 1|back 1|abort 1"
+    "begin 1|begin 2|op 2 open 1 opened|op 2 deposit 1 7 done|commit 2 1|op 1 balance 1 is 7|op 1 up 7 3 done|back 1|back 1"
+    "|abort 1"
     "|begin 4|  op 4 add 1 5 added\r|commit 4 2|begin 9|op 9 deposit 1 1 done"
 ).encode()
 FAULTY = {

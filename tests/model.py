@@ -1,4 +1,5 @@
-"""A small model of the tables, of scripts and of traces, for expected values. It is written from docs/LANGUAGE.md and docs/SCHEDULES.md alone.
+"""A small model of the tables, of scripts and of traces, for expected values. It is written from docs/LANGUAGE.md and
+docs/SCHEDULES.md alone.
 
 An operation is a tuple, as `("open", 1)`, `("deposit", 1, 50)` or `("has", 4, 9)`. A reply is its text, as `done` or
 `is 5`. A cell is `("account", a)`, `("element", s, e)`, `("counter", c)` or `("size", s)`. What a cell holds is None

@@ -73,7 +73,7 @@ def told_in_turn(state, operations):
 @test
 def conflicts_are_what_operations_want(_mltx):
     """The model marks a pair of classes exactly where in some small state the two, told the other way round, are told something
-    else or leave something else. So of a new operation that has its class and no mark yet, this prints the marks that it wants."""
+    else or leave something else. So of a new operation that has its class and no mark yet, this prints the marks it wants."""
     wanted = {held: "" for held in CONFLICTS}
     for states, forms in KINDS.values():
         on_one = [[(form[0], 1, *form[1:]) for form in group] for group in (*states, forms)]

@@ -125,7 +125,8 @@ def help_of_the_prompt(mltx):
         connected(server).close()
         ran = typed(server.address, "help\nhelp deposit\n? read\nhelp source\nhelp nothing\n")
     out = ran.out.decode()
-    for usage in ("open ACCOUNT", "add SET ELEMENT", "size SET", "up COUNTER AMOUNT", "begin", "source FILE", ":status", ":waits", "quit"):
+    calls = "open ACCOUNT", "add SET ELEMENT", "size SET", "up COUNTER AMOUNT"
+    for usage in (*calls, "begin", "source FILE", ":status", ":waits", "quit"):
         holds(re.search(rf"(?m)^{usage} ", out), f"{usage} is listed in {out}")
     deposit = (
         "deposit ACCOUNT AMOUNT|    asks for so much more in the account"
@@ -177,8 +178,8 @@ def servers_that_go_away_from_a_prompt(mltx):
         (
             ("before", "up 7 1"),
             "begun 1",
-            "the server ended the connection: it was stopped, or the connection was idle or its transaction open for too long, or an"
-            " operator ended it; transaction 1 is taken back"
+            "the server ended the connection: it was stopped, or the connection was idle or its transaction open for too long, or"
+            " an operator ended it; transaction 1 is taken back"
             "|standard input, line 2: up 7 1",
         ),
         (
@@ -267,8 +268,9 @@ def prompt_that_nobody_reads(mltx):
 @test
 def words_of_the_prompt(_mltx):
     """A wrong command line has status 2."""
-    for words in ([], ["nowhere"], ["127.0.0.1:0"], ["127.0.0.1:7000", "more"], ["--what", "127.0.0.1:7000"], ["127.0.0.1:7000", "--admin"],
-                  ["127.0.0.1:7000", "--admin", "nowhere"], ["127.0.0.1:7000", "--admin", "127.0.0.1:0"]):
+    good, admin = "127.0.0.1:7000", "--admin"
+    wrong = [], ["nowhere"], ["127.0.0.1:0"], [good, "more"], ["--what", good]
+    for words in (*wrong, [good, admin], [good, admin, "nowhere"], [good, admin, "127.0.0.1:0"]):
         ran = subprocess.run([*SHELL, *words], stdin=subprocess.DEVNULL, capture_output=True, timeout=PATIENCE)
         same((ran.returncode, ran.stdout), (2, b""), f"{words}")
         holds(ran.stderr.startswith(b"usage: "), f"{words}: {ran.stderr}")

@@ -102,6 +102,20 @@ SOLO = {
         lines("begin 1|op 1 open 1 opened|op 1 deposit 1 50 done|commit 1 1"),
         lines("serial 1|account 1 50"),
     ),
+    # The same of each word of a line that else is as it is printed.
+    "words-just-off-the-plain-form": Solo(
+        lines(
+            "begin|deposit  1 2|deposit 1  2|deposit\t1 2|deposit 1\t2| deposit 1 2|deposit 1 2 |deposit 1 2\t|deposit 1 2\r"
+            "|deposit 01 002|has 00003 00000000000000000004|up 1 0000000000000000019|up 1 00000000000000000019"
+            "|up 1 10000000000000000000|size  007|let v = size 00000000000000000007|commit"
+        ),
+        lines("missing|" * 9 + "no|" + "done|" * 3 + "is 0|is 0|committed 1"),
+        lines(
+            "begin 1|" + "op 1 deposit 1 2 missing|" * 9 + "op 1 has 3 4 no|op 1 up 1 19 done|op 1 up 1 19 done"
+            "|op 1 up 1 10000000000000000000 done|op 1 size 7 is 0|op 1 size 7 is 0|commit 1 1"
+        ),
+        lines("serial 1|counter 1 10000000000000000038"),
+    ),
     # The greatest numbers of each place.
     "greatest-numbers": Solo(
         lines(
@@ -198,6 +212,29 @@ def solo(mltx, row):
         same(trace.read_text(), row.trace, f"the trace of {what}")
     expect(mltx.run(given=row.text), out=row.output, what="no words")
     expect(mltx.check(trace), out=row.checked, what="check")
+
+
+# Texts, each with the line and the cause of its fault.
+FAULTY = {
+    "script-faults": [
+        ("open 1\n", 1, "Place"),
+        ("begin\ndeposit 1\ncommit\n", 2, "Words"),
+        ("begin\nif has 4 9 is yes\n", 2, "Unfinished"),
+    ],
+    "line-limits": [
+        ("begin" + " " * 195 + "\n", 1, "Unfinished"),
+        ("begin" + " " * 196 + "\n", 1, "Line"),
+        (b"open \xff\n", 1, "Line"),
+    ],
+}
+
+
+@each(FAULTY)
+def faulty(mltx, row):
+    """What `solo` says of the rows' faulty texts. The lawful ones are in `SOLO`."""
+    for text, line, cause in row:
+        fault = f"mltx: 10 ScriptFault line {line} {cause}\n"
+        expect(mltx.run("solo", "-", given=text), status=1, err=fault, what=f"solo of {text[-20:]!r}")
 
 
 @dataclasses.dataclass(frozen=True)
@@ -394,8 +431,9 @@ OUTPUTS = {
         "account 1 7|depth 0"
     ),
     "split-beside-a-reader.txt": (
-        "begun 1|" + "done opened|" * 17 + "committed 1|begun 2|called|going|going|begun 3|called|" + "going|" * 10 + "done opened|"
-        "going|done missing|committed 2|committed 3|" + "".join(f"account {it} 0|" for it in (*range(9), *range(1024, 1032)))
+        "begun 1|" + "done opened|" * 17 + "committed 1|begun 2|called|going|going|begun 3|called|" + "going|" * 10
+        + "done opened|going|done missing|committed 2|committed 3|"
+        + "".join(f"account {it} 0|" for it in (*range(9), *range(1024, 1032)))
         + "account 1536 0|depth 13"
     ),
     "abort-under-deposit.trace": "serial 1|serial 3|account 1 7",

@@ -481,6 +481,23 @@ call 2 open 32768 > called
 step 2 > {going(11)}
 {empty(*EIGHT)}
 depth 0""", LOW),
+    # The base leaves out all that is open: several operations of one, an abort that has taken back one of two, and a split.
+    "base-without-what-is-open": Schedule(f"""
+{made(*EIGHT)}
+begin > begun 2
+whole 2 deposit 0 9 > done done
+whole 2 withdraw 0 4 > done done
+whole 2 close 7 > done closed
+begin > begun 3
+whole 3 deposit 1 5 > done done
+whole 3 deposit 1 6 > done done
+abort 3 > aborting
+step 3 > going, going, going, undone
+begin > begun 4
+call 4 open 32768 > called
+step 4 > {going(11)}
+{empty(*EIGHT)}
+depth 0""", LOW),
     # A wide pass that is dropped gives its pages back, and the next one splits.
     "cancelled-split-leaves-no-depth": Schedule(f"""
 {made(*EIGHT)}

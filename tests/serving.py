@@ -401,7 +401,8 @@ def sessions_that_get_no_thread(mltx):
             peers = [server.connect() for _ in range(6)]
             for peer in peers:
                 peer.send("begin\n")
-            comes_to_be(lambda: answered(peers) == 6 or is_noted(server), f"all sessions answer, or a note, without thread {number}")
+            what = f"all sessions answer, or a note, without thread {number}"
+            comes_to_be(lambda: answered(peers) == 6 or is_noted(server), what)
             if is_noted(server):
                 found = re.fullmatch("([1-5]) of 6 session threads run", server.next_note())
                 holds(found, f"{server.noted}, without thread {number}")
@@ -449,7 +450,7 @@ def unsent(peer):
 
 
 def takes_no_more(peer):
-    """Waits until the server takes nothing more of what a peer sends, for a second: its session is in a write that nobody reads."""
+    """Waits until the server takes nothing more of what a peer sends, for a second: its session writes what nobody reads."""
     seen = []
 
     def stands_still():
@@ -518,8 +519,8 @@ def opened_without_waits(path, flags):
 
 @each({f"end-waits-for-no-reader-of-{count}-notes": count for count in (1, 200)}, seconds=7)
 def end_waits_for_no_reader(mltx, count):
-    """Who has stopped reading standard error, and keeps it open, holds the end up for some seconds only. Notes that are not written
-    by then never are; all else is done as ever."""
+    """Who has stopped reading standard error, and keeps it open, holds the end up for some seconds only. Notes that are not
+    written by then never are; all else is done as ever."""
     trace = mltx.folder / "trace"
     with until_eof(mltx, "--trace", trace) as server:
         same(server.first_line(), listening(server.address))

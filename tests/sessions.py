@@ -135,7 +135,7 @@ FAULTY = [
     *("# a comment", "#", "need open 1 is opened", "let v = balance 1", "if open 1 is opened", "call 1 open 1"),
     *("step 1", "op 1 open 1 opened", "open", "open 1 2", "open 4294967296", "open -1", "open +1", "open a"),
     *("open 000000000000000000001", "add 65536 0", "size 65536", "deposit 1 v", "deposit 1", "deposit 1 18446744073709551616"),
-    *("up 7 1 # one", "up 4294967296 1"),
+    *("up 7 1 # one", "up 4294967296 1", "begins", "commit commit", "quit quit", "up 7 1 1", "up 7 1x", "reads 7"),
     *("up 7 1 \x7f", "up 7 \x01 1", "\x00", "up 7 1\r ", "up 7 1\r\r", "up 7 1 \xb5", "\x0c"),
 ]
 
@@ -287,6 +287,21 @@ def says_nothing(peer, why):
         peer.socket.settimeout(patience)
         return
     holds(False, f"{heard!r} came, though {why}")
+
+
+@test
+def two_sessions_at_once(mltx):
+    """The first has a transaction open while the second begins, works on the same counter and commits."""
+    trace = mltx.folder / "serve.trace"
+    with mltx.serve("--trace", trace, limit=2) as server:
+        with server.connect() as first, server.connect() as second:
+            same(first.ask("begin"), "begun 1")
+            told = [second.ask(line) for line in ("begin", "up 7 1", "commit", "quit")]
+            same(told, ["begun 2", "done", "committed 1", "bye"], "the second session")
+            same([first.ask(line) for line in ("up 7 2", "commit", "quit")], ["done", "committed 2", "bye"])
+        expect(server.end(), out="served 2\n")
+    same(trace.read_text(), lines("begin 1|begin 2|op 2 up 7 1 done|commit 2 1|op 1 up 7 2 done|commit 1 2"))
+    expect(mltx.check(trace), out=lines("serial 2|serial 1|counter 7 3"))
 
 
 @test

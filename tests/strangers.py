@@ -89,7 +89,8 @@ def strangers(mltx, number):
     cuts = {cut_for(client, why): (client, why) for client in range(2, connections) for why in (LONG_LINE, BROKEN)}
     clients = [cuts[note][0] for note in ended.notes if note in cuts]
     same((len(clients), len(set(clients))), (len(ended.notes), len(clients)), f"notes on strangers among {ended.notes}")
-    holds(sum(cuts[note][1] == LONG_LINE for note in ended.notes) >= told, f"{told} were told of a line, and of notes came {ended.notes}")
+    noted = sum(cuts[note][1] == LONG_LINE for note in ended.notes)
+    holds(noted >= told, f"{told} were told of a line, and of notes came {ended.notes}")
     checked = mltx.check(trace)
     same((checked.status, checked.err), (0, b""), f"the check of the trace, {checked}")
     for at in range(4):

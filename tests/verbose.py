@@ -162,7 +162,9 @@ FAULTY: Mapping[str, tuple[str, str | bytes, int, str, str, str]] = {
     "missing-reply": (
         "check", "begin 1\nop 1 balance 1\n", 2, "Words", "op 1 balance 1", "expected: `op T OP REPLY`, as `op 1 balance 1 is 7`"
     ),
-    "client-out-of-range": ("run", "begin 1000\n", 1, "Words", "begin 1000", "expected: `begin`, or `begin K` with K of 0 to 999"),
+    "client-out-of-range": (
+        "run", "begin 1000\n", 1, "Words", "begin 1000", "expected: `begin`, or `begin K` with K of 0 to 999"
+    ),
     "line-of-201-bytes": ("solo", "begin\n" + "x" * 201 + "\n", 2, "Line", "x" * 60 + "..", "expected: at most 200 bytes"),
     "line-of-200-bytes": (
         "solo", "begin\n" + "x" * 200 + "\n", 2, "Words", "x" * 60 + "..", f"expected: {BEGINNINGS['solo']}"
@@ -199,7 +201,8 @@ FAULTY: Mapping[str, tuple[str, str | bytes, int, str, str, str]] = {
         "expected: an `if` before it that is open, and that has no `else` where this is one",
     ),
     "ifs-in-one-another": (
-        "solo", "begin\n" + "if has 1 1 is yes\n" * 17, 18, "Deep", "if has 1 1 is yes", "expected: at most 16 `if` in one another"
+        "solo", "begin\n" + "if has 1 1 is yes\n" * 17, 18, "Deep", "if has 1 1 is yes",
+        "expected: at most 16 `if` in one another",
     ),
     "path-of-257-operations": (
         "solo", "begin\n" + "up 1 1\n" * 257 + "commit\n", 258, "Long", "up 1 1",

@@ -12,7 +12,7 @@ from collections.abc import Mapping
 from functools import partial
 from pathlib import Path
 
-from harness import PATIENCE, ROOT, Program, Ran, each, expect, holds, same, test
+from harness import PATIENCE, ROOT, VERSION, Program, Ran, each, expect, holds, same, test
 
 # What of this repository stands in the copy.
 COPIED = ("mltx", "tools/quick-build", "tools/proved-build", "crates.txt", "crates/mltx/src", "crates/mlt_cli/src")
@@ -94,7 +94,8 @@ class Tree:
             source, copy = ROOT / name, self.top / name
             copy.parent.mkdir(parents=True, exist_ok=True)
             shutil.copytree(source, copy) if source.is_dir() else shutil.copy(source, copy)
-        parts = {"bin/rt": RT, "bin/rtlib.py": "", "bin/rattle": RATTLE, "toolchain/bin/clang": CLANG, "toolchain/bin/ld.lld": LINKER}
+        parts = {"bin/rt": RT, "bin/rtlib.py": "", "bin/rattle": RATTLE}
+        parts |= {"toolchain/bin/clang": CLANG, "toolchain/bin/ld.lld": LINKER}
         for name, text in {**parts, "toolchain/lib": "", "logic": ""}.items():
             (self.kit / name).parent.mkdir(parents=True, exist_ok=True)
             (self.kit / name).write_text(text)
@@ -113,7 +114,8 @@ class Tree:
         """The script, started with these words, in a group of processes of its own."""
         pipe = subprocess.PIPE
         command = [str(self.top / "mltx"), *words]
-        # An interrupt ends it, also where the tests were started with interrupts ignored, as a shell starts what it has in the background.
+        # An interrupt ends it, also where the tests were started with interrupts ignored, as a shell starts what it has in the
+        # background.
         heed = partial(signal.signal, signal.SIGINT, signal.SIG_DFL)
         return subprocess.Popen(
             command, env=self.env, start_new_session=True, stdin=pipe, stdout=pipe, stderr=pipe, preexec_fn=heed
@@ -169,7 +171,7 @@ def first_run_builds_without_proof(mltx: Program) -> None:
     same(tree.asked(), TRY, "what rt is asked")
     same(tree.left(), [], "what is left behind")
     shows(tree.run("solo", "a  b"), "unproved")
-    expect(tree.run("--version"), out="mltx 0.1.0 (not proved)\n")
+    expect(tree.run("--version"), out=f"mltx {VERSION} (not proved)\n")
     same(tree.asked(), "", "what rt is asked by later runs")
     same(tree.proved.exists(), False, "whether something lies where the proved program is to be")
 
@@ -201,7 +203,7 @@ def proved_program_is_run_where_there_is_one(mltx: Program) -> None:
     tree.run("solo")
     tree.prove()
     shows(tree.run("solo", "a  b"), "proved")
-    expect(tree.run("--version"), out="mltx 0.1.0\n")
+    expect(tree.run("--version"), out=f"mltx {VERSION}\n")
     same(tree.asked(), "", "what rt is asked")
 
 

@@ -5,12 +5,13 @@ ghost use Rattle.mlt_page_locks.specs.LockTables.{HasAtMost};
 ghost use Rattle.mlt_page_subtx.specs.Images.{AreThere};
 ghost use Rattle.mlt_page_subtx.specs.Locking.{LocksPagesThere};
 
-use mlt_page::{Bucket, Page, Store};
+use mlt_page::{Bucket, Page, Slot, Store};
 use mlt_page_locks::PageLocks;
 use mlt_page_subtx::Subtx;
 use mlt_test_tools::same;
 use mlt_types::{Limits, PageNo, Refusal, TxId};
 use std::alloc::Global;
+use std::mem::size_of;
 use std::process::Abort;
 use std::test::Fail;
 
@@ -137,4 +138,12 @@ fn made_again(rt: HostRuntime) -> Result<(), Fail> {
     let mut again = at_work(rt.alloc(), rolled_back(bench))?;
     let second = four_made(&mut again, &rt)?;
     same(&second, &first)
+}
+
+#[test]
+fn a_page_is_about_a_kilobyte() -> Result<(), Fail> {
+    same(
+        &(size_of::<Page>() <= 1_040, size_of::<Slot>()),
+        &(true, 32),
+    )
 }

@@ -1,26 +1,16 @@
-//! Tests of what stands on desks: scripts of one client at a desk of answers, sessions, and scripts and connections side by
-//! side over threads. They stand here and not in the crates that they test, since a crate with tests is proved twice.
+//! Tests of managers, and of what stands on them: schedules, scripts, sessions, and clients side by side over threads. They stand here
+//! and not in the crates that they test, since a crate with tests is proved twice.
 #![tactic(auto)]
 
 #[cfg(test)]
-mod at_once;
-#[cfg(test)]
-mod clients;
-#[cfg(test)]
-mod failing;
+mod driver;
 #[cfg(test)]
 mod gates;
 #[cfg(test)]
 mod lock_desks;
 #[cfg(test)]
-mod one_connection;
+mod schedules;
 #[cfg(test)]
-mod peers;
-#[cfg(test)]
-mod served;
-#[cfg(test)]
-mod sessions;
-#[cfg(test)]
-mod talks;
+mod solo;
 #[cfg(test)]
 mod workers;

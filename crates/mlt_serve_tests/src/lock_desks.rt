@@ -1,41 +1,124 @@
-//! Sessions over a manager.
+//! Sessions over a manager within limits that they meet, and at a desk of answers that refuses what no manager does.
 
 ghost use Rattle.std.specs.Prelude.{◌≡◌, Some, true};
 ghost use Rattle.mlt_work_log.specs.Seats.{id_of};
 ghost use Rattle.mlt_work_desk.specs.Makings.{making_of};
 
 use crate::gates::EventCounter;
-use crate::sessions::{LINES, OF_LINES};
-use crate::talks::{Talk, Wanted, WantedOutcome, talk_at};
 use mlt_manager::Manager;
-use mlt_object_kinds::{AccountOp, CounterOp, ObjOp, ObjReply};
-use mlt_script_serial::End;
-use mlt_test_tools::{FaultyReader, FaultyWriter, same};
+use mlt_object_kinds::{AccountOp, ObjOp, ObjReply};
+use mlt_script_serial::{Desk, DeskAnswer, FakeDesk, Outcome};
+use mlt_serve_session::session;
+use mlt_test_tools::same_at;
 use mlt_trace_audit::audit;
 use mlt_types::{Limits, Mult, Refusal};
 use mlt_work_desk::{BlankRecords, LockDesk, LockedState, MadeWith, Shared, Tries};
 use std::alloc::Global;
-use std::io::ErrorKind;
 use std::marker::Brand;
 use std::sync::Wait;
 use std::test::Fail;
 
 /// A session over a manager, and what is wanted of it.
 struct Session {
+    /// The row that it is.
+    name: &'static str,
     /// The limits of the manager.
     bounds: (u32, u64, u32, u32, u32),
     /// What transaction 1 has done before, where it is to be open beside the session.
     beside: Option<&'static [ObjOp]>,
-    /// The input, in pieces of seven bytes, and how many reads come before one that fails.
+    /// What it reads and writes, and the numbers of lines and of commits that it answers.
     input: &'static [u8],
-    reads: usize,
-    /// What is wanted.
-    wanted: Wanted,
+    text: &'static [u8],
+    answer: (u64, u64),
     /// What counter 7 has at the end.
     counter: u64,
 }
 
-const PROGRAM: (u32, u64, u32, u32, u32) = (64, 1 << 32, 70_000, 16, 1_024);
+const SESSIONS: &[Session] = &[
+    Session {
+        name: "session-lines",
+        bounds: (64, 1 << 32, 70_000, 16, 1_024),
+        beside: None,
+        input: b"begin\nopen 1\nfoo\ndeposit 1 5\ncommit\nbegin\nbalance 1\n",
+        text: b"begun 1\nopened\nerror 10 ScriptFault\ndone\ncommitted 1\nbegun 2\nis 5\n",
+        answer: (7, 1),
+        counter: 0,
+    },
+    Session {
+        name: "session-ids-spent",
+        bounds: (64, 2, 70_000, 16, 1_024),
+        beside: None,
+        input: b"begin\ncommit\nbegin\ncommit\nbegin\n",
+        text: b"begun 1\ncommitted 1\nbegun 2\ncommitted 2\nerror 9 IdsSpent\n",
+        answer: (5, 2),
+        counter: 0,
+    },
+    Session {
+        name: "session-log-full",
+        bounds: (64, 1 << 32, 70_000, 16, 1),
+        beside: None,
+        input: b"begin\nup 7 1\nup 7 1\ncommit\n",
+        text: b"begun 1\ndone\nerror 8 LogFull\ncommitted 1\n",
+        answer: (4, 1),
+        counter: 1,
+    },
+    Session {
+        name: "session-too-many-open",
+        bounds: (1, 1 << 32, 70_000, 16, 1_024),
+        beside: Some(&[]),
+        input: b"begin\nopen 1\n",
+        text: b"error 7 TooManyOpen\nerror 3 NoSuchTx\n",
+        answer: (2, 0),
+        counter: 0,
+    },
+    // What the transaction did is taken back in steps.
+    Session {
+        name: "session-cut-line",
+        bounds: (64, 1 << 32, 70_000, 16, 1_024),
+        beside: None,
+        input: b"begin\nup 7 1\ncomm",
+        text: b"begun 1\ndone\n",
+        answer: (2, 0),
+        counter: 0,
+    },
+    // The balance is given up at its third Blocked, and then the transaction of the session is idle.
+    Session {
+        name: "tries-spent",
+        bounds: (64, 1 << 32, 70_000, 16, 1_024),
+        beside: Some(&[
+            ObjOp::Account(1, AccountOp::Open),
+            ObjOp::Account(1, AccountOp::Deposit(9)),
+            ObjOp::Account(1, AccountOp::Withdraw(3)),
+        ]),
+        input: b"begin\nbalance 1\ncommit\n",
+        text: b"begun 2\nerror 14 GaveUp\ncommitted 1\n",
+        answer: (3, 1),
+        counter: 0,
+    },
+];
+
+/// What came of a session.
+#[derive(Drop)]
+struct Talk {
+    answer: Result<(u64, u64), Refusal>,
+    text: Vec<u8>,
+    outcomes: Vec<Outcome>,
+}
+
+fn talk_at<D: Desk>(alloc: Global, desk: &mut D, input: &[u8]) -> Talk {
+    let mut reader = input;
+    let mut text = Vec::new(alloc);
+    let mut outcomes = Vec::new(alloc);
+    let answer = match session(alloc, &mut reader, &mut text, desk, 3, &mut outcomes) {
+        Ok(summary) => Ok((summary.lines, summary.commits)),
+        Err(refusal) => Err(refusal),
+    };
+    Talk {
+        answer,
+        text,
+        outcomes,
+    }
+}
 
 // A manager at which transaction 1 has done this, and is open.
 fn manager_of(
@@ -74,7 +157,7 @@ fn talk_over<L: MadeWith<Mult>>(
     alloc: Global,
     records: BlankRecords,
     manager: Manager<Mult>,
-    reader: FaultyReader,
+    input: &[u8],
 ) -> (Talk, Manager<Mult>, Events)
     requires name { records.blank.name ≡ L.name }
     requires parts { records.blank.parts ≡ L.parts }
@@ -90,7 +173,7 @@ fn talk_over<L: MadeWith<Mult>>(
     let shared = Shared::new(log, state);
     let gate = EventCounter::new();
     let mut desk = LockDesk::new(rt, &shared, &gate, share, Tries::PerOperation(3));
-    let talk = talk_at(alloc, &mut desk, reader, FaultyWriter::new(alloc));
+    let talk = talk_at(alloc, &mut desk, input);
     let (share, made, _snapshot) = desk.close();
     all.merge(share);
     let told = gate.count();
@@ -103,190 +186,75 @@ fn talk_over_manager(
     alloc: Global,
     records: BlankRecords,
     manager: Manager<Mult>,
-    reader: FaultyReader,
+    input: &[u8],
 ) -> (Talk, Manager<Mult>, Events)
     requires two { records.blank.parts ≡ 2 }
 {
-    talk_over::<Brand>(rt, alloc, records, manager, reader)
+    talk_over::<Brand>(rt, alloc, records, manager, input)
 }
 
 // The session is what is wanted, and where it was alone its outcomes are those of the manager's history.
 fn is(alloc: Global, talk: &Talk, manager: &Manager<Mult>, session: &Session) -> Result<(), Fail> {
-    talk.is(&session.input, &session.wanted)?;
-    same(&manager.base()?.value(7), &session.counter)?;
+    let mut audited = Ok(());
     if session.beside.is_none() {
         manager.keeps_a_placed_history();
         let history = manager.history().ok_or(Refusal::Audit)?;
-        same(&audit(alloc, talk.outcomes(), history), &Ok(()))?;
+        audited = audit(alloc, &talk.outcomes, history);
     }
-    Ok(())
+    let found = (
+        talk.answer,
+        talk.text.as_slice(),
+        manager.base()?.value(7),
+        audited,
+    );
+    let wanted = (Ok(session.answer), session.text, session.counter, Ok(()));
+    same_at(&session.name, &found, &wanted)
 }
 
-fn are_over_managers(rt: &impl Wait, alloc: Global, sessions: &[Session]) -> Result<(), Fail> {
-    for session in sessions {
+// The gate is told of each event, of the steps of an abort too.
+#[test]
+fn sessions_over_managers(rt: HostRuntime) -> Result<(), Fail> {
+    let alloc = rt.alloc();
+    for session in SESSIONS {
         let (open, ids, pages, depth, ops) = session.bounds;
         let limits = Limits::checked(open, ids, pages, depth, ops)?;
         let records = BlankRecords::new(alloc, 2)?;
         let manager = manager_of(alloc, limits, session.beside)?;
-        let reader = FaultyReader::of_pieces(session.input, 7);
-        let reader = reader.failing(session.reads, ErrorKind::Interrupted);
-        let (talk, manager, events) = talk_over_manager(rt, alloc, records, manager, reader);
+        let (talk, manager, events) = talk_over_manager(
+            &rt,
+            alloc,
+            records,
+            manager,
+            session.input,
+        );
         let result = is(alloc, &talk, &manager, session);
         manager.close();
         result?;
-        // The gate is told of each event, of the steps of an abort too.
-        same(&events.told, &events.made)?;
+        same_at(&session.name, &events.told, &events.made)?;
     }
     Ok(())
 }
 
-const UP: (ObjOp, ObjReply) = (ObjOp::Counter(7, CounterOp::Up(1)), ObjReply::Done);
-
-const WHOLE: &[Session] = &[Session {
-    bounds: PROGRAM,
-    beside: None,
-    input: LINES,
-    reads: usize::MAX,
-    wanted: OF_LINES,
-    counter: 0,
-}];
-
-#[test]
-fn session_lines_over_a_manager(rt: HostRuntime) -> Result<(), Fail> {
-    are_over_managers(&rt, rt.alloc(), WHOLE)
-}
-
-const TWO_IDS: &[Session] = &[Session {
-    bounds: (64, 2, 70_000, 16, 1_024),
-    beside: None,
-    input: b"begin\ncommit\nbegin\ncommit\nbegin\n",
-    reads: usize::MAX,
-    wanted: Wanted {
-        answer: Ok((5, 2)),
-        text: b"begun 1\ncommitted 1\nbegun 2\ncommitted 2\nerror 9 IdsSpent\n",
-        outcomes: &[
-            WantedOutcome {
-                tx: 1,
-                done: &[],
-                end: End::Committed(1),
-            },
-            WantedOutcome {
-                tx: 2,
-                done: &[],
-                end: End::Committed(2),
-            },
-        ],
-    },
-    counter: 0,
-}];
-
-#[test]
-fn session_ids_spent(rt: HostRuntime) -> Result<(), Fail> {
-    are_over_managers(&rt, rt.alloc(), TWO_IDS)
-}
-
-const ONE_OPERATION: &[Session] = &[Session {
-    bounds: (64, 1 << 32, 70_000, 16, 1),
-    beside: None,
-    input: b"begin\nup 7 1\nup 7 1\ncommit\n",
-    reads: usize::MAX,
-    wanted: Wanted {
-        answer: Ok((4, 1)),
-        text: b"begun 1\ndone\nerror 8 LogFull\ncommitted 1\n",
-        outcomes: &[WantedOutcome {
-            tx: 1,
-            done: &[UP],
-            end: End::Committed(1),
-        }],
-    },
-    counter: 1,
-}];
-
-#[test]
-fn session_log_full(rt: HostRuntime) -> Result<(), Fail> {
-    are_over_managers(&rt, rt.alloc(), ONE_OPERATION)
-}
-
-const ONE_OPEN: &[Session] = &[Session {
-    bounds: (1, 1 << 32, 70_000, 16, 1_024),
-    beside: Some(&[]),
-    input: b"begin\nopen 1\n",
-    reads: usize::MAX,
-    wanted: Wanted {
-        answer: Ok((2, 0)),
-        text: b"error 7 TooManyOpen\nerror 3 NoSuchTx\n",
-        outcomes: &[],
-    },
-    counter: 0,
-}];
-
-#[test]
-fn session_too_many_open(rt: HostRuntime) -> Result<(), Fail> {
-    are_over_managers(&rt, rt.alloc(), ONE_OPEN)
-}
-
-const CUT: Wanted = Wanted {
-    answer: Ok((2, 0)),
-    text: b"begun 1\ndone\n",
-    outcomes: &[WantedOutcome {
-        tx: 1,
-        done: &[UP],
-        end: End::Aborted,
-    }],
-};
-
-// A line that is cut by the end of the input, and by a read that fails.
-const CUT_LINES: &[Session] = &[
-    Session {
-        bounds: PROGRAM,
-        beside: None,
-        input: b"begin\nup 7 1\ncomm",
-        reads: usize::MAX,
-        wanted: CUT,
-        counter: 0,
-    },
-    Session {
-        bounds: PROGRAM,
-        beside: None,
-        input: b"begin\nup 7 1\ncomm",
-        reads: 3,
-        wanted: Wanted {
-            answer: Err(Refusal::Io),
-            ..CUT
-        },
-        counter: 0,
-    },
+const ANSWERS: &[DeskAnswer] = &[
+    DeskAnswer::Refused(Refusal::TooManyOpen),
+    DeskAnswer::Begun(4),
+    DeskAnswer::Refused(Refusal::NoRoom),
+    DeskAnswer::Refused(Refusal::Running),
+    DeskAnswer::Replied(ObjReply::Done),
+    DeskAnswer::Committed(18446744073709551615),
 ];
 
-#[test]
-fn session_cut_line_over_a_manager(rt: HostRuntime) -> Result<(), Fail> {
-    are_over_managers(&rt, rt.alloc(), CUT_LINES)
-}
+const REFUSED: &[u8] = b"begin\ncommit\nbegin\nup 7 1\ncommit\nup 7 1\ncommit\nquit\nbegin\n";
 
-// Transaction 1 has taken 3 from account 1 and is open. The balance is given up at its third Blocked, and then the
-// transaction of the session is idle.
-const TRIES: &[Session] = &[Session {
-    bounds: PROGRAM,
-    beside: Some(&[
-        ObjOp::Account(1, AccountOp::Open),
-        ObjOp::Account(1, AccountOp::Deposit(9)),
-        ObjOp::Account(1, AccountOp::Withdraw(3)),
-    ]),
-    input: b"begin\nbalance 1\ncommit\n",
-    reads: usize::MAX,
-    wanted: Wanted {
-        answer: Ok((3, 1)),
-        text: b"begun 2\nerror 14 GaveUp\ncommitted 1\n",
-        outcomes: &[WantedOutcome {
-            tx: 2,
-            done: &[],
-            end: End::Committed(1),
-        }],
-    },
-    counter: 0,
-}];
+const REFUSED_TEXT: &[u8] = b"error 7 TooManyOpen\nerror 3 NoSuchTx\nbegun 4\nerror 2 NoRoom\n\
+error 5 Running\ndone\ncommitted 18446744073709551615\nbye\n";
 
+// The transaction stays open where a call is refused, and a refused begin leaves none open.
 #[test]
-fn tries_spent(rt: HostRuntime) -> Result<(), Fail> {
-    are_over_managers(&rt, rt.alloc(), TRIES)
+fn session_with_refused_calls(rt: HostRuntime) -> Result<(), Fail> {
+    let mut answers = Vec::new(rt.alloc());
+    answers.extend_from_slice(ANSWERS)?;
+    let talk = talk_at(rt.alloc(), &mut FakeDesk::new(answers), REFUSED);
+    let found = (talk.answer, talk.text.as_slice(), talk.outcomes.len());
+    same_at(&"refused", &found, &(Ok((8, 1)), REFUSED_TEXT, 1))
 }

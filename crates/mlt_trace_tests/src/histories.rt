@@ -1,7 +1,8 @@
-//! A history that grows in room that it reserved, and the laws at a concrete type.
+//! A history that grows in room that it reserved, and laws at concrete states, items and types: what they ask of these can be had.
 
-ghost use Rattle.std.specs.Prelude.{ℕ};
+ghost use Rattle.std.specs.Prelude.{ℕ, ◌≡◌};
 
+use mlt_order::{Steps, every_history_is_serializable};
 use mlt_trace::{
     History, Rooms, TraceItem, begun_numbers_are_those_up_to_the_count, commits_stay_counted,
     items_begin_in_order, items_count_the_committed, items_grow_by_entries, rooms_add_up,
@@ -54,6 +55,24 @@ impl Rooms for Counts {
     ghost room_of = { λ count. count };
 }
 
+// Items that only read a number: each tells the number that is there.
+struct Readings;
+
+impl Steps for Readings {
+    ghost use Rattle.std.specs.Prelude.{◌≡◌};
+    ghost use Rattle.std.proofs.Common.{◌∙◌, sym};
+
+    type State = u64;
+
+    type Item = u64;
+
+    ghost step = { λ before item after. (item ≡ before) × (before ≡ after) };
+
+    ghost one_end = { λ before one other item h k. sym h.1 ∙ k.1 };
+
+    ghost one_start = { λ one other after item h k. h.1 ∙ sym k.1 };
+}
+
 #[test]
 fn laws_hold() {
     items_grow_by_entries();
@@ -62,4 +81,5 @@ fn laws_hold() {
     items_count_the_committed();
     begun_numbers_are_those_up_to_the_count();
     rooms_add_up::<Counts>();
+    every_history_is_serializable::<Readings>();
 }

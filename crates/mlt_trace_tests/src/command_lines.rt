@@ -1,9 +1,7 @@
-//! The command line, what is said of it, and the line that tells of a fault. What the program makes of other command
-//! lines is tested of the built program.
+//! Whole jobs that command lines ask for. What the program makes of other command lines is tested of the built program.
 
-use mlt_cli::{command_line_status, read_words, report_command_line, report_fault, status};
-use mlt_test_tools::{FaultyWriter, KINDS, same, same_at};
-use mlt_types::{Refusal, ScriptCause};
+use mlt_cli::read_words;
+use mlt_test_tools::same_at;
 use std::alloc::Global;
 use std::test::Fail;
 
@@ -107,40 +105,4 @@ fn jobs_of_words(rt: HostRuntime) -> Result<(), Fail> {
         same_at(words, &(found.as_str(), line.verbose), &(*job, *verbose))?;
     }
     Ok(())
-}
-
-const VERSION: &[&str] = &["--version"];
-
-#[test]
-fn version_is_said(rt: HostRuntime) -> Result<(), Fail> {
-    let words = words_of(rt.alloc(), VERSION)?;
-    let Err(error) = read_words(rt.alloc(), &words) else {
-        return Err(Fail::new("a job"));
-    };
-    let mut output = FaultyWriter::new(rt.alloc());
-    let mut errors = FaultyWriter::new(rt.alloc());
-    let said = report_command_line(&error, &mut output, &mut errors);
-    same(&(said, command_line_status(&error)), &(Ok(0), 0))?;
-    let written = (output.written(), errors.written());
-    same(&written, &(b"mltx 0.1.0\n".as_slice(), b"".as_slice()))
-}
-
-const FAULT: Refusal = Refusal::ScriptFault {
-    line: 2,
-    cause: ScriptCause::Words,
-};
-
-// A flush that fails is told, whatever the kind of its error.
-#[test]
-fn faults_are_told(rt: HostRuntime) -> Result<(), Fail> {
-    let line = b"mltx: 10 ScriptFault line 2 Words\n".as_slice();
-    let mut errors = FaultyWriter::new(rt.alloc());
-    let told = report_fault(&FAULT, &mut errors);
-    same(&(told, errors.written()), &(Ok(()), line))?;
-    for kind in KINDS {
-        let mut errors = FaultyWriter::new(rt.alloc()).unflushed(kind);
-        let told = report_fault(&FAULT, &mut errors);
-        same(&(told, errors.written()), &(Err(Refusal::Io), line))?;
-    }
-    same(&status(&Err(FAULT)), &1)
 }
