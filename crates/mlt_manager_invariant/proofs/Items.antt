@@ -5,7 +5,7 @@ use Rattle.mlt_manager_invariant.proofs.TraceNames.{Base, ObjOp, ObjReply, Trace
 use Rattle.mlt_order.specs.Histories.{Lists, but_last}
 use Rattle.mlt_order.proofs.Growing.{but_last-push}
 use Rattle.mlt_order.proofs.Tables.{changed}
-use Rattle.mlt_trace_check.proofs.GoingOn.{placed_more}
+use Rattle.mlt_trace_check.proofs.Progressing.{placed_more}
 use Rattle.mlt_trace_check.proofs.Growing.{told-push}
 use Rattle.mlt_trace_check.proofs.Places.{whole_begin}
 use Rattle.mlt_tx.specs.Steps.{EndsBack}

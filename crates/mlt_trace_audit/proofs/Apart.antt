@@ -1,7 +1,7 @@
 -- Items that make no difference to what a list has of a transaction.
-use Rattle.std.proofs.Common.{◌≡◌, ◌≢◌, ℕ, List, [], ◌∷◌, ◌++◌, true, refl, sym, ap, ◌∙◌, subst}
-use Rattle.mlt_trace_audit.proofs.Names.{ObjOp, ObjReply, TraceItem, Begin, Op, Back, Commit, Abort, End, is_told, tx_of, HasNothing, IsClosedBefore, IsClosedSo, closing_by, closings_of, ops_of, ByAbort, ByCommit}
-use Rattle.mlt_trace_audit.proofs.Placed.{closings_abort, closings_commit, closings_of-append, closings_other, ops_of-append, ops_other, ops_own}
+use Rattle.std.proofs.Common.{◌≡◌, ◌≢◌, ℕ, List, [], ◌∷◌, ◌++◌, true, refl, sym, ap, ◌∙◌}
+use Rattle.mlt_trace_audit.proofs.Names.{ObjOp, ObjReply, TraceItem, Begin, Op, Back, Commit, Abort, End, is_told, tx_of, HasNothing, IsClosedBefore, IsClosedSo, closing_by, closings_of, ops_of}
+use Rattle.mlt_trace_audit.proofs.Placed.{closings_of-append, closings_other, ops_of-append, ops_other}
 
 abbrev pub Dones : Type 0
 Dones = List (ObjOp × ObjReply)

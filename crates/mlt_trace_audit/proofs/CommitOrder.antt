@@ -1,6 +1,6 @@
 -- Commits of outcomes that stand in order.
 use Rattle.std.proofs.Common.{◌≡◌, ℕ, ◌+◌, ◌-◌, ◌<◌, ◌≤◌, List, length, get_or, Some, slice_get, sym, ap, subst, ◌∙◌, inl, inr, arith}
-use Rattle.mlt_trace_audit.proofs.Names.{cases_lt, get_or_from_slice_get, slice_get-get_or, slice_get_within, Committed, Outcome, RisesTo}
+use Rattle.mlt_trace_audit.proofs.Names.{cases_lt, slice_get-get_or, Committed, Outcome, RisesTo}
 use Rattle.std.proofs.lemmas.Bool.{cases_order}
 use Rattle.mlt_trace_audit.specs.Agreement.{CommitsRise}
 use Rattle.mlt_trace_audit.specs.Orders.{AreInOrder, IsCommitted, Precedes}

@@ -1,6 +1,6 @@
 -- The committed list of a history, and the committed outcomes.
 use Rattle.std.proofs.Common.{◌≡◌, ◌≢◌, ◌⊎◌, ℕ, zero, suc, ◌+◌, ◌<◌, ◌≤◌, List, [], ◌∷◌, ◌++◌, length, cond, nat_eq, Contains, slice_index_or, refl, sym, ap, subst, ◌∙◌, inl, inr, append_assoc, arith, ◌==◌, eq-eqb, ne_eqb, length-append}
-use Rattle.mlt_trace_audit.proofs.Names.{cases_eq, All-contains, Contains-append_left, sum_by-cons, ObjOp, ObjReply, Lists, Stage, Running, Ended, contains-first, contains-later, contains-nothing, changed, TraceItem, Begin, Op, Back, Commit, Abort, AreBegunInOrder, begun_txs, ArePlaced, HasPlace, IsRunning, told, begun_stays, earlier_or_last, number_in, stage-other, told-push, runs_begun, End, Committed, Outcome, count_of, Closing, IsClosedSo, IsOfHistory, IsWithoutTx, closing_by, closings_of, ops_of, ByAbort, ByCommit}
+use Rattle.mlt_trace_audit.proofs.Names.{cases_eq, All-contains, Contains-append_left, sum_by-cons, ObjOp, ObjReply, Lists, Stage, Running, Ended, contains-first, contains-later, contains-nothing, changed, TraceItem, Begin, Op, Back, Commit, Abort, AreBegunInOrder, begun_txs, ArePlaced, HasPlace, IsRunning, told, begun_stays, earlier_or_last, number_in, stage-other, told-push, runs_begun, End, Committed, Outcome, count_of, Closing, IsClosedSo, IsOfHistory, closing_by, closings_of, ops_of, ByAbort, ByCommit}
 use Rattle.std.proofs.lemmas.List.{map-append}
 use Rattle.mlt_object_kinds.specs.Bases.{Base, Step, empty_base}
 use Rattle.mlt_order.specs.Histories.Stage.{Fresh}
@@ -16,6 +16,7 @@ use Rattle.mlt_script_serial.specs.declared.outcome.End.TheVariants.{Aborted, Re
 use Rattle.mlt_trace_audit.specs.Agreement.{Agrees}
 use Rattle.mlt_trace_audit.specs.Committed.{AreCommittedOf, CommitFrom, IsBaseOfOutcomes, transcripts_of}
 use Rattle.mlt_trace_audit.proofs.Placed.{behind_commit, begun_in, closings_abort, closings_commit, closings_of-append, closings_other, ops_of-append, ops_other, ops_own, stage_at}
+use Rattle.mlt_trace_audit.specs.Outcomes.{IsWithoutTx}
 
 -- ---- one more item
 

@@ -1,7 +1,8 @@
 -- Numbers of outcomes, where transactions begin in order.
-use Rattle.std.proofs.Common.{◌≡◌, ◌⊎◌, ℕ, zero, suc, ◌+◌, ◌<◌, ◌≤◌, List, [], ◌∷◌, length, All, Contains, slice_index_or, subst, ◌∙◌, inl, inr, arith}
-use Rattle.mlt_trace_audit.proofs.Names.{cases_eq, contains-first, contains-later, contains-nothing, TraceItem, AreBegunInOrder, CountsFrom, begin_count, begun_txs, Outcome, IsOfBegunTx, NumbersAgree, count_of}
+use Rattle.std.proofs.Common.{◌≡◌, ◌⊎◌, ℕ, zero, suc, ◌+◌, ◌-◌, ◌<◌, ◌≤◌, List, [], ◌∷◌, length, All, Contains, slice_index_or, subst, ◌∙◌, inl, inr, arith}
+use Rattle.mlt_trace_audit.proofs.Names.{cases_eq, contains-first, contains-later, contains-nothing, TraceItem, AreBegunInOrder, CountsFrom, begin_count, begun_txs, Outcome, NumbersAgree, count_of}
 use Rattle.std.proofs.lemmas.List.Elements.{All-weaker}
+use Rattle.mlt_trace_audit.specs.Agreement.{IsOfBegunTx}
 
 -- ---- numbers that count
 
@@ -40,11 +41,12 @@ module _ (items : List TraceItem) (order : AreBegunInOrder items) where
     pub numbers_at_most : NumbersAgree outcomes items → All (λ o. o.tx ≤ last) outcomes
     numbers_at_most numbers = All-weaker (IsOfBegunTx items) (λ o. o.tx ≤ last) most_of outcomes numbers.begun
 
-    pub numbers_once : NumbersAgree outcomes items → (tx : ℕ) → 0 < tx → tx ≤ last → count_of tx outcomes ≡ 1
-    numbers_once numbers tx low high = (numbers.once tx (is_begun tx low (omega (arith, high, counted)))).1
+    pub numbers_once : NumbersAgree outcomes items → (k : ℕ) → k < last → count_of (k + 1) outcomes ≡ 1
+    numbers_once numbers k few = (numbers.once (k + 1) (is_begun (k + 1) (omega arith) (omega (arith, few, counted)))).1
 
-    pub numbers_agree : All (λ o. o.tx ≤ last) outcomes → ((tx : ℕ) → 0 < tx → tx ≤ last → count_of tx outcomes ≡ 1) → NumbersAgree outcomes items
+    pub numbers_agree : All (λ o. o.tx ≤ last) outcomes → ((k : ℕ) → k < last → count_of (k + 1) outcomes ≡ 1) → NumbersAgree outcomes items
     numbers_agree most once = record {
-      once = λ tx h. let b = is_between tx h in (λ none. absurd (let low = b.0 in omega (arith, low, none)), once tx b.0 (omega (arith, b.1, counted)));
+      once = λ tx h. let b = is_between tx h in let next : tx - 1 + 1 ≡ tx = omega (arith, b.0) in
+          (λ none. absurd (let low = b.0 in omega (arith, low, none)), subst (λ n. count_of n outcomes ≡ 1) next (once (tx - 1) (omega (arith, b.0, b.1, counted))));
       begun = All-weaker (λ o. o.tx ≤ last) (IsOfBegunTx items) (λ o low some. is_begun o.tx (omega (arith, some)) (omega (arith, low, counted))) outcomes most;
     }

@@ -13,9 +13,9 @@ pub use Rattle.mlt_trace.proofs.ItemLaws.{begins_counted, begun_txs-append, no_b
 pub use Rattle.mlt_trace.specs.Numbers.{AreBegunInOrder, CountsFrom, begin_count, begun_txs}
 pub use Rattle.mlt_trace.specs.declared.item.TraceItem.{TraceItem}
 pub use Rattle.mlt_trace.specs.declared.item.TraceItem.TheVariants.{Abort, Back, Begin, Commit, Op}
-pub use Rattle.mlt_trace_audit.specs.Agreement.{IsOfBegunTx, IsOnce, NumbersAgree, count_of}
+pub use Rattle.mlt_trace_audit.specs.Agreement.{IsOnce, NumbersAgree, count_of}
 pub use Rattle.mlt_trace_audit.specs.Ordered.{AreOrdered, StandsBehind, is_told, told_count, tx_of}
-pub use Rattle.mlt_trace_audit.specs.Outcomes.{Closing, HasNothing, IsClosedBefore, IsClosedSo, IsOfHistory, IsWithoutTx, RisesTo, closing_by, closings_of, ops_of}
+pub use Rattle.mlt_trace_audit.specs.Outcomes.{Closing, HasNothing, IsClosedBefore, IsClosedSo, IsOfHistory, RisesTo, closing_by, closings_of, ops_of}
 pub use Rattle.mlt_trace_audit.specs.Outcomes.Closing.{ByAbort, ByCommit}
 pub use Rattle.mlt_trace_check.proofs.Growing.{begun_stays, earlier_or_last, number_in, stage-other, told-push}
 pub use Rattle.mlt_trace_check.proofs.Lasting.{runs_begun}
@@ -24,4 +24,4 @@ pub use Rattle.std.proofs.lemmas.Bool.{cases_eq, cases_lt}
 pub use Rattle.std.proofs.lemmas.List.{take_more}
 pub use Rattle.std.proofs.lemmas.List.Elements.{All-contains, Contains-append_left}
 pub use Rattle.std.proofs.lemmas.List.Sums.{sum_by-cons, sum_by-take-le}
-pub use Rattle.std.proofs.lemmas.Option.{get_or_from_slice_get, slice_get-get_or, slice_get_within}
+pub use Rattle.std.proofs.lemmas.Option.{slice_get-get_or, slice_get_within}

@@ -1,8 +1,12 @@
 -- Histories in order: the numbers begun count, and no item stands before its begin.
 use Rattle.std.proofs.Common.{◌≡◌, ◌⊎◌, ℕ, zero, suc, ◌+◌, ◌<◌, ◌≤◌, List, [], ◌∷◌, ◌++◌, true, length, get_or, take, Some, slice_get, refl, sym, ap, subst, ◌∙◌, inl, inr, arith, length-append, take_all}
-use Rattle.mlt_trace_audit.proofs.Names.{cases_lt, take_more, get_or_from_slice_get, slice_get-get_or, slice_get_within, TraceItem, Begin, Op, Back, Commit, Abort, AreBegunInOrder, CountsFrom, begin_count, begun_txs, begins_counted, begun_txs-append, no_begin, AreOrdered, StandsBehind, is_told, tx_of, HasNothing}
+use Rattle.mlt_trace_audit.proofs.Names.{cases_lt, take_more, slice_get-get_or, slice_get_within, TraceItem, Begin, Op, Back, Commit, Abort, AreBegunInOrder, CountsFrom, begin_count, begun_txs, begun_txs-append, no_begin, AreOrdered, StandsBehind, is_told, tx_of, HasNothing}
 use Rattle.mlt_trace.proofs.ItemLaws.{begin_keeps_order}
 use Rattle.mlt_trace_audit.proofs.Apart.{IsApart, nothing_none, nothing_push}
+use Rattle.std.proofs.Math.ListN.{get_or-append}
+use Rattle.std.proofs.lemmas.List.{get_or_push}
+use Rattle.std.proofs.lemmas.Option.{get_or_from_slice_get}
+use Rattle.mlt_trace_audit.specs.Ordered.{AreBeginsAt}
 
 -- the items before a place are in order
 abbrev pub AreOrderedTo : List TraceItem → ℕ → Type 0
@@ -97,13 +101,18 @@ module _ (items : List TraceItem) (ordered : AreOrdered items) where
     next_begun : begun ≡ begin_count (take place items) + 1
     next_begun = ordered place (Begin begun) found
 
-    -- before a begin its number is not begun, and behind it no greater one
+    -- before a begin its number is not begun
     pub unbegun_at : (tx : ℕ) → begun ≡ tx → begin_count (take place items) < tx
     unbegun_at tx same = let n = next_begun in omega (arith, n, same)
 
-    pub unbegun_behind : (tx : ℕ) → begun < tx → begin_count (take (place + 1) items) < tx
-    unbegun_behind tx below =
-        let next : suc place ≡ place + 1 = omega arith in
-        let n = ap (λ k. begin_count (take k items)) (sym next) ∙ ap begin_count (front_more items place (Begin begun) found) ∙ begins_counted (take place items) begun in
-        let b = next_begun in
-        omega (arith, n, b, below)
+-- ---- the places of begins
+
+-- a begin behind those that stand at these places
+pub begins_more : (places more : List ℕ) (items : List TraceItem) (i own : ℕ) → more ≡ places ++ i ∷ [] → slice_get items i ≡ Some (Begin own) → own ≡ length places + 1 → AreBeginsAt places items → AreBeginsAt more items
+begins_more places more items i own is here next before k few = elim (cases_lt k (length places)) [
+  | inl earlier ↦ ap (λ ps. slice_get items (get_or ps k 0)) is ∙ ap (slice_get items) (get_or-append places (i ∷ []) 0 k earlier) ∙ before k earlier
+  | inr past ↦
+      let size : length more ≡ length places + 1 = ap length is ∙ length-append places (i ∷ []) in
+      let last : length places ≡ k = omega (arith, past, few, size) in
+      ap (λ ps. slice_get items (get_or ps k 0)) is ∙ ap (slice_get items) (get_or_push places i 0 k last) ∙ here ∙ ap (λ n. Some (Begin n)) (next ∙ ap (λ n. n + 1) last)
+]

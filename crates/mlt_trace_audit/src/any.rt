@@ -33,25 +33,14 @@ fn may_have_tx(outcome: &Outcome, history: &[KeptItem]) -> bool
 fn are_begun(outcomes: &[Outcome], history: &[KeptItem]) -> bool
     ensures { IsTrue result ↔ All (IsOfBegunTx history.now) outcomes.now }
 {
-    for outcome in outcomes {
-        if !may_have_tx(outcome, history) {
-            return false;
-        }
-    }
-    true
+    outcomes.iter().all(|outcome| may_have_tx(outcome, history))
 }
 
 /// How many of the outcomes have this number.
 fn count_of(tx: u64, outcomes: &[Outcome]) -> usize
     ensures { result ≡ count_of tx outcomes.now }
 {
-    let mut count = 0;
-    for outcome in outcomes {
-        if outcome.tx == tx {
-            count += 1;
-        }
-    }
-    count
+    outcomes.iter().filter(|outcome| outcome.tx == tx).count()
 }
 
 fn is_once(tx: u64, outcomes: &[Outcome]) -> bool
@@ -107,15 +96,13 @@ fn is_of_history(outcome: &Outcome, history: &[KeptItem]) -> bool
 fn are_each_of_history(outcomes: &[Outcome], history: &[KeptItem]) -> bool
     ensures { IsTrue result ↔ All (IsOfHistory history.now) outcomes.now }
 {
-    for outcome in outcomes {
-        if !is_of_history(outcome, history) {
-            return false;
-        }
-    }
-    true
+    outcomes
+        .iter()
+        .all(|outcome| is_of_history(outcome, history))
 }
 
-fn numbers_agree(outcomes: &[Outcome], history: &[KeptItem]) -> bool
+/// Whether the numbers of the outcomes, but for 0, are those begun, each once.
+pub(crate) fn numbers_agree(outcomes: &[Outcome], history: &[KeptItem]) -> bool
     ensures { IsTrue result ↔ NumbersAgree outcomes.now history.now }
 {
     are_begun(outcomes, history) && are_once(outcomes, history)

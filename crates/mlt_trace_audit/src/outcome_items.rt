@@ -149,10 +149,5 @@ fn may_be_without_tx(outcome: &Outcome) -> bool
 pub(crate) fn are_refused_without_tx(outcomes: &[Outcome]) -> bool
     ensures { IsTrue result ↔ All IsWithoutTx outcomes.now }
 {
-    for outcome in outcomes {
-        if !may_be_without_tx(outcome) {
-            return false;
-        }
-    }
-    true
+    outcomes.iter().all(|outcome| may_be_without_tx(outcome))
 }

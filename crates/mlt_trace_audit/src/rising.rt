@@ -21,24 +21,14 @@ fn rises_to(one: &Outcome, other: &Outcome) -> bool
 fn rises_to_all(one: &Outcome, outcomes: &[Outcome]) -> bool
     ensures { IsTrue result ↔ All (λ other. RisesTo one.now other) outcomes.now }
 {
-    for other in outcomes {
-        if !rises_to(one, other) {
-            return false;
-        }
-    }
-    true
+    outcomes.iter().all(|other| rises_to(one, other))
 }
 
 /// Compares each outcome with each.
 fn pairs_rise(outcomes: &[Outcome]) -> bool
     ensures { IsTrue result ↔ CommitsRise outcomes.now }
 {
-    for one in outcomes {
-        if !rises_to_all(one, outcomes) {
-            return false;
-        }
-    }
-    true
+    outcomes.iter().all(|one| rises_to_all(one, outcomes))
 }
 
 fn is_committed(outcome: &Outcome) -> bool

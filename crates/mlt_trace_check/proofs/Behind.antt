@@ -1,6 +1,6 @@
 -- Lines that end, whatever stands behind them.
 use Rattle.std.proofs.Common.{◌≡◌, ◌≤◌, ◌+◌, ℕ, Bool, true, false, cond, List, [], ◌∷◌, ◌++◌, length, refl, sym, ap, subst, ◌∙◌, append_assoc, arith}
-use Rattle.mlt_trace_check.proofs.LongNames.{Raw, is_lf}
+use Rattle.mlt_trace_check.proofs.Names.{Raw, is_lf}
 use Rattle.mlt_text_words.specs.Lines.{lines, onto}
 use Rattle.mlt_text_words.proofs.Cutting.{at_lf, at_other}
 

@@ -1,12 +1,17 @@
 -- That an answer which is right is the only one.
-use Rattle.std.proofs.Common.{◌≡◌, ◌⊎◌, ℕ, List, ◌++◌, Ok, Err, Result, Option, Some, None, refl, sym, ap, ◌∙◌, inl, inr, IsErrAnd, MatchResult}
+use Rattle.std.proofs.Common.{◌≡◌, ◌⊎◌, ℕ, List, ◌++◌, Ok, Err, Result, Option, Some, None, sym, ap, subst, ◌∙◌, inl, inr, IfErr, IfOk, IsErrAnd, MatchResult}
 use Rattle.std.specs.Io.KnownBytes.{Consumes, IsAtEnd}
-use Rattle.mlt_trace_check.proofs.Names.{Refusal, OutOfMemory, TraceFault, TraceCause, IsWant, Base, lines, committed_txs, Answers, IsAcceptedTrace, IsFirstFault}
+use Rattle.mlt_trace_check.proofs.Names.{Refusal, TraceFault, TraceCause, IsWant, Base, lines, committed_txs, Answers, IsAcceptedTrace, IsFirstFault}
 use Rattle.mlt_trace_check.specs.declared.trace_check.Order.{Order}
+use Rattle.mlt_text.specs.Failures.{IsTraceFault}
+use Rattle.mlt_text.specs.Inputs.{GivesWhole}
+use Rattle.mlt_trace_check.specs.Answering.{IsOrderOf}
+use Rattle.mlt_trace_check.specs.Refusing.{IsRefusalBy}
 use Rattle.mlt_trace_check.proofs.Deciding.{accepted_no_fault}
 use Rattle.mlt_trace_check.proofs.Faults.{one_first_fault}
 use Rattle.mlt_trace_check.proofs.Fronts.{one_trace}
 use Rattle.mlt_trace_check.proofs.Growing.{append_nil}
+use Rattle.mlt_trace_check.proofs.Refusals.{want_or_fault}
 
 pub accepted_once : (text txs others : List ℕ) (base other : Base) → IsAcceptedTrace text txs base → IsAcceptedTrace text others other → (txs ≡ others) × (base ≡ other)
 accepted_once text txs others base other one two =
@@ -24,22 +29,35 @@ all_given (Some xs) (Some ys) input read had took done =
     let same : xs ≡ input = cc had in
     sym (took ∙ ap (λ rest. read ++ rest) done ∙ append_nil read) ∙ same
 
-abbrev IsOrderOf : Result Order Refusal → List ℕ → Base → Type 0
-IsOrderOf result txs base = MatchResult result (λ order. (order.txs.items ≡ txs) × (order.base ≡ base)) IsWant
+-- ---- what is answered of a text is the only answer
 
-pub only_accepted : (r : Result Order Refusal) (text txs : List ℕ) (base : Base) → Answers r text → IsAcceptedTrace text txs base → IsOrderOf r txs base
-only_accepted (Ok order) text txs base h one = accepted_once text order.txs.items txs order.base base h one
-only_accepted (Err OutOfMemory) text txs base h one = inl refl
-only_accepted (Err (TraceFault line fault)) text txs base h one = absurd (accepted_or_faulty text txs base line fault one h)
-only_accepted (Err refusal) text txs base h one = absurd h
+pub only_accepted : {V : Type 0} (IsOf : V → List ℕ → Base → Type 0) (r : Result V Refusal) (text txs : List ℕ) (base : Base) → Answers IsOf r text → IsAcceptedTrace text txs base
+    → MatchResult r (λ value. IsOf value txs base) IsWant
+only_accepted IsOf (Ok value) text txs base (others, other, is, of) one =
+    let same = accepted_once text others txs other base is one in
+    subst (IsOf value txs) same.1 (subst (λ ts. IsOf value ts other) same.0 of)
+only_accepted IsOf (Err refusal) text txs base h one = elim (want_or_fault (IsFirstFault text) refusal h) [
+  | inl want ↦ want
+  | inr f ↦ absurd (accepted_or_faulty text txs base f.0 f.1 one (subst (IsRefusalBy (IsFirstFault text)) f.2 h))
+]
 
-abbrev IsFaultOf : Result Order Refusal → ℕ → TraceCause → Type 0
-IsFaultOf result line fault = IsErrAnd result (λ refusal. (refusal ≡ TraceFault line fault) ⊎ IsWant refusal)
+pub only_faulty : {V : Type 0} (IsOf : V → List ℕ → Base → Type 0) (r : Result V Refusal) (text : List ℕ) (line : ℕ) (fault : TraceCause) → Answers IsOf r text → IsFirstFault text line fault
+    → IsErrAnd r (λ refusal. (refusal ≡ TraceFault line fault) ⊎ IsWant refusal)
+only_faulty IsOf (Ok value) text line fault (others, other, is, of) one = absurd (accepted_or_faulty text others other line fault is one)
+only_faulty IsOf (Err refusal) text line fault h one = elim (want_or_fault (IsFirstFault text) refusal h) [
+  | inl want ↦ inr want
+  | inr f ↦
+      let same = one_first_fault (lines text) f.0 line f.1 fault (subst (IsRefusalBy (IsFirstFault text)) f.2 h) one in
+      inl (f.2 ∙ (λ i. TraceFault (same.0 i) (same.1 i)))
+]
 
-pub only_faulty : (r : Result Order Refusal) (text : List ℕ) (line : ℕ) (fault : TraceCause) → Answers r text → IsFirstFault text line fault → IsFaultOf r line fault
-only_faulty (Ok order) text line fault h one = absurd (accepted_or_faulty text order.txs.items order.base line fault h one)
-only_faulty (Err OutOfMemory) text line fault h one = inr (inl refl)
-only_faulty (Err (TraceFault n found)) text line fault h one =
-    let same = one_first_fault (lines text) n line found fault h one in
-    inl (λ i. TraceFault (same.0 i) (same.1 i))
-only_faulty (Err refusal) text line fault h one = absurd h
+pub refused_for : {V : Type 0} (IsOf : V → List ℕ → Base → Type 0) (r : Result V Refusal) (text : List ℕ) → Answers IsOf r text → IfErr r (λ refusal. IsWant refusal ⊎ IsTraceFault refusal)
+refused_for IsOf (Ok value) text h = tt
+refused_for IsOf (Err refusal) text h = want_or_fault (IsFirstFault text) refusal h
+
+-- the order that is answered is that of the input
+pub accepted_of : (r : Result Order Refusal) (before after : Option (List ℕ)) (input : List ℕ) → GivesWhole before after input → Answers IsOrderOf r input
+    → IfOk r (λ order. (input : List ℕ) × GivesWhole before after input × IsAcceptedTrace input order.txs.items order.base)
+accepted_of (Ok order) before after input whole (txs, base, is, same) =
+    (input, whole, subst (IsAcceptedTrace input order.txs.items) (sym same.1) (subst (λ ts. IsAcceptedTrace input ts base) (sym same.0) is))
+accepted_of (Err refusal) before after input whole h = tt

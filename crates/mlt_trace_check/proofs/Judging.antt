@@ -4,7 +4,7 @@ use Rattle.mlt_trace_check.proofs.Names.{cases_eq, TraceCause, ObjOp, ObjReply, 
 use Rattle.mlt_order.proofs.RunLemmas.{contains-later, contains-nothing}
 use Rattle.mlt_trace.proofs.BegunLaws.{first_or_later}
 use Rattle.mlt_trace_check.specs.Readings.{reading}
-use Rattle.mlt_trace_check.proofs.GoingOn.{bad_line, placed_more, said_more}
+use Rattle.mlt_trace_check.proofs.Progressing.{bad_line, fault_line, placed_more, said_more}
 use Rattle.mlt_trace_check.proofs.Growing.{append_nil, no_cut, told-push}
 use Rattle.mlt_trace_check.proofs.Lasting.{one_more}
 use Rattle.mlt_trace_check.proofs.Standing.{Stands, nothing_stands, stands_more}
@@ -138,12 +138,6 @@ module _ (items : List TraceItem) (base : Base) (h : LeadTo items base) where
 
 -- ---- lines
 
-line_of_item : (items : List TraceItem) (base : Base) (raw : Raw) (item : TraceItem) (line : ℕ) (fault : TraceCause) → reading raw ≡ Says item
-    → IsItemFault items base item line fault → IsLineFault items base raw line fault
-line_of_item items base raw item line TraceCause.Place is h = (item, is, h)
-line_of_item items base raw item line TraceCause.Reply is h = (item, is, h)
-line_of_item items base raw item line other is h = absurd h
-
 -- the line says an item that goes on from there, or has a fault
 abbrev LineGoesOnOrNot : List TraceItem → Base → Raw → Type 0
 LineGoesOnOrNot items base raw =
@@ -154,7 +148,7 @@ line_goes_on_or_not : (items : List TraceItem) (base : Base) (raw : Raw) (found 
 line_goes_on_or_not items base raw (Bad fault) h is = inr (length items + 1, fault, bad_line raw fault items base (length items + 1) is refl)
 line_goes_on_or_not items base raw (Says item) h is = elim (goes_on_or_not items base h item) [
   | inl next ↦ inl (item, next.0, is, next.1)
-  | inr f ↦ inr (f.0, f.1, line_of_item items base raw item f.0 f.1 is f.2)
+  | inr f ↦ inr (f.0, f.1, fault_line f.1 items base raw item f.0 is f.2)
 ]
 
 abbrev TraceOrNot : List Raw → Type 0

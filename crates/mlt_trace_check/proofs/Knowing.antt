@@ -240,6 +240,10 @@ is_undoing old items tx one was undoing h whole = let own : KnowsRunning one tx 
 pub ops_of : (old : Checker) (items : List TraceItem) (tx : ℕ) (one : OpenTx) → at_tx old tx ≡ Some one → Knows old items → dones one.ops.items ≡ (told items).transcripts tx
 ops_of old items tx one was h = let own : KnowsRunning one tx items = subst (λ o. KnowsTx o tx items) was (h.open_txs tx) in own.ops
 
+pub no_ops : (ops : List DoneAt) → dones ops ≡ [] → length ops ≡ 0
+no_ops [] e = refl
+no_ops (op ∷ ops) e = absurd (cc e)
+
 -- the operation that is false where it is done anew
 pub false_reply : (old : Checker) (items : List TraceItem) (tx line : ℕ) (one : OpenTx) (front rest : List DoneAt) (done : ObjOp × ObjReply) (middle : Base)
     → at_tx old tx ≡ Some one → one.undoing ≡ false → one.ops.items ≡ front ++ (line, done) ∷ rest → Runs Step old.base (dones front) middle → IsFalseAt middle done

@@ -1,7 +1,8 @@
 mod Names
 pub mod Growing
 pub mod Knowing
-pub mod GoingOn
+pub mod Refusals
+pub mod Progressing
 pub mod Fronts
 pub mod Deciding
 pub mod Lasting
@@ -16,10 +17,8 @@ pub mod Said
 pub mod Lines
 pub mod Places
 pub mod Histories
-mod LongNames
 pub mod Behind
 pub mod Settling
 pub mod LongStepping
-pub mod Filling
 pub mod Pieces
 pub mod Saying

@@ -30,26 +30,6 @@ use Rattle.mlt_trace_check.specs.Writable.{AreWritable, IsWritable}
 
 -- ---- pieces of a line
 
-begin_alone : PieceIs (codes "begin") (codes "begin" ∷ []) 8
-unfolding words_from
-begin_alone = (refl, refl, omega arith)
-
-op_alone : PieceIs (codes "op") (codes "op" ∷ []) 8
-unfolding words_from
-op_alone = (refl, refl, omega arith)
-
-back_alone : PieceIs (codes "back") (codes "back" ∷ []) 8
-unfolding words_from
-back_alone = (refl, refl, omega arith)
-
-commit_alone : PieceIs (codes "commit") (codes "commit" ∷ []) 8
-unfolding words_from
-commit_alone = (refl, refl, omega arith)
-
-abort_alone : PieceIs (codes "abort") (codes "abort" ∷ []) 8
-unfolding words_from
-abort_alone = (refl, refl, omega arith)
-
 numbered : (t : List ℕ) (ws : List (List ℕ)) (n number : ℕ) → PieceIs t ws n → number < 2 ^ 64 → PieceIs (with_number t number) (ws ++ decimal number ∷ []) (n + 21)
 numbered t ws n number h k =
     let is = number_is number k in
@@ -58,57 +38,36 @@ numbered t ws n number h k =
 
 -- ---- an operation and its reply
 
+abbrev word_of_reply : ObjReply → Keyword
+word_of_reply (ObjReply.Is v) = Keyword.Is
+word_of_reply ObjReply.Opened = Keyword.Opened
+word_of_reply ObjReply.Exists = Keyword.Exists
+word_of_reply ObjReply.Closed = Keyword.Closed
+word_of_reply ObjReply.NotEmpty = Keyword.NotEmpty
+word_of_reply ObjReply.Done = Keyword.Done
+word_of_reply ObjReply.Over = Keyword.Over
+word_of_reply ObjReply.Short = Keyword.Short
+word_of_reply ObjReply.Missing = Keyword.Missing
+word_of_reply ObjReply.Added = Keyword.Added
+word_of_reply ObjReply.Present = Keyword.Present
+word_of_reply ObjReply.Removed = Keyword.Removed
+word_of_reply ObjReply.Absent = Keyword.Absent
+word_of_reply ObjReply.Yes = Keyword.Yes
+word_of_reply ObjReply.No = Keyword.No
+
 abbrev reply_words : ObjReply → List Word
 reply_words (ObjReply.Is v) = Key Keyword.Is ∷ Number v ∷ []
-reply_words ObjReply.Opened = Key Keyword.Opened ∷ []
-reply_words ObjReply.Exists = Key Keyword.Exists ∷ []
-reply_words ObjReply.Closed = Key Keyword.Closed ∷ []
-reply_words ObjReply.NotEmpty = Key Keyword.NotEmpty ∷ []
-reply_words ObjReply.Done = Key Keyword.Done ∷ []
-reply_words ObjReply.Over = Key Keyword.Over ∷ []
-reply_words ObjReply.Short = Key Keyword.Short ∷ []
-reply_words ObjReply.Missing = Key Keyword.Missing ∷ []
-reply_words ObjReply.Added = Key Keyword.Added ∷ []
-reply_words ObjReply.Present = Key Keyword.Present ∷ []
-reply_words ObjReply.Removed = Key Keyword.Removed ∷ []
-reply_words ObjReply.Absent = Key Keyword.Absent ∷ []
-reply_words ObjReply.Yes = Key Keyword.Yes ∷ []
-reply_words ObjReply.No = Key Keyword.No ∷ []
+reply_words reply = Key (word_of_reply reply) ∷ []
 
 reply_is : (r : ObjReply) → FitsReply r → TextIs (reply_text r) (reply_words r) 29
-reply_is (ObjReply.Is v) h = beside (spelling Keyword.Is) (decimal v) (Key Keyword.Is ∷ []) (Number v ∷ []) 8 20 (key_text Keyword.Is) (number_is v h)
-reply_is ObjReply.Opened h = at_most (spelling Keyword.Opened) (Key Keyword.Opened ∷ []) 8 29 (omega arith) (key_text Keyword.Opened)
-reply_is ObjReply.Exists h = at_most (spelling Keyword.Exists) (Key Keyword.Exists ∷ []) 8 29 (omega arith) (key_text Keyword.Exists)
-reply_is ObjReply.Closed h = at_most (spelling Keyword.Closed) (Key Keyword.Closed ∷ []) 8 29 (omega arith) (key_text Keyword.Closed)
-reply_is ObjReply.NotEmpty h = at_most (spelling Keyword.NotEmpty) (Key Keyword.NotEmpty ∷ []) 8 29 (omega arith) (key_text Keyword.NotEmpty)
-reply_is ObjReply.Done h = at_most (spelling Keyword.Done) (Key Keyword.Done ∷ []) 8 29 (omega arith) (key_text Keyword.Done)
-reply_is ObjReply.Over h = at_most (spelling Keyword.Over) (Key Keyword.Over ∷ []) 8 29 (omega arith) (key_text Keyword.Over)
-reply_is ObjReply.Short h = at_most (spelling Keyword.Short) (Key Keyword.Short ∷ []) 8 29 (omega arith) (key_text Keyword.Short)
-reply_is ObjReply.Missing h = at_most (spelling Keyword.Missing) (Key Keyword.Missing ∷ []) 8 29 (omega arith) (key_text Keyword.Missing)
-reply_is ObjReply.Added h = at_most (spelling Keyword.Added) (Key Keyword.Added ∷ []) 8 29 (omega arith) (key_text Keyword.Added)
-reply_is ObjReply.Present h = at_most (spelling Keyword.Present) (Key Keyword.Present ∷ []) 8 29 (omega arith) (key_text Keyword.Present)
-reply_is ObjReply.Removed h = at_most (spelling Keyword.Removed) (Key Keyword.Removed ∷ []) 8 29 (omega arith) (key_text Keyword.Removed)
-reply_is ObjReply.Absent h = at_most (spelling Keyword.Absent) (Key Keyword.Absent ∷ []) 8 29 (omega arith) (key_text Keyword.Absent)
-reply_is ObjReply.Yes h = at_most (spelling Keyword.Yes) (Key Keyword.Yes ∷ []) 8 29 (omega arith) (key_text Keyword.Yes)
-reply_is ObjReply.No h = at_most (spelling Keyword.No) (Key Keyword.No ∷ []) 8 29 (omega arith) (key_text Keyword.No)
+reply_is r = elim r as (λ r. FitsReply r → TextIs (reply_text r) (reply_words r) 29) [
+  | ObjReply.Is v ↦ λ h. beside (spelling Keyword.Is) (decimal v) (Key Keyword.Is ∷ []) (Number v ∷ []) 8 20 (key_text Keyword.Is) (number_is v h)
+  | r ↦ λ h. at_most (spelling (word_of_reply r)) (Key (word_of_reply r) ∷ []) 8 29 (omega arith) (key_text (word_of_reply r))
+]
 
 reply_again : (r : ObjReply) → FitsReply r → reply_at (reply_words r) ≡ Some (r, [])
 unfolding reply_at reply_after reply_word key_at number_below
-reply_again (ObjReply.Is v) h = rw (lt-ltb v (2 ^ 64) h) refl
-reply_again ObjReply.Opened h = refl
-reply_again ObjReply.Exists h = refl
-reply_again ObjReply.Closed h = refl
-reply_again ObjReply.NotEmpty h = refl
-reply_again ObjReply.Done h = refl
-reply_again ObjReply.Over h = refl
-reply_again ObjReply.Short h = refl
-reply_again ObjReply.Missing h = refl
-reply_again ObjReply.Added h = refl
-reply_again ObjReply.Present h = refl
-reply_again ObjReply.Removed h = refl
-reply_again ObjReply.Absent h = refl
-reply_again ObjReply.Yes h = refl
-reply_again ObjReply.No h = refl
+reply_again r = elim r as (λ r. FitsReply r → reply_at (reply_words r) ≡ Some (r, [])) [ ObjReply.Is v ↦ λ h. rw (lt-ltb v (2 ^ 64) h) refl | _ ↦ λ h. refl ]
 
 done_is : (done : ObjOp × ObjReply) → FitsDone done → TextIs (done_text done) (op_words done.0 ++ reply_words done.1) 90
 done_is done h = beside (op_text done.0) (reply_text done.1) (op_words done.0) (reply_words done.1) 60 29 (op_is done.0 h.op) (reply_is done.1 h.reply)
@@ -131,32 +90,32 @@ at_most_200 : (t : List ℕ) (ws : List (List ℕ)) (n : ℕ) → n ≤ 200 → 
 at_most_200 t ws n l h = (h.0, h.1, let p = h.2 in omega (arith, p, l))
 
 begin_reads : (tx : ℕ) → 1 ≤ tx → tx < 2 ^ 64 → Reads (Begin tx)
-unfolding item_of item_with
-begin_reads tx from_one h = (codes "begin" ∷ decimal tx ∷ [], at_most_200 _ _ 29 (omega arith) (numbered (codes "begin") (codes "begin" ∷ []) 8 tx begin_alone h), rw (positive_again tx [] from_one h) refl)
+unfolding item_of item_with words_from
+begin_reads tx from_one h = (codes "begin" ∷ decimal tx ∷ [], at_most_200 (item_text (Begin tx)) _ 29 (omega arith) (numbered (codes "begin") (codes "begin" ∷ []) 8 tx (refl, refl, omega arith) h), rw (positive_again tx [] from_one h) refl)
 
 back_reads : (tx : ℕ) → 1 ≤ tx → tx < 2 ^ 64 → Reads (Back tx)
-unfolding item_of item_with
-back_reads tx from_one h = (codes "back" ∷ decimal tx ∷ [], at_most_200 _ _ 29 (omega arith) (numbered (codes "back") (codes "back" ∷ []) 8 tx back_alone h), rw (positive_again tx [] from_one h) refl)
+unfolding item_of item_with words_from
+back_reads tx from_one h = (codes "back" ∷ decimal tx ∷ [], at_most_200 (item_text (Back tx)) _ 29 (omega arith) (numbered (codes "back") (codes "back" ∷ []) 8 tx (refl, refl, omega arith) h), rw (positive_again tx [] from_one h) refl)
 
 abort_reads : (tx : ℕ) → 1 ≤ tx → tx < 2 ^ 64 → Reads (Abort tx)
-unfolding item_of item_with
-abort_reads tx from_one h = (codes "abort" ∷ decimal tx ∷ [], at_most_200 _ _ 29 (omega arith) (numbered (codes "abort") (codes "abort" ∷ []) 8 tx abort_alone h), rw (positive_again tx [] from_one h) refl)
+unfolding item_of item_with words_from
+abort_reads tx from_one h = (codes "abort" ∷ decimal tx ∷ [], at_most_200 (item_text (Abort tx)) _ 29 (omega arith) (numbered (codes "abort") (codes "abort" ∷ []) 8 tx (refl, refl, omega arith) h), rw (positive_again tx [] from_one h) refl)
 
 commit_reads : (tx number : ℕ) → (1 ≤ tx) × (1 ≤ number) → tx < 2 ^ 64 → number < 2 ^ 64 → Reads (Commit tx number)
-unfolding item_of item_with
+unfolding item_of item_with words_from
 commit_reads tx number from_one h k = (
   codes "commit" ∷ decimal tx ∷ decimal number ∷ [],
-  at_most_200 _ _ 50 (omega arith) (numbered (with_number (codes "commit") tx) (codes "commit" ∷ decimal tx ∷ []) 29 number (numbered (codes "commit") (codes "commit" ∷ []) 8 tx commit_alone h) k),
+  at_most_200 (item_text (Commit tx number)) _ 50 (omega arith) (numbered (with_number (codes "commit") tx) (codes "commit" ∷ decimal tx ∷ []) 29 number (numbered (codes "commit") (codes "commit" ∷ []) 8 tx (refl, refl, omega arith) h) k),
   rw (positive_again tx (decimal number ∷ []) from_one.0 h, positive_again number [] from_one.1 k) refl,
 )
 
 op_reads : (tx : ℕ) (done : ObjOp × ObjReply) → 1 ≤ tx → tx < 2 ^ 64 → FitsDone done → Reads (Op tx done)
-unfolding item_of item_with
+unfolding item_of item_with words_from
 op_reads tx done from_one h k =
     let rest = raw_words (done_text done) in
     let is = done_is done k in (
       codes "op" ∷ decimal tx ∷ rest,
-      at_most_200 _ _ 120 (omega arith) (both (with_number (codes "op") tx) (done_text done) (codes "op" ∷ decimal tx ∷ []) rest 29 90 (numbered (codes "op") (codes "op" ∷ []) 8 tx op_alone h) (refl, is.1, is.2)),
+      at_most_200 (item_text (Op tx done)) _ 120 (omega arith) (both (with_number (codes "op") tx) (done_text done) (codes "op" ∷ decimal tx ∷ []) rest 29 90 (numbered (codes "op") (codes "op" ∷ []) 8 tx (refl, refl, omega arith) h) (refl, is.1, is.2)),
       rw (positive_again tx rest from_one h, done_again done k) refl,
     )
 

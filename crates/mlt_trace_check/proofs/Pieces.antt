@@ -1,21 +1,27 @@
 -- A check that goes on from piece to piece, and how it stops.
-use Rattle.std.proofs.Common.{◌≡◌, ℕ, ◌≤◌, ◌+◌, Bool, true, List, [], ◌++◌, map, Option, Some, None, IfSome, Result, Ok, Err, length, length-append, arith, refl, sym, ap, subst, ◌∙◌, append_assoc, append-nil, IfOk, OnErr}
-use Rattle.mlt_trace_check.proofs.LongNames.{Appends, Consumes, IsAtEnd, Appends-nil, Appends-trans, Consumes-nil, Refusal, Io, OutOfMemory, TraceFault, AppendsFront, WentOver, reached, serial_lines, IsAcceptedTrace, IsFirstFault, Going, GoesOver, Refuses, GoesOn, IsDone, IsToldOf, WritesOfFront, StopsIn}
+use Rattle.std.proofs.Common.{◌≡◌, ℕ, ◌≤◌, ◌+◌, ◌-◌, Bool, true, List, [], ◌++◌, map, Option, Some, None, IfSome, Result, Ok, Err, length, drop, length-append, arith, refl, sym, ap, subst, ◌∙◌, append_assoc, append-nil, IfOk, OnErr}
+use Rattle.mlt_trace_check.proofs.Names.{Appends, Appends-nil, Appends-trans, Consumes-nil, Refusal, AppendsFront, WentOver, serial_lines, IsAcceptedTrace, IsFirstFault, Progress, GoesOver, Refuses, GoesOn, IsDone, WritesOfFront, StopsIn}
 use Rattle.std.proofs.KnownBytes.{Consumes-trans}
+use Rattle.std.proofs.Math.Seq.{drop-append-add}
+use Rattle.std.proofs.lemmas.Grind.{flat_map-append}
 use Rattle.mlt_text_words.specs.Lines.{lines}
-use Rattle.mlt_trace_check.specs.declared.checker.Checker.{Checker}
 use Rattle.mlt_trace_check.specs.Checkers.{Knows}
+use Rattle.mlt_trace_check.specs.OrderTexts.{serial_line}
 use Rattle.mlt_trace_check.specs.Readings.{reading}
-use Rattle.mlt_trace_check.proofs.GoingOn.{went_nowhere, went_to_end}
+use Rattle.mlt_trace_check.proofs.Progressing.{went_nowhere, went_to_end}
 use Rattle.mlt_trace_check.specs.LongTexts.{GivesAll}
-use Rattle.mlt_trace_check.specs.Pieces.{StopsWriting, TakesLines, WritesLines}
 use Rattle.mlt_trace_check.proofs.Behind.{has_front, lines_behind}
+use Rattle.mlt_trace_check.proofs.Refusals.{refused_too}
 use Rattle.mlt_trace_check.proofs.Settling.{all_end}
-use Rattle.mlt_trace_check.proofs.LongStepping.{serial_join}
+use Rattle.mlt_trace_check.specs.LongChecks.{IsToldOf}
+use Rattle.std.specs.Io.KnownBytes.{Consumes, IsAtEnd}
+
+serial_join : (txs more : List ℕ) → serial_lines (txs ++ more) ≡ serial_lines txs ++ serial_lines more
+serial_join txs more = flat_map-append serial_line txs more
 
 -- more came behind
-pub went_further : (checker : Checker) (line : ℕ) (txs taken rest more : List ℕ) → WentOver checker line txs taken rest → WentOver checker line txs (taken ++ more) (rest ++ more)
-went_further checker line txs taken rest more h = record {
+pub went_further : (progress : Progress) (told taken rest more : List ℕ) → WentOver progress told taken rest → WentOver progress told (taken ++ more) (rest ++ more)
+went_further progress told taken rest more h = record {
   before = h.before;
   items = h.items;
   cut = lines_behind taken rest more h.before (all_end h.before h.items h.said) h.cut;
@@ -26,11 +32,25 @@ went_further checker line txs taken rest more h = record {
   knows = h.knows;
 }
 
+-- the commits so far were told
+told_all : (old new : Progress) (told taken rest : List ℕ) → new.checker ≡ old.checker → new.line ≡ old.line → new.txs.items ≡ [] → WentOver old told taken rest
+    → WentOver new (told ++ old.txs.items) taken rest
+told_all old new told taken rest checker line none h = record {
+  before = h.before;
+  items = h.items;
+  cut = h.cut;
+  counted = line ∙ h.counted;
+  order = ap (λ ns. (told ++ old.txs.items) ++ ns) none ∙ append-nil (told ++ old.txs.items) ∙ h.order;
+  said = h.said;
+  placed = h.placed;
+  knows = subst (λ c. Knows c h.items) (sym checker) h.knows;
+}
+
 -- what was gone over is a trace
-pub front_is_trace : (checker : Checker) (line : ℕ) (txs taken rest : List ℕ) → WentOver checker line txs taken rest
-    → (front : List ℕ) × (taken ≡ front ++ rest) × IsAcceptedTrace front txs (reached checker)
+front_is_trace : (progress : Progress) (told taken rest : List ℕ) → WentOver progress told taken rest
+    → (front : List ℕ) × (taken ≡ front ++ rest) × IsAcceptedTrace front (told ++ progress.txs.items) progress.checker.base
 unfolding lines
-front_is_trace checker line txs taken rest h =
+front_is_trace progress told taken rest h =
     let f = has_front taken rest h.before (all_end h.before h.items h.said) h.cut in
     let whole : lines f.front ≡ h.before = ap lines (sym (append-nil f.front)) ∙ f.whole [] ∙ append-nil h.before in (
       f.front,
@@ -38,54 +58,64 @@ front_is_trace checker line txs taken rest h =
       (h.items, record { said = ap (map reading) whole ∙ h.said; placed = h.placed; serial = h.knows.serial }, h.order),
     )
 
-pub starts : (going : Going) (a w : Option (List ℕ)) (held : List ℕ) → Knows going.checker [] → going.line ≡ 0 → held ≡ [] → GoesOn going a a w w held
-starts going a w held knows line none = record {
+pub starts : (progress : Progress) (a w : Option (List ℕ)) (held : List ℕ) → Knows progress.checker [] → progress.line ≡ 0 → progress.txs.items ≡ [] → held ≡ [] → GoesOn progress a a w w held
+starts progress a w held knows line txs none = record {
   taken = [];
-  txs = [];
+  told = [];
   consumed = Consumes-nil a;
-  over = subst (λ t. WentOver going.checker going.line [] [] t) (sym none) (subst (λ n. WentOver going.checker n [] [] []) (sym line) (went_nowhere going.checker [] knows));
+  over = subst (WentOver progress [] []) (sym none) (went_nowhere progress [] knows line txs);
   wrote = Appends-nil w;
 }
 
-module _ (going : Going) (a b w v : Option (List ℕ)) (held : List ℕ) (h : GoesOn going a b w v held) where
-  pub reads_more : (c : Option (List ℕ)) (piece text : List ℕ) → Consumes b c piece → text ≡ held ++ piece → GoesOn going a c w v text
+module _ (progress : Progress) (a b w v : Option (List ℕ)) (held : List ℕ) (h : GoesOn progress a b w v held) where
+  pub reads_more : (c : Option (List ℕ)) (piece text : List ℕ) → Consumes b c piece → text ≡ held ++ piece → GoesOn progress a c w v text
   reads_more c piece text read is = record {
     taken = h.taken ++ piece;
-    txs = h.txs;
+    told = h.told;
     consumed = Consumes-trans a b c h.taken piece h.consumed read;
-    over = subst (λ t. WentOver going.checker going.line h.txs (h.taken ++ piece) t) (sym is) (went_further going.checker going.line h.txs h.taken held piece h.over);
+    over = subst (WentOver progress h.told (h.taken ++ piece)) (sym is) (went_further progress h.told h.taken held piece h.over);
     wrote = h.wrote;
   }
 
-  over_now : (new : Going) (rest txs : List ℕ) → GoesOver going new held rest txs → WentOver new.checker new.line (h.txs ++ txs) h.taken rest
-  over_now new rest txs g =
-      subst (WentOver new.checker new.line (h.txs ++ txs) h.taken) (append-nil rest)
-      (g.over h.txs h.taken [] (subst (WentOver going.checker going.line h.txs h.taken) (sym (append-nil held)) h.over))
+  over_now : (new : Progress) (rest : List ℕ) → GoesOver progress new held rest → WentOver new h.told h.taken rest
+  over_now new rest g =
+      subst (WentOver new h.told h.taken) (append-nil rest) (g.over h.told h.taken [] (subst (WentOver progress h.told h.taken) (sym (append-nil held)) h.over))
 
-  pub goes_further : (new : Going) (u : Option (List ℕ)) (rest txs left : List ℕ) → GoesOver going new held rest txs → Appends v u (serial_lines txs) → left ≡ rest
-      → GoesOn new a b w u left
-  goes_further new u rest txs left g wrote is = record {
+  pub goes_further : (mid new : Progress) (u : Option (List ℕ)) (rest left : List ℕ) → GoesOver progress mid held rest → Appends v u (serial_lines mid.txs.items)
+      → new.checker ≡ mid.checker → new.line ≡ mid.line → new.txs.items ≡ [] → left ≡ rest → GoesOn new a b w u left
+  goes_further mid new u rest left g wrote checker line none is = record {
     taken = h.taken;
-    txs = h.txs ++ txs;
+    told = h.told ++ mid.txs.items;
     consumed = h.consumed;
-    over = subst (WentOver new.checker new.line (h.txs ++ txs) h.taken) (sym is) (over_now new rest txs g);
-    wrote = subst (Appends w u) (sym (serial_join h.txs txs)) (Appends-trans w v u (serial_lines h.txs) (serial_lines txs) h.wrote wrote);
+    over = subst (WentOver new (h.told ++ mid.txs.items) h.taken) (sym is) (told_all mid new h.told h.taken rest checker line none (over_now mid rest g));
+    wrote = subst (Appends w u) (sym (serial_join h.told mid.txs.items)) (Appends-trans w v u (serial_lines h.told) (serial_lines mid.txs.items) h.wrote wrote);
   }
 
-  writes_front : (mid : Going) (u : Option (List ℕ)) (rest txs : List ℕ) → WentOver mid.checker mid.line txs h.taken rest → AppendsFront w u (serial_lines txs) → WritesOfFront a b w u
-  writes_front mid u rest txs over wrote =
-      let f = front_is_trace mid.checker mid.line txs h.taken rest over in
-      (f.0, rest, txs, reached mid.checker, subst (Consumes a b) f.1 h.consumed, f.2, wrote)
+  -- of the commits so far a prefix was told
+  writes_front : (mid : Progress) (u : Option (List ℕ)) (rest : List ℕ) → WentOver mid h.told h.taken rest → AppendsFront v u (serial_lines mid.txs.items) → WritesOfFront a b w u
+  writes_front mid u rest over (front, after, cut, wrote) =
+      let f = front_is_trace mid h.told h.taken rest over in (
+        f.0,
+        rest,
+        h.told ++ mid.txs.items,
+        mid.checker.base,
+        subst (Consumes a b) f.1 h.consumed,
+        f.2,
+        (
+          serial_lines h.told ++ front,
+          after,
+          serial_join h.told mid.txs.items ∙ ap (λ t. serial_lines h.told ++ t) cut ∙ sym (append_assoc (serial_lines h.told) front after),
+          Appends-trans w v u (serial_lines h.told) front h.wrote wrote,
+        ),
+      )
 
   -- a read failed
   pub stops_here : WritesOfFront a b w v
-  stops_here = writes_front going v held h.txs h.over (serial_lines h.txs, [], sym (append-nil (serial_lines h.txs)), h.wrote)
+  stops_here = writes_front progress v held h.over ([], serial_lines progress.txs.items, refl, Appends-nil v)
 
   -- a line was refused, or a write failed
-  pub stops_writing : (u : Option (List ℕ)) → StopsWriting going held v u → WritesOfFront a b w u
-  stops_writing u (mid, rest, txs, g, (front, after, cut, wrote)) =
-      writes_front mid u rest (h.txs ++ txs) (over_now mid rest txs g)
-      (serial_lines h.txs ++ front, after, serial_join h.txs txs ∙ ap (λ t. serial_lines h.txs ++ t) cut ∙ sym (append_assoc (serial_lines h.txs) front after), Appends-trans w v u (serial_lines h.txs) front h.wrote wrote)
+  pub stops_telling : (new : Progress) (u : Option (List ℕ)) → StopsIn progress new held → AppendsFront v u (serial_lines new.txs.items) → WritesOfFront a b w u
+  stops_telling new u (mid, rest, g, same) wrote = writes_front mid u rest (over_now mid rest g) (subst (λ ns. AppendsFront v u (serial_lines ns)) same wrote)
 
   left_too : (left : Option (List ℕ)) (refusal_is : List ℕ → Type 0) → ((behind : List ℕ) → left ≡ Some behind → refusal_is behind) → IfSome left refusal_is
   left_too None P all = tt
@@ -94,47 +124,41 @@ module _ (going : Going) (a b w v : Option (List ℕ)) (held : List ℕ) (h : Go
   none_left : (behind : List ℕ) → b ≡ Some behind → IsAtEnd b → behind ≡ []
   none_left behind is end = subst IsAtEnd is end
 
-  pub told_of : (refusal : Refusal) (ended : Bool) → Refuses refusal going held ended → (ended ≡ true → IsAtEnd b) → IsToldOf refusal a b
-  told_of OutOfMemory ended refuses end = tt
-  told_of Io ended refuses end = tt
-  told_of (TraceFault line fault) ended refuses end = (
+  pub told_of : (refusal : Refusal) (ended : Bool) → Refuses refusal progress held ended → (ended ≡ true → IsAtEnd b) → IsToldOf refusal a b
+  told_of refusal ended refuses end = refused_too _ _ refusal (λ line fault found. (
     h.taken,
     h.consumed,
-    refuses h.txs h.taken [] (λ is. refl) (subst (WentOver going.checker going.line h.txs h.taken) (sym (append-nil held)) h.over),
+    found h.told h.taken [] (λ is. refl) (subst (WentOver progress h.told h.taken) (sym (append-nil held)) h.over),
     left_too b (λ left. IsFirstFault (h.taken ++ left) line fault) (λ behind is.
-        refuses h.txs (h.taken ++ behind) behind (λ at_end. none_left behind is (end at_end)) (went_further going.checker going.line h.txs h.taken held behind h.over)),
-  )
-  told_of refusal ended refuses end = absurd refuses
+        found h.told (h.taken ++ behind) behind (λ at_end. none_left behind is (end at_end)) (went_further progress h.told h.taken held behind h.over)),
+  )) refuses
 
 -- all was gone over
-pub accepted : (going : Going) (a b w v : Option (List ℕ)) → IsDone going a b w v
-    → (input : List ℕ) × (txs : List ℕ) × GivesAll a b input × IsAcceptedTrace input txs (reached going.checker) × Appends w v (serial_lines txs)
-accepted going a b w v (h, end) = (h.taken, h.txs, (h.consumed, end), went_to_end going.checker going.line h.txs h.taken [] refl h.over, h.wrote)
+pub accepted : (progress : Progress) (a b w v : Option (List ℕ)) → IsDone progress a b w v
+    → (input : List ℕ) × (txs : List ℕ) × GivesAll a b input × IsAcceptedTrace input txs progress.checker.base × Appends w v (serial_lines txs)
+accepted progress a b w v (h, end, none) = (
+  h.taken,
+  h.told,
+  (h.consumed, end),
+  subst (λ txs. IsAcceptedTrace h.taken txs progress.checker.base) (ap (λ ns. h.told ++ ns) none ∙ append-nil h.told) (went_to_end progress h.told h.taken [] refl h.over),
+  h.wrote,
+)
 
--- ---- what is said of a piece, and written
+-- what lines were gone over, whether or not the last was refused
+pub stops_somewhere : (r : Result ℕ Refusal) (old new : Progress) (text : List ℕ) → IfOk r (λ left. (rest : List ℕ) × (length rest ≡ left) × GoesOver old new text rest)
+    → OnErr r (StopsIn old new text) → StopsIn old new text
+stops_somewhere (Ok left) old new text (rest, few, over) stopped = (new, rest, over, refl)
+stops_somewhere (Err refusal) old new text ok stopped = stopped
 
-pub stops_somewhere : (r : Result ℕ Refusal) (old new : Going) (text said : List ℕ) → IfOk r (λ left. TakesLines old new text said left) → OnErr r (StopsIn old text said) → StopsIn old text said
-stops_somewhere (Ok left) old new text said (rest, txs, few, over, says) stopped = (new, rest, txs, over, says)
-stops_somewhere (Err refusal) old new text said ok stopped = stopped
-
-pub refuses_none : (refusal : Refusal) (going : Going) (text : List ℕ) (ended : Bool) → refusal ≡ Io → Refuses refusal going text ended
-refuses_none refusal going text ended io = subst (λ r. Refuses r going text ended) (sym io) tt
-
-pub front_written : (old : Going) (text said bytes : List ℕ) (w v : Option (List ℕ)) → StopsIn old text said → bytes ≡ said → AppendsFront w v bytes → StopsWriting old text w v
-front_written old text said bytes w v (mid, rest, txs, over, says) value front = (mid, rest, txs, over, subst (AppendsFront w v) (value ∙ says) front)
-
-pub writes_lines : (r : Result ℕ Refusal) (old new : Going) (text said bytes : List ℕ) (w v : Option (List ℕ)) → IfOk r (λ left. TakesLines old new text said left) → bytes ≡ said → Appends w v bytes
-    → IfOk r (λ left. WritesLines old new text w v left)
-writes_lines (Ok left) old new text said bytes w v (rest, txs, few, over, says) value wrote = (rest, txs, few, over, subst (Appends w v) (value ∙ says) wrote)
-writes_lines (Err refusal) old new text said bytes w v ok value wrote = tt
-
-pub stops_written : (r : Result ℕ Refusal) (old : Going) (text said bytes : List ℕ) (w v : Option (List ℕ)) → OnErr r (StopsIn old text said) → bytes ≡ said → Appends w v bytes
-    → OnErr r (StopsWriting old text w v)
-stops_written (Ok left) old text said bytes w v stopped value wrote = tt
-stops_written (Err refusal) old text said bytes w v stopped value wrote =
-    front_written old text said bytes w v stopped value (bytes, [], sym (append-nil bytes), wrote)
-
-pub left_fits : (old new : Going) (text : List ℕ) (w v : Option (List ℕ)) (left : ℕ) → WritesLines old new text w v left → left ≤ length text
-left_fits old new text w v left (rest, txs, few, over, wrote) =
-    let all : length text ≡ length over.front + length rest = ap length over.cut ∙ length-append over.front rest in
+pub left_fits : (text front rest : List ℕ) (left : ℕ) → text ≡ front ++ rest → length rest ≡ left → left ≤ length text
+left_fits text front rest left cut few =
+    let all : length text ≡ length front + length rest = ap length cut ∙ length-append front rest in
     omega (arith, all, few)
+
+-- the end of a text, by its length
+pub rest_by_length : (text front rest : List ℕ) (end left : ℕ) → length text ≡ end → text ≡ front ++ rest → length rest ≡ left → drop (end - left) text ≡ rest
+rest_by_length text front rest end left size cut few =
+    let all : length text ≡ length front + length rest = ap length cut ∙ length-append front rest in
+    let at : end - left ≡ length front = omega (arith, all, size, few) in
+    let none : length front + 0 ≡ length front = omega arith in
+    ap (λ (k : ℕ). drop k text) (at ∙ sym none) ∙ ap (drop (length front + 0)) cut ∙ drop-append-add front rest 0

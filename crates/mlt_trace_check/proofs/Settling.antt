@@ -1,7 +1,7 @@
 -- What a settled line says, whatever comes behind it.
 use Rattle.std.proofs.Common.{◌≡◌, inl, inr, ℕ, ◌<◌, Bool, true, false, cond, List, [], ◌∷◌, ◌++◌, length, map, take, Option, Some, None, nat_lt, refl, sym, ap, subst, ◌∙◌, arith, lt-ltb, position}
 use Rattle.std.specs.List.{list_all}
-use Rattle.mlt_trace_check.proofs.LongNames.{TraceCause, Raw, is_lf, TraceItem, TraceReading, IsSettled}
+use Rattle.mlt_trace_check.proofs.Names.{TraceCause, Raw, is_lf, TraceItem, TraceReading, IsSettled}
 use Rattle.mlt_text_words.specs.Lines.{lines, content, is_allowed}
 use Rattle.mlt_text_words.specs.Words.{raw_words}
 use Rattle.mlt_text_words.proofs.Cutting.{found, not_found}

@@ -3,15 +3,15 @@ use Rattle.std.specs.Prelude.{◌≡◌, ◌≢◌, ℕ, ◌+◌, ◌≤◌, Lis
 use Rattle.std.specs.BTreeMap as tree
 use Rattle.std.specs.Ordering.{nat_cmp}
 use Rattle.mlt_types.specs.declared.refusal.Refusal.{Refusal}
-use Rattle.mlt_types.specs.declared.refusal.Refusal.TheVariants.{OutOfMemory, TraceFault}
-use Rattle.mlt_object_kinds.specs.Bases.{Base, Step, empty_base}
+use Rattle.mlt_object_kinds.specs.Bases.{Step, empty_base}
 use Rattle.mlt_order.specs.Histories.Stage.{Running}
 use Rattle.mlt_order.specs.Runs.{IsSerialBase}
 use Rattle.mlt_trace.specs.declared.item.TraceItem.{TraceItem}
 use Rattle.mlt_trace.specs.declared.item.TraceItem.TheVariants.{Op, Back}
 use Rattle.mlt_trace.specs.Numbers.{begun_txs, commit_count}
-use Rattle.mlt_trace_check.specs.declared.open_tx.OpenTx.{OpenTx}
+use Rattle.mlt_trace_check.specs.declared.checker.OpenTx.{OpenTx}
 use Rattle.mlt_trace_check.specs.declared.checker.Checker.{Checker}
+use Rattle.mlt_trace_check.specs.Refusing.{IsRefusalBy}
 use Rattle.mlt_trace_check.specs.Replaying.{DoneAt, dones}
 use Rattle.mlt_trace_check.specs.Traces.{HasPlace, IsItemFault, IsRunning, IsWhole, told}
 
@@ -41,23 +41,17 @@ abbrev pub KnowsBegun : Option ℕ → List ℕ → Type 0
 KnowsBegun None txs = (other : ℕ) → Contains txs other → ⊥
 KnowsBegun (Some last) txs = ((other : ℕ) → Contains txs other → other ≤ last) × Contains txs last
 
--- the base that the commits lead to
-abbrev pub reached : Checker → Base
-reached checker = checker.base
-
 -- a checker that went over these items
 pub record Knows (checker : Checker) (items : List TraceItem) : Type 0 where
   pub open_txs : (tx : ℕ) → KnowsTx (tree.get nat_cmp checker.running tx) tx items
   pub begun : KnowsBegun checker.begun (begun_txs items)
   pub backs : (tx : ℕ) → Contains items (Back tx) → Contains (begun_txs items) tx
   pub commits : checker.commits ≡ commit_count items
-  pub serial : IsSerialBase Step empty_base (told items).committed (reached checker)
+  pub serial : IsSerialBase Step empty_base (told items).committed checker.base
 
 -- a checker went over an item in the line of this number, or refused it
 abbrev pub Takes : Result (Unit {0}) Refusal → Checker → Checker → ℕ → TraceItem → Type 0
 Takes (Ok done) old new line item =
     (items : List TraceItem) → Knows old items → line ≡ length items + 1 → HasPlace items item × Knows new (items ++ item ∷ [])
-Takes (Err OutOfMemory) old new line item = Unit {0}
-Takes (Err (TraceFault n fault)) old new line item =
-    (items : List TraceItem) → Knows old items → line ≡ length items + 1 → IsItemFault items old.base item n fault
-Takes (Err refusal) old new line item = ⊥
+Takes (Err refusal) old new line item = IsRefusalBy (λ n fault.
+    (items : List TraceItem) → Knows old items → line ≡ length items + 1 → IsItemFault items old.base item n fault) refusal

@@ -1,6 +1,7 @@
 pub mod Words
 pub mod Readings
 pub mod Traces
+pub mod Refusing
 pub mod Replaying
 pub mod Checkers
 pub mod Answering
@@ -8,7 +9,6 @@ pub mod Plain
 pub mod OrderTexts
 pub mod Writable
 pub mod Settled
-pub mod Goings
-pub mod Pieces
+pub mod Progresses
 pub mod LongTexts
 pub mod LongChecks

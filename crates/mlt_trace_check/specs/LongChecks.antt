@@ -1,34 +1,31 @@
 -- How far a check of a long trace has gone, and what it answers.
-use Rattle.std.specs.Prelude.{ℕ, List, [], Result, Ok, Err}
+use Rattle.std.specs.Prelude.{◌≡◌, ℕ, List, [], Result, Ok, Err}
 use Rattle.std.specs.Io.KnownBytes.{Appends, Consumes, IsAtEnd}
 use Rattle.mlt_types.specs.declared.refusal.Refusal.{Refusal}
-use Rattle.mlt_types.specs.declared.refusal.Refusal.TheVariants.{Io, OutOfMemory, TraceFault}
 use Rattle.mlt_object_kinds.specs.Bases.{Base}
-use Rattle.mlt_trace_check.specs.Answering.{WentOver}
 use Rattle.mlt_trace_check.specs.OrderTexts.{order_text, serial_lines}
+use Rattle.mlt_trace_check.specs.Refusing.{IsRefusalBy}
 use Rattle.mlt_trace_check.specs.Traces.{IsAcceptedTrace}
-use Rattle.mlt_trace_check.specs.declared.going.Going.{Going}
+use Rattle.mlt_trace_check.specs.declared.progress.Progress.{Progress}
+use Rattle.mlt_trace_check.specs.Progresses.{WentOver}
 use Rattle.mlt_trace_check.specs.LongTexts.{GivesAll, IsFirstFaultRead, KnownBytes}
 
--- What was read are the lines that were gone over, and behind them the bytes that are held; and the `serial` lines of all
--- commits so far were written.
-pub record GoesOn (going : Going) (before after old new : KnownBytes) (held : List ℕ) : Type 0 where
+-- What was read are the lines that were gone over, and behind them the bytes that are held; and the `serial` lines of the
+-- commits that were told were written.
+pub record GoesOn (progress : Progress) (before after old new : KnownBytes) (held : List ℕ) : Type 0 where
   pub taken : List ℕ
-  pub txs : List ℕ
+  pub told : List ℕ
   pub consumed : Consumes before after taken
-  pub over : WentOver going.checker going.line txs taken held
-  pub wrote : Appends old new (serial_lines txs)
+  pub over : WentOver progress told taken held
+  pub wrote : Appends old new (serial_lines told)
 
--- all of the input was gone over
-abbrev pub IsDone : Going → KnownBytes → KnownBytes → KnownBytes → KnownBytes → Type 0
-IsDone going before after old new = GoesOn going before after old new [] × IsAtEnd after
+-- all of the input was gone over, and all commits were told
+abbrev pub IsDone : Progress → KnownBytes → KnownBytes → KnownBytes → KnownBytes → Type 0
+IsDone progress before after old new = GoesOn progress before after old new [] × IsAtEnd after × (progress.txs.items ≡ [])
 
 -- a fault is the first one
 abbrev pub IsToldOf : Refusal → KnownBytes → KnownBytes → Type 0
-IsToldOf OutOfMemory before after = Unit {0}
-IsToldOf Io before after = Unit {0}
-IsToldOf (TraceFault line cause) before after = IsFirstFaultRead before after line cause
-IsToldOf refusal before after = ⊥
+IsToldOf refusal before after = IsRefusalBy (IsFirstFaultRead before after) refusal
 
 -- all of the input is a trace, and what is said of it was written; or it was refused
 abbrev pub IsAnswer : Result (Unit {0}) Refusal → KnownBytes → KnownBytes → KnownBytes → KnownBytes

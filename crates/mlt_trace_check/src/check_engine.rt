@@ -17,7 +17,8 @@ use mlt_types::{Refusal, TxId};
 use std::alloc::{AllocError, Global};
 use std::io::{Read, Write};
 
-fn text_of_txs(alloc: Global, txs: &[TxId]) -> Result<String, AllocError>
+// The lines of committed transactions, in the order of their commits.
+pub(crate) fn text_of_txs(alloc: Global, txs: &[TxId]) -> Result<String, AllocError>
     ensures { IfOk result (λ text. string_bytes text ≡ serial_lines txs.now) }
 {
     let mut text = String::new(alloc);

@@ -1,14 +1,9 @@
 //! The items of a trace, gone over one after another.
 
 ghost use Rattle.std.specs.Prelude.{◌≡◌, ◌≢◌, ◌<◌, ◌≤◌, ◌+◌, ℕ, [], Some, false, true};
-ghost use Rattle.mlt_text_words.specs.Lines.{Raw};
-ghost use Rattle.mlt_trace_check.specs.Answering.{TakesLine};
-ghost use Rattle.mlt_trace_check.specs.Checkers.{Knows, Takes, reached};
-ghost use Rattle.mlt_trace_check.specs.Readings.{reading};
+ghost use Rattle.mlt_trace_check.specs.Checkers.{Knows, Takes};
 ghost use Rattle.mlt_trace_check.specs.Replaying.{Replays, ReplaysOne};
 
-use crate::open_tx::{OpenTx, put_tx, take_tx};
-use crate::reading::TraceReading;
 use mlt_object_base::Base;
 use mlt_object_kinds::Done;
 use mlt_trace::TraceItem;
@@ -16,15 +11,24 @@ use mlt_types::{Refusal, TraceCause, TxId};
 use std::alloc::Global;
 use std::collections::BTreeMap;
 
+// A transaction that is running: its operations that were not taken back, each with the number of its line,
+// and whether one was taken back.
+#[derive(Drop)]
+struct OpenTx {
+    ops: Vec<(u64, Done)>,
+    undoing: bool,
+}
+
 /// What is kept of a trace as its items are gone over: who is running and what they did, the greatest number that was
 /// begun, how many committed, and the base that the commits lead to. So its memory grows with what is open and with the
 /// objects that there are, and not with the items. After an `Err` it is of no more use.
 #[derive(Drop)]
-pub struct Checker {
+pub(crate) struct Checker {
     running: BTreeMap<u64, OpenTx>,
     begun: Option<u64>,
     commits: u64,
-    base: Base,
+    /// The base that the commits lead to.
+    pub(crate) base: Base,
 }
 
 fn misplaced(line: u64) -> Refusal
@@ -81,7 +85,7 @@ fn replay(base: &mut Base, ops: &[(u64, Done)]) -> Result<(), Refusal>
 
 impl Checker {
     /// A checker that went over no item.
-    pub fn new(alloc: Global) -> Checker
+    pub(crate) fn new(alloc: Global) -> Checker
         ensures { Knows result [] }
     {
         Checker {
@@ -102,7 +106,7 @@ impl Checker {
             ops: Vec::new(alloc),
             undoing: false,
         };
-        put_tx(&mut self.running, tx, one)?;
+        self.running.insert(tx, one)?;
         self.begun = Some(tx);
         Ok(())
     }
@@ -116,28 +120,27 @@ impl Checker {
         if one.undoing {
             return Err(misplaced(line));
         }
-        one.push(line, *done)?;
+        one.ops.push((line, *done))?;
         Ok(())
     }
 
     fn back(&mut self, tx: u64, line: u64) -> Result<(), Refusal>
         ensures { Takes result self.old self.new line (TraceItem.Back tx) }
     {
-        let Some(mut one) = take_tx(&mut self.running, tx) else {
+        let Some(one) = self.running.get_mut(&tx) else {
             return Err(misplaced(line));
         };
         if one.ops.pop().is_none() {
             return Err(misplaced(line));
         }
         one.undoing = true;
-        put_tx(&mut self.running, tx, one)?;
         Ok(())
     }
 
     fn commit(&mut self, tx: u64, number: u64, line: u64) -> Result<(), Refusal>
         ensures { Takes result self.old self.new line (TraceItem.Commit tx number) }
     {
-        let Some(one) = take_tx(&mut self.running, tx) else {
+        let Some(one) = self.running.remove(&tx) else {
             return Err(misplaced(line));
         };
         if one.undoing || !is_next(self.commits, number) {
@@ -151,7 +154,7 @@ impl Checker {
     fn abort(&mut self, tx: u64, line: u64) -> Result<(), Refusal>
         ensures { Takes result self.old self.new line (TraceItem.Abort tx) }
     {
-        let Some(one) = take_tx(&mut self.running, tx) else {
+        let Some(one) = self.running.remove(&tx) else {
             return Err(misplaced(line));
         };
         if !one.ops.is_empty() {
@@ -165,7 +168,7 @@ impl Checker {
     /// # Errors
     /// `TraceFault`, with the line of the fault, where the item has no place behind those before it, or an operation of
     /// the transaction that commits was told another reply; `OutOfMemory` where a growth was refused.
-    pub fn take(&mut self, alloc: Global, item: &TraceItem, line: u64) -> Result<(), Refusal>
+    pub(crate) fn take(&mut self, alloc: Global, item: &TraceItem, line: u64) -> Result<(), Refusal>
         ensures { Takes result self.old self.new line item.now }
     {
         match item {
@@ -175,42 +178,5 @@ impl Checker {
             TraceItem::Commit(TxId(tx), number) => self.commit(*tx, *number, line),
             TraceItem::Abort(TxId(tx)) => self.abort(*tx, line),
         }
-    }
-
-    /// Goes over the line of this number, from 1 on, which says this, and answers its item.
-    ///
-    /// # Errors
-    /// `TraceFault` where the line is faulty by itself, or its item is refused as `take` says; `OutOfMemory` where a growth
-    /// was refused.
-    pub fn take_line(
-        &mut self,
-        alloc: Global,
-        line: u64,
-        said: TraceReading,
-    ) -> Result<TraceItem, Refusal>
-        ensures { (raw : Raw) → reading raw ≡ said
-            → TakesLine result self.old self.new line raw }
-    {
-        match said {
-            TraceReading::Bad(cause) => Err(Refusal::TraceFault { line, cause }),
-            TraceReading::Says(item) => {
-                self.take(alloc, &item, line)?;
-                Ok(item)
-            }
-        }
-    }
-
-    /// The base that the commits so far lead to.
-    pub fn base(&self) -> &Base
-        ensures { result.now ≡ reached self.now }
-    {
-        &self.base
-    }
-
-    /// The base that the commits lead to, of a checker that is done.
-    pub fn into_base(self) -> Base
-        ensures { result ≡ reached self }
-    {
-        self.base
     }
 }

@@ -1,21 +1,12 @@
 //! The first line of what was read so far.
 
 ghost use Rattle.std.specs.Prelude.{◌≡◌, ◌≤◌, ◌<◌, ◌∷◌, List, length, true, false, IfNone, IfSome};
-ghost use Rattle.std.specs.List.{position};
-ghost use Rattle.mlt_text_words.specs.Lines.{Raw, is_lf, lines};
+ghost use Rattle.mlt_text_words.specs.Lines.{Raw, lines};
 ghost use Rattle.mlt_trace_check.specs.Readings.{reading};
 ghost use Rattle.mlt_trace_check.specs.Settled.{IsSettled};
 
 use crate::reading::{TraceReading, read_first};
-
-// How many bytes a line has at most before its LF.
-const MOST_BYTES: usize = 200;
-
-fn find_lf(text: &[u8]) -> Option<usize>
-    ensures { result ≡ position is_lf text.now }
-{
-    text.iter().position(|byte| *byte == b'\n')
-}
+use mlt_text_words::{MOST_LINE_BYTES, find_lf};
 
 // Whether the first line of a text may go on behind it: the input goes on, no LF came, and the line is not too long already.
 fn may_go_on(text: &[u8], ended: bool) -> bool
@@ -25,7 +16,7 @@ fn may_go_on(text: &[u8], ended: bool) -> bool
     ensures settled { result ≡ false → ended ≡ false
         → (raw : Raw) (after : List Raw) → lines text.now ≡ raw ∷ after → IsSettled raw }
 {
-    if ended || text.len() > MOST_BYTES {
+    if ended || text.len() > MOST_LINE_BYTES {
         return false;
     }
     match find_lf(text) {

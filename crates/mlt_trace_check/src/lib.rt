@@ -10,22 +10,19 @@
 mod check_engine;
 mod checker;
 mod first_line;
-mod going;
 mod history_law;
 mod laws;
 mod line_laws;
 mod long_check;
-mod open_tx;
-mod piece;
 mod place_laws;
 mod plain;
+mod progress;
 mod ranges;
 mod reading;
 mod trace_check;
 mod words;
 
 pub use check_engine::check_trace;
-pub use checker::Checker;
 pub use history_law::history_passes_the_checker;
 pub use laws::{
     accepted_traces_have_one_answer, texts_are_accepted_or_faulty, texts_have_one_first_fault,
@@ -34,5 +31,4 @@ pub use line_laws::written_items_are_read;
 pub use long_check::check_long_trace;
 pub use place_laws::{items_stay_placed, transactions_stay_whole};
 pub use ranges::placed_items_are_writable;
-pub use reading::{TraceReading, read_first};
 pub use trace_check::{Order, check};

@@ -1,89 +1,73 @@
 //! A trace of any length from a reader, and what the check says of it to a writer.
 
-ghost use Rattle.std.specs.Prelude.{◌≡◌, ◌⊎◌, ◌≤◌, ◌<◌, ◌+◌, ◌-◌, ◌++◌, ℕ, List, Err, length, take, drop, vec_len, IfErr, IfOk, IsErrAnd, IsOkUnless, MatchResult, OnErr, OnOk, Some};
+ghost use Rattle.std.specs.Prelude.{◌≡◌, ◌⊎◌, ◌≤◌, ◌<◌, ◌+◌, ◌-◌, ◌++◌, [], ℕ, List, Err, length, take, drop, vec_len, IfErr, IfOk, IsErrAnd, IsOkUnless, MatchResult, OnErr, OnOk, Some};
 ghost use Rattle.std.specs.Io.KnownBytes.{Appends, Consumes, IsAtEnd, Keeps};
 ghost use Rattle.mlt_types.specs.declared.refusal.TraceCause.{TraceCause};
 ghost use Rattle.mlt_text.specs.Failures.{IsTraceFault, IsWant};
+ghost use Rattle.mlt_text.specs.Texts.{AppendsFront};
 ghost use Rattle.mlt_object_kinds.specs.Bases.{Base as ObjectBase};
 ghost use Rattle.mlt_trace_check.specs.Traces.{IsAcceptedTrace, IsFirstFault};
-ghost use Rattle.mlt_trace_check.specs.OrderTexts.{order_text};
+ghost use Rattle.mlt_trace_check.specs.OrderTexts.{order_text, serial_lines};
 ghost use Rattle.mlt_trace_check.specs.LongChecks.{IsAnswer, IsDone, IsToldOf};
 ghost use Rattle.mlt_trace_check.specs.LongTexts.{IsFirstFaultRead, IsLongCheckOf, StopsEarly, WritesOfFront};
 
-use crate::going::Going;
-use crate::piece::take_piece;
+use crate::check_engine::text_of_txs;
+use crate::progress::Progress;
 use mlt_object_base::write_base;
-use mlt_text::read_some;
-use mlt_types::Refusal;
+use mlt_text::{fill, keep, write_text, zeros};
+use mlt_types::{Refusal, TxId};
 use std::alloc::Global;
 use std::io::{Read, Write};
 
 // How many bytes are held at most: a line that goes on, and a piece behind it.
 const BUFFER: usize = 262_144;
 
-// Reads behind the bytes that are held, and answers how many bytes came.
-fn fill<R: Read>(reader: &mut R, buffer: &mut [u8], held: usize) -> Result<usize, Refusal>
-    requires room { held < length buffer.old }
-    ensures ok { IfOk result (λ count. (piece : List ℕ)
-        × (take (held + count) buffer.new ≡ take held buffer.old ++ piece)
-        × (length piece ≡ count) × (held + count ≤ length buffer.old)
-        × Consumes (R.remaining reader.old) (R.remaining reader.new) piece
-        × (count ≡ 0 → IsAtEnd (R.remaining reader.new))) }
-    ensures err { OnErr result (Keeps (R.remaining reader.old) (R.remaining reader.new)) }
-    ensures refusal { IsOkUnless result Refusal.Io }
+// Writes the lines of these commits, and forgets them.
+fn tell_commits<W: Write>(alloc: Global, writer: &mut W, txs: &mut Vec<TxId>) -> Result<(), Refusal>
+    ensures ok { OnOk result
+        (Appends (W.contents writer.old) (W.contents writer.new) (serial_lines txs.old.items)) }
+    ensures none { OnOk result (txs.new.items ≡ []) }
+    ensures err { OnErr result (AppendsFront (W.contents writer.old) (W.contents writer.new)
+        (serial_lines txs.old.items)) }
+    ensures refusal { IfErr result IsWant }
 {
-    read_some(reader, &mut buffer[held..])
+    let text = text_of_txs(alloc, txs.as_slice())?;
+    write_text(writer, text.as_bytes())?;
+    txs.clear();
+    Ok(())
 }
 
-// Moves the bytes from `at` to `end` to the start, and answers how many they are.
-fn keep(buffer: &mut [u8], at: usize, end: usize) -> usize
-    requires { (at ≤ end) × (end ≤ length buffer.old) }
-    ensures held { result ≡ end - at }
-    ensures bytes { take result buffer.new ≡ drop at (take end buffer.old) }
-{
-    buffer.copy_within(at..end, 0);
-    end - at
-}
-
-// Goes over the lines of the input, piece by piece, up to its end, and writes what their commits say.
+// Goes over the lines of the input, piece by piece, up to its end, and writes what their commits say, also before a fault.
 fn go_over<R: Read, W: Write>(
     alloc: Global,
     reader: &mut R,
     writer: &mut W,
     buffer: &mut [u8],
-) -> Result<Going, Refusal>
+) -> Result<Progress, Refusal>
     requires room { 200 < length buffer.old }
     ensures ok { IfOk result
-        (λ going. IsDone going (R.remaining reader.old) (R.remaining reader.new)
+        (λ progress. IsDone progress (R.remaining reader.old) (R.remaining reader.new)
         (W.contents writer.old) (W.contents writer.new)) }
     ensures told { IfErr result
         (λ refusal. IsToldOf refusal (R.remaining reader.old) (R.remaining reader.new)) }
     ensures stopped { OnErr result (WritesOfFront (R.remaining reader.old) (R.remaining reader.new)
         (W.contents writer.old) (W.contents writer.new)) }
-    ensures refusals { IfErr result (λ refusal. IsWant refusal ⊎ IsTraceFault refusal) }
 {
-    let mut going = Going::new(alloc);
-    let mut out = String::new(alloc);
+    let mut progress = Progress::new(alloc);
     let mut held = 0;
     'pieces: for _ in 0..u64::MAX {
-        let count = fill(reader, buffer, held)?;
+        let count = fill(reader, buffer, held, BUFFER)?;
         let end = held + count;
         let ended = count == 0;
-        let left = take_piece(&mut going, alloc, writer, &mut out, &buffer[..end], ended)?;
+        let went = progress.take_lines(alloc, &buffer[..end], ended);
+        tell_commits(alloc, writer, &mut progress.txs)?;
+        let left = went?;
         if ended {
-            return Ok(going);
+            return Ok(progress);
         }
         held = keep(buffer, end - left, end);
     }
     Err(Refusal::Io)
-}
-
-// So many zeros.
-fn zeros(alloc: Global, count: usize) -> Result<Vec<u8>, Refusal>
-    ensures length { IfOk result (λ zeros. vec_len zeros ≡ count) }
-    ensures refusal { IsOkUnless result Refusal.OutOfMemory }
-{
-    Ok(vec![in alloc; 0; count]?)
 }
 
 // The check, with its buffer.
@@ -96,11 +80,10 @@ fn check_pieces<R: Read, W: Write>(
         (W.contents writer.old) (W.contents writer.new) }
     ensures failure { OnErr result (StopsEarly (R.remaining reader.old) (R.remaining reader.new)
         (W.contents writer.old) (W.contents writer.new)) }
-    ensures refusals { IfErr result (λ refusal. IsWant refusal ⊎ IsTraceFault refusal) }
 {
     let mut buffer = zeros(alloc, BUFFER)?;
-    let going = go_over(alloc, reader, writer, buffer.as_mut_slice())?;
-    write_base(going.checker.base(), writer)
+    let progress = go_over(alloc, reader, writer, buffer.as_mut_slice())?;
+    write_base(&progress.checker.base, writer)
 }
 
 /// Reads a trace of any length to the end of the input, and checks it line by line as it comes. It writes a line

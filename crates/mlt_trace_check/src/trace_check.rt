@@ -1,19 +1,16 @@
 //! The check of a trace.
 
-ghost use Rattle.std.specs.Prelude.{◌≡◌, ◌⊎◌, ◌∷◌, ◌++◌, [], ℕ, List, Err, IfErr, IfOk, IsErrAnd, IsOkUnless, MatchResult, OnOk, Some};
+ghost use Rattle.std.specs.Prelude.{◌≡◌, ◌⊎◌, ℕ, List, Err, IfErr, IfOk, IsErrAnd, MatchResult, Some};
 ghost use Rattle.mlt_types.specs.declared.refusal.TraceCause.{TraceCause};
 ghost use Rattle.mlt_text.specs.Failures.{IsTraceFault, IsWant, ReadsWithinLimit, RefusesLong};
 ghost use Rattle.mlt_text.specs.Inputs.{GivesWhole};
-ghost use Rattle.mlt_trace.specs.Numbers.{committed_txs};
-ghost use Rattle.mlt_trace_check.specs.Answering.{Answers};
+ghost use Rattle.mlt_trace_check.specs.Answering.{Answers, IsOrderOf};
 ghost use Rattle.mlt_object_kinds.specs.Bases.{Base as ObjectBase};
 ghost use Rattle.mlt_trace_check.specs.Traces.{IsAcceptedTrace, IsFirstFault};
 
-use crate::checker::Checker;
-use crate::reading::read_first;
+use crate::progress::Progress;
 use mlt_object_base::Base;
 use mlt_text::read_input;
-use mlt_trace::TraceItem;
 use mlt_types::{Refusal, TxId};
 use std::alloc::Global;
 use std::io::Read;
@@ -27,36 +24,15 @@ pub struct Order {
     pub base: Base,
 }
 
-// Adds the transaction of a commit behind those before it.
-fn note_commit(txs: &mut Vec<TxId>, item: &TraceItem) -> Result<(), Refusal>
-    ensures txs { OnOk result
-        (txs.new.items ≡ txs.old.items ++ committed_txs (item.now ∷ [])) }
-    ensures refusal { IsOkUnless result Refusal.OutOfMemory }
+// The committed order and the base of a text, or its first fault.
+fn check_text(alloc: Global, text: &[u8]) -> Result<Order, Refusal>
+    ensures { Answers IsOrderOf result text.now }
 {
-    if let TraceItem::Commit(tx, _) = item {
-        txs.push(*tx)?;
-    }
-    Ok(())
-}
-
-// The committed order and the base of a text, or its first fault, line by line.
-pub(crate) fn check_text(alloc: Global, text: &[u8]) -> Result<Order, Refusal>
-    ensures { Answers result text.now }
-{
-    let mut checker = Checker::new(alloc);
-    let mut txs = Vec::new(alloc);
-    let mut rest = text;
-    let mut line = 0u64;
-    while !rest.is_empty() {
-        let (said, after) = read_first(rest);
-        line += 1;
-        let item = checker.take_line(alloc, line, said)?;
-        note_commit(&mut txs, &item)?;
-        rest = after;
-    }
+    let mut progress = Progress::new(alloc);
+    progress.take_lines(alloc, text, true)?;
     Ok(Order {
-        txs,
-        base: checker.into_base(),
+        txs: progress.txs,
+        base: progress.checker.base,
     })
 }
 

@@ -1,13 +1,13 @@
 use Rattle.std.proofs.Common.{◌≡◌, true, false, refl, sym, ◌∙◌, arith}
 use Rattle.mlt_trace_check.proofs.Settling.{settled_by}
 use Rattle.mlt_trace_check.proofs.first_line.may_go_on.Goals as goal
-use Rattle.mlt_trace_check.proofs.first_line.may_go_on.Goals.{then-ended-via-then-ended, then-ended-via-else-ended+then-text-gt-MOST_BYTES}
+use Rattle.mlt_trace_check.proofs.first_line.may_go_on.Goals.{then-ended-via-then-ended, then-ended-via-else-ended+then-text-gt-MOST_LINE_BYTES}
 
 pub returns-then-ended-clause-settled : goal.returns-then-ended-clause-settled
 returns-then-ended-clause-settled c = λ no going raw after e. elim c.then-ended.branch [
   | then-ended-via-then-ended w ↦ absurd (let f : true ≡ false = sym w.if-ended.true ∙ going in cc f)
-  | then-ended-via-else-ended+then-text-gt-MOST_BYTES w ↦
-      settled_by _ c.args.text.now raw after refl c.requires (λ none. let long = w.if-text-gt-MOST_BYTES.true in omega arith) e
+  | then-ended-via-else-ended+then-text-gt-MOST_LINE_BYTES w ↦
+      settled_by _ c.args.text.now raw after refl c.requires (λ none. let long = w.if-text-gt-MOST_LINE_BYTES.true in omega arith) e
 ]
 
 pub returns-in-Some-clause-settled : goal.returns-in-Some-clause-settled

@@ -1,5 +1,5 @@
 use Rattle.std.proofs.Common.{inl}
-use Rattle.mlt_trace_check.proofs.LongNames.{on_err_all}
+use Rattle.mlt_trace_check.proofs.Names.{on_err_all}
 use Rattle.mlt_trace_check.proofs.Saying.{answers, fails, nothing_said}
 use Rattle.mlt_trace_check.proofs.long_check.check_pieces.Goals as goal
 
@@ -8,8 +8,8 @@ returns-in_err-buffer-clause-failure g c = on_err_all _ _ (inl (nothing_said (g.
 
 pub returns-clause-answer : goal.returns-clause-answer
 returns-clause-answer g c =
-    answers c.write_base.result c.in_ok-going.going _ _ _ _ _ c.base.result.now c.in_ok-going.ensures.ok c.base.ensures c.write_base.ensures.ok c.write_base.ensures.refusal
+    answers c.write_base.result c.in_ok-progress.progress _ _ _ _ _ c.in_ok-progress.ensures.ok c.write_base.ensures.ok c.write_base.ensures.refusal
 
 pub returns-clause-failure : goal.returns-clause-failure
 returns-clause-failure g c =
-    fails c.write_base.result c.in_ok-going.going _ _ _ _ _ c.base.result.now c.in_ok-going.ensures.ok c.base.ensures c.write_base.ensures.memory c.write_base.ensures.io c.write_base.ensures.refusal
+    fails c.write_base.result c.in_ok-progress.progress _ _ _ _ _ c.in_ok-progress.ensures.ok c.write_base.ensures.memory c.write_base.ensures.io c.write_base.ensures.refusal

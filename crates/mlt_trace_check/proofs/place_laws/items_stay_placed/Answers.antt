@@ -1,4 +1,4 @@
-use Rattle.mlt_trace_check.proofs.GoingOn.{placed_more}
+use Rattle.mlt_trace_check.proofs.Progressing.{placed_more}
 use Rattle.mlt_trace_check.proofs.Places.{nothing_placed}
 use Rattle.mlt_trace_check.proofs.place_laws.items_stay_placed.Goals as goal
 

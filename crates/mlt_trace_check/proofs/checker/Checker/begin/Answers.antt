@@ -1,4 +1,4 @@
-use Rattle.std.proofs.Common.{refl}
+use Rattle.std.proofs.Common.{refl, arith}
 use Rattle.mlt_trace_check.proofs.Knowing.{knows_begin, no_place_to_begin}
 use Rattle.mlt_trace_check.proofs.checker.Checker.begin.Goals as goal
 
@@ -9,5 +9,6 @@ returns-then-not-may_begin c =
 
 pub returns : goal.returns
 returns c = λ items h at.
+    let updates = c.in_ok-insert.ensures.updates in
     knows_begin c.args.self.now _ items c.args.tx _ c.new.ensures.items refl (c.may_begin.ensures.above c.if-not-may_begin.false)
-    c.in_ok-put_tx.ensures.there c.in_ok-put_tx.ensures.others refl refl refl h
+    updates.1 (λ other apart. updates.2 other (grind arith)) refl refl refl h
