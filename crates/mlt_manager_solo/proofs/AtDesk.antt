@@ -1,14 +1,15 @@
 -- Scripts at a desk over a manager of which nobody else is open
 use Rattle.std.proofs.Common.{◌≡◌, ℕ, [], ◌∷◌, Bool, true, false, Result, Ok, Err, inl, inr, refl, sym, subst, ◌∙◌}
-use Rattle.mlt_manager_solo.proofs.Names.{Refusal, Transcript, ObjOp, ObjReply, Ending, ScriptForm, End, Committed, Aborted, Refused, Answer, Event, Told, counted, Meets, ManagerFields, HasOneIdle, HasOneUndoing, IsAtRest, CanMark, HasAsked, HasDone, HasEndedScript, HasRunScript, IsRefused, IsTakenBack, IsUndone, done_by}
+use Rattle.mlt_manager_solo.proofs.Names.{Refusal, Transcript, ObjOp, ObjReply, Ending, ScriptForm, End, Committed, Aborted, Refused, Answer, Event, Told, counted, Meets, ManagerFields, HasOneIdle, IsAtRest, CanMark, HasAsked, HasRunScript, IsRefused, IsTakenBack, done_by, HasBegunAbort, IsIdle, begun_by}
 use Rattle.mlt_script.specs.declared.statement.Ending.TheVariants.{Commit, Abort}
 use Rattle.mlt_script_serial.specs.declared.call.DeskAnswer.{DeskAnswer}
 use Rattle.mlt_script_serial.specs.Calls.{Moves, answer_by}
 use Rattle.mlt_script_serial.specs.Plays.{Gives, PlaysAt}
 use Rattle.mlt_script_serial.specs.DeskRuns.{ClosesAs, IsRunAt, refusal_of_script}
 use Rattle.mlt_manager_solo.specs.Desks.{MeetsAbort, MeetsCall, MeetsOperation, MeetsUndoing, abort_told, reply_told}
-use Rattle.mlt_manager_solo.proofs.Ends.{abort_is_told, begins_abort, closes_it, commit_is_told, keeps_it, takes_it_back, undo_is_told, undoes_it}
-use Rattle.mlt_manager_solo.proofs.Scripts.{asked_alone, asked_done, asked_first, asked_in_vain, asked_nothing, asked_refused, begun_alone, ended_aborted, ended_committed, ended_refused, not_begun_rests, refused_after, run_begun, run_not_begun}
+use Rattle.mlt_manager_solo.proofs.Backs.{committed_rests}
+use Rattle.mlt_manager_solo.proofs.Ends.{abort_is_told, closes_it, commit_is_told, undo_is_told, undoes_it}
+use Rattle.mlt_manager_solo.proofs.Scripts.{asked_alone, asked_done, asked_in_vain, asked_nothing, asked_on, asked_refused, begun_alone, begun_asked, counted_one, ended_aborted, ended_committed, ended_refused, not_begun_rests, run_not_begun}
 
 -- what a script may be marked with is what it is refused with
 marks_itself : (reason : Refusal) → CanMark reason → refusal_of_script reason ≡ reason
@@ -21,23 +22,12 @@ marks_itself other can = absurd can
 -- an operation that answers a reply was told it
 told_reply : (said : Told) (reply : ObjReply) → DeskAnswer.Replied reply ≡ answer_by DeskAnswer.Replied (reply_told said) → said ≡ Told.Answered (Answer.Done reply)
 told_reply (Told.Answered (Answer.Done r)) reply h = cc h
-told_reply (Told.Answered (Answer.Refused r)) reply h = absurd (cc h)
-told_reply (Told.Answered Answer.Going) reply h = absurd (cc h)
-told_reply (Told.Answered (Answer.Waiting page by)) reply h = absurd (cc h)
-told_reply (Told.Answered (Answer.Blocked by)) reply h = absurd (cc h)
-told_reply (Told.Answered Answer.Undone) reply h = absurd (cc h)
-told_reply (Told.Answered Answer.Aborted) reply h = absurd (cc h)
-told_reply (Told.Refused r) reply h = absurd (cc h)
-told_reply (Told.Begun tx) reply h = absurd (cc h)
-told_reply Told.Called reply h = absurd (cc h)
-told_reply Told.Cancelled reply h = absurd (cc h)
-told_reply (Told.Committed number) reply h = absurd (cc h)
-told_reply (Told.Aborting closed) reply h = absurd (cc h)
+told_reply other reply h = absurd (cc h)
 
 module _ {P : Type 0} (bits_of : P → ℕ → ℕ) where
   module _ (old new : ManagerFields P) (tx : ℕ) (op : ObjOp) (one : HasOneIdle bits_of old tx) where
     -- **An operation that answers a reply is done.**
-    done_alone : (reply : ObjReply) → MeetsOperation bits_of old tx op (DeskAnswer.Replied reply) new → HasOneIdle bits_of new tx × HasDone bits_of old new tx (op, reply)
+    done_alone : (reply : ObjReply) → MeetsOperation bits_of old tx op (DeskAnswer.Replied reply) new → HasOneIdle bits_of new tx × HasAsked bits_of old new ((op, reply) ∷ []) (done_by tx ((op, reply) ∷ []))
     done_alone reply m =
         asked_done bits_of old new tx op one reply (subst (λ (said : Told). Meets bits_of (Event.Whole tx op) said (counted old) new) (told_reply m.said reply m.answers) m.meets)
 
@@ -53,38 +43,25 @@ module _ {P : Type 0} (bits_of : P → ℕ → ℕ) where
         let same : r ≡ reason = cc h in
         subst (λ (x : Refusal). HasOneIdle bits_of new tx × IsRefused bits_of old new tx op x) same (asked_refused bits_of old new tx op one r meets)
     refused_by (Told.Answered (Answer.Done r)) reason h meets = absurd (cc h)
-    refused_by (Told.Answered Answer.Going) reason h meets = absurd (told_alone Answer.Going (λ r e. cc e) (λ r e. cc e) meets)
-    refused_by (Told.Answered (Answer.Waiting page by)) reason h meets = absurd (told_alone (Answer.Waiting page by) (λ r e. cc e) (λ r e. cc e) meets)
-    refused_by (Told.Answered (Answer.Blocked by)) reason h meets = absurd (told_alone (Answer.Blocked by) (λ r e. cc e) (λ r e. cc e) meets)
-    refused_by (Told.Answered Answer.Undone) reason h meets = absurd (told_alone Answer.Undone (λ r e. cc e) (λ r e. cc e) meets)
-    refused_by (Told.Answered Answer.Aborted) reason h meets = absurd (told_alone Answer.Aborted (λ r e. cc e) (λ r e. cc e) meets)
-    refused_by (Told.Begun n) reason h meets = absurd meets
-    refused_by Told.Called reason h meets = absurd meets
-    refused_by Told.Cancelled reason h meets = absurd meets
-    refused_by (Told.Committed number) reason h meets = absurd meets
-    refused_by (Told.Aborting closed) reason h meets = absurd meets
+    refused_by (Told.Answered other) reason h meets = absurd (told_alone other (λ r e. cc e) (λ r e. cc e) meets)
+    refused_by other reason h meets = absurd meets
 
     -- **One that answers a refusal was told it,** and waits for nobody.
     refused_alone : (reason : Refusal) → MeetsOperation bits_of old tx op (DeskAnswer.Refused reason) new → HasOneIdle bits_of new tx × IsRefused bits_of old new tx op reason
     refused_alone reason m = refused_by m.said reason m.answers m.meets
 
-  undone_alone : (middle new : ManagerFields P) (tx : ℕ) → HasOneUndoing bits_of middle tx → (said : Told) → Meets bits_of (Event.WholeUndo tx) said (counted middle) new → IsAtRest bits_of new × IsUndone bits_of middle new tx
-  undone_alone middle new tx undoing (Told.Answered a) meets = undoes_it bits_of middle new tx undoing a meets.0 meets.1 meets.2
-  undone_alone middle new tx undoing (Told.Refused reason) meets = absurd (undo_is_told bits_of middle new tx undoing reason meets)
-  undone_alone middle new tx undoing (Told.Begun n) meets = absurd meets
-  undone_alone middle new tx undoing Told.Called meets = absurd meets
-  undone_alone middle new tx undoing Told.Cancelled meets = absurd meets
-  undone_alone middle new tx undoing (Told.Committed number) meets = absurd meets
-  undone_alone middle new tx undoing (Told.Aborting closed) meets = absurd meets
+  undone_alone : (old middle new : ManagerFields P) (tx : ℕ) → HasOneIdle bits_of old tx → HasBegunAbort (counted old) middle tx → (said : Told) → Meets bits_of (Event.WholeUndo tx) said (counted middle) new
+      → IsAtRest bits_of new × IsTakenBack bits_of old new tx
+  undone_alone old middle new tx one begins (Told.Answered a) meets = undoes_it bits_of old middle new tx one begins a meets.0 meets.1 meets.2
+  undone_alone old middle new tx one begins (Told.Refused reason) meets = absurd (undo_is_told bits_of old middle new tx one begins reason meets)
+  undone_alone old middle new tx one begins other meets = absurd meets
 
   -- **An abort takes the transaction back.**
   back_by : (old middle new : ManagerFields P) (tx : ℕ) → HasOneIdle bits_of old tx → (a : Result Bool Refusal) → Meets bits_of (Event.Abort tx) (abort_told a) (counted old) middle → MeetsUndoing bits_of a middle tx new
       → IsAtRest bits_of new × IsTakenBack bits_of old new tx
   back_by old middle new tx one (Ok true) meets same =
       subst (λ (m : ManagerFields P). IsAtRest bits_of m × IsTakenBack bits_of old m tx) (sym same) (closes_it bits_of old middle tx one meets)
-  back_by old middle new tx one (Ok false) meets (last, undoes) =
-      let u = undone_alone middle new tx (begins_abort bits_of old middle tx one meets) last undoes in
-      (u.0, takes_it_back bits_of old middle new tx one meets u.1)
+  back_by old middle new tx one (Ok false) meets (last, undoes) = undone_alone old middle new tx one meets last undoes
   back_by old middle new tx one (Err reason) meets same = absurd (abort_is_told bits_of old middle tx one reason meets)
 
   back_alone : (old new : ManagerFields P) (tx : ℕ) → HasOneIdle bits_of old tx → MeetsAbort bits_of old tx new → IsAtRest bits_of new × IsTakenBack bits_of old new tx
@@ -103,34 +80,36 @@ module _ {P : Type 0} (bits_of : P → ℕ → ℕ) where
     gives_asked tx d (x ∷ t) e one (m, answers, gives) =
         let first = done_alone (manager_of d) (manager_of m) tx x.0 one x.1 answers in
         let later = gives_asked tx m t e first.0 gives in
-        (later.0, asked_first bits_of (manager_of d) (manager_of m) (manager_of e) tx x t first.1 later.1)
+        (later.0, asked_on bits_of (manager_of d) (manager_of m) (manager_of e) (x ∷ []) t (done_by tx (x ∷ [])) (done_by tx t) first.1 later.1)
+
+    gives_all : (old : ManagerFields P) (tx : ℕ) (d : D) (t : Transcript) (e : D) → HasOneIdle bits_of (manager_of d) tx → HasAsked bits_of old (manager_of d) [] (begun_by tx []) → Gives moves_of tx d t e
+        → HasOneIdle bits_of (manager_of e) tx × HasAsked bits_of old (manager_of e) t (begun_by tx t)
+    gives_all old tx d t e one begun gives =
+        let asked = gives_asked tx d t e one gives in
+        (asked.0, asked_on bits_of old (manager_of d) (manager_of e) [] t (begun_by tx []) (done_by tx t) begun asked.1)
 
     -- **The script is played and closed.**
-    closed_alone : (s : ScriptForm) (tx : ℕ) (d m : D) (t : Transcript) (ended : Result Ending Refusal) (end : End) (e : D) → HasOneIdle bits_of (manager_of d) tx → PlaysAt moves_of s tx d t ended m
-        → ClosesAs moves_of tx ended m end e → IsAtRest bits_of (manager_of e) × HasEndedScript bits_of s (manager_of d) (manager_of e) tx t end
-    closed_alone s tx d m t (Ok Commit) (Committed number) e one plays closes =
-        let asked = gives_asked tx d t m one plays.1 in
-        let kept = keeps_it bits_of (manager_of m) (manager_of e) tx asked.0 number closes in
-        (kept.0, ended_committed bits_of s (manager_of d) (manager_of m) (manager_of e) tx number t plays.0 asked.1 kept.1)
-    closed_alone s tx d m t (Ok Commit) (Refused other) e one plays (reason, same, (n, commits, aborts)) =
-        let asked = gives_asked tx d t m one plays.1 in
-        absurd (commit_is_told bits_of (manager_of m) (manager_of n) tx asked.0 reason commits)
-    closed_alone s tx d m t (Ok Commit) Aborted e one plays closes = absurd closes
-    closed_alone s tx d m t (Ok Abort) Aborted e one plays closes =
-        let asked = gives_asked tx d t m one plays.1 in
+    closed_alone : (s : ScriptForm) (old : ManagerFields P) (tx : ℕ) (d m : D) (t : Transcript) (ended : Result Ending Refusal) (end : End) (e : D) → IsAtRest bits_of old → HasOneIdle bits_of (manager_of d) tx
+        → HasAsked bits_of old (manager_of d) [] (begun_by tx []) → PlaysAt moves_of s tx d t ended m → ClosesAs moves_of tx ended m end e
+        → IsAtRest bits_of (manager_of e) × HasRunScript bits_of s old (manager_of e) tx t end
+    closed_alone s old tx d m t (Ok Commit) (Committed number) e rest one begun plays closes =
+        let asked = gives_all old tx d t m one begun plays.1 in (
+          committed_rests bits_of (counted (manager_of m)) (manager_of e) tx (counted_one bits_of IsIdle (manager_of m) tx asked.0) number closes,
+          ended_committed bits_of s old (manager_of m) (manager_of e) tx number t asked.0 plays.0 asked.1 closes,
+        )
+    closed_alone s old tx d m t (Ok Commit) (Refused other) e rest one begun plays (reason, same, (n, commits, aborts)) =
+        absurd (commit_is_told bits_of (manager_of m) (manager_of n) tx (gives_all old tx d t m one begun plays.1).0 reason commits)
+    closed_alone s old tx d m t (Ok Abort) Aborted e rest one begun plays closes =
+        let asked = gives_all old tx d t m one begun plays.1 in
         let back = back_alone (manager_of m) (manager_of e) tx asked.0 closes in
-        (back.0, ended_aborted bits_of s (manager_of d) (manager_of m) (manager_of e) tx t plays.0 asked.1 back.1 back.0)
-    closed_alone s tx d m t (Ok Abort) (Committed number) e one plays closes = absurd closes
-    closed_alone s tx d m t (Ok Abort) (Refused reason) e one plays closes = absurd closes
-    closed_alone s tx d m t (Err reason) (Refused other) e one plays (same, aborts) =
-        let asked = gives_asked tx d t plays.middle one plays.gives in
+        (back.0, ended_aborted bits_of s old (manager_of m) (manager_of e) tx t rest plays.0 asked.1 back.1 back.0)
+    closed_alone s old tx d m t (Err reason) (Refused other) e rest one begun plays (same, aborts) =
+        let asked = gives_all old tx d t plays.middle one begun plays.gives in
         let refused = refused_alone (manager_of plays.middle) (manager_of m) tx plays.op asked.0 reason plays.refused in
         let back = back_alone (manager_of m) (manager_of e) tx refused.0 aborts in
-        let after = refused_after bits_of s plays.left (manager_of d) (manager_of plays.middle) (manager_of m) tx t plays.op reason plays.reaches plays.asked asked.1 refused.1 in
-        subst (λ (r : Refusal). IsAtRest bits_of (manager_of e) × HasEndedScript bits_of s (manager_of d) (manager_of e) tx t (Refused r)) (sym (same ∙ marks_itself reason refused.1.can))
-        (back.0, ended_refused bits_of s (manager_of d) (manager_of m) (manager_of e) tx t reason after back.1 back.0)
-    closed_alone s tx d m t (Err reason) Aborted e one plays closes = absurd closes
-    closed_alone s tx d m t (Err reason) (Committed number) e one plays closes = absurd closes
+        subst (λ (r : Refusal). IsAtRest bits_of (manager_of e) × HasRunScript bits_of s old (manager_of e) tx t (Refused r)) (sym (same ∙ marks_itself reason refused.1.can))
+        (back.0, ended_refused bits_of s plays.left old (manager_of plays.middle) (manager_of m) (manager_of e) tx t plays.op reason rest plays.reaches plays.asked asked.1 refused.1 back.1 back.0)
+    closed_alone s old tx d m t ended end e rest one begun plays closes = absurd closes
 
     -- **A script that runs at rest leaves the manager at rest,** and its events were told what it was told.
     pub run_at_rest : (s : ScriptForm) (d : D) (tx : ℕ) (t : Transcript) (end : End) (e : D) → IsAtRest bits_of (manager_of d) → IsRunAt moves_of s d tx t end e
@@ -142,6 +121,5 @@ module _ {P : Type 0} (bits_of : P → ℕ → ℕ) where
               (subst (λ (x : End). HasRunScript bits_of s (manager_of d) (manager_of e) 0 t x) (sym u.refused) run),
         )
     run_at_rest s d tx t end e rest (inr b) =
-        let one = begun_alone bits_of (manager_of d) (manager_of b.after_begin) tx rest b.begun in
-        let closed = closed_alone s tx b.after_begin b.after_script t b.ended end e one b.plays b.closes in
-        (closed.0, run_begun bits_of (manager_of d) (manager_of b.after_begin) tx rest b.begun s (manager_of e) t end closed.1)
+        closed_alone s (manager_of d) tx b.after_begin b.after_script t b.ended end e rest (begun_alone bits_of (manager_of d) (manager_of b.after_begin) tx rest b.begun)
+        (begun_asked bits_of (manager_of d) (manager_of b.after_begin) tx rest b.begun) b.plays b.closes

@@ -1,29 +1,18 @@
 -- The ends of the transaction that alone is open: it commits, or is taken back
-use Rattle.std.proofs.Common.{◌≡◌, ◌≢◌, ◌≤◌, ℕ, None, Some, Ok, length, inl, inr, refl, sym, ap, subst, ◌∙◌}
-use Rattle.std.proofs.lemmas.Bool.{cases_eq}
+use Rattle.std.proofs.Common.{◌≡◌, ◌≤◌, ℕ, None, Some, Ok, length, refl, sym, ap, subst, ◌∙◌}
 use Rattle.std.specs.FinMap as map
-use Rattle.mlt_manager_solo.proofs.Names.{Refusal, Base, Answer, At, Transaction, Table, inserted_elsewhere, removed_elsewhere, HasBegunAbort, HasClosed, HasCommitted, IsByAnother, IsOpenAt, IsUndoing, HasBase, UndoingLeavesBase, IsManager, ManagerFields, one_there, HasOneIdle, HasOneUndoing, IsAtRest, KeepsCommitted}
+use Rattle.mlt_manager_solo.proofs.Names.{Refusal, Base, Answer, At, Transaction, Table, inserted_elsewhere, removed_elsewhere, HasBegunAbort, HasClosed, HasCommitted, IsByAnother, IsIdle, IsOpenAt, IsUndoing, HasBase, UndoingLeavesBase, IsManager, ManagerFields, TraceItem, one_there, HasOneIdle, HasOneUndoing, IsAtRest, KeepsCommitted}
 use Rattle.mlt_manager_invariant.proofs.Tables.{removed_here}
 use Rattle.mlt_manager.specs.Undoings.{GoesOnBack, IsCauseAtUndo, IsNotUndoing, StepsBackUpTo}
 use Rattle.mlt_manager.proofs.Ended.{abort_begun_keeps, closed_keeps, committed_keeps}
 use Rattle.mlt_manager.proofs.Kept.{whole_undo_kept}
-use Rattle.mlt_manager_solo.proofs.Items.{abort_commits_none, backs_commit_none, commit_keeps_base, committed_by}
-use Rattle.mlt_manager_solo.proofs.Steps.{StaysBeside, beside_both, changed_here, step_beside, steps_beside}
-
--- who is open where the one that was is no more
-removed_nobody : (txs : Table) (tx : ℕ) → ((i : ℕ) → i ≢ tx → map.get txs i ≡ None) → (i : ℕ) → map.get (map.remove txs tx) i ≡ None
-removed_nobody txs tx alone i = elim (cases_eq i tx) [
-  | inl here ↦ ap (λ (n : ℕ). map.get (map.remove txs tx) n) here ∙ removed_here txs tx
-  | inr differ ↦ removed_elsewhere txs tx i differ ∙ alone i differ
-]
+use Rattle.mlt_manager_solo.proofs.Items.{backs_commit_none, commit_keeps_base, commits_none, committed_by}
+use Rattle.mlt_manager_solo.proofs.Steps.{StaysBeside, beside_both, changed_here, none_left, step_beside, steps_beside}
 
 module _ {P : Type 0} (bits_of : P → ℕ → ℕ) (old new : ManagerFields P) (tx : ℕ) (one : HasOneIdle bits_of old tx) where
   ended_rests : IsManager bits_of new → new.txs ≡ map.remove old.txs tx → new.max_open ≡ old.max_open → IsAtRest bits_of new
-  ended_rests manager txs limit = record {
-    manager = manager;
-    nobody = λ i. ap (λ (t : Table). map.get t i) txs ∙ removed_nobody old.txs tx one.alone i;
-    limit = subst (λ (n : ℕ). 1 ≤ n) (sym limit) one.limit;
-  }
+  ended_rests manager txs limit =
+      none_left bits_of IsIdle old new tx one manager (ap (λ (t : Table). map.get t tx) txs ∙ removed_here old.txs tx) (λ i ne. ap (λ (t : Table). map.get t i) txs ∙ removed_elsewhere old.txs tx i ne) limit
 
   -- **Once it committed, nobody is open,** and the base stays.
   pub committed_rests : (number : ℕ) → HasCommitted old new tx number → IsAtRest bits_of new
@@ -37,21 +26,18 @@ module _ {P : Type 0} (bits_of : P → ℕ → ℕ) (old new : ManagerFields P) 
   closed_rests c = ended_rests (closed_keeps bits_of old one.manager tx new c) c.ends.txs (ap (λ (n : ManagerFields P). n.max_open) c.rest)
 
   pub closed_commits_none : HasClosed old new tx → KeepsCommitted old new
-  closed_commits_none c = record {
-    committed = ap committed_by c.ends.items ∙ abort_commits_none old.shared.history.items tx;
-    commits = ap (λ (n : ManagerFields P). n.commits) c.rest;
-  }
+  closed_commits_none c = (ap committed_by c.ends.items ∙ commits_none old.shared.history.items (TraceItem.Abort tx) tt, ap (λ (n : ManagerFields P). n.commits) c.rest)
 
 pub abort_begins : {P : Type 0} (bits_of : P → ℕ → ℕ) (old new : ManagerFields P) (tx : ℕ) → HasOneIdle bits_of old tx → HasBegunAbort old new tx → HasOneUndoing bits_of new tx × KeepsCommitted old new
 abort_begins bits_of old new tx one a =
     let ch = a.puts.changes in (
       record {
         manager = abort_begun_keeps bits_of old one.manager tx new a;
-        undoing = record { one = ch.after; there = changed_here tx old.txs new.txs ch; is_at = subst IsUndoing (sym (ap (λ (t : Transaction). t.at) a.puts.put)) tt };
+        one = record { one = ch.after; there = changed_here tx old.txs new.txs ch; is_at = subst IsUndoing (sym (ap (λ (t : Transaction). t.at) a.puts.put)) tt };
         alone = λ i ne. ap (λ (t : Table). map.get t i) ch.is ∙ inserted_elsewhere old.txs tx ch.after i ne ∙ one.alone i ne;
         limit = subst (λ (n : ℕ). 1 ≤ n) (sym (ap (λ (n : ManagerFields _). n.max_open) a.rest)) one.limit;
       },
-      record { committed = ap (λ (n : ManagerFields _). committed_by n.shared.history.items) a.rest; commits = ap (λ (n : ManagerFields _). n.commits) a.rest },
+      (ap (λ (n : ManagerFields _). committed_by n.shared.history.items) a.rest, ap (λ (n : ManagerFields _). n.commits) a.rest),
     )
 
 module _ {P : Type 0} (bits_of : P → ℕ → ℕ) (old new : ManagerFields P) (tx : ℕ) (one : HasOneUndoing bits_of old tx) where
@@ -59,21 +45,14 @@ module _ {P : Type 0} (bits_of : P → ℕ → ℕ) (old new : ManagerFields P) 
   back_beside told s = beside_both old s.before new tx (steps_beside bits_of GoesOnBack old s.before tx s.steps s.goes) (step_beside bits_of s.before new tx told s.ends)
 
   pub back_commits_nothing : StepsBackUpTo bits_of old new tx Answer.Aborted → UndoingLeavesBase Answer.Aborted old new tx → KeepsCommitted old new
-  back_commits_nothing s base = record {
-    committed = ap committed_by base.items ∙ backs_commit_none (length base.taken) old.shared.history.items tx;
-    commits = (back_beside Answer.Aborted s).commits;
-  }
+  back_commits_nothing s base = (ap committed_by base.items ∙ backs_commit_none (length base.taken) old.shared.history.items tx, (back_beside Answer.Aborted s).commits)
 
   -- **At its end nobody is open.**
   pub aborted_rests : StepsBackUpTo bits_of old new tx Answer.Aborted → IsAtRest bits_of new
-  aborted_rests s = record {
-    manager = whole_undo_kept bits_of old new one.manager tx (Ok Answer.Aborted) (one.undoing, s);
-    nobody = λ i. elim (cases_eq i tx) [
-      | inl here ↦ ap (λ (n : ManagerFields P). map.get n.txs i) s.ends.rest ∙ ap (λ (n : ℕ). map.get (map.remove s.ends.txs tx) n) here ∙ removed_here s.ends.txs tx
-      | inr differ ↦ (back_beside Answer.Aborted s).others i differ ∙ one.alone i differ
-    ];
-    limit = subst (λ (n : ℕ). 1 ≤ n) (sym (back_beside Answer.Aborted s).limit) one.limit;
-  }
+  aborted_rests s =
+      let beside = back_beside Answer.Aborted s in
+      none_left bits_of IsUndoing old new tx one (whole_undo_kept bits_of old new one.manager tx (Ok Answer.Aborted) (one.one, s))
+      (ap (λ (n : ManagerFields P). map.get n.txs tx) s.ends.rest ∙ removed_here s.ends.txs tx) beside.others beside.limit
 
   -- **And it waits for nobody.**
   pub waits_for_nobody : (told : Answer) → StepsBackUpTo bits_of old new tx told → IsByAnother told new.txs tx → told ≡ Answer.Aborted

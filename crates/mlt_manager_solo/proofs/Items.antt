@@ -21,24 +21,20 @@ lists_push : (items : List TraceItem) (item : TraceItem) → lists_of (entries_o
 lists_push items item = ap lists_of (entries_of-append items (item ∷ [])) ∙ after_entries-push (entries_of items) no_lists (entry_of item)
 
 -- no item but a commit changes what is committed
-pub begin_commits_none : (items : List TraceItem) (tx : ℕ) → committed_by (items ++ TraceItem.Begin tx ∷ []) ≡ committed_by items
-begin_commits_none items tx = ap (λ (l : Lists (ObjOp × ObjReply)). l.committed) (lists_push items (TraceItem.Begin tx))
+abbrev pub CommitsNone : TraceItem → Type 0
+CommitsNone (TraceItem.Commit tx number) = ⊥
+CommitsNone other = Unit {0}
 
-pub op_commits_none : (items : List TraceItem) (tx : ℕ) (x : ObjOp × ObjReply) → committed_by (items ++ TraceItem.Op tx x ∷ []) ≡ committed_by items
-op_commits_none items tx x = ap (λ (l : Lists (ObjOp × ObjReply)). l.committed) (lists_push items (TraceItem.Op tx x))
-
-back_commits_none : (items : List TraceItem) (tx : ℕ) → committed_by (items ++ TraceItem.Back tx ∷ []) ≡ committed_by items
-back_commits_none items tx = ap (λ (l : Lists (ObjOp × ObjReply)). l.committed) (lists_push items (TraceItem.Back tx))
-
-pub abort_commits_none : (items : List TraceItem) (tx : ℕ) → committed_by (items ++ TraceItem.Abort tx ∷ []) ≡ committed_by items
-abort_commits_none items tx = ap (λ (l : Lists (ObjOp × ObjReply)). l.committed) (lists_push items (TraceItem.Abort tx))
+pub commits_none : (items : List TraceItem) (item : TraceItem) → CommitsNone item → committed_by (items ++ item ∷ []) ≡ committed_by items
+commits_none items (TraceItem.Commit tx number) none = absurd none
+commits_none items other none = ap (λ (l : Lists (ObjOp × ObjReply)). l.committed) (lists_push items other)
 
 -- nor do operations that are taken back, up to the abort
 pub backs_commit_none : (count : ℕ) (items : List TraceItem) (tx : ℕ) → committed_by (items ++ (replicate count (TraceItem.Back tx) ++ TraceItem.Abort tx ∷ [])) ≡ committed_by items
-backs_commit_none zero items tx = abort_commits_none items tx
+backs_commit_none zero items tx = commits_none items (TraceItem.Abort tx) tt
 backs_commit_none (suc count) items tx =
     ap committed_by (sym (append_assoc items (TraceItem.Back tx ∷ []) (replicate count (TraceItem.Back tx) ++ TraceItem.Abort tx ∷ []))) ∙ backs_commit_none count (items ++ TraceItem.Back tx ∷ []) tx
-    ∙ back_commits_none items tx
+    ∙ commits_none items (TraceItem.Back tx) tt
 
 module _ {P : Type 0} (bits_of : P → ℕ → ℕ) (m : ManagerFields P) (rest : IsAtRest bits_of m) where
   not_running : (i : ℕ) → (lists_by m).stage i ≢ Running

@@ -3,7 +3,6 @@ pub use Rattle.mlt_event.specs.declared.answer.Answer.{Answer}
 pub use Rattle.mlt_event.specs.declared.event.Event.{Event}
 pub use Rattle.mlt_event.specs.declared.told.Told.{Told}
 pub use Rattle.mlt_manager.proofs.Called.{one_there}
-pub use Rattle.mlt_manager.proofs.Keeping.{counted_keeps}
 pub use Rattle.mlt_manager.specs.Answers.{AnswersAbort, AnswersCall, HasBegunAbort, HasClosed, HasCommitted, IsByAnother, IsIdle, IsOpenAt, IsUndoing, counted}
 pub use Rattle.mlt_manager.specs.Bases.{HasBase, UndoingLeavesBase}
 pub use Rattle.mlt_manager.specs.Events.{Meets}
@@ -11,9 +10,9 @@ pub use Rattle.mlt_manager.specs.Managers.{IsManager, ManagerFields}
 pub use Rattle.mlt_manager.specs.Promises.{lists_by}
 pub use Rattle.mlt_manager.specs.Wholes.{HasRun}
 pub use Rattle.mlt_manager_invariant.proofs.Tables.{inserted_elsewhere, inserted_here, removed_elsewhere}
-pub use Rattle.mlt_manager_solo.specs.Alone.{HasOneIdle, HasOneUndoing, IsAtRest, KeepsCommitted}
-pub use Rattle.mlt_manager_solo.specs.Asking.{CanMark, HasAsked, HasDone, HasEndedScript, HasRunAll, HasRunScript, IsKept, IsRefused, IsTakenBack, IsUndone}
-pub use Rattle.mlt_manager_solo.specs.Events.{done_by}
+pub use Rattle.mlt_manager_solo.specs.Alone.{HasOne, HasOneIdle, HasOneUndoing, IsAtRest, KeepsCommitted}
+pub use Rattle.mlt_manager_solo.specs.Asking.{CanMark, HasAsked, HasRunAll, HasRunScript, IsRefused, IsTakenBack}
+pub use Rattle.mlt_manager_solo.specs.Events.{begun_by, done_by}
 pub use Rattle.mlt_object_kinds.specs.Bases.{Base, Step, Transcript, empty_base}
 pub use Rattle.mlt_object_kinds.specs.declared.operation.ObjOp.{ObjOp}
 pub use Rattle.mlt_object_kinds.specs.declared.operation.ObjReply.{ObjReply}

@@ -1,5 +1,5 @@
 -- Runs of a manager, one after another, and the events of scripts as they grow
-use Rattle.std.proofs.Common.{◌≡◌, ℕ, List, [], ◌∷◌, ◌++◌, Option, None, Some, map, refl, sym, ap, subst, ◌∙◌, append_assoc, append-nil}
+use Rattle.std.proofs.Common.{ℕ, List, [], ◌∷◌, ◌++◌, Option, None, Some, map, refl, sym, ap, subst, ◌∙◌, append_assoc, append-nil}
 use Rattle.std.proofs.lemmas.List.{map-append}
 use Rattle.mlt_manager_solo.proofs.Names.{Refusal, Transcript, ScriptForm, End, Committed, Aborted, Refused, Outcome, mark_of, Event, Told, counted, Meets, ManagerFields}
 use Rattle.mlt_script_serial.specs.Serial.{mark_of_end}
@@ -14,9 +14,6 @@ run_one bits_of old new e t meets = (new, meets, refl)
 pub run_on : {P : Type 0} (bits_of : P → ℕ → ℕ) (old mid new : ManagerFields P) (first later : List Exchange) → IsRunOf bits_of old first mid → IsRunOf bits_of mid later new → IsRunOf bits_of old (first ++ later) new
 run_on bits_of old mid new [] later same run = subst (λ (m : ManagerFields _). IsRunOf bits_of m later new) same run
 run_on bits_of old mid new (e ∷ first) later (next, meets, rest) run = (next, meets, run_on bits_of next mid new first later rest run)
-
-pub same_events : {P : Type 0} (bits_of : P → ℕ → ℕ) (old new : ManagerFields P) (one other : List Exchange) → one ≡ other → IsRunOf bits_of old one new → IsRunOf bits_of old other new
-same_events bits_of old new one other same run = subst (λ (es : List Exchange). IsRunOf bits_of old es new) same run
 
 -- **The events of one more script.**
 pub events_push : (ss : List ScriptForm) (os : List Outcome) (es later : List Exchange) (s : ScriptForm) (o : Outcome) → AreEventsOfAll ss os es → AreEventsOf s o.tx o.done o.end later

@@ -1,50 +1,52 @@
 -- What one script asks of a manager, and what it leaves
-use Rattle.std.proofs.Common.{◌≡◌, ◌≤◌, ◌+◌, ℕ, List, [], ◌∷◌, ◌++◌, Ok, Err, inl, inr, refl, sym, ap, subst, ◌∙◌, arith, append_assoc, nat_cmp}
+use Rattle.std.proofs.Common.{◌≡◌, ◌≤◌, ◌+◌, ℕ, List, [], ◌∷◌, ◌++◌, Ok, Err, inl, inr, refl, sym, ap, subst, ◌∙◌, arith, nat_cmp}
 use Rattle.std.specs.Cmp.{nat_cmp_total}
 use Rattle.std.specs.FinMap as map
-use Rattle.mlt_manager_solo.proofs.Names.{Refusal, Base, Step, Transcript, empty_base, ObjOp, ObjReply, Entry, IsHistory, no_lists, IsSerialBase, follow_push, Ending, ScriptForm, End, Committed, Aborted, Refused, TraceItem, entries_of, entries_of-append, Answer, Event, Told, Transaction, inserted_elsewhere, inserted_here, AnswersCall, IsByAnother, IsIdle, counted, HasBase, Meets, IsManager, ManagerFields, lists_by, HasRun, counted_keeps, HasOneIdle, IsAtRest, KeepsCommitted, CanMark, HasAsked, HasDone, HasEndedScript, HasRunScript, IsKept, IsRefused, IsTakenBack, done_by}
+use Rattle.mlt_manager_solo.proofs.Names.{Refusal, Base, Step, Transcript, empty_base, ObjOp, ObjReply, Entry, IsHistory, no_lists, IsSerialBase, follow_push, Ending, ScriptForm, Committed, Aborted, Refused, TraceItem, entries_of, entries_of-append, Answer, Event, Told, Transaction, inserted_elsewhere, inserted_here, AnswersCall, IsByAnother, IsIdle, counted, HasBase, Meets, IsManager, ManagerFields, lists_by, HasRun, HasOneIdle, IsAtRest, KeepsCommitted, CanMark, HasAsked, HasRunScript, IsRefused, IsTakenBack, done_by, At, HasOne, HasCommitted, begun_by}
 use Rattle.mlt_object_kinds.specs.Bases.{TranscriptLeads}
 use Rattle.mlt_order.specs.Histories.Entry.{Begun}
 use Rattle.mlt_order.specs.Histories.Stage.{Fresh}
 use Rattle.mlt_script_serial.specs.declared.cursor.Next.{Next}
 use Rattle.mlt_script_serial.specs.Follows.{Follows, IsNext, IsPartial, Questions, Reaches, questions_of_script}
 use Rattle.mlt_script_serial.specs.Follows.Questions.{Asks, Ends}
-use Rattle.mlt_script_serial.specs.Serial.{IsScriptRun}
 use Rattle.mlt_script_serial.proofs.Transcripts.{is_partial}
 use Rattle.mlt_manager.specs.Answers.{HasBegun, IsCauseAtBegin}
 use Rattle.mlt_manager.proofs.Ended.{begun_keeps}
+use Rattle.mlt_manager.proofs.Keeping.{counted_keeps}
 use Rattle.mlt_manager.proofs.Kept.{whole_kept}
-use Rattle.mlt_manager_solo.specs.Asking.{IsRefusedAfter}
-use Rattle.mlt_manager_solo.specs.Events.{taken_back}
-use Rattle.mlt_manager_solo.proofs.Items.{base_at_rest, begin_commits_none, committed_by, op_commits_none, serial_at_rest}
-use Rattle.mlt_manager_solo.proofs.Runs.{run_on, run_one, same_events}
-use Rattle.mlt_manager_solo.proofs.Wholes.{call_refused, run_beside, run_done_idle, run_refused_idle, same_items_base, stands_behind_nobody, still_one}
+use Rattle.mlt_manager_solo.specs.Events.{Exchange, taken_back}
+use Rattle.mlt_manager_solo.proofs.Backs.{committed_base}
+use Rattle.mlt_manager_solo.proofs.Items.{base_at_rest, commits_none, committed_by, serial_at_rest}
+use Rattle.mlt_manager_solo.proofs.Runs.{run_on, run_one}
+use Rattle.mlt_manager_solo.proofs.Steps.{still_one}
+use Rattle.mlt_manager_solo.proofs.Wholes.{call_refused, run_beside, run_done_idle, run_refused_idle, stands_behind_nobody}
 
 module _ {P : Type 0} (bits_of : P → ℕ → ℕ) where
   -- one more event is counted, and nothing else
-  pub counted_one : (m : ManagerFields P) (tx : ℕ) → HasOneIdle bits_of m tx → HasOneIdle bits_of (counted m) tx
-  counted_one m tx one = record { manager = counted_keeps bits_of m one.manager; idle = one.idle; alone = one.alone; limit = one.limit }
+  pub counted_one : (IsThere : At → Type 0) (m : ManagerFields P) (tx : ℕ) → HasOne bits_of IsThere m tx → HasOne bits_of IsThere (counted m) tx
+  counted_one IsThere m tx one = record { manager = counted_keeps bits_of m one.manager; one = one.one; alone = one.alone; limit = one.limit }
 
   pub counted_rest : (m : ManagerFields P) → IsAtRest bits_of m → IsAtRest bits_of (counted m)
   counted_rest m rest = record { manager = counted_keeps bits_of m rest.manager; nobody = rest.nobody; limit = rest.limit }
 
   pub none_committed : (a b c : ManagerFields P) → KeepsCommitted a b → KeepsCommitted b c → KeepsCommitted a c
-  none_committed a b c one two = record { committed = two.committed ∙ one.committed; commits = two.commits ∙ one.commits }
+  none_committed a b c one two = (two.0 ∙ one.0, two.1 ∙ one.1)
 
   -- what the operation of the transaction that alone is open may be told
   module _ (old new : ManagerFields P) (tx : ℕ) (op : ObjOp) (one : HasOneIdle bits_of old tx) where
     abbrev manager_now : IsManager bits_of (counted old)
-    manager_now = (counted_one old tx one).manager
+    manager_now = (counted_one IsIdle old tx one).manager
 
-    pub asked_done : (reply : ObjReply) → Meets bits_of (Event.Whole tx op) (Told.Answered (Answer.Done reply)) (counted old) new → HasOneIdle bits_of new tx × HasDone bits_of old new tx (op, reply)
+    pub asked_done : (reply : ObjReply) → Meets bits_of (Event.Whole tx op) (Told.Answered (Answer.Done reply)) (counted old) new
+        → HasOneIdle bits_of new tx × HasAsked bits_of old new ((op, reply) ∷ []) (done_by tx ((op, reply) ∷ []))
     asked_done reply r =
         let beside = run_beside bits_of (counted old) new tx op (Answer.Done reply) r.0 in (
-          still_one bits_of (counted old) new tx (counted_one old tx one) (whole_kept bits_of (counted old) new manager_now tx op (Ok (Answer.Done reply)) r.0)
+          still_one bits_of (counted old) new tx (counted_one IsIdle old tx one) (whole_kept bits_of (counted old) new manager_now tx op (Ok (Answer.Done reply)) r.0)
               (run_done_idle bits_of (counted old) new tx op reply r.0) beside,
           record {
-            meets = r;
-            leads = r.1.leads;
-            keeps = record { committed = ap committed_by r.1.items ∙ op_commits_none old.shared.history.items tx (op, reply); commits = beside.commits };
+            run = run_one bits_of old new (Event.Whole tx op) (Told.Answered (Answer.Done reply)) r;
+            leads = λ base leads. let next = r.1.leads base leads in (next.0, (next.0, next.1, refl), next.2);
+            keeps = (ap committed_by r.1.items ∙ commits_none old.shared.history.items (TraceItem.Op tx (op, reply)) tt, beside.commits);
           },
         )
 
@@ -52,127 +54,109 @@ module _ {P : Type 0} (bits_of : P → ℕ → ℕ) where
     asked_refused reason r =
         let idle = run_refused_idle bits_of (counted old) new tx op reason r.0 in
         let beside = run_beside bits_of (counted old) new tx op (Answer.Refused reason) r.0 in (
-          still_one bits_of (counted old) new tx (counted_one old tx one) (whole_kept bits_of (counted old) new manager_now tx op (Ok (Answer.Refused reason)) r.0) idle.0 beside,
-          record {
-            said = Told.Answered (Answer.Refused reason);
-            refused = inr refl;
-            meets = r;
-            stays = λ base leads. same_items_base old new base r.1.items leads;
-            keeps = record { committed = ap committed_by r.1.items; commits = beside.commits };
-            can = idle.1;
-          },
+          still_one bits_of (counted old) new tx (counted_one IsIdle old tx one) (whole_kept bits_of (counted old) new manager_now tx op (Ok (Answer.Refused reason)) r.0) idle.0 beside,
+          record { said = Told.Answered (Answer.Refused reason); refused = inr refl; meets = r; keeps = (ap committed_by r.1.items, beside.commits); can = idle.1 },
         )
 
     pub asked_in_vain : (reason : Refusal) → AnswersCall (counted old) new tx op (Err reason) → HasOneIdle bits_of new tx × IsRefused bits_of old new tx op reason
     asked_in_vain reason a =
-        let r = call_refused bits_of (counted old) new tx op reason one.idle a in (
-          still_one bits_of (counted old) new tx (counted_one old tx one) (whole_kept bits_of (counted old) new manager_now tx op (Err reason) a) r.0 r.2,
-          record {
-            said = Told.Refused reason;
-            refused = inl refl;
-            meets = a;
-            stays = λ base leads. same_items_base old new base r.1 leads;
-            keeps = record { committed = ap committed_by r.1; commits = r.2.commits };
-            can = r.3;
-          },
+        let r = call_refused bits_of (counted old) new tx op reason one.one a in (
+          still_one bits_of (counted old) new tx (counted_one IsIdle old tx one) (whole_kept bits_of (counted old) new manager_now tx op (Err reason) a) r.0 r.2,
+          record { said = Told.Refused reason; refused = inl refl; meets = a; keeps = (ap committed_by r.1, r.2.commits); can = r.3 },
         )
 
     -- **It waits for nobody, and nobody blocks it.**
     pub asked_alone : (told : Answer) → HasRun bits_of (counted old) new tx op told → IsByAnother told new.txs tx → ((reply : ObjReply) → told ≡ Answer.Done reply → ⊥)
         → ((reason : Refusal) → told ≡ Answer.Refused reason → ⊥) → ⊥
     asked_alone told r another not_done not_refused =
-        stands_behind_nobody bits_of (counted old) new tx told (counted_one old tx one) (run_beside bits_of (counted old) new tx op told r) another not_done not_refused r.runs.steps.stops
+        stands_behind_nobody bits_of (counted old) new tx told (counted_one IsIdle old tx one) (run_beside bits_of (counted old) new tx op told r) another not_done not_refused r.runs.steps.stops
 
   -- nothing was asked yet
   pub asked_nothing : (m : ManagerFields P) (tx : ℕ) → HasAsked bits_of m m [] (done_by tx [])
-  asked_nothing m tx = record { run = refl; leads = λ base leads. (base, refl, leads); keeps = record { committed = refl; commits = refl } }
+  asked_nothing m tx = record { run = refl; leads = λ base leads. (base, refl, leads); keeps = (refl, refl) }
 
-  -- **An operation is done, and then others.**
-  pub asked_first : (old m new : ManagerFields P) (tx : ℕ) (x : ObjOp × ObjReply) (t : Transcript) → HasDone bits_of old m tx x → HasAsked bits_of m new t (done_by tx t) → HasAsked bits_of old new (x ∷ t) (done_by tx (x ∷ t))
-  asked_first old m new tx x t done asked = record {
-    run = (m, done.meets, asked.run);
+  leads_on : (t u : Transcript) (b m n : Base) → TranscriptLeads b t m → TranscriptLeads m u n → TranscriptLeads b (t ++ u) n
+  leads_on [] u b m n same later = subst (λ (x : Base). TranscriptLeads x u n) (sym same) later
+  leads_on (x ∷ t) u b m n (mid, step, rest) later = (mid, step, leads_on t u mid m n rest later)
+
+  -- **These were asked, and then those.**
+  pub asked_on : (old m new : ManagerFields P) (t u : Transcript) (es later : List Exchange) → HasAsked bits_of old m t es → HasAsked bits_of m new u later → HasAsked bits_of old new (t ++ u) (es ++ later)
+  asked_on old m new t u es later one two = record {
+    run = run_on bits_of old m new es later one.run two.run;
     leads = λ base leads.
-        let first = done.leads base leads in
-        let later = asked.leads first.0 first.2 in
-        (later.0, (first.0, first.1, later.1), later.2);
-    keeps = none_committed old m new done.keeps asked.keeps;
+        let first = one.leads base leads in
+        let second = two.leads first.0 first.2 in
+        (second.0, leads_on t u base first.0 second.0 first.1 second.1, second.2);
+    keeps = none_committed old m new one.keeps two.keeps;
   }
 
   asked_at : (p q : Questions) (t : Transcript) (op : ObjOp) → Reaches p t q → IsNext (Next.Op op) q → (after : ObjReply → Questions) × Reaches p t (Asks op after)
   asked_at p (Ends e) t op reaches none = absurd none
   asked_at p (Asks o after) t op reaches is = (after, subst (λ (x : ObjOp). Reaches p t (Asks x after)) (sym is) reaches)
 
-  -- **The next one is refused.**
-  pub refused_after : (s : ScriptForm) (q : Questions) (old m m' : ManagerFields P) (tx : ℕ) (t : Transcript) (op : ObjOp) (reason : Refusal) → Reaches (questions_of_script s) t q → IsNext (Next.Op op) q
-      → HasAsked bits_of old m t (done_by tx t) → IsRefused bits_of m m' tx op reason → IsRefusedAfter bits_of s old m' tx t reason
-  refused_after s q old m m' tx t op reason reaches is asked refused = record {
-    partial = is_partial s t q reaches;
-    last = (Event.Whole tx op, refused.said) ∷ [];
-    why = record { op = op; asked = asked_at (questions_of_script s) q t op reaches is; said = refused.said; refused = refused.refused; events = refl };
-    asked = record {
-      run = run_on bits_of old m m' (done_by tx t) _ asked.run (run_one bits_of m m' (Event.Whole tx op) refused.said refused.meets);
-      leads = λ base leads. let before = asked.leads base leads in (before.0, before.1, refused.stays before.0 before.2);
-      keeps = none_committed old m m' asked.keeps refused.keeps;
-    };
-    can = refused.can;
-  }
-
   -- ends of a script
 
-  pub ended_committed : (s : ScriptForm) (old m new : ManagerFields P) (tx number : ℕ) (t : Transcript) → Follows s t Ending.Commit → HasAsked bits_of old m t (done_by tx t) → IsKept bits_of m new tx number
-      → HasEndedScript bits_of s old new tx t (Committed number)
-  ended_committed s old m new tx number t follows asked kept = record {
-    leads = λ base leads serial.
+  pub ended_committed : (s : ScriptForm) (old m new : ManagerFields P) (tx number : ℕ) (t : Transcript) → HasOneIdle bits_of m tx → Follows s t Ending.Commit → HasAsked bits_of old m t (begun_by tx t)
+      → HasCommitted (counted m) new tx number → HasRunScript bits_of s old new tx t (Committed number)
+  ended_committed s old m new tx number t one follows asked c = record {
+    leads = λ base leads.
         let done = asked.leads base leads in
-        let count : new.commits ≡ old.commits + 1 = kept.commits ∙ kept.next ∙ ap (λ (n : ℕ). n + 1) asked.keeps.commits in
-        (done.0, kept.leads done.0 done.2, (follows, done.1, count, sym kept.commits));
-    exchanges = done_by tx t ++ (Event.Commit tx, Told.Committed number) ∷ [];
+        let commits : new.commits ≡ number = ap (λ (n : ManagerFields P). n.commits) c.rest in
+        let count : new.commits ≡ old.commits + 1 = commits ∙ c.next ∙ ap (λ (n : ℕ). n + 1) asked.keeps.1 in
+        (done.0, committed_base bits_of (counted m) new tx (counted_one IsIdle m tx one) number c done.0 done.2, (follows, done.1, count, sym commits));
+    exchanges = begun_by tx t ++ (Event.Commit tx, Told.Committed number) ∷ [];
     told = refl;
-    run = run_on bits_of old m new (done_by tx t) _ asked.run (run_one bits_of m new (Event.Commit tx) (Told.Committed number) kept.meets);
+    run = run_on bits_of old m new (begun_by tx t) _ asked.run (run_one bits_of m new (Event.Commit tx) (Told.Committed number) c);
     can = tt;
   }
 
-  -- what is taken back leaves the base
-  back_to_base : (old m new : ManagerFields P) (base : Base) → IsAtRest bits_of new → KeepsCommitted old m → KeepsCommitted m new → IsSerialBase Step empty_base (lists_by old).committed base → HasBase new base
-  back_to_base old m new base rest one two serial =
-      base_at_rest bits_of new rest base (subst (λ (ts : List (List (ObjOp × ObjReply))). IsSerialBase Step empty_base ts base) (sym (two.committed ∙ one.committed)) serial)
+  -- where no more is committed, the base is what it was
+  back_to_base : (old new : ManagerFields P) (base : Base) → IsAtRest bits_of old → IsAtRest bits_of new → KeepsCommitted old new → HasBase old base → HasBase new base
+  back_to_base old new base before after keeps leads =
+      base_at_rest bits_of new after base (subst (λ (ts : List Transcript). IsSerialBase Step empty_base ts base) (sym keeps.0) (serial_at_rest bits_of old before base leads))
 
-  pub ended_aborted : (s : ScriptForm) (old m new : ManagerFields P) (tx : ℕ) (t : Transcript) → Follows s t Ending.Abort → HasAsked bits_of old m t (done_by tx t) → IsTakenBack bits_of m new tx → IsAtRest bits_of new
-      → HasEndedScript bits_of s old new tx t Aborted
-  ended_aborted s old m new tx t follows asked back rest = record {
-    leads = λ base leads serial.
-        let done = asked.leads base leads in
-        (base, back_to_base old m new base rest asked.keeps back.keeps serial, (follows, (done.0, done.1), refl, back.keeps.commits ∙ asked.keeps.commits));
-    exchanges = done_by tx t ++ taken_back tx back.closed;
-    told = (back.closed, refl);
-    run = run_on bits_of old m new (done_by tx t) _ asked.run back.run;
-    can = tt;
-  }
+  pub ended_aborted : (s : ScriptForm) (old m new : ManagerFields P) (tx : ℕ) (t : Transcript) → IsAtRest bits_of old → Follows s t Ending.Abort → HasAsked bits_of old m t (begun_by tx t) → IsTakenBack bits_of m new tx
+      → IsAtRest bits_of new → HasRunScript bits_of s old new tx t Aborted
+  ended_aborted s old m new tx t before follows asked back after =
+      let keeps = none_committed old m new asked.keeps back.keeps in
+      record {
+        leads = λ base leads. let done = asked.leads base leads in (base, back_to_base old new base before after keeps leads, (follows, (done.0, done.1), refl, keeps.1));
+        exchanges = begun_by tx t ++ taken_back tx back.closed;
+        told = (back.closed, refl);
+        run = run_on bits_of old m new (begun_by tx t) _ asked.run back.run;
+        can = tt;
+      }
 
-  pub ended_refused : (s : ScriptForm) (old m new : ManagerFields P) (tx : ℕ) (t : Transcript) (reason : Refusal) → IsRefusedAfter bits_of s old m tx t reason → IsTakenBack bits_of m new tx → IsAtRest bits_of new
-      → HasEndedScript bits_of s old new tx t (Refused reason)
-  ended_refused s old m new tx t reason refused back rest = record {
-    leads = λ base leads serial.
-        let done = refused.asked.leads base leads in
-        (base, back_to_base old m new base rest refused.asked.keeps back.keeps serial, (refused.partial, (done.0, done.1), refl, back.keeps.commits ∙ refused.asked.keeps.commits));
-    exchanges = done_by tx t ++ (refused.last ++ taken_back tx back.closed);
-    told = inr (record { last = refused.last; why = refused.why; closed = back.closed; events = refl });
-    run = same_events bits_of old new _ _ (append_assoc (done_by tx t) refused.last (taken_back tx back.closed)) (run_on bits_of old m new (done_by tx t ++ refused.last) _ refused.asked.run back.run);
-    can = refused.can;
-  }
+  -- what it asks next is refused
+  pub ended_refused : (s : ScriptForm) (q : Questions) (old m m' new : ManagerFields P) (tx : ℕ) (t : Transcript) (op : ObjOp) (reason : Refusal) → IsAtRest bits_of old → Reaches (questions_of_script s) t q
+      → IsNext (Next.Op op) q → HasAsked bits_of old m t (begun_by tx t) → IsRefused bits_of m m' tx op reason → IsTakenBack bits_of m' new tx → IsAtRest bits_of new → HasRunScript bits_of s old new tx t (Refused reason)
+  ended_refused s q old m m' new tx t op reason before reaches is asked refused back after =
+      let keeps = none_committed old m' new (none_committed old m m' asked.keeps refused.keeps) back.keeps in
+      record {
+        leads = λ base leads. let done = asked.leads base leads in (base, back_to_base old new base before after keeps leads, (is_partial s t q reaches, (done.0, done.1), refl, keeps.1));
+        exchanges = begun_by tx t ++ ((Event.Whole tx op, refused.said) ∷ taken_back tx back.closed);
+        told = inr (record {
+          last = (Event.Whole tx op, refused.said) ∷ [];
+          why = record { op = op; asked = asked_at (questions_of_script s) q t op reaches is; said = refused.said; refused = refused.refused; events = refl };
+          closed = back.closed;
+          events = refl;
+        });
+        run = run_on bits_of old m new (begun_by tx t) ((Event.Whole tx op, refused.said) ∷ taken_back tx back.closed) asked.run (m', refused.meets, back.run);
+        can = refused.can;
+      }
 
   -- **A transaction that begins is the only one.**
   module _ (old m : ManagerFields P) (tx : ℕ) (rest : IsAtRest bits_of old) (begun : HasBegun (counted old) m tx) where
     pub begun_alone : HasOneIdle bits_of m tx
     begun_alone = record {
       manager = begun_keeps bits_of (counted old) (counted_rest old rest).manager tx m begun;
-      idle = record { one = begun.one; there = ap (λ (n : ManagerFields P). map.get n.txs tx) begun.rest ∙ inserted_here old.txs tx begun.one; is_at = subst IsIdle (sym begun.idle) tt };
+      one = record { one = begun.one; there = ap (λ (n : ManagerFields P). map.get n.txs tx) begun.rest ∙ inserted_here old.txs tx begun.one; is_at = subst IsIdle (sym begun.idle) tt };
       alone = λ i ne. ap (λ (n : ManagerFields P). map.get n.txs i) begun.rest ∙ inserted_elsewhere old.txs tx begun.one i ne ∙ rest.nobody i;
       limit = subst (λ (n : ℕ). 1 ≤ n) (sym (ap (λ (n : ManagerFields P). n.max_open) begun.rest)) rest.limit;
     }
 
     begun_committed : KeepsCommitted old m
-    begun_committed = record { committed = ap committed_by begun.items ∙ begin_commits_none old.shared.history.items tx; commits = ap (λ (n : ManagerFields P). n.commits) begun.rest }
+    begun_committed = (ap committed_by begun.items ∙ commits_none old.shared.history.items (TraceItem.Begin tx) tt, ap (λ (n : ManagerFields P). n.commits) begun.rest)
 
     begun_base : (base : Base) → HasBase old base → HasBase m base
     begun_base base leads =
@@ -181,17 +165,8 @@ module _ {P : Type 0} (bits_of : P → ℕ → ℕ) where
         let same : entries_of m.shared.history.items ≡ entries_of old.shared.history.items ++ Begun tx ∷ [] = ap entries_of begun.items ∙ entries_of-append old.shared.history.items (TraceItem.Begin tx ∷ []) in
         subst (λ (es : List (Entry (ObjOp × ObjReply))). IsHistory Step empty_base es base) (sym same) grown
 
-    pub run_begun : (s : ScriptForm) (new : ManagerFields P) (t : Transcript) (end : End) → HasEndedScript bits_of s m new tx t end → HasRunScript bits_of s old new tx t end
-    run_begun s new t end ended = record {
-      leads = λ base leads.
-          let serial = subst (λ (ts : List (List (ObjOp × ObjReply))). IsSerialBase Step empty_base ts base) (sym begun_committed.committed) (serial_at_rest bits_of old rest base leads) in
-          let run = ended.leads base (begun_base base leads) serial in
-          (run.0, run.1, subst (λ (n : ℕ). IsScriptRun s base n t end run.0 new.commits) begun_committed.commits run.2);
-      exchanges = (Event.Begin, Told.Begun tx) ∷ ended.exchanges;
-      told = ended.told;
-      run = (m, begun, ended.run);
-      can = ended.can;
-    }
+    pub begun_asked : HasAsked bits_of old m [] (begun_by tx [])
+    begun_asked = record { run = run_one bits_of old m Event.Begin (Told.Begun tx) begun; leads = λ base leads. (base, refl, begun_base base leads); keeps = begun_committed }
 
   -- why no transaction begins where none is open
   begin_can_mark : (m : ManagerFields P) (reason : Refusal) → IsAtRest bits_of m → IsCauseAtBegin reason m → CanMark reason

@@ -1,14 +1,15 @@
 -- What steps of a transaction do to it, and beside it
-use Rattle.std.proofs.Common.{◌≡◌, ◌≢◌, ℕ, List, [], ◌∷◌, Some, refl, sym, ap, subst, ◌∙◌}
+use Rattle.std.proofs.Common.{◌≡◌, ◌≢◌, ◌≤◌, ℕ, List, [], ◌∷◌, None, Some, inl, inr, refl, sym, ap, subst, ◌∙◌}
+use Rattle.std.proofs.lemmas.Bool.{cases_eq}
 use Rattle.std.specs.FinMap as map
-use Rattle.mlt_manager_solo.proofs.Names.{Refusal, ObjReply, Answer, At, Transaction, Table, inserted_elsewhere, inserted_here, removed_elsewhere, IsIdle, IsOpenAt, ManagerFields, CanMark}
+use Rattle.mlt_manager_solo.proofs.Names.{Refusal, ObjReply, Answer, At, Transaction, Table, inserted_elsewhere, inserted_here, removed_elsewhere, IsIdle, IsOpenAt, IsManager, ManagerFields, HasOne, HasOneIdle, IsAtRest, CanMark}
 use Rattle.mlt_hash_access.specs.LocalStates.{LocalState}
 use Rattle.mlt_hash.specs.Walks.{WalkContext, context_by}
 use Rattle.mlt_object_base.specs.declared.request.Request.{Request}
-use Rattle.mlt_tx_two_records.specs.declared.two_records.TwoRecordWalk.TheVariants.{First, Owing, Wide}
+use Rattle.mlt_tx_two_records.specs.declared.two_records.TwoRecordWalk.TheVariants.{Wide}
 use Rattle.mlt_tx_two_records.specs.declared.two_records.WideStage.{WideStage}
 use Rattle.mlt_tx_operation.specs.declared.access_path.AccessPath.{AccessPath}
-use Rattle.mlt_tx_operation.specs.declared.access_path.AccessPath.TheVariants.{One, Two}
+use Rattle.mlt_tx_operation.specs.declared.access_path.AccessPath.TheVariants.{Two}
 use Rattle.mlt_tx_operation.specs.Answers.{CauseBy, IsCauseOf}
 use Rattle.mlt_tx_operation.specs.Operating.{OperationFields}
 use Rattle.mlt_tx.specs.declared.shared.SharedState.{SharedState}
@@ -22,6 +23,27 @@ pub record StaysBeside {P : Type 0} (old new : ManagerFields P) (tx : ℕ) : Typ
   pub others : (i : ℕ) → i ≢ tx → map.get new.txs i ≡ map.get old.txs i
   pub limit : new.max_open ≡ old.max_open
   pub commits : new.commits ≡ old.commits
+
+-- a manager of which one transaction alone is open, after an event of that one: it is open still, or is open no more
+pub still_one : {P : Type 0} (bits_of : P → ℕ → ℕ) (old new : ManagerFields P) (tx : ℕ) → HasOneIdle bits_of old tx → IsManager bits_of new → IsOpenAt new.txs tx IsIdle → StaysBeside old new tx
+    → HasOneIdle bits_of new tx
+still_one bits_of old new tx one manager idle beside = record {
+  manager = manager;
+  one = idle;
+  alone = λ i ne. beside.others i ne ∙ one.alone i ne;
+  limit = subst (λ (n : ℕ). 1 ≤ n) (sym beside.limit) one.limit;
+}
+
+pub none_left : {P : Type 0} (bits_of : P → ℕ → ℕ) (IsThere : At → Type 0) (old new : ManagerFields P) (tx : ℕ) → HasOne bits_of IsThere old tx → IsManager bits_of new → map.get new.txs tx ≡ None
+    → ((i : ℕ) → i ≢ tx → map.get new.txs i ≡ map.get old.txs i) → new.max_open ≡ old.max_open → IsAtRest bits_of new
+none_left bits_of IsThere old new tx one manager gone others limit = record {
+  manager = manager;
+  nobody = λ i. elim (cases_eq i tx) [
+    | inl here ↦ ap (λ (n : ℕ). map.get new.txs n) here ∙ gone
+    | inr differ ↦ others i differ ∙ one.alone i differ
+  ];
+  limit = subst (λ (n : ℕ). 1 ≤ n) (sym limit) one.limit;
+}
 
 pub beside_same : {P : Type 0} (old new : ManagerFields P) (tx : ℕ) → new ≡ old → StaysBeside old new tx
 beside_same old new tx same = record {
@@ -53,11 +75,8 @@ after_others other txs tx i ne = refl
 can_mark_by : (reason : Refusal) (access_path : AccessPath) (context : WalkContext) (old mid : LocalState) (request : Request) → CauseBy access_path reason context old mid request → CanMark reason
 can_mark_by Refusal.NoRoom access_path context old mid request cause = tt
 can_mark_by Refusal.OutOfMemory access_path context old mid request cause = tt
-can_mark_by other (One walk) context old mid request none = absurd none
-can_mark_by other (Two (First pair)) context old mid request none = absurd none
-can_mark_by other (Two (Owing pair reply)) context old mid request none = absurd none
-can_mark_by other (Two (Wide WideStage.Own walk)) context old mid request none = absurd none
 can_mark_by other (Two (Wide WideStage.Size walk)) context old mid request (since, put, none) = absurd none
+can_mark_by other access_path context old mid request none = absurd none
 
 step_can_mark : (reason : Refusal) (context : WalkContext) (old mid : LocalState) (before : OperationFields) → IsCauseOf reason context old mid before → CanMark reason
 step_can_mark reason context old mid before cause = can_mark_by reason before.access_path context old mid before.request cause

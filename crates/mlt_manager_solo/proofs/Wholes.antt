@@ -1,43 +1,23 @@
 -- A whole operation of the transaction that alone is open
-use Rattle.std.proofs.Common.{◌≡◌, ◌≤◌, ℕ, List, Option, None, Some, IsSome, Err, refl, sym, ap, subst, ◌∙◌}
+use Rattle.std.proofs.Common.{◌≡◌, ℕ, Option, None, Some, IsSome, Err, refl, sym, ap, subst, ◌∙◌}
 use Rattle.std.specs.FinMap as map
-use Rattle.mlt_manager_solo.proofs.Names.{Refusal, Base, Step, empty_base, ObjOp, ObjReply, IsHistory, TraceItem, entries_of, Answer, At, Transaction, Table, AnswersCall, IsByAnother, IsIdle, IsOpenAt, IsUndoing, HasBase, IsManager, ManagerFields, HasRun, one_there, HasOneIdle, CanMark}
+use Rattle.mlt_manager_solo.proofs.Names.{Refusal, ObjOp, ObjReply, Answer, At, Transaction, Table, AnswersCall, IsByAnother, IsIdle, IsOpenAt, IsUndoing, ManagerFields, HasRun, one_there, HasOneIdle, CanMark}
 use Rattle.mlt_tx.specs.Transactions.{IsPending}
 use Rattle.mlt_manager.specs.Answers.{IsNotIdle}
 use Rattle.mlt_manager.specs.Wholes.{DropsIfItStands, LetsGoOn, Stops}
 use Rattle.mlt_manager_solo.proofs.Steps.{StaysBeside, beside_both, beside_same, changed_beside, changed_here, done_idles, refused_idles, step_beside, steps_beside}
 
--- the same items lead to the same base
-pub same_items_base : {P : Type 0} (m m' : ManagerFields P) (base : Base) → m'.shared.history.items ≡ m.shared.history.items → HasBase m base → HasBase m' base
-same_items_base m m' base same leads = subst (λ (items : List TraceItem). IsHistory Step empty_base (entries_of items) base) (sym same) leads
-
--- a manager of which one transaction alone is open, after an event of that one
-pub still_one : {P : Type 0} (bits_of : P → ℕ → ℕ) (old new : ManagerFields P) (tx : ℕ) → HasOneIdle bits_of old tx → IsManager bits_of new → IsOpenAt new.txs tx IsIdle → StaysBeside old new tx
-    → HasOneIdle bits_of new tx
-still_one bits_of old new tx one manager idle beside = record {
-  manager = manager;
-  idle = idle;
-  alone = λ i ne. beside.others i ne ∙ one.alone i ne;
-  limit = subst (λ (n : ℕ). 1 ≤ n) (sym beside.limit) one.limit;
-}
-
-idle_or_undoing : (a : At) → IsIdle a → IsUndoing a → ⊥
-idle_or_undoing At.Idle is none = none
-idle_or_undoing (At.Pending o) none also = none
-idle_or_undoing (At.Undoing inverting) none also = none
-
-idle_or_pending : (a : At) → IsIdle a → IsPending a → ⊥
-idle_or_pending At.Idle is none = none
-idle_or_pending (At.Pending o) none also = none
-idle_or_pending (At.Undoing inverting) none also = none
+idle_or : (IsOther : At → Type 0) → (IsOther At.Idle → ⊥) → (a : At) → IsIdle a → IsOther a → ⊥
+idle_or IsOther never At.Idle is also = never also
+idle_or IsOther never other none also = none
 
 -- what an idle transaction is not
 pub idle_is_idle : (reason : Refusal) (txs : Table) (tx : ℕ) → IsOpenAt txs tx IsIdle → IsNotIdle reason txs tx → ⊥
 idle_is_idle Refusal.NoSuchTx txs tx idle none = let both : Some idle.one ≡ None = sym idle.there ∙ none in cc
 idle_is_idle Refusal.Undoing txs tx idle undoing =
-    idle_or_undoing idle.one.at idle.is_at (subst (λ (t : Transaction). IsUndoing t.at) (one_there txs tx undoing.one idle.one undoing.there idle.there) undoing.is_at)
+    idle_or IsUndoing (λ none. none) idle.one.at idle.is_at (subst (λ (t : Transaction). IsUndoing t.at) (one_there txs tx undoing.one idle.one undoing.there idle.there) undoing.is_at)
 idle_is_idle Refusal.Running txs tx idle pending =
-    idle_or_pending idle.one.at idle.is_at (subst (λ (t : Transaction). IsPending t.at) (one_there txs tx pending.one idle.one pending.there idle.there) pending.is_at)
+    idle_or IsPending (λ none. none) idle.one.at idle.is_at (subst (λ (t : Transaction). IsPending t.at) (one_there txs tx pending.one idle.one pending.there idle.there) pending.is_at)
 idle_is_idle other txs tx idle none = none
 
 module _ {P : Type 0} (bits_of : P → ℕ → ℕ) (old new : ManagerFields P) (tx : ℕ) (op : ObjOp) (told : Answer) (r : HasRun bits_of old new tx op told) where

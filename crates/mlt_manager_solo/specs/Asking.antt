@@ -1,12 +1,9 @@
 -- What the operations of a script, and its end, do to a manager
-use Rattle.std.specs.Prelude.{ℕ, ◌≡◌, ◌⊎◌, ◌+◌, Bool, List, [], ◌∷◌, ◌++◌, Option, None, Some, map}
+use Rattle.std.specs.Prelude.{ℕ, ◌≡◌, ◌⊎◌, Bool, List, [], ◌∷◌, Option, None, Some, map}
 use Rattle.mlt_types.specs.declared.refusal.Refusal.{Refusal}
-use Rattle.mlt_object_kinds.specs.Bases.{Base, TranscriptLeads, Step, Transcript, empty_base}
+use Rattle.mlt_object_kinds.specs.Bases.{Base, TranscriptLeads, Transcript}
 use Rattle.mlt_object_kinds.specs.declared.operation.ObjOp.{ObjOp}
-use Rattle.mlt_object_kinds.specs.declared.operation.ObjReply.{ObjReply}
-use Rattle.mlt_order.specs.Runs.{IsSerialBase}
 use Rattle.mlt_script.specs.Scripts.{ScriptForm}
-use Rattle.mlt_script_serial.specs.Follows.{IsPartial}
 use Rattle.mlt_script_serial.specs.declared.outcome.End.{End}
 use Rattle.mlt_script_serial.specs.declared.outcome.End.TheVariants.{Refused}
 use Rattle.mlt_script_serial.specs.declared.outcome.Outcome.{Outcome}
@@ -18,9 +15,8 @@ use Rattle.mlt_manager.specs.Answers.{counted}
 use Rattle.mlt_manager.specs.Bases.{HasBase}
 use Rattle.mlt_manager.specs.Events.{Meets}
 use Rattle.mlt_manager.specs.Managers.{ManagerFields}
-use Rattle.mlt_manager.specs.Promises.{lists_by}
 use Rattle.mlt_manager_solo.specs.Alone.{KeepsCommitted}
-use Rattle.mlt_manager_solo.specs.Events.{AreEventsOf, AreEventsOfAll, Exchange, IsRunOf, IsToldRefusal, done_by, taken_back}
+use Rattle.mlt_manager_solo.specs.Events.{AreEventsOf, AreEventsOfAll, Exchange, IsRunOf, taken_back}
 
 -- what a script may be refused with: there is no memory or no room, or it has too many operations, or all numbers of
 -- transactions were given out
@@ -31,22 +27,12 @@ CanMark Refusal.LogFull = Unit {0}
 CanMark Refusal.IdsSpent = Unit {0}
 CanMark other = ⊥
 
--- the operation is done, and the base has made its step
-pub record HasDone {P : Type 0} (bits_of : P → ℕ → ℕ) (old new : ManagerFields P) (tx : ℕ)
-    (item : ObjOp × ObjReply) : Type 0 where
-  pub meets : Meets bits_of (Event.Whole tx item.0) (Told.Answered (Answer.Done item.1))
-      (counted old) new
-  pub leads : (base : Base) → HasBase old base
-      → (next : Base) × Step base item next × HasBase new next
-  pub keeps : KeepsCommitted old new
-
 -- the operation is refused, and nothing is done
 pub record IsRefused {P : Type 0} (bits_of : P → ℕ → ℕ) (old new : ManagerFields P) (tx : ℕ)
     (op : ObjOp) (reason : Refusal) : Type 0 where
   pub said : Told
   pub refused : (said ≡ Told.Refused reason) ⊎ (said ≡ Told.Answered (Answer.Refused reason))
   pub meets : Meets bits_of (Event.Whole tx op) said (counted old) new
-  pub stays : (base : Base) → HasBase old base → HasBase new base
   pub keeps : KeepsCommitted old new
   pub can : CanMark reason
 
@@ -57,35 +43,12 @@ pub record HasAsked {P : Type 0} (bits_of : P → ℕ → ℕ) (old new : Manage
   pub leads : (base : Base) → HasBase old base → (next : Base) × TranscriptLeads base t next × HasBase new next
   pub keeps : KeepsCommitted old new
 
--- the script is refused, once the operations of the transcript are done
-pub record IsRefusedAfter {P : Type 0} (bits_of : P → ℕ → ℕ) (s : ScriptForm)
-    (old new : ManagerFields P) (tx : ℕ) (t : Transcript) (reason : Refusal) : Type 0 where
-  pub partial : IsPartial s t
-  pub last : List Exchange
-  pub why : IsToldRefusal s tx t reason last
-  pub asked : HasAsked bits_of old new t (done_by tx t ++ last)
-  pub can : CanMark reason
-
--- its abort, which has begun, is at its end
-pub record IsUndone {P : Type 0} (bits_of : P → ℕ → ℕ) (old new : ManagerFields P) (tx : ℕ)
-    : Type 0 where
-  pub meets : Meets bits_of (Event.WholeUndo tx) (Told.Answered Answer.Aborted) (counted old) new
-  pub keeps : KeepsCommitted old new
-
 -- the transaction is taken back
 pub record IsTakenBack {P : Type 0} (bits_of : P → ℕ → ℕ) (old new : ManagerFields P) (tx : ℕ)
     : Type 0 where
   pub closed : Bool
   pub run : IsRunOf bits_of old (taken_back tx closed) new
   pub keeps : KeepsCommitted old new
-
--- the transaction commits under the next number, and its changes stay
-pub record IsKept {P : Type 0} (bits_of : P → ℕ → ℕ) (old new : ManagerFields P) (tx number : ℕ)
-    : Type 0 where
-  pub meets : Meets bits_of (Event.Commit tx) (Told.Committed number) (counted old) new
-  pub next : number ≡ old.commits + 1
-  pub commits : new.commits ≡ number
-  pub leads : (base : Base) → HasBase old base → HasBase new base
 
 -- where a script is refused, it is so
 abbrev pub CanEnd : End → Type 0
@@ -100,17 +63,6 @@ pub record HasRunScript {P : Type 0} (bits_of : P → ℕ → ℕ) (s : ScriptFo
       → (next : Base) × HasBase new next × IsScriptRun s base old.commits t end next new.commits
   pub exchanges : List Exchange
   pub told : AreEventsOf s tx t end exchanges
-  pub run : IsRunOf bits_of old exchanges new
-  pub can : CanEnd end
-
--- The same of a transaction that has begun, these being the events up to then.
-pub record HasEndedScript {P : Type 0} (bits_of : P → ℕ → ℕ) (s : ScriptForm)
-    (old new : ManagerFields P) (tx : ℕ) (t : Transcript) (end : End) : Type 0 where
-  pub leads : (base : Base) → HasBase old base
-      → IsSerialBase Step empty_base (lists_by old).committed base
-      → (next : Base) × HasBase new next × IsScriptRun s base old.commits t end next new.commits
-  pub exchanges : List Exchange
-  pub told : AreEventsOf s tx t end ((Event.Begin, Told.Begun tx) ∷ exchanges)
   pub run : IsRunOf bits_of old exchanges new
   pub can : CanEnd end
 

@@ -1,3 +1,1 @@
-pub mod Explaining
-pub mod Growing
 pub mod StepsTexts

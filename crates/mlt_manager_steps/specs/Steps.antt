@@ -1,5 +1,5 @@
 -- What `steps` writes for an input.
-use Rattle.std.specs.Prelude.{◌≡◌, ℕ, List, [], ◌∷◌, ◌++◌, codes}
+use Rattle.std.specs.Prelude.{◌≡◌, ℕ, Bool, true, false, List, [], ◌∷◌, ◌++◌, codes}
 use Rattle.mlt_types.specs.declared.limits.Limits.{Limits}
 use Rattle.mlt_object_kinds.specs.Bases.{Base}
 use Rattle.mlt_object_kinds.specs.Texts.{with_number}
@@ -26,16 +26,25 @@ pub record IsTextBehind {P : Type 0} (lines : List ℕ) (manager : ManagerFields
   pub deep : HasDepth manager depth
   pub appended : text ≡ lines ++ (base_text base ++ depth_line depth)
 
--- the same, with a line for what each event was told
-abbrev pub IsTextOf : {P : Type 0} → List Told → ManagerFields P → List ℕ → Type 0
-IsTextOf tolds manager text = IsTextBehind (told_text tolds) manager text
+-- The lines of what events were told. With the reasons they are a text for people, and tests say which.
+abbrev pub AreToldLines : Bool → List Told → List ℕ → Type 0
+AreToldLines true tolds lines = Unit {0}
+AreToldLines false tolds lines = lines ≡ told_text tolds
 
--- The input spells events, which are played from a new manager to this one, and the text is that of what they were
--- told.
-pub record IsStepsText {P : Type 0} (bits_of : P → ℕ → ℕ) (limits : Limits) (pseudo : P)
-    (input text : List ℕ) (manager : ManagerFields P) : Type 0 where
-  pub events : List Event
+-- The events are played from a new manager to this one, and these are the lines of what they were told.
+pub record ArePlayedLines {P : Type 0} (bits_of : P → ℕ → ℕ) (limits : Limits) (pseudo : P)
+    (explains : Bool) (events : List Event) (manager : ManagerFields P) (lines : List ℕ)
+    : Type 0 where
   pub tolds : List Told
-  pub spelled : Spells input events
   pub played : Plays bits_of limits pseudo events tolds manager
-  pub written : IsTextOf tolds manager text
+  pub told : AreToldLines explains tolds lines
+
+-- The input spells events, which are played, and the text is that of what they were told, with the reasons where they
+-- are asked for.
+pub record IsStepsText {P : Type 0} (bits_of : P → ℕ → ℕ) (limits : Limits) (pseudo : P)
+    (explains : Bool) (input text : List ℕ) (manager : ManagerFields P) : Type 0 where
+  pub events : List Event
+  pub spelled : Spells input events
+  pub lines : List ℕ
+  pub played : ArePlayedLines bits_of limits pseudo explains events manager lines
+  pub written : IsTextBehind lines manager text

@@ -4,10 +4,8 @@ ghost use Rattle.std.specs.Prelude.{◌≡◌, ◌⊎◌, ◌++◌, List, ℕ, I
 ghost use Rattle.std.specs.Io.KnownBytes.{Appends, Keeps};
 ghost use Rattle.std.specs.String.{string_bytes};
 ghost use Rattle.mlt_text.specs.Texts.{AppendsFront};
-ghost use Rattle.mlt_manager_steps.specs.Steps.{IsTextBehind, IsTextOf, depth_line};
+ghost use Rattle.mlt_manager_steps.specs.Steps.{IsTextBehind, depth_line};
 
-use mlt_event::Told;
-use mlt_event_text::told_text;
 use mlt_manager::Manager;
 use mlt_object_base::write_base;
 use mlt_text::write_text;
@@ -62,25 +60,4 @@ pub(crate) fn write_lines<W: Write, P: Pseudo>(
 {
     let text = text_behind(alloc, lines, manager)?;
     write_text(writer, text.as_slice())
-}
-
-// Writes the text of what events were told, as [`write_lines`] does.
-pub(crate) fn write_tolds<W: Write, P: Pseudo>(
-    alloc: Global,
-    tolds: &[Told],
-    manager: &Manager<P>,
-    writer: &mut W,
-) -> Result<(), Refusal>
-    ensures ok { OnOk result ((text : List ℕ) × IsTextOf tolds.now manager.now text
-        × Appends (W.contents writer.old) (W.contents writer.new) text) }
-    ensures memory { IsErrOf result Refusal.OutOfMemory
-        → Keeps (W.contents writer.old) (W.contents writer.new) }
-    ensures io { IsErrOf result Refusal.Io
-        → (text : List ℕ) × IsTextOf tolds.now manager.now text
-        × AppendsFront (W.contents writer.old) (W.contents writer.new) text }
-    ensures refusal { IfErr result
-        (λ refusal. (refusal ≡ Refusal.OutOfMemory) ⊎ (refusal ≡ Refusal.Io)) }
-{
-    let lines = told_text(alloc, tolds)?;
-    write_lines(alloc, lines, manager, writer)
 }

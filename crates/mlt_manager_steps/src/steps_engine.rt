@@ -8,17 +8,20 @@ ghost use Rattle.mlt_text.specs.Inputs.{GivesWhole};
 ghost use Rattle.mlt_event_text.specs.Grammar.{IsFirstFault};
 ghost use Rattle.mlt_manager_steps.specs.Steps.{IsStepsText};
 
-use crate::report::write_tolds;
+use crate::playing::play_lines;
+use crate::report::write_lines;
 use mlt_event_text::parse_events;
 use mlt_manager::Manager;
-use mlt_text::{read_input, write_text};
+use mlt_text::read_input;
 use mlt_types::{Limits, Pseudo, Refusal};
 use std::alloc::Global;
 use std::io::{Read, Write};
 
 /// Reads events to the end of the input, and plays them in order from a new manager. Writes a line for what each was
-/// told, then the base of what is committed, and then the depth of the directory. Answers the manager at the end, whose
-/// history is that of all events.
+/// told, then the base of what is committed, and then the depth of the directory. Where reasons are asked for, lines that begin
+/// with `#` stand behind the line of an event that is blocked or waits: which operation is in the way of which, with what that
+/// would be told, and an example of the conflict; which cycle of waits has come about; or which page is locked, and what its
+/// holder is at. Answers the manager at the end, whose history is that of all events.
 ///
 /// # Errors
 /// `ScriptFault` exactly for an input that is no list of events, with its first fault; `Io` where a read or a write
@@ -31,13 +34,14 @@ pub fn steps<R: Read, W: Write, P: Pseudo>(
     writer: &mut W,
     limits: Limits,
     pseudo: P,
+    explains: bool,
 ) -> Result<Manager<P>, Refusal>
 where
     P: Drop,
     // what is written is the text of the events read, as the manager that is answered has played them
     ensures text { IfOk result (λ manager. (input text : List ℕ)
         × (GivesWhole (R.remaining reader.old) (R.remaining reader.new) input
-        × IsStepsText P.bits_of limits pseudo input text manager)
+        × IsStepsText P.bits_of limits pseudo explains input text manager)
         × Appends (W.contents writer.old) (W.contents writer.new) text) }
     // all of its history is there
     ensures history { IfOk result (λ manager. manager.shared.history.handed ≡ []) }
@@ -48,13 +52,13 @@ where
     // where it fails, nothing was written, or a prefix of such a text; and too long an input is not read on
     ensures failure { FailsCleanly (R.remaining reader.old) (R.remaining reader.new)
         (W.contents writer.old) (W.contents writer.new) result
-        (IsStepsText P.bits_of limits pseudo) }
+        (IsStepsText P.bits_of limits pseudo explains) }
     ensures refusals { IfErr result (λ refusal. IsWant refusal ⊎ IsScriptFault refusal) }
 {
     let input = read_input(alloc, reader)?;
     let events = parse_events(alloc, input.as_slice())?;
-    let (manager, tolds) = Manager::play(alloc, limits, pseudo, events.as_slice())?;
-    match write_tolds(alloc, tolds.as_slice(), &manager, writer) {
+    let (manager, lines) = play_lines(alloc, limits, pseudo, events.as_slice(), explains)?;
+    match write_lines(alloc, lines, &manager, writer) {
         Ok(()) => Ok(manager),
         Err(refusal) => {
             manager.close();

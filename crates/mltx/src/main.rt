@@ -26,7 +26,7 @@ use mlt_manager_laws::{
     operations_of_a_run_take_few_steps,
 };
 use mlt_manager_solo::solo;
-use mlt_manager_steps::{explained_steps, steps};
+use mlt_manager_steps::steps;
 use mlt_object_tables::{TableName, write_tables};
 use mlt_serve::{Admin, Operating, ServeOptions, serve_endless, serve_on};
 use mlt_text::write_text;
@@ -180,11 +180,14 @@ fn run_steps<P: Pseudo + Drop>(
     let mut input = open(rt, schedule.run.input.as_str(), keeps)?;
     let mut output = Output::new(io::writer(rt));
     let limits = Limits::program();
-    let told = if schedule.explains {
-        explained_steps(rt.alloc(), &mut input, &mut output, limits, pseudo)
-    } else {
-        steps(rt.alloc(), &mut input, &mut output, limits, pseudo)
-    };
+    let told = steps(
+        rt.alloc(),
+        &mut input,
+        &mut output,
+        limits,
+        pseudo,
+        schedule.explains,
+    );
     let manager = run_outcome(told, input, output.failure())?;
     // What held between any two events, and how many steps its operations took, and its aborts.
     managers_of_a_run_keep_their_promises::<P>();

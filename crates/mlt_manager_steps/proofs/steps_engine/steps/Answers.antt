@@ -1,4 +1,4 @@
-use Rattle.std.proofs.Common.{ap, Err, inl, inr}
+use Rattle.std.proofs.Common.{ap, Err, inl, inr, string_bytes}
 use Rattle.std.proofs.KnownBytes.{Keeps-refl}
 use Rattle.std.proofs.lemmas.Result.{err_from_is_err_and}
 use Rattle.mlt_text.proofs.Failing.{finished, unfinished, unread, unwritten}
@@ -26,7 +26,7 @@ returns-clause-failure g c =
       | inr same ↦
           let told = c.in-Err.ensures.io (ap Err same) in
           let manager = c.in_ok-manager.manager in
-          let is_text = is_steps_text g.P.Pseudo.bits_of c.args.limits c.args.pseudo c.as_slice.result.now c.in_ok-input.input.items c.as_slice-2.result.now c.in_ok-events.events.items c.in_ok-manager.tolds.items c.as_slice-3.result.now told.0 manager
-          c.as_slice.ensures.value c.as_slice-2.ensures.value c.as_slice-3.ensures.value c.in_ok-events.ensures.spelled c.in_ok-manager.ensures.plays told.1 in
+          let is_text = is_steps_text g.P.Pseudo.bits_of c.args.limits c.args.pseudo c.args.explains c.as_slice.result.now c.in_ok-input.input.items c.as_slice-2.result.now c.in_ok-events.events.items (string_bytes c.in_ok-manager.lines) told.0 manager
+          c.as_slice.ensures.value c.as_slice-2.ensures.value c.in_ok-events.ensures.spelled c.in_ok-manager.ensures.plays told.1 in
           unfinished _ _ _ _ _ c.in-Err.refusal c.in_ok-input.input.items told.0 manager c.in_ok-input.ensures.ok is_text c.in-Err.ensures.refusal (λ memory. c.in-Err.ensures.memory (ap Err memory)) (λ io. told.2)
     ]

@@ -1,5 +1,0 @@
-mod Names
-pub mod Appending
-pub mod Following
-pub mod Knowing
-pub mod Linking

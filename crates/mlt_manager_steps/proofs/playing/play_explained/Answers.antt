@@ -1,0 +1,30 @@
+use Rattle.std.proofs.Common.{◌∷◌, ◌++◌, ◌∙◌, [], refl}
+use Rattle.mlt_manager.proofs.Playing.{all_played, played_on}
+use Rattle.mlt_manager_steps.proofs.playing.play_explained.Goals as goal
+
+pub loop-event-init : goal.loop-event-init
+loop-event-init g c = (
+  ([], record { opening = c.in_ok-manager.manager; is_new = c.in_ok-manager.ensures.opening; run = refl }),
+  c.in_ok-manager.ensures.opening.handed,
+)
+
+pub loop-event-preserved : goal.loop-event-preserved
+loop-event-preserved g c =
+    let so_far = c.loop-event.invariant.0 in
+    let tolds = so_far.0 ++ c.act-told.result ∷ [] in (
+      (
+        tolds,
+        played_on g.P.Pseudo.bits_of c.args.limits c.args.pseudo c.args.events.now c.loop-event.event-index so_far.0 tolds c.loop-event.manager c.act-told.new.self c.event-item.result c.act-told.result
+            c.loop-event-test.true c.event-item.is refl so_far.1 c.act-told.ensures.meets,
+      ),
+      c.act-told.ensures.handed ∙ c.loop-event.invariant.1,
+    )
+
+pub returns-clause-plays : goal.returns-clause-plays
+returns-clause-plays g c =
+    let so_far = c.loop-event.invariant.0 in
+    record {
+      tolds = so_far.0;
+      played = all_played g.P.Pseudo.bits_of c.args.limits c.args.pseudo c.args.events.now c.loop-event.event-index so_far.0 c.loop-event.manager c.loop-event-test.false so_far.1 c.keeps_its_promises.ensures;
+      told = tt;
+    }

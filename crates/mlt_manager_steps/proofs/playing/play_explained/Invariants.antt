@@ -1,0 +1,8 @@
+use Rattle.std.proofs.Common.{◌≡◌, List, [], take}
+use Rattle.mlt_event.specs.declared.told.Told.{Told}
+use Rattle.mlt_manager.proofs.Playing.{HasPlayed}
+use Rattle.mlt_manager_steps.proofs.playing.play_explained.Given as goal
+
+abbrev pub invariant-loop-event : goal.invariant-loop-event
+invariant-loop-event g l = ((tolds : List Told) × HasPlayed g.P.Pseudo.bits_of l.fn.limits l.fn.pseudo (take l.event-index l.events) tolds l.manager)
+    × (l.manager.shared.history.handed ≡ [])
