@@ -28,36 +28,23 @@ pub(crate) struct Connection {
     ghost numbered: { 1 ≤ client },
 }
 
-/// How the accepting ended.
-#[derive(Clone, Copy, Debug, PartialEq, Eq)]
-pub(crate) enum AcceptEnd {
-    /// As many connections were accepted as may be, and sent on.
-    Limit,
-    /// The server is to stop. All that were accepted were sent on.
-    Stop,
-    /// An accept failed by the listener.
-    Failed,
-    /// A sending was refused, or a session was refused a growth.
-    Short,
-}
-
 /// What was accepted, and how that ended.
-#[derive(Clone, Copy, Debug, PartialEq, Eq)]
+#[derive(Clone, Copy, Debug)]
 pub(crate) struct Accepting {
     /// How many connections were accepted and sent on.
     pub(crate) connections: u32,
-    pub(crate) end: AcceptEnd,
+    pub(crate) end: ListenerEnd,
 }
 
 impl Accepting {
     /// Nothing was accepted, for want of memory or of a thread.
     pub(crate) fn none() -> Accepting
         ensures none { result.connections ≡ 0 }
-        ensures short { result.end ≡ AcceptEnd.Short }
+        ensures short { result.end ≡ ListenerEnd.Memory }
     {
         Accepting {
             connections: 0,
-            end: AcceptEnd::Short,
+            end: ListenerEnd::Memory,
         }
     }
 
@@ -69,9 +56,9 @@ impl Accepting {
         ensures { result ≡ result_of_accepting self.end }
     {
         match self.end {
-            AcceptEnd::Limit | AcceptEnd::Stop => Ok(()),
-            AcceptEnd::Failed => Err(Refusal::Io),
-            AcceptEnd::Short => Err(Refusal::OutOfMemory),
+            ListenerEnd::Limit(_) | ListenerEnd::Stop => Ok(()),
+            ListenerEnd::Accept(_) => Err(Refusal::Io),
+            ListenerEnd::Memory => Err(Refusal::OutOfMemory),
         }
     }
 }
@@ -225,15 +212,6 @@ pub(crate) fn accept_all<R: Wait + Clock>(
     notes.tell(rt, Note::AcceptEnded(ended));
     Accepting {
         connections: accepted,
-        end: end_of(&ended),
-    }
-}
-
-fn end_of(ended: &ListenerEnd) -> AcceptEnd {
-    match ended {
-        ListenerEnd::Limit(_) => AcceptEnd::Limit,
-        ListenerEnd::Stop => AcceptEnd::Stop,
-        ListenerEnd::Accept(_) => AcceptEnd::Failed,
-        ListenerEnd::Memory => AcceptEnd::Short,
+        end: ended,
     }
 }

@@ -51,7 +51,7 @@ impl<'a, 'b, 'c, P: Pseudo, L: MadeWith<P>, R: Wait + Clock> Operator<'a, 'b, 'c
             running,
             ..
         } = self.service;
-        let totals = seats.totals();
+        let totals = seats.totals(self.rt);
         Counts {
             seconds: milliseconds(self.since, now) / 1_000,
             sessions: sessions as u64,
@@ -136,7 +136,7 @@ fn session_view(
     Ok(SessionView {
         client: state.client,
         milliseconds: milliseconds(state.since, now),
-        transaction: match &state.transaction {
+        transaction: match &state.activity.transaction {
             Some(transaction) => Some(transaction_view(alloc, transaction, state, now)?),
             None => None,
         },
@@ -154,7 +154,7 @@ fn transaction_view(
         milliseconds: milliseconds(transaction.since, now),
         operations: transaction.operations,
         did: transaction.last(alloc)?,
-        calls: state.op,
+        calls: state.activity.op,
     })
 }
 
@@ -166,13 +166,14 @@ fn wait_view(
 ) -> WaitView {
     // One that has just begun to wait has not shown its wait, nor always its transaction.
     let state = states.iter().find(|state| state.last == wait.waiter);
+    let shown = state.and_then(|state| state.activity.wait);
     WaitView {
         waiter: wait.waiter,
         client: state.map_or(0, |state| state.client),
         holder: wait.holder,
         awaited,
-        operation: state.and_then(|state| state.op),
-        milliseconds: state.map_or(0, |state| milliseconds(state.waits_since(), now)),
+        operation: state.and_then(|state| state.activity.op),
+        milliseconds: milliseconds(shown.and_then(|shown| shown.since), now),
     }
 }
 

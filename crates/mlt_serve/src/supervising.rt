@@ -113,10 +113,8 @@ impl<P: Pseudo, L: MadeWith<P>, R: Wait + Clock> Supervisor<'_, '_, '_, P, L, R>
 
     /// Tells once where nine in ten of the numbers are given out, or of the pages are used.
     fn warn(&mut self) {
-        let (begun, most) = (
-            self.service.seats.begun(),
-            self.service.options.limits.max_ids,
-        );
+        let begun = self.service.seats.totals(self.rt).begun;
+        let most = self.service.options.limits.max_ids;
         if !self.has_told_numbers && is_nearly(begun, most) {
             self.has_told_numbers = true;
             self.tell(Note::FewNumbersLeft(begun, most));

@@ -1,10 +1,8 @@
 //! Seats: what others see of a session, and how they end it.
 
-ghost use Rattle.std.specs.Prelude.{◌≡◌, ◌+◌, ◌-◌, ◌^◌, min};
-
-use crate::count::Count;
 use crate::note::Cut;
-use crate::session::{Session, SessionState};
+use crate::session::Activity;
+use crate::totals::Totals;
 use mlt_types::TxId;
 use std::alloc::{AllocError, Global};
 use std::array;
@@ -25,29 +23,47 @@ pub struct Patience {
     pub open: Option<Duration>,
 }
 
+/// What others see of a session.
+#[derive(Clone, Copy, Debug)]
+pub struct SessionState {
+    /// The number of its connection.
+    pub client: u32,
+    /// When it began, if a clock could say so.
+    pub since: Option<Instant>,
+    /// The number of the transaction that it has begun last, whether or not that is shown; 0 before the first.
+    pub last: TxId,
+    /// What it has shown.
+    pub activity: Activity,
+}
+
+/// A session, with its connection.
+#[derive(Drop)]
+struct Session {
+    client: u32,
+    since: Option<Instant>,
+    /// Why others have cut it, and when, if they have.
+    cut: Option<(Cut, Option<Instant>)>,
+    stream: Arc<TcpStream>,
+}
+
+/// What a session thread has shown, and the session that it serves.
+#[derive(Drop)]
+struct Record {
+    activity: Activity,
+    session: Option<Session>,
+}
+
 /// What one session thread does, for others to see, and the session that it serves. There are 64 unused bytes on each side, so that
-/// who notes something at another seat does not take the cache lines of this one.
+/// a thread that notes something at another seat does not take the cache lines of this one.
 #[derive(Drop)]
 #[repr(C)]
 pub struct Seat {
     _before: [u64; 8],
-    /// How many transactions were begun.
-    pub begun: Count,
-    /// How many operations were done.
-    pub operations: Count,
-    /// How many transactions have committed.
-    pub commits: Count,
-    /// How many were taken back.
-    pub aborts: Count,
-    /// How many operations gave up.
-    pub gave_up: Count,
-    /// How many of these did since their transaction was the youngest of a cycle of waits.
-    pub deadlocks: Count,
     /// Whether an operation of the session that is to wait is given up.
     hurries: AtomicBool,
-    /// The number of the transaction that the session has begun last, where it is watched.
+    /// The number of the transaction that the session has begun last.
     last: AtomicU64,
-    session: Mutex<Option<Session>>,
+    record: Mutex<Record>,
     _after: [u64; 8],
 }
 
@@ -55,42 +71,63 @@ impl Seat {
     fn new() -> Seat {
         Seat {
             _before: [0; 8],
-            begun: Count::new(),
-            operations: Count::new(),
-            commits: Count::new(),
-            aborts: Count::new(),
-            gave_up: Count::new(),
-            deadlocks: Count::new(),
             hurries: AtomicBool::new(false),
             last: AtomicU64::new(0),
-            session: Mutex::new(None),
+            record: Mutex::new(Record {
+                activity: Activity::new(Totals::default()),
+                session: None,
+            }),
             _after: [0; 8],
         }
     }
 
     /// A session with this client begins.
     pub fn enter<R: Wait + Clock>(&self, rt: &R, client: u32, stream: Arc<TcpStream>) {
-        let state = SessionState::new(client, Instant::now(rt).ok());
+        let since = Instant::now(rt).ok();
         self.hurries.store(false, Ordering::Relaxed);
         self.last.store(0, Ordering::Relaxed);
-        *self.session.lock(rt) = Some(Session { state, stream });
+        let mut record = self.record.lock(rt);
+        record.activity = Activity::new(record.activity.totals);
+        record.session = Some(Session {
+            client,
+            since,
+            cut: None,
+            stream,
+        });
     }
 
     /// The session has ended. It answers why others have cut it, if they have.
     pub fn leave<R: Wait>(&self, rt: &R) -> Option<Cut> {
-        let session = self.session.lock(rt).take()?;
-        let (cut, _) = session.state.cut?;
+        let session = self.record.lock(rt).session.take()?;
+        let (cut, _) = session.cut?;
         Some(cut)
     }
 
     /// What others see of the session, if there is one.
     pub fn state<R: Wait>(&self, rt: &R) -> Option<SessionState> {
-        let session = self.session.lock(rt);
-        let found = session.as_ref()?;
+        let record = self.record.lock(rt);
+        let session = record.session.as_ref()?;
         Some(SessionState {
-            last: TxId(self.last.load(Ordering::Relaxed)),
-            ..found.state
+            client: session.client,
+            since: session.since,
+            last: self.last(),
+            activity: record.activity,
         })
+    }
+
+    /// What the thread has shown.
+    pub(crate) fn activity<R: Wait>(&self, rt: &R) -> Activity {
+        self.record.lock(rt).activity
+    }
+
+    /// Shows what the thread does. An operation that has ended is not to be given up any more.
+    pub(crate) fn show<R: Wait>(&self, rt: &R, activity: &Activity) {
+        let mut record = self.record.lock(rt);
+        if record.activity.wait.is_some() && activity.wait.is_none() {
+            let is_cut = matches!(&record.session, Some(session) if session.cut.is_some());
+            self.hurries.store(is_cut, Ordering::Relaxed);
+        }
+        record.activity = *activity;
     }
 
     /// Whether an operation of the session that is to wait is given up.
@@ -105,32 +142,15 @@ impl Seat {
         self.last.store(number.0, Ordering::Relaxed);
     }
 
-    /// Changes what others see of the session.
-    pub(crate) fn change<R: Wait, F: FnOnce(&mut SessionState)>(&self, rt: &R, change: F)
-        requires { F.IsAlwaysCallable change }
-    {
-        let mut session = self.session.lock(rt);
-        if let Some(found) = &mut *session {
-            change(&mut found.state);
-        }
-    }
-
-    /// The session is in no operation any more, and so waits no more.
-    pub(crate) fn end_wait<R: Wait>(&self, rt: &R) {
-        let mut session = self.session.lock(rt);
-        if let Some(found) = &mut *session {
-            found.state.end_operation();
-            self.hurries
-                .store(found.state.cut.is_some(), Ordering::Relaxed);
-        }
+    fn last(&self) -> TxId {
+        TxId(self.last.load(Ordering::Relaxed))
     }
 
     /// The session hears nothing more from its client than what has come. It ends once that is answered.
     pub fn hear_no_more<R: Wait>(&self, rt: &R) {
-        let session = self.session.lock(rt);
-        if let Some(found) = &*session {
-            // It fails only where the connection is gone.
-            let _ = found.stream.shutdown(Shutdown::Read);
+        let record = self.record.lock(rt);
+        if let Some(session) = &record.session {
+            session.hear_no_more();
         }
     }
 
@@ -138,10 +158,10 @@ impl Seat {
     /// is.
     pub fn cut_client<R: Wait + Clock>(&self, rt: &R, client: u32, cut: Cut) -> bool {
         let now = Instant::now(rt).ok();
-        let mut session = self.session.lock(rt);
-        match &mut *session {
-            Some(found) if found.state.client == client => {
-                self.cut(found, cut, now);
+        let mut record = self.record.lock(rt);
+        match &mut record.session {
+            Some(session) if session.client == client => {
+                self.cut(session, cut, now);
                 true
             }
             _ => false,
@@ -151,43 +171,40 @@ impl Seat {
     /// Cuts the session, whoever its client is, if there is one.
     pub fn cut_any<R: Wait + Clock>(&self, rt: &R, cut: Cut) {
         let now = Instant::now(rt).ok();
-        let mut session = self.session.lock(rt);
-        if let Some(found) = &mut *session {
-            self.cut(found, cut, now);
+        let mut record = self.record.lock(rt);
+        if let Some(session) = &mut record.session {
+            self.cut(session, cut, now);
         }
     }
 
     fn cut(&self, session: &mut Session, cut: Cut, now: Option<Instant>) {
-        if session.state.cut.is_none() {
-            session.state.cut = Some((cut, now));
-        }
+        session.cut = session.cut.or(Some((cut, now)));
         self.hurries.store(true, Ordering::Relaxed);
-        let _ = session.stream.shutdown(Shutdown::Read);
+        session.hear_no_more();
     }
 
     /// Looks after the session: one whose transaction is open for too long, or whose client is gone while its operation waits, is cut;
     /// an operation that waits for too long is to be given up. It answers the transaction that is to try again, if one is.
     pub fn look_after<R: Wait + Clock>(&self, rt: &R, patience: &Patience) -> Option<TxId> {
         let now = Instant::now(rt).ok();
-        let mut session = self.session.lock(rt);
-        let Some(found) = &mut *session else {
-            return None;
-        };
-        if found.is_open_for(patience.open, now) {
-            self.cut(found, Cut::Open, now);
+        let mut record = self.record.lock(rt);
+        let Record { activity, session } = &mut *record;
+        let session = session.as_mut()?;
+        if is_open_for(activity, patience.open, now) {
+            self.cut(session, Cut::Open, now);
         }
-        if found.is_cut_for(Duration::from_secs(LAST_WRITES_SECONDS), now) {
-            let _ = found.stream.shutdown(Shutdown::Both);
+        if session.is_cut_for(Duration::from_secs(LAST_WRITES_SECONDS), now) {
+            let _ = session.stream.shutdown(Shutdown::Both);
         }
-        let wait = found.state.wait?;
-        if is_broken(&found.stream) {
-            self.cut(found, Cut::Connection, now);
+        let wait = activity.wait?;
+        if is_broken(&session.stream) {
+            self.cut(session, Cut::Connection, now);
         }
         if has_passed(patience.wait, wait.since, now) {
             self.hurries.store(true, Ordering::Relaxed);
         }
         if self.hurries() {
-            Some(wait.waiter)
+            Some(self.last())
         } else {
             None
         }
@@ -195,18 +212,23 @@ impl Seat {
 }
 
 impl Session {
-    fn is_open_for(&self, limit: Option<Duration>, now: Option<Instant>) -> bool {
-        match &self.state.transaction {
-            Some(transaction) => has_passed(limit, transaction.since, now),
-            None => false,
-        }
+    fn hear_no_more(&self) {
+        // It fails only where the connection is gone.
+        let _ = self.stream.shutdown(Shutdown::Read);
     }
 
     fn is_cut_for(&self, limit: Duration, now: Option<Instant>) -> bool {
-        match self.state.cut {
+        match self.cut {
             Some((_, since)) => has_passed(Some(limit), since, now),
             None => false,
         }
+    }
+}
+
+fn is_open_for(activity: &Activity, limit: Option<Duration>, now: Option<Instant>) -> bool {
+    match &activity.transaction {
+        Some(transaction) => has_passed(limit, transaction.since, now),
+        None => false,
     }
 }
 
@@ -247,20 +269,11 @@ impl Seats {
         self.seats.as_slice()
     }
 
-    /// How many transactions were begun.
-    pub fn begun(&self) -> u64 {
-        let mut begun: u64 = 0;
-        for seat in self.all() {
-            begun = begun.saturating_add(seat.begun.get());
-        }
-        begun
-    }
-
     /// What was counted at all seats.
-    pub fn totals(&self) -> Totals {
+    pub fn totals<R: Wait>(&self, rt: &R) -> Totals {
         let mut totals = Totals::default();
         for seat in self.all() {
-            totals.add(seat);
+            totals.add(&seat.activity(rt).totals);
         }
         totals
     }
@@ -277,42 +290,5 @@ impl Seats {
             }
         }
         Ok(states)
-    }
-}
-
-/// What was counted at all seats.
-#[derive(Clone, Copy, Debug, Default, PartialEq, Eq)]
-pub struct Totals {
-    pub begun: u64,
-    pub operations: u64,
-    pub commits: u64,
-    pub aborts: u64,
-    pub gave_up: u64,
-    pub deadlocks: u64,
-}
-
-impl Totals {
-    fn add(&mut self, seat: &Seat) {
-        self.begun = self.begun.saturating_add(seat.begun.get());
-        self.operations = self.operations.saturating_add(seat.operations.get());
-        self.commits = self.commits.saturating_add(seat.commits.get());
-        self.aborts = self.aborts.saturating_add(seat.aborts.get());
-        self.gave_up = self.gave_up.saturating_add(seat.gave_up.get());
-        self.deadlocks = self.deadlocks.saturating_add(seat.deadlocks.get());
-    }
-
-    /// How many transactions have ended; it stays at 2^64 - 1.
-    pub fn ended(&self) -> u64
-        ensures { result ≡ min (self.now.commits + self.now.aborts) (2 ^ 64 - 1) }
-    {
-        self.commits.saturating_add(self.aborts)
-    }
-
-    /// How many are open.
-    pub fn open(&self) -> u64
-        ensures { result
-            ≡ self.now.begun - min (self.now.commits + self.now.aborts) (2 ^ 64 - 1) }
-    {
-        self.begun.saturating_sub(self.ended())
     }
 }

@@ -1,40 +1,16 @@
-//! The state of one session, as others see it.
+//! What a session does.
 
-ghost use Rattle.std.specs.Prelude.{◌≡◌, IfSome, None};
+ghost use Rattle.std.specs.Prelude.{◌<◌};
 
-use crate::note::Cut;
-use mlt_object_kinds::{Done, ObjOp};
+use crate::totals::{Totals, add_one};
+use mlt_event::{Answer, Told};
+use mlt_object_kinds::{Done, ObjOp, ObjReply};
 use mlt_types::TxId;
 use std::alloc::{AllocError, Global};
-use std::net::TcpStream;
-use std::sync::Arc;
 use std::time::Instant;
 
 /// How many of the operations of a transaction are kept: the last ones.
-pub(crate) const RECENT_OPS: usize = 16;
-
-/// What an operation waits for.
-#[derive(Clone, Copy, Debug, PartialEq, Eq)]
-pub enum Awaits {
-    /// A lock of an object, or of a page, of another transaction.
-    Lock,
-    /// Its turn behind an operation that is blocked.
-    Turn,
-}
-
-/// An operation that was done, with its reply.
-pub type RecentOp = Option<Done>;
-
-/// A wait of an operation, from the first time that it was told to wait.
-#[derive(Clone, Copy, Debug)]
-pub struct WaitState {
-    /// The transaction of the operation.
-    pub waiter: TxId,
-    /// When it began, if a clock could say so.
-    pub since: Option<Instant>,
-    /// What it waits for now.
-    pub awaits: Awaits,
-}
+const RECENT_OPS: usize = 16;
 
 /// The open transaction of a session.
 #[derive(Clone, Copy, Debug)]
@@ -45,119 +21,137 @@ pub struct OpenTransaction {
     /// How many operations it has done.
     pub operations: u64,
     /// The last of them, the operation with the number n, from 0, at n modulo their count.
-    pub recent_ops: [RecentOp; RECENT_OPS],
-}
-
-/// What others see of a session.
-#[derive(Clone, Copy, Debug)]
-pub struct SessionState {
-    /// The number of its connection.
-    pub client: u32,
-    /// When it began, if a clock could say so.
-    pub since: Option<Instant>,
-    pub transaction: Option<OpenTransaction>,
-    /// The number of the transaction that it has begun last, whether or not that is shown; 0 before the first.
-    pub last: TxId,
-    /// The operation that it is in.
-    pub op: Option<ObjOp>,
-    /// Its wait, if the operation has had to wait.
-    pub wait: Option<WaitState>,
-    /// Why others have cut it, and when, if they have.
-    pub cut: Option<(Cut, Option<Instant>)>,
-}
-
-/// A session, with its connection.
-#[derive(Drop)]
-pub(crate) struct Session {
-    pub(crate) state: SessionState,
-    pub(crate) stream: Arc<TcpStream>,
-}
-
-impl SessionState {
-    /// One that begins.
-    pub(crate) fn new(client: u32, since: Option<Instant>) -> SessionState {
-        SessionState {
-            client,
-            since,
-            transaction: None,
-            last: TxId(0),
-            op: None,
-            wait: None,
-            cut: None,
-        }
-    }
-
-    /// A transaction of it has begun.
-    pub(crate) fn begin(&mut self, number: TxId, since: Option<Instant>) {
-        self.transaction = Some(OpenTransaction {
-            number,
-            since,
-            operations: 0,
-            recent_ops: [None; RECENT_OPS],
-        });
-    }
-
-    /// It is in this operation of this transaction, which has to wait.
-    pub(crate) fn wait(
-        &mut self,
-        waiter: TxId,
-        op: Option<ObjOp>,
-        awaits: Awaits,
-        now: Option<Instant>,
-    ) {
-        let since = match &self.wait {
-            Some(wait) => wait.since,
-            None => now,
-        };
-        self.op = op;
-        self.wait = Some(WaitState {
-            waiter,
-            since,
-            awaits,
-        });
-    }
-
-    /// It is in no operation any more.
-    pub(crate) fn end_operation(&mut self) {
-        self.op = None;
-        self.wait = None;
-    }
-
-    /// Of its transaction this is the operation with this number, from 0, and the last one.
-    pub(crate) fn put_recent_op(&mut self, number: u64, recent_op: RecentOp) {
-        if let Some(transaction) = &mut self.transaction {
-            transaction.recent_ops[(number % RECENT_OPS as u64) as usize] = recent_op;
-            transaction.operations = number.saturating_add(1);
-        }
-    }
-}
-
-impl SessionState {
-    /// Since when its operation waits, if it does, and a clock could say so.
-    pub fn waits_since(&self) -> Option<Instant>
-        ensures some { IfSome self.now.wait (λ wait. result ≡ wait.since) }
-        ensures none { self.now.wait ≡ None → result ≡ None }
-    {
-        match &self.wait {
-            Some(wait) => wait.since,
-            None => None,
-        }
-    }
+    recent_ops: [Option<Done>; RECENT_OPS],
 }
 
 impl OpenTransaction {
+    /// One that has begun, which others do not see yet.
+    fn new(number: TxId) -> OpenTransaction {
+        OpenTransaction {
+            number,
+            since: None,
+            operations: 0,
+            recent_ops: [None; RECENT_OPS],
+        }
+    }
+
+    /// Where its next operation is kept, in place of the oldest one.
+    fn next(&self) -> usize
+        ensures { result < 16 }
+    {
+        (self.operations % RECENT_OPS as u64) as usize
+    }
+
+    /// It has done an operation, with its reply.
+    fn add(&mut self, done: Done) {
+        self.recent_ops[self.next()] = Some(done);
+        self.operations = self.operations.saturating_add(1);
+    }
+
     /// The last operations that it has done, at most 16, the oldest first.
     ///
     /// # Errors
     /// Where a growth is refused.
     pub fn last(&self, alloc: Global) -> Result<Vec<Done>, AllocError> {
-        let count = self.operations.min(RECENT_OPS as u64);
+        let (newer, older) = self.recent_ops.split_at(self.next());
         let mut last = Vec::new(alloc);
-        for number in self.operations - count..self.operations {
-            if let Some(done) = self.recent_ops[(number % RECENT_OPS as u64) as usize] {
-                last.push(done)?;
-            }
+        for done in older.iter().chain(newer).flatten() {
+            last.push(*done)?;
         }
         Ok(last)
+    }
+}
+
+/// A wait of an operation.
+#[derive(Clone, Copy, Debug)]
+pub struct WaitState {
+    /// Since when it was first told to wait, if a clock could say so.
+    pub since: Option<Instant>,
+}
+
+/// What a session thread does. It alone changes this, and shows it to others.
+#[derive(Clone, Copy, Debug)]
+pub struct Activity {
+    /// What the thread has counted, in all its sessions.
+    pub totals: Totals,
+    /// Its open transaction, where somebody is to see that.
+    pub transaction: Option<OpenTransaction>,
+    /// The operation that it is in.
+    pub op: Option<ObjOp>,
+    /// The wait of that, if it has had to wait.
+    pub wait: Option<WaitState>,
+}
+
+impl Activity {
+    /// A session begins, of a thread that has counted this.
+    pub(crate) fn new(totals: Totals) -> Activity {
+        Activity {
+            totals,
+            transaction: None,
+            op: None,
+            wait: None,
+        }
+    }
+
+    /// Its operation is to wait.
+    pub(crate) fn wait(&mut self) {
+        self.wait = self.wait.or(Some(WaitState { since: None }));
+    }
+
+    /// An event that begins or ends something was told this. It answers whether others see a wait, or a transaction, that has ended so.
+    pub(crate) fn note(&mut self, told: &Told, is_watched: bool) -> bool {
+        let has_waited = self.wait.take().is_some();
+        let was_seen = self.is_seen();
+        let op = self.op.take();
+        match told {
+            Told::Begun(tx) => self.begin(*tx, is_watched),
+            Told::Answered(Answer::Done(reply)) => self.finish(op, *reply),
+            Told::Cancelled => add_one(&mut self.totals.gave_up),
+            Told::Committed(_) => {
+                add_one(&mut self.totals.commits);
+                self.transaction = None;
+            }
+            Told::Aborting(true) | Told::Answered(Answer::Aborted) => {
+                add_one(&mut self.totals.aborts);
+                self.transaction = None;
+            }
+            _ => (),
+        }
+        has_waited || was_seen && self.transaction.is_none()
+    }
+
+    fn begin(&mut self, tx: TxId, is_watched: bool) {
+        add_one(&mut self.totals.begun);
+        if is_watched {
+            self.transaction = Some(OpenTransaction::new(tx));
+        }
+    }
+
+    fn finish(&mut self, op: Option<ObjOp>, reply: ObjReply) {
+        add_one(&mut self.totals.operations);
+        if let (Some(op), Some(transaction)) = (op, &mut self.transaction) {
+            transaction.add(Done::new(op, reply));
+        }
+    }
+
+    /// Whether others see its open transaction.
+    fn is_seen(&self) -> bool {
+        matches!(&self.transaction, Some(transaction) if transaction.since.is_some())
+    }
+
+    /// Whether others are to see a wait, or a transaction, which they do not see yet.
+    pub(crate) fn is_undated(&self) -> bool {
+        matches!(&self.wait, Some(wait) if wait.since.is_none())
+            || (self.transaction.is_some() && !self.is_seen())
+    }
+
+    /// Others see the wait, or the transaction, from now on.
+    pub(crate) fn date(&mut self, now: Option<Instant>) {
+        if let Some(wait) = &mut self.wait {
+            wait.since = wait.since.or(now);
+        }
+        if let Some(transaction) = &mut self.transaction {
+            transaction.since = transaction.since.or(now);
+        }
     }
 }

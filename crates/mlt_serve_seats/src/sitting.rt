@@ -1,32 +1,24 @@
 //! A session at its seat, as its own thread sees it.
 
-use crate::count::Tally;
-use crate::draft::Draft;
 use crate::seat::Seat;
-use crate::session::Awaits;
+use crate::session::Activity;
+use crate::totals::add_one;
 use mlt_event::{Answer, Told};
-use mlt_object_kinds::{Done, ObjOp, ObjReply};
-use mlt_types::TxId;
-use std::cell::Cell;
+use mlt_object_kinds::ObjOp;
+use std::cell::{Cell, RefCell, RefMut};
 use std::sync::Wait;
 use std::time::{Clock, Instant};
 
-/// A session at its seat. It notes what it does in cells of its own, and shows it to others now and then: what it has counted, and
-/// where it is watched its open transaction. A wait it shows at once.
+/// A session at its seat. It notes what it does in a record of its own, and shows that to others before it writes, reads on or waits.
 #[derive(Drop)]
 pub struct Sitting<'a, R: Wait + Clock> {
     rt: &'a R,
     seat: &'a Seat,
+    /// Whether others are to see its transactions, and not only waits.
     is_watched: bool,
-    tx: Cell<TxId>,
-    /// The operation that it has called last.
-    op: Cell<Option<ObjOp>>,
-    /// Whether a wait of its operation is shown.
-    waits: Cell<bool>,
-    /// What it does, where it is watched.
-    draft: Draft,
-    /// What it has counted and not shown.
-    tallies: Tallies,
+    activity: RefCell<Activity>,
+    /// Whether others see all that it has done.
+    is_shown: Cell<bool>,
 }
 
 impl<'a, R: Wait + Clock> Sitting<'a, R> {
@@ -36,23 +28,30 @@ impl<'a, R: Wait + Clock> Sitting<'a, R> {
             rt,
             seat,
             is_watched,
-            tx: Cell::new(TxId(0)),
-            op: Cell::new(None),
-            waits: Cell::new(false),
-            draft: Draft::new(),
-            tallies: Tallies::new(),
+            activity: RefCell::new(seat.activity(rt)),
+            is_shown: Cell::new(true),
         }
+    }
+
+    /// What it does, to be changed. Nothing else has borrowed it.
+    fn activity(&self) -> Option<RefMut<'_, Activity>> {
+        self.is_shown.set(false);
+        self.activity.try_borrow_mut().ok()
     }
 
     /// It is to call this operation.
     #[inline(always)]
     pub fn call(&self, op: &ObjOp) {
-        self.op.set(Some(*op));
+        if let Some(mut activity) = self.activity() {
+            activity.op = Some(*op);
+        }
     }
 
     /// It is to wait for its turn.
     pub fn rest(&self) {
-        self.wait(Awaits::Turn);
+        if let Some(mut activity) = self.activity() {
+            activity.wait();
+        }
     }
 
     /// Whether its operation may wait.
@@ -63,7 +62,9 @@ impl<'a, R: Wait + Clock> Sitting<'a, R> {
 
     /// Its operation is given up since its transaction is the youngest of a cycle of waits.
     pub fn deadlock(&self) {
-        self.tallies.deadlocks.add_one();
+        if let Some(mut activity) = self.activity() {
+            add_one(&mut activity.totals.deadlocks);
+        }
     }
 
     /// An event of it was told this.
@@ -71,114 +72,38 @@ impl<'a, R: Wait + Clock> Sitting<'a, R> {
     pub fn note(&self, told: &Told) {
         match told {
             Told::Called | Told::Answered(Answer::Going) => (),
-            Told::Answered(Answer::Waiting { .. } | Answer::Blocked { .. }) => {
-                self.wait(Awaits::Lock)
-            }
-            Told::Answered(Answer::Done(reply)) => self.finish(*reply),
+            Told::Answered(Answer::Waiting { .. } | Answer::Blocked { .. }) => self.rest(),
             _ => self.note_end(told),
         }
     }
 
-    /// An event that ends an operation or a transaction, or begins one, was told this.
+    /// An event that begins or ends something was told this. A wait, or a transaction, that others see and that has ended they see no
+    /// longer, so that none is cut for a time in which it was not open.
     fn note_end(&self, told: &Told) {
-        self.end_wait();
-        match told {
-            Told::Begun(tx) => self.begin(*tx),
-            Told::Cancelled => self.tallies.gave_up.add_one(),
-            Told::Committed(_) => {
-                self.tallies.commits.add_one();
-                self.end();
-            }
-            Told::Aborting(true) | Told::Answered(Answer::Aborted) => {
-                self.tallies.aborts.add_one();
-                self.end();
-            }
-            _ => (),
+        let Some(mut activity) = self.activity() else {
+            return;
+        };
+        let is_seen = activity.note(told, self.is_watched);
+        drop(activity);
+        if let Told::Begun(tx) = told {
+            self.seat.begin(*tx);
+        }
+        if is_seen {
+            self.show();
         }
     }
 
-    fn begin(&self, tx: TxId) {
-        self.tx.set(tx);
-        self.tallies.begun.add_one();
-        if self.is_watched {
-            self.seat.begin(tx);
-            self.draft.begin(tx);
-        }
-    }
-
-    /// Its transaction has ended. One that others see they see no longer, so that none is taken for open that is not.
-    fn end(&self) {
-        if self.draft.end() {
-            self.seat.change(self.rt, |state| state.transaction = None);
-        }
-    }
-
-    fn finish(&self, reply: ObjReply) {
-        self.tallies.operations.add_one();
-        self.end_wait();
-        if let Some(op) = self.op.take() {
-            self.draft.add(Done::new(op, reply));
-        }
-    }
-
-    /// Shows what it has done until now. It is called before the client hears of it, and before the session waits for what comes
-    /// next: so one whose transaction stays open shows that.
+    /// Shows what it has done until now. It is called before the client hears of it, and before the session waits for what comes next, or
+    /// for others: so one whose transaction stays open, or whose operation waits, shows that.
     pub fn show(&self) {
-        self.tallies.show(self.seat);
-        if self.draft.is_to_be_shown() {
-            let now = self.draft.time(self.rt);
-            self.seat
-                .change(self.rt, |state| self.draft.show(state, now));
+        if self.is_shown.replace(true) {
+            return;
         }
-    }
-
-    fn wait(&self, awaits: Awaits) {
-        let (tx, op) = (self.tx.get(), self.op.get());
-        let now = Instant::now(self.rt).ok();
-        self.seat.change(self.rt, |state| {
-            self.draft.show(state, now);
-            state.wait(tx, op, awaits, now)
-        });
-        self.waits.set(true);
-    }
-
-    fn end_wait(&self) {
-        if self.waits.replace(false) {
-            self.seat.end_wait(self.rt);
+        if let Ok(mut activity) = self.activity.try_borrow_mut() {
+            if activity.is_undated() {
+                activity.date(Instant::now(self.rt).ok());
+            }
+            self.seat.show(self.rt, &activity);
         }
-    }
-}
-
-/// What a session has counted and not shown.
-#[derive(Drop)]
-struct Tallies {
-    begun: Tally,
-    operations: Tally,
-    commits: Tally,
-    aborts: Tally,
-    gave_up: Tally,
-    deadlocks: Tally,
-}
-
-impl Tallies {
-    fn new() -> Tallies {
-        Tallies {
-            begun: Tally::new(),
-            operations: Tally::new(),
-            commits: Tally::new(),
-            aborts: Tally::new(),
-            gave_up: Tally::new(),
-            deadlocks: Tally::new(),
-        }
-    }
-
-    /// Shows all counts at the seat. A transaction is counted as begun before it is counted as ended.
-    fn show(&self, seat: &Seat) {
-        self.begun.show(&seat.begun);
-        self.operations.show(&seat.operations);
-        self.commits.show(&seat.commits);
-        self.aborts.show(&seat.aborts);
-        self.gave_up.show(&seat.gave_up);
-        self.deadlocks.show(&seat.deadlocks);
     }
 }
