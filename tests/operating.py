@@ -1,4 +1,4 @@
-"""What an operator sees of a server and does to it, by HTTP: counts, waits, sessions, the page; the end of a session, or of all."""
+"""What an operator sees of a server and does to it, by HTTP: counts, waits, sessions, the page; the end of a session, or all."""
 import http.client
 import itertools
 import json

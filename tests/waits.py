@@ -43,7 +43,7 @@ def work_of_others_costs_no_try(mltx):
 
 @test
 def session_has_its_tries_for_each_operation(mltx):
-    """With two tries one transaction waits in each of three operations: a wait leaves it one try, by which it would not wait again."""
+    """With two tries one transaction waits in each of three operations: a wait leaves it one try, by which it would not wait."""
     with mltx.serve("--tries", 2, limit=2) as server:
         with server.connect() as holder, server.connect() as waiter:
             same(waiter.ask("begin"), "begun 1")
@@ -225,11 +225,8 @@ def insert_that_doubles_gets_through(mltx):
             expect(server.end(), out=f"served {readers + 1}\n")
 
 
-# What each end of a transaction is told by, if by anything.
-ENDS = {"commit": "committed", "abort": "aborted", "quit": "bye", "close": None}
-
-# After four GaveUp in a row a session begins again after at least so many seconds, beside another that does.
-LONGEST_RESTART = 0.0128
+# After one GaveUp a session begins again after at least so many seconds, and after four in a row after eight times as many.
+RESTART, LONGEST_RESTART = 0.0128, 0.1024
 
 
 def moved(peer, one, other):
@@ -291,51 +288,37 @@ def number_begun(line):
 
 
 @test(seconds=1)
-def first_tries_do_not_wait_behind_restarted_ones(mltx):
-    """Forty sessions gave up and begin again, beside a restarted transaction that stays open: one after another, each after a
-    while. Three that come after them begin before the last of them: one never gave up, one has committed since, and one has
-    aborted what did not give up."""
+def a_session_that_gave_up_pauses_before_it_begins_again(mltx):
+    """Forty that gave up four times in a row pause side by side, beside a restarted transaction that stays open. Three do not
+    pause: one never gave up, one has committed since, and one has aborted what did not give up."""
     count = 40
     with mltx.serve("--tries", 1, "--sessions", count + 5, limit=count + 5) as server:
-        holder, new, committed, aborted, silent, *queue = peers = [server.connect() for _ in range(count + 5)]
+        holder, new, committed, aborted, silent, *restarted = peers = [server.connect() for _ in range(count + 5)]
         for peer in peers:
             peer.socket.settimeout(SOON)
         same([holder.ask("begin"), holder.ask("up 1 1")], ["begun 1", "done"])
-        for peer in (committed, aborted, silent, *queue):
-            gives_up(peer, 4)
+        for peer in (committed, aborted, silent):
+            gives_up(peer, 1)
         for peer, end in ((committed, "commit"), (aborted, "abort")):
             number_begun(peer.ask("begin"))
-            same(peer.ask(end).split()[0], ENDS[end])
+            peer.ask(end)
         number_begun(silent.ask("begin"))
+        with ThreadPoolExecutor(count) as threads:
+            list(threads.map(lambda peer: gives_up(peer, 4), restarted))
         began = time.monotonic()
-        for peer in queue:
+        for peer in restarted:
             peer.send("begin\n")
-        time.sleep(2 * LONGEST_RESTART)
-        first_tries = [number_begun(peer.ask("begin")) for peer in (new, committed, aborted)]
-        last = max(number_begun(peer.line()) for peer in queue)
+        for peer in restarted:
+            number_begun(peer.line())
         took = time.monotonic() - began
+        began = time.monotonic()
+        for _ in range(100):
+            for peer in (new, committed, aborted):
+                number_begun(peer.ask("begin"))
+                same(peer.ask("commit").split()[0], "committed")
+        first_tries = time.monotonic() - began
         for peer in peers:
             peer.socket.close()
         expect(server.end(), out=f"served {count + 5}\n")
-    holds(max(first_tries) < last, f"first tries have the numbers {first_tries}, and the last that was restarted {last}")
-    holds(took >= count * LONGEST_RESTART, f"{count} began again within {took} seconds")
-
-
-@each({f"restarted-one-is-not-waited-for-after-its-{end}": end for end in ENDS})
-def restarted_one_is_not_waited_for_after_its_end(mltx, end):
-    """A hundred begin again after that: if each waited it would take more than a second."""
-    with mltx.serve("--tries", 1, limit=3) as server:
-        with server.connect() as holder, server.connect() as peer, server.connect() as other:
-            same([holder.ask("begin"), holder.ask("up 1 1")], ["begun 1", "done"])
-            gives_up(peer, 4)
-            gives_up(other, 4)
-            number_begun(peer.ask("begin"))
-            if ENDS[end] is None:
-                peer.socket.close()
-            else:
-                same(peer.ask(end).split()[0], ENDS[end])
-            began = time.monotonic()
-            gives_up(other, 100)
-            took = time.monotonic() - began
-        expect(server.end(), out="served 3\n")
-    holds(took < 100 * LONGEST_RESTART, f"a hundred began again within {took} seconds")
+    holds(LONGEST_RESTART <= took < count * LONGEST_RESTART, f"{count} began again within {took} seconds")
+    holds(first_tries < 300 * RESTART, f"three hundred first tries took {first_tries} seconds")

@@ -53,8 +53,9 @@ def clients_side_by_side(mltx, workers):
 
 
 def gave_up(mltx, *options):
-    """How many scripts of a reader and a writer gave up; the base is what the others leave."""
-    ups = lines("begin 1|up 7 1" + "|up 8 1" * 20 + "|commit") * 200
+    """How many scripts of a reader and a writer gave up; the base is what the others leave. The writer is at work for longer than
+    the reader naps before it begins beside it."""
+    ups = lines("begin 1|up 7 1" + "|up 8 1" * 20 + "|commit") * 5_000
     reads = lines("begin 2|read 7|commit") * 400
     ran = mltx.run("run", *options, "-", given=ups + reads)
     same((ran.status, ran.err), (0, b""), f"run {options}")
@@ -107,7 +108,8 @@ def transfers_over_four_accounts_seldom_give_up(mltx):
     same((ran.status, ran.err), (0, b""), "run")
     ends = [told[-1].split()[0] for client, told in outcomes(ran.out) if client != "0"]
     same(len(ends), len(clients) * scripts, "how many scripts ended")
-    holds(ends.count("aborted") <= ends.count("committed"), f"{ends.count('aborted')} gave up, {ends.count('committed')} committed")
+    gave_up, committed = ends.count("aborted"), ends.count("committed")
+    holds(gave_up <= committed, f"{gave_up} gave up, {committed} committed")
     money = [int(line.split()[2]) for line in ran.out.decode().splitlines() if line.startswith("account ")]
     # The script that opens the accounts is one of those that may give up, and then there is none.
     opening = next(told[-1].split()[0] for client, told in outcomes(ran.out) if client == "0")

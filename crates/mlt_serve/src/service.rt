@@ -4,7 +4,7 @@ ghost use Rattle.std.specs.Prelude.{◌≡◌, true};
 
 use crate::door::Door;
 use crate::options::ServeOptions;
-use mlt_serve_connections::{AdmissionQueue, RestartQueue, SpinPolicy};
+use mlt_serve_connections::{AdmissionQueue, SpinPolicy};
 use mlt_serve_seats::{Notes, Seats};
 use mlt_types::Pseudo;
 use mlt_work_desk::{MadeWith, Shared};
@@ -15,7 +15,6 @@ use std::sync::atomic::AtomicU64;
 pub(crate) struct Service<'a, P: Pseudo, L: MadeWith<P>> {
     pub(crate) shared: &'a Shared<P, L>,
     pub(crate) admission_queue: &'a AdmissionQueue,
-    pub(crate) restart_queue: &'a RestartQueue,
     pub(crate) spin_policy: &'a SpinPolicy,
     pub(crate) options: &'a ServeOptions,
     pub(crate) door: &'a Door<'a>,

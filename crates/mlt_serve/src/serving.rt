@@ -18,7 +18,7 @@ use crate::service::Service;
 use crate::threads_beside::serve_with_notes;
 use mlt_manager::Manager;
 use mlt_script_serial::{Outcome, Outcomes};
-use mlt_serve_connections::{AdmissionQueue, RestartQueue, SpinPolicy};
+use mlt_serve_connections::{AdmissionQueue, SpinPolicy};
 use mlt_serve_seats::{Notes, Seats};
 use mlt_serve_session::Receipts;
 use mlt_types::{Pseudo, Refusal};
@@ -113,8 +113,7 @@ where
     let service = Service {
         shared: &shared,
         admission_queue: &AdmissionQueue::new(),
-        restart_queue: &RestartQueue::new(),
-        spin_policy: &SpinPolicy::new(rt),
+        spin_policy: &SpinPolicy::new(),
         options,
         door: &Door::new(listener),
         seats: &Seats::new(),

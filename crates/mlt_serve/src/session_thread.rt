@@ -10,7 +10,7 @@ use crate::accepting::Connection;
 use crate::service::Service;
 use crate::talking::talk;
 use crossbeam_channel::Receiver;
-use mlt_serve_connections::{Admission, Restarts, Socket, lingering_close};
+use mlt_serve_connections::{Admission, Socket, lingering_close};
 use mlt_serve_seats::{Cut, Note, Seat, Sitting};
 use mlt_serve_session::Receipts;
 use mlt_types::Pseudo;
@@ -108,9 +108,8 @@ impl<P: Pseudo, L: MadeWith<P>, K: Receipts + Drop> SessionThread<P, L, K> {
         } = self;
         let mine = share.split_off(1, 0);
         let seen = service.shared.copy_snapshot(snapshot);
-        let restarts = Restarts::new(service.restart_queue);
         let sitting = Sitting::new(rt, seat, service.is_watched);
-        let admission = Admission::new(rt, service.admission_queue, restarts, sitting);
+        let admission = Admission::new(rt, service.admission_queue, sitting);
         let tries = Tries::PerOperation(service.options.tries);
         let mut desk = LockDesk::after(rt, service.shared, &admission, mine, seen, tries);
         desk.serve(client);
@@ -118,6 +117,7 @@ impl<P: Pseudo, L: MadeWith<P>, K: Receipts + Drop> SessionThread<P, L, K> {
         let cut = talk(alloc, &socket, &admission, &mut desk, client, outcomes);
         socket.close();
         let (mine, more, seen) = desk.close();
+        admission.close();
         share.merge(mine);
         *snapshot = seen;
         *events = events.saturating_add(more);

@@ -32,7 +32,6 @@ pub(crate) fn talk<P: Pseudo, L: MadeWith<P>, R: Wait + Clock, K: Receipts + Dro
     let mut reader = Outside::new(socket, admission);
     let mut writer = Outside::new(socket, admission);
     let ended = session(alloc, &mut reader, &mut writer, desk, client, outcomes);
-    admission.leave();
     cut_of(ended, socket.failure())
 }
 

@@ -1,43 +1,31 @@
 //! The way of one session through the admission queue, and what it waits for before it begins a transaction.
 
-use crate::admission_queue::AdmissionQueue;
-use crate::restart_queue::Restarts;
+use crate::admission_queue::{AdmissionQueue, Pass};
+use crate::restarts::Restarts;
 use crate::socket::Socket;
-use crate::tuning::{EVENTS_PER_TURN, MOST_BYPASSING_BYTES};
+use crate::tuning::EVENTS_PER_TURN;
 use mlt_event::{Answer, Told};
 use mlt_object_kinds::ObjOp;
 use mlt_serve_seats::Sitting;
-use mlt_work_desk::{Gate, is_to_wait};
+use mlt_work_waits::{Gate, is_to_wait};
 use std::cell::Cell;
-use std::io;
 use std::io::{Read, Write};
 use std::sync::Wait;
 use std::time::Clock;
+use std::{io, thread};
 
-/// Where a session is.
-#[derive(Clone, Copy, Debug, PartialEq, Eq)]
-enum AdmissionState {
-    /// Not at work.
-    Outside,
-    /// At work, past the queue.
-    Bypassing,
-    /// At work, in its turn.
-    Admitted,
-}
-
-/// The way of a session. It is admitted with the lines that it has read, or bypasses the queue where they are few, and leaves before
-/// it writes their answers, before it reads on, and where an operation is to wait, which so keeps nobody from work. Once awake it goes
-/// on outside, since it may have locks for which others wait. One that yields before a call, since another has precedence, sleeps in
-/// its place.
-#[derive(Drop)]
+/// The way of a session. It goes to work with the lines that it has read, and leaves before it writes their answers, before it reads on,
+/// and where an operation is to wait, which so keeps nobody from work. Once awake it goes on outside, since it may have locks for which
+/// others wait. One that yields before a call, since another has precedence, stays at work as it sleeps.
 pub struct Admission<'a, R: Wait + Clock> {
     rt: &'a R,
     admission_queue: &'a AdmissionQueue,
-    place: Cell<AdmissionState>,
-    /// How many events it has made since it came.
+    /// None where it is outside.
+    pass: Cell<Option<Pass>>,
+    /// How many events it has made since it went to work.
     events: Cell<u32>,
     /// Before a restarted transaction begins it waits outside.
-    restarts: Restarts<'a>,
+    restarts: Restarts,
     /// Where others see what it does.
     sitting: Sitting<'a, R>,
 }
@@ -47,50 +35,66 @@ impl<'a, R: Wait + Clock> Admission<'a, R> {
     pub fn new(
         rt: &'a R,
         admission_queue: &'a AdmissionQueue,
-        restarts: Restarts<'a>,
         sitting: Sitting<'a, R>,
     ) -> Admission<'a, R> {
         Admission {
             rt,
             admission_queue,
-            place: Cell::new(AdmissionState::Outside),
+            pass: Cell::new(None),
             events: Cell::new(0),
-            restarts,
+            restarts: Restarts::new(),
             sitting,
         }
     }
 
-    /// Goes on with lines of so many bytes.
-    fn go_on(&self, bytes: usize) {
-        self.events.set(0);
-        if bytes <= MOST_BYPASSING_BYTES && self.admission_queue.bypass() {
-            self.place.set(AdmissionState::Bypassing);
-        } else {
-            self.enter();
+    /// The session ends.
+    pub fn close(self) {
+        let Admission {
+            rt,
+            admission_queue,
+            pass,
+            events: _,
+            restarts: _,
+            sitting,
+        } = self;
+        if let Some(pass) = pass.into_inner() {
+            admission_queue.leave(rt, pass);
         }
-    }
-
-    fn enter(&self) {
-        self.admission_queue.enter(self.rt);
-        self.place.set(AdmissionState::Admitted);
+        sitting.show();
     }
 
     /// Leaves, if it is at work. What it has done until now it shows to others.
-    pub fn leave(&self) {
-        match self.place.replace(AdmissionState::Outside) {
-            AdmissionState::Outside => (),
-            AdmissionState::Bypassing => self.admission_queue.end_bypass(),
-            AdmissionState::Admitted => self.admission_queue.leave(self.rt),
-        }
+    fn leave(&self) {
+        self.take_pass(None);
         self.sitting.show();
+    }
+
+    /// Has this pass from now on, and gives back the one that it had.
+    fn take_pass(&self, pass: Option<Pass>) {
+        if let Some(used) = self.pass.replace(pass) {
+            self.admission_queue.leave(self.rt, used);
+        }
+    }
+
+    /// Goes to work with what it has read.
+    fn enter(&self) {
+        self.events.set(0);
+        self.take_pass(Some(self.admission_queue.enter(self.rt)));
+    }
+
+    /// Leaves, and goes to work again in its turn.
+    fn queue(&self) {
+        self.leave();
+        self.events.set(0);
+        self.take_pass(Some(self.admission_queue.queue(self.rt)));
     }
 }
 
 impl<R: Wait + Clock> Gate for Admission<'_, R> {
     fn begin(&self, _client: u32) {
-        if self.restarts.is_due() {
+        if let Some(pause) = self.restarts.pause() {
             self.leave();
-            self.restarts.wait(self.rt);
+            thread::sleep(self.rt, pause);
         }
     }
 
@@ -115,36 +119,26 @@ impl<R: Wait + Clock> Gate for Admission<'_, R> {
 
     #[inline(always)]
     fn pause(&self, _client: u32, told: &Told) {
-        if let Told::Answered(Answer::Going) = told {
-            self.events.set(self.events.get().saturating_add(1));
-        } else {
+        self.events.set(self.events.get().saturating_add(1));
+        // Within an operation it goes on, since others may wait for its pages.
+        if !matches!(told, Told::Called | Told::Answered(Answer::Going)) {
             self.pause_between(told);
         }
     }
 }
 
 impl<R: Wait + Clock> Admission<'_, R> {
-    /// The event was told something else than that its step goes on.
+    /// The event was told something else than that its operation goes on.
     #[inline(never)]
     fn pause_between(&self, told: &Told) {
         self.sitting.note(told);
         self.restarts.note(told);
-        let events = self.events.get().saturating_add(1);
-        self.events.set(events);
         if is_to_wait(told) {
             self.leave();
-        } else if events >= EVENTS_PER_TURN && holds_no_page(told) {
-            self.leave();
-            self.enter();
-            self.events.set(0);
+        } else if self.events.get() >= EVENTS_PER_TURN {
+            self.queue();
         }
     }
-}
-
-// Whether one that was told this, and is not to wait, is in no operation, so that nobody waits for its pages.
-#[inline(always)]
-fn holds_no_page(told: &Told) -> bool {
-    !matches!(told, Told::Called | Told::Answered(Answer::Going))
 }
 
 /// A connection whose reads and writes wait outside.
@@ -166,7 +160,7 @@ impl<R: Wait + Clock> Read for Outside<'_, R> {
         self.admission.leave();
         let count = self.socket.read(buf)?;
         if count > 0 {
-            self.admission.go_on(count);
+            self.admission.enter();
         }
         Ok(count)
     }

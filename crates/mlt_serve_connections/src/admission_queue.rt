@@ -1,20 +1,28 @@
 //! Admission control: few sessions are at work at a time, and the others queue.
 
-use crate::tuning::{ADMISSION_SPINS, MOST_ADMITTED, MOST_AWAKE, MOST_BYPASSING};
+use crate::tuning::{MOST_ADMITTED, MOST_BYPASSING};
 use std::array;
-use std::hint::spin_loop;
 use std::sync::atomic::{AtomicU64, Ordering};
 use std::sync::{Condvar, Mutex, Wait};
 
-/// Admits sessions in the order in which they come, so that few are at work at a time and the others sleep. With more at
-/// work than there are processors, whoever has the lock over the manager may not be running, and all others wait for it. The first
-/// who is not admitted is awake and looks, so that nobody has to wake up first once there is room.
+/// With it a session is at work. It can't be dropped: the queue takes it back.
+#[derive(Debug)]
+pub(crate) enum Pass {
+    /// Of a session that bypassed the queue.
+    Bypassing,
+    /// Of one that was admitted in its turn.
+    Admitted,
+}
+
+/// Lets a few sessions go to work at once, and admits the others in the order in which they come, so that few are at work at a time
+/// and the others sleep. With more at work than there are processors, the thread that has the lock over the manager may not be
+/// running, and all others wait for it.
 #[derive(Drop)]
 pub struct AdmissionQueue {
-    /// How many have come. Who comes has this number, from 0; numbers do not run out: at a million a second they last for half a
-    /// million years.
+    /// How many have queued. Each has as its number how many did before it; numbers do not run out: at a million a second they last
+    /// for half a million years.
     come: AtomicU64,
-    /// How many have left. It grows under the lock, so that nobody falls asleep meanwhile.
+    /// How many of these have left. It grows under the lock, so that nobody falls asleep meanwhile.
     left: AtomicU64,
     lock: Mutex<()>,
     condvars: [Condvar; 64],
@@ -23,7 +31,7 @@ pub struct AdmissionQueue {
 }
 
 impl AdmissionQueue {
-    /// Nobody is admitted yet.
+    /// Nobody is at work yet.
     pub fn new() -> AdmissionQueue {
         AdmissionQueue {
             come: AtomicU64::new(0),
@@ -34,64 +42,50 @@ impl AdmissionQueue {
         }
     }
 
-    /// Bypasses the queue, where few do so at the moment. It answers whether it does.
-    pub(crate) fn bypass(&self) -> bool {
-        let bypasses = self.bypassing.fetch_add(1, Ordering::SeqCst) < MOST_BYPASSING;
-        if !bypasses {
-            self.end_bypass();
+    /// Goes to work, at once where few do so at the moment, and else in its turn.
+    pub(crate) fn enter<R: Wait>(&self, rt: &R) -> Pass {
+        if self.bypassing.fetch_add(1, Ordering::SeqCst) < MOST_BYPASSING {
+            return Pass::Bypassing;
         }
-        bypasses
-    }
-
-    /// One who bypasses the queue is at work no more.
-    pub(crate) fn end_bypass(&self) {
         self.bypassing.fetch_sub(1, Ordering::SeqCst);
+        self.queue(rt)
     }
 
-    /// Is admitted, once there is room and all who came before are admitted or have left.
-    pub(crate) fn enter<R: Wait>(&self, rt: &R) {
+    /// Goes to work once there is room, and all who queued before are admitted or have left.
+    pub(crate) fn queue<R: Wait>(&self, rt: &R) -> Pass {
         let number = self.come.fetch_add(1, Ordering::SeqCst);
-        self.sleep(rt, number, MOST_ADMITTED + MOST_AWAKE);
-        if !self.is_admitted_soon(number) {
-            self.sleep(rt, number, MOST_ADMITTED);
+        if !self.is_admitted(number) {
+            let lock = self.lock.lock(rt);
+            let _woken = self
+                .condvar(number)
+                .wait_while(rt, lock, |_| !self.is_admitted(number));
         }
+        Pass::Admitted
     }
 
-    /// Leaves, admits the next one that waits, and wakes the one behind it.
-    pub(crate) fn leave<R: Wait>(&self, rt: &R) {
-        let lock = self.lock.lock(rt);
-        let left = self.left.fetch_add(1, Ordering::SeqCst);
-        drop(lock);
-        let next = left.saturating_add(MOST_ADMITTED);
-        self.condvar(next).notify_all();
-        self.condvar(next.saturating_add(MOST_AWAKE)).notify_all();
-    }
-
-    // Whether the one of this number is among the first so many who have not left.
-    fn is_among(&self, number: u64, first: u64) -> bool {
-        number < self.left.load(Ordering::SeqCst).saturating_add(first)
-    }
-
-    // Looks for a while whether the one of this number is admitted.
-    fn is_admitted_soon(&self, number: u64) -> bool {
-        for _ in 0..ADMISSION_SPINS {
-            if self.is_among(number, MOST_ADMITTED) {
-                return true;
+    /// Is at work no more. Where it had queued the next one that waits is admitted.
+    pub(crate) fn leave<R: Wait>(&self, rt: &R, pass: Pass) {
+        match pass {
+            Pass::Bypassing => {
+                self.bypassing.fetch_sub(1, Ordering::SeqCst);
             }
-            spin_loop();
+            Pass::Admitted => {
+                let lock = self.lock.lock(rt);
+                let left = self.left.fetch_add(1, Ordering::SeqCst);
+                drop(lock);
+                self.condvar(left.saturating_add(MOST_ADMITTED))
+                    .notify_all();
+            }
         }
-        false
     }
 
-    // Sleeps until the one of this number is among the first so many who have not left.
-    fn sleep<R: Wait>(&self, rt: &R, number: u64, first: u64) {
-        if self.is_among(number, first) {
-            return;
-        }
-        let lock = self.lock.lock(rt);
-        let _woken = self
-            .condvar(number)
-            .wait_while(rt, lock, |_| !self.is_among(number, first));
+    // Whether the one of this number is admitted.
+    fn is_admitted(&self, number: u64) -> bool {
+        number
+            < self
+                .left
+                .load(Ordering::SeqCst)
+                .saturating_add(MOST_ADMITTED)
     }
 
     // What wakes the one of this number. No more than 64 sessions wait, and their numbers follow one another.

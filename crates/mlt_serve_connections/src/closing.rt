@@ -1,6 +1,6 @@
 //! How a connection ends.
 
-use crate::socket_tuning::LINGER_SECONDS;
+use crate::tuning::LINGER_SECONDS;
 use mlt_text::MAX_INPUT;
 use std::io;
 use std::io::{ErrorKind, Read};

@@ -1,14 +1,13 @@
-//! Connections over TCP: how they are taken, read, written and closed; which sessions are at work, and whose restarted
-//! transaction begins.
+//! Connections over TCP: how they are taken, read, written and closed; which sessions are at work, and how a
+//! restarted transaction begins.
 #![tactic(auto)]
 
 mod accepting;
 mod admission;
 mod admission_queue;
 mod closing;
-mod restart_queue;
+mod restarts;
 mod socket;
-mod socket_tuning;
 mod spin_policy;
 mod tuning;
 
@@ -16,6 +15,5 @@ pub use accepting::{Accepted, accept, refuse_all};
 pub use admission::{Admission, Outside};
 pub use admission_queue::AdmissionQueue;
 pub use closing::lingering_close;
-pub use restart_queue::{RestartQueue, Restarts};
 pub use socket::{Failure, Socket};
 pub use spin_policy::SpinPolicy;

@@ -3,8 +3,8 @@
 ghost use Rattle.std.specs.Prelude.{◌≡◌, IfSome};
 ghost use Rattle.std.specs.Io.{ReadsAtMost, WritesAtMost};
 
-use crate::socket_tuning::{FEWEST_READS_WITHOUT_SPIN, MOST_READS_WITHOUT_SPIN, READ_SPINS};
 use crate::spin_policy::SpinPolicy;
+use crate::tuning::READ_SPINS;
 use std::cell::Cell;
 use std::hint::spin_loop;
 use std::io;
@@ -22,8 +22,7 @@ pub enum Failure {
 }
 
 /// A connection on which a read first looks for bytes for some microseconds, so that a client that sends its next line at once finds
-/// its session awake. It looks while sessions are few, and ever more seldom where it was in vain, as for a client that is slow or far
-/// away.
+/// its session awake. It looks while no other session is there.
 ///
 /// Where a socket has an idle time, a stop of the program interrupts what waits there. It waits on then, for what is left of the time.
 #[derive(Drop)]
@@ -35,10 +34,6 @@ pub struct Socket<'a, C: Clock> {
     idle: Option<Duration>,
     /// Whether a read or a write that can't go on at once waits until it can.
     waits: Cell<bool>,
-    /// How many reads are to come that do not spin.
-    rest: Cell<u32>,
-    /// How many these are after the next spin in vain.
-    gap: Cell<u32>,
     /// How the last one that failed did.
     failed: Cell<Option<Failure>>,
 }
@@ -62,8 +57,6 @@ impl<'a, C: Clock> Socket<'a, C> {
             spin_policy,
             idle,
             waits: Cell::new(true),
-            rest: Cell::new(0),
-            gap: Cell::new(FEWEST_READS_WITHOUT_SPIN),
             failed: Cell::new(None),
         }
     }
@@ -102,13 +95,6 @@ impl<'a, C: Clock> Socket<'a, C> {
         Ok(())
     }
 
-    /// Counts a read, and answers whether it is to spin.
-    fn is_to_spin(&self) -> bool {
-        let rest = self.rest.get();
-        self.rest.set(rest.saturating_sub(1));
-        rest == 0 && self.spin_policy.allows_spinning()
-    }
-
     /// What a read gives at one of some looks, if it gives anything but that it would wait.
     fn spin(&self, buf: &mut [u8]) -> Option<io::Result<usize>>
         ensures { IfSome result (λ read. ReadsAtMost read buf.new) }
@@ -117,15 +103,10 @@ impl<'a, C: Clock> Socket<'a, C> {
         for _ in 0..READ_SPINS {
             let read = stream.read(buf);
             if !comes_later(&read) {
-                self.gap.set(FEWEST_READS_WITHOUT_SPIN);
                 return Some(read);
             }
             spin_loop();
         }
-        let gap = self.gap.get();
-        self.rest.set(gap);
-        self.gap
-            .set(gap.saturating_mul(2).min(MOST_READS_WITHOUT_SPIN));
         None
     }
 
@@ -140,7 +121,7 @@ impl<'a, C: Clock> Socket<'a, C> {
     fn read_some(&self, buf: &mut [u8]) -> io::Result<usize>
         ensures { ReadsAtMost result buf.new }
     {
-        if self.is_to_spin() && self.put_waits(false).is_ok() {
+        if self.spin_policy.allows_spinning() && self.put_waits(false).is_ok() {
             if let Some(read) = self.spin(buf) {
                 return read;
             }

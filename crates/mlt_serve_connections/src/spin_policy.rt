@@ -1,23 +1,18 @@
-//! Whether sessions spin before they sleep, that is look again and again for what their clients send.
+//! Whether a session spins before it sleeps, that is looks again and again for what its client sends.
 
 use std::sync::atomic::{AtomicU64, Ordering};
-use std::thread;
-use std::thread::Threads;
 
-/// How many sessions there are. All of them spin while they are fewer than the processors: then one is left for those who work.
+/// How many sessions there are. One that is alone spins: where there are more, their looks in vain take more time than wake-ups.
 #[derive(Drop)]
 pub struct SpinPolicy {
     sessions: AtomicU64,
-    processors: u64,
 }
 
 impl SpinPolicy {
     /// No session yet.
-    pub fn new<R: Threads>(rt: &R) -> SpinPolicy {
-        let processors = thread::available_parallelism(rt).map_or(1, |count| count.get() as u64);
+    pub fn new() -> SpinPolicy {
         SpinPolicy {
             sessions: AtomicU64::new(0),
-            processors,
         }
     }
 
@@ -31,8 +26,8 @@ impl SpinPolicy {
         self.sessions.fetch_sub(1, Ordering::SeqCst);
     }
 
-    /// Whether sessions may spin at the moment.
+    /// Whether a session may spin at the moment.
     pub fn allows_spinning(&self) -> bool {
-        self.sessions.load(Ordering::SeqCst) < self.processors
+        self.sessions.load(Ordering::SeqCst) == 1
     }
 }

@@ -1,6 +1,6 @@
 //! Which worker is at work.
 
-use crate::tuning::{GAP_SPINS, MOST_NAPS, NAP_MICROSECONDS, SLOWLY_GROWING_NAPS};
+use crate::tuning::{GAP_SPINS, MOST_NAPS, NAP_MICROSECONDS};
 use mlt_event::{Answer, Told};
 use mlt_work_desk::Gate;
 use std::hint::spin_loop;
@@ -14,16 +14,14 @@ use std::time::{Clock, Duration};
 /// al., The End of an Architectural Era, VLDB 2007, section 3.1). It changes nothing that is done, only when.
 ///
 /// A worker that has begun a transaction is never held. Others queue before they begin one. The first of them begins where none is
-/// open for some time; and else after some naps: half as many again as the one before it took, so that a short run is shared by
-/// all eight, and then four times as many, so that in a long one work seldom moves. Who was at work then ends its transaction
-/// beside it, and queues.
+/// open for some time, and else after some naps. The worker that was at work then ends its transaction beside it, and queues.
 #[derive(Drop)]
 pub struct BeginQueue<'a, R: Wait + Clock> {
     rt: &'a R,
     /// How many transactions are open.
     open: AtomicU64,
-    /// Who has it is the first. It keeps how many naps that one takes.
-    queue: Mutex<u32>,
+    /// The worker that has it is the first of the queue.
+    first: Mutex<()>,
 }
 
 impl<'a, R: Wait + Clock> BeginQueue<'a, R> {
@@ -32,7 +30,7 @@ impl<'a, R: Wait + Clock> BeginQueue<'a, R> {
         BeginQueue {
             rt,
             open: AtomicU64::new(0),
-            queue: Mutex::new(1),
+            first: Mutex::new(()),
         }
     }
 
@@ -45,9 +43,9 @@ impl<'a, R: Wait + Clock> BeginQueue<'a, R> {
         if self.is_idle() {
             return;
         }
-        let mut naps = self.queue.lock(self.rt);
+        let _first = self.first.lock(self.rt);
         let mut was_idle = false;
-        for _ in 0..*naps {
+        for _ in 0..MOST_NAPS {
             thread::sleep(self.rt, Duration::from_micros(NAP_MICROSECONDS));
             let is_idle = self.stays_idle();
             if was_idle && is_idle {
@@ -55,8 +53,6 @@ impl<'a, R: Wait + Clock> BeginQueue<'a, R> {
             }
             was_idle = is_idle;
         }
-        *naps = more_naps(*naps);
-        self.wait_for_gap();
     }
 
     /// Whether no transaction is open for some microseconds.
@@ -68,16 +64,6 @@ impl<'a, R: Wait + Clock> BeginQueue<'a, R> {
             spin_loop();
         }
         true
-    }
-
-    /// Waits until no transaction is open, but for some microseconds only.
-    fn wait_for_gap(&self) {
-        for _ in 0..GAP_SPINS {
-            if self.is_idle() {
-                return;
-            }
-            spin_loop();
-        }
     }
 }
 
@@ -97,13 +83,4 @@ impl<R: Wait + Clock> Gate for BeginQueue<'_, R> {
             _ => (),
         }
     }
-}
-
-fn more_naps(naps: u32) -> u32 {
-    let more = if naps < SLOWLY_GROWING_NAPS {
-        naps / 2 + 1
-    } else {
-        naps.saturating_mul(3)
-    };
-    naps.saturating_add(more).min(MOST_NAPS)
 }

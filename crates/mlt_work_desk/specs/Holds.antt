@@ -18,7 +18,7 @@ use Rattle.mlt_work_log.specs.Seats.{first_items}
 use Rattle.mlt_work_log.specs.declared.seats.LogSnapshot.{LogSnapshot}
 use Rattle.mlt_work_desk.specs.Refusals.{IsOfBegin, IsOfCommit, IsOfOperation}
 use Rattle.mlt_work_desk.specs.Tries.{GivesUp, SpendsTries}
-use Rattle.mlt_work_desk.specs.Waits.{is_to_wait}
+use Rattle.mlt_work_waits.specs.Gates.{is_to_wait}
 use Rattle.mlt_work_desk.specs.declared.tries.TriesLeft.{TriesLeft}
 
 -- An event of some manager was told this, and met the contract of its call. What is always true of a manager is true of it

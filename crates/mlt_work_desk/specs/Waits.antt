@@ -32,12 +32,6 @@ given_back_by (Event.Step x) (Told.Answered answer) = given_back_by_step x answe
 given_back_by (Event.Cancel x) Told.Cancelled = GivenBack.Operation x
 given_back_by other another = GivenBack.Nothing
 
--- whether one that was told this is to wait
-abbrev pub is_to_wait : Told → Bool
-is_to_wait (Told.Answered (Answer.Waiting page by)) = true
-is_to_wait (Told.Answered (Answer.Blocked by)) = true
-is_to_wait other = false
-
 -- the wait of a sleeping thread for a lock of y
 abbrev pub wait_for : SleepingThread → ℕ → Waiting
 wait_for thread y = record {

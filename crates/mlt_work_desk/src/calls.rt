@@ -10,7 +10,6 @@ ghost use Rattle.mlt_work_desk.specs.Holds.{EndsWithOp, IfReply, IsToldTo, MayAn
 ghost use Rattle.mlt_work_desk.specs.Tries.{GivesUp, IsYoungestOfCycle, SpendsByWaits, tries_spent};
 
 use crate::called::Called;
-use crate::gate::Gate;
 use crate::lock_desk::LockDesk;
 use crate::made_with::MadeWith;
 use crate::shared::Shared;
@@ -23,7 +22,7 @@ use mlt_object_kinds::{ObjOp, ObjReply};
 use mlt_script_serial::{Answering, Desk, DeskAnswer};
 use mlt_types::{Pseudo, Refusal, TxId};
 use mlt_work_log::LogSnapshot;
-use mlt_work_waits::Wakers;
+use mlt_work_waits::{Gate, Wakers};
 use std::sync::Wait;
 use std::sync::ledger::Share;
 

@@ -4,7 +4,6 @@ ghost use Rattle.std.specs.Prelude.{◌≡◌, ◌-◌, ◌^◌, [], min};
 ghost use Rattle.mlt_work_log.specs.Seats.{IsOf};
 
 use crate::called::Called;
-use crate::gate::Gate;
 use crate::made_with::MadeWith;
 use crate::shared::Shared;
 use crate::timestamp::Timestamp;
@@ -12,7 +11,7 @@ use crate::tries::TriesLeft;
 use crate::turn::SleepingThread;
 use mlt_types::Pseudo;
 use mlt_work_log::LogSnapshot;
-use mlt_work_waits::Wakers;
+use mlt_work_waits::{Gate, Wakers};
 use std::sync::Wait;
 use std::sync::ledger::Share;
 

@@ -7,7 +7,7 @@ ghost use Rattle.mlt_work_desk.specs.Makings.{making_of};
 use crate::locked_state::LockedState;
 use crate::made_with::MadeWith;
 use crate::statistics::DeskStatistics;
-use crate::tuning::{FIRST_LOCK_SPINS, LOCK_SPINS, PAUSES_PER_LOCK_SPIN};
+use crate::tuning::{LOCK_SPINS, PAUSES_PER_LOCK_SPIN};
 use crate::turn::SleepingThread;
 use crate::unlocked::Unlocked;
 use mlt_manager::Manager;
@@ -25,7 +25,6 @@ use std::sync::{Condvar, Mutex, MutexGuard, Wait};
 /// A lock over the manager, and the condition variables that desks sleep at.
 pub struct Shared<P: Pseudo, L: MadeWith<P>> {
     state: Mutex<LockedState<P, L>>,
-    queue: Mutex<()>,
     condvars: [Condvar; 256],
     /// How many were blocked at the end of the last hold, for who is to call an operation.
     blocked: AtomicU64,
@@ -41,7 +40,6 @@ impl<P: Pseudo, L: MadeWith<P>> Shared<P, L> {
     {
         Shared {
             state: Mutex::new(state),
-            queue: Mutex::new(()),
             condvars: array::from_fn(|_| Condvar::new()),
             blocked: AtomicU64::new(0),
             log,
@@ -52,8 +50,7 @@ impl<P: Pseudo, L: MadeWith<P>> Shared<P, L> {
     ///
     /// A hold takes some tenths of a microsecond, and to put a thread to sleep and wake it takes many. So a thread looks at a lock that is
     /// taken again a few times, each time after a wait in which its holder may take it for its next events: then what it works on stays in
-    /// its processor. After that a thread queues, and of the queue the first alone goes on looking (Dice, Malthusian Locks, EuroSys 2017,
-    /// section 3). The thread that holds the lock may not be running, so that one too sleeps in the end.
+    /// its processor. The thread that holds the lock may not be running, so in the end the other one sleeps.
     #[inline(always)]
     pub(crate) fn lock<R: Wait>(&self, rt: &R) -> MutexGuard<'_, LockedState<P, L>> {
         match self.state.try_lock() {
@@ -66,26 +63,13 @@ impl<P: Pseudo, L: MadeWith<P>> Shared<P, L> {
     #[cold]
     #[inline(never)]
     fn lock_slowly<R: Wait>(&self, rt: &R) -> MutexGuard<'_, LockedState<P, L>> {
-        pause();
-        if let Some(state) = self.spin(LOCK_SPINS - 1) {
-            return state;
-        }
-        let _first = self.queue.lock(rt);
-        if let Some(state) = self.spin(FIRST_LOCK_SPINS) {
-            return state;
+        for _ in 0..LOCK_SPINS {
+            pause();
+            if let Some(state) = self.state.try_lock() {
+                return state;
+            }
         }
         self.state.lock(rt)
-    }
-
-    // The state, if it is free at one of so many looks, with a wait after each.
-    fn spin(&self, spins: u32) -> Option<MutexGuard<'_, LockedState<P, L>>> {
-        for _ in 0..spins {
-            if let Some(state) = self.state.try_lock() {
-                return Some(state);
-            }
-            pause();
-        }
-        None
     }
 
     /// The state for a desk's next event, once nobody else has it and the desk is awake, if it sleeps. One that is to call an
@@ -224,7 +208,6 @@ impl<P: Pseudo, L: MadeWith<P>> Shared<P, L> {
     pub fn unlock(self) -> Unlocked<P, L> {
         let Shared {
             state,
-            queue: _,
             condvars: _,
             blocked: _,
             log,

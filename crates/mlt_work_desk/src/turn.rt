@@ -2,7 +2,7 @@
 
 ghost use Rattle.std.specs.Prelude.{◌≡◌};
 ghost use Rattle.mlt_work_desk.specs.Holds.{goes_on, is_done};
-ghost use Rattle.mlt_work_desk.specs.Waits.{given_back_by, given_back_by_step, is_to_wait, wait_for, wait_of};
+ghost use Rattle.mlt_work_desk.specs.Waits.{given_back_by, given_back_by_step, wait_for, wait_of};
 
 use mlt_event::{Answer, Event, Told};
 use mlt_object_kinds::ObjOp;
@@ -83,16 +83,6 @@ pub(crate) fn is_done(told: &Told) -> bool
     ensures { result ≡ is_done told.now }
 {
     matches!(told, Told::Answered(Answer::Done(_)))
-}
-
-/// Whether one that was told this is to wait.
-pub fn is_to_wait(told: &Told) -> bool
-    ensures { result ≡ is_to_wait told.now }
-{
-    matches!(
-        told,
-        Told::Answered(Answer::Waiting { .. } | Answer::Blocked { .. })
-    )
 }
 
 /// The wait of a sleeping thread that was told this, if it is to wait.

@@ -1,2 +1,3 @@
 pub mod Waits
 pub mod Queues
+pub mod Gates

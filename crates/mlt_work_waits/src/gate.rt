@@ -1,6 +1,9 @@
 //! What is told before each transaction, and of each event.
 
-use mlt_event::Told;
+ghost use Rattle.std.specs.Prelude.{◌≡◌};
+ghost use Rattle.mlt_work_waits.specs.Gates.{is_to_wait};
+
+use mlt_event::{Answer, Told};
 use mlt_object_kinds::ObjOp;
 
 /// Is told what a client does, with the lock free. The client goes on once it returns.
@@ -35,4 +38,14 @@ pub struct NoGate;
 
 impl Gate for NoGate {
     fn pause(&self, _client: u32, _told: &Told) {}
+}
+
+/// Whether one that was told this is to wait.
+pub fn is_to_wait(told: &Told) -> bool
+    ensures { result ≡ is_to_wait told.now }
+{
+    matches!(
+        told,
+        Told::Answered(Answer::Waiting { .. } | Answer::Blocked { .. })
+    )
 }
