@@ -15,7 +15,7 @@ from postgres import RICH
 from works import SECONDS, Bench, Group, Limit, Sample, Side, Work
 
 sys.path.insert(0, str(ROOT / "clients/python"))
-from mltx import MltxError, Session, TimedOut  # noqa: E402
+from mltx import MltxError as MltxError, Session, TimedOut  # noqa: E402
 
 __all__ = ["GROUPS", "MltxError", "Session"]
 

@@ -1,4 +1,6 @@
-"""What was measured as lines of a table: medians over the runs, ratios of runs that followed each other, and their spread."""
+"""What was measured as lines of a table, or as rows of a CSV file: medians over the runs, ratios of runs that followed each
+other, and their spread."""
+import re
 import statistics
 from collections.abc import Callable, Sequence
 from dataclasses import dataclass
@@ -8,6 +10,9 @@ from works import Sample, Work
 HEADS = ["work", "unit", "against", "this", "other", "ratio", "spread", "median", "99th", "besides"]
 WIDTHS = [64, 22, 16, 9, 9, 6, 13, 15, 15, 0]
 NONE = "-"
+# The columns of a CSV file.
+COLUMNS = ["group", "workload", "unit", "compared with", "value", "other value", "ratio", "spread",
+           "p50", "other p50", "p99", "other p99", "notes", "build", "rounds", "load", "date"]
 
 
 @dataclass(frozen=True)
@@ -52,6 +57,15 @@ class Line:
             sides = [[it.more[name] for it in side if name in it.more] for side in (self.this, self.other or [])]
             told.append(f"{name} " + " / ".join(number(statistics.median(side)) for side in sides if side))
         return ", ".join(told)
+
+
+def csv_row(cells: Sequence[str], *about: object) -> list[str]:
+    """The cells of a line as a row of a CSV file, with numbers that have no commas, and then what is known about the line."""
+    work, *rest = cells
+    unit, *figures, median, ninety_ninth, besides = (re.sub(r"(?<=\d),(?=\d)", "", cell) for cell in rest)
+    times = [time for pair in (median, ninety_ninth) for time in [*pair.split(" / "), NONE][:2]]
+    row = [*work.split(": ", 1), unit, *figures, *times, besides, *map(str, about)]
+    return ["" if cell == NONE else cell for cell in row]
 
 
 def values_of(samples: list[Sample] | None) -> list[float]:
