@@ -36,7 +36,8 @@ PHRASES: list[tuple[str, str]] = [
     ("that they were told,", "field `told` of [[Plays]]: [[AreToldBy]]"),
     ("and the base so reached is", "field `base` of [[KeepsMainPromise]]"),
     ("what the pages mean,", "field `means` of [[KeepsMainPromise]], for `state`"),
-    ("read through both maps,", "[[PagesMean]]: from pages to records by [[IsRecordOf]], and from records to a base by [[HoldsIn]]"),
+    ("read through both maps,",
+     "[[PagesMean]]: from pages to records by [[IsRecordOf]], and from records to a base by [[HoldsIn]]"),
     ("once the pages of running subtransactions are put back", "field `put_back` of [[KeepsMainPromise]]: [[HasCleanPages]]"),
     ("and the operations of open transactions are taken back.",
      "field `taken_back` of [[KeepsMainPromise]]: [[UndoneTo]], from `base` to `state` in every order"),
@@ -51,7 +52,8 @@ NOTATION: list[tuple[str, str]] = [
     ("`(x : A) × P`", "there is an `x` of `A` with `P`"),
     ("`f x`, `f`", "what the function `f` gives for `x`; without an `x`, or with fewer than it wants, the function itself"),
     ("`xs ++ y ∷ ys`",
-     "`xs ++ (y ∷ ys)`. A function and its arguments go together first, then `∷` and `++`, then `≡`, `<`, `≤`, then `×`, then `→`"),
+     "`xs ++ (y ∷ ys)`. A function and its arguments go together first, then `∷` and `++`, then `≡`, `<`, `≤`, then `×`, "
+     "then `→`"),
     ("`P → Q`, `P × Q`, `P → ⊥`", "of statements: if `P`, then `Q`; `P` and `Q`; not `P`"),
     ("`⊥`, `Unit {0}`",
      "the statement that is false, and the one that is true. Of values, `Unit {0}` is a kind with only one: a map to it is a "
@@ -100,8 +102,8 @@ READING: list[Part] = [
          comes later. And the manager between any two events keeps the same promises: that is the contract of
          `Manager::keeps_its_promises`.
 
-         *The life of a transaction.* That a number begins once, does nothing before that, and nothing once it has committed or was
-         closed, is the contract of `Manager::keeps_a_placed_history`. An answer that does not fit its event is never told: by
+         *The life of a transaction.* That a number begins once, does nothing before that, and nothing once it has committed or
+         was closed, is the contract of `Manager::keeps_a_placed_history`. An answer that does not fit its event is never told: by
          `run`.
 
          *That anything gets done.* A manager that refused each event would keep the sentence, and so would a `play` that always
@@ -112,11 +114,11 @@ READING: list[Part] = [
              Block("The main promise", "mlt_manager/specs/Headline.antt", "KeepsMainPromise"),
          ]),
     Part("Events, and the history that was told",
-         """First the field `told`. The history is read off the events and what they were told: it has an operation exactly where a
-         step, or a whole operation, was told `done`, with that reply. Which operation that was, a table of those that were called says. Of an
-         abort that is one event, how many operations it took back is not told here: the field `run` says that it is all that
-         stood. A whole operation that would wait or is blocked is dropped, so none is pending behind it. The `Done` of an item is
-         the pair of an operation and its reply.""", [
+         """First the field `told`. The history is read off the events and what they were told: it has an operation exactly where
+         a step, or a whole operation, was told `done`, with that reply. Which operation that was, a table of those that were
+         called says. Of an abort that is one event, how many operations it took back is not told here: the field `run` says that
+         it is all that stood. A whole operation that would wait or is blocked is dropped, so none is pending behind it. The
+         `Done` of an item is the pair of an operation and its reply.""", [
              Block("Events", "mlt_event/src/event.rt"),
              Block("What an event is told", "mlt_event/src/told.rt"),
              Block("Answers to steps", "mlt_event/src/answer.rt"),
@@ -126,15 +128,15 @@ READING: list[Part] = [
              Block("A changed table", "mlt_order/specs/Tables.antt"),
          ]),
     Part("Commit order",
-         """Now the fields `none_back`, `alone` and `taken_back`. The history tells of transcripts, item by item. By `none_back`, one
-         that committed lacks nothing that was taken back. [[IsSerialBase]] and [[UndoneTo]] know nothing of pages, of locks
+         """Now the fields `none_back`, `alone` and `taken_back`. The history tells of transcripts, item by item. By `none_back`,
+         one that committed lacks nothing that was taken back. [[IsSerialBase]] and [[UndoneTo]] know nothing of pages, of locks
          or of what an operation is: `S` is any kind of states, `P` any kind of items, and `step` says which item leads from which
          state to which. In the promise, states are bases and items are operations with their replies.
 
          [[UndoneTo]] leads forward, from the base to the state. [[Step]] is fixed backwards too: an item and the base after it
-         leave one base that can be before it. So whoever goes back from the state, operation by operation, comes to that base: it is what is left when the
-         open transactions are taken back. A history is finite, so they always have an interleaving: all of one, and then all of
-         the next.""", [
+         leave one base that can be before it. So whoever goes back from the state, operation by operation, comes to that base: it
+         is what is left when the open transactions are taken back. A history is finite, so they always have an interleaving: all
+         of one, and then all of the next.""", [
              Block("What a history tells of", "mlt_manager/specs/Headline.antt", "Transcripts transcripts_of after_item"),
              Block("A list without its last item", "mlt_order/specs/Histories.antt"),
              Block("Runs", "mlt_order/specs/Runs.antt", "IsSerialBase Runs"),
@@ -155,8 +157,8 @@ READING: list[Part] = [
     Part("Operations and their tables",
          """Each kind has a table: in which states an operation is told which reply, and which state that leaves. The state of an
          account is its balance, if it is there; that of an element, whether it is in its set; that of a counter, its value.
-         By [[Step]] an operation has at most one reply in each base; of a size it is [[TellsSize]] that fixes it. So if a run goes
-         through with the replies that were told, it goes through with no others.""", [
+         By [[Step]] an operation has at most one reply in each base; of a size it is [[TellsSize]] that fixes it. So if a run
+         goes through with the replies that were told, it goes through with no others.""", [
              Block("Operations and replies", "mlt_object_kinds/src/operation.rt"),
              Block("Operations on accounts", "mlt_object_kinds/src/account.rt"),
              Block("The table of accounts", "mlt_object_kinds/specs/Accounts.antt"),
@@ -170,8 +172,8 @@ READING: list[Part] = [
          is a record: a key with a value. A ghost is none: it keeps room for a record that may come back. Each cell has a key of
          its own, and what the base holds in the cell is what the record of that key says. In the definitions numbers have no
          limit, so there are cells that the program can't have; no two that it can have share a key. No header and no directory
-         is read here: that a look-up finds just these records is the field `file`. A live slot under a key that is that of no cell
-         is not seen here.""", [
+         is read here: that a look-up finds just these records is the field `file`. A live slot under a key that is that of no
+         cell is not seen here.""", [
              Block("The base of the pages", "mlt_manager/specs/Headline.antt", "PagesMean HoldsIn IsRecordOf HasLiveSlot"),
              Block("Keys of cells", "mlt_types/specs/Cells.antt"),
              Block("Pages", "mlt_page/src/page.rt"),
@@ -179,12 +181,12 @@ READING: list[Part] = [
              Block("Slots", "mlt_page/src/slot.rt"),
          ]),
     Part("First images and clean pages",
-         """Which pages are read so? The clean ones, by the field `put_back`. A *subtransaction* is what one operation, or what takes
-         one back, does to pages, a page a step; it is running from its first step up to its end. Before it first writes a page,
-         it keeps the page as it was, the first image. Of a page that it makes, it keeps that there was none. With its end it
-         drops them. The definitions take any image that an open transaction keeps. That only one who runs keeps any, and only of
-         pages that it holds exclusively, is the field `locks`. By `run` a step that ends no operation leaves the clean pages as
-         they are: so an image is the page as it was.""", [
+         """Which pages are read so? The clean ones, by the field `put_back`. A *subtransaction* is what one operation, or what
+         takes one back, does to pages, a page a step; it is running from its first step up to its end. Before it first writes a
+         page, it keeps the page as it was, the first image. Of a page that it makes, it keeps that there was none. With its end
+         it drops them. The definitions take any image that an open transaction keeps. That only one who runs keeps any, and only
+         of pages that it holds exclusively, is the field `locks`. By `run` a step that ends no operation leaves the clean pages
+         as they are: so an image is the page as it was.""", [
              Block("Clean pages of a manager", "mlt_manager/specs/Bases.antt"),
              Block("Who keeps a first image", "mlt_tx/specs/Tables.antt", "KeepsImage KeepsNoImage Table"),
              Block("A first image", "mlt_page_subtx/specs/Images.antt"),
@@ -243,7 +245,8 @@ LIBRARY: list[tuple[str, str]] = [
     ("nat_cmp", "how two numbers compare"),
     ("ordering_then", "the first comparison, and where that is equal the second one"),
     ("map.FinMap",
-     "`map.FinMap cmp V`: finite maps to values of `V`, from keys that `cmp` compares. Two with the same value at each key are one"),
+     "`map.FinMap cmp V`: finite maps to values of `V`, from keys that `cmp` compares. Two with the same value at each key are "
+     "one"),
     ("map.empty", "the map without keys"),
     ("map.get", "`map.get m k`: the value at `k`, if there is one"),
     ("map.retain_keys", "`map.retain_keys m p`: the map of those keys alone of which `p` is true"),
@@ -252,20 +255,21 @@ LIBRARY: list[tuple[str, str]] = [
     ("Global", "the allocator"),
 ]
 
-NOT_SHOWN_SAID = """The definitions above name these too. The sentence reads no more by them than what stands here. The
-[index](DEFINITIONS.md#index) of DEFINITIONS leads to those that are statements; the others are types of the program."""
+NOT_SHOWN_SAID = """The definitions above name these too. The sentence reads no more by them than what stands here.
+`tools/definitions NAME` prints those that are statements; the others are types of the program."""
 # What stands in what is shown, and is not followed.
 NOT_SHOWN: list[tuple[str, str]] = [
     ("AreWholeEvents NoneWaits",
-     "in the clause `whole`: each event is a begin, a whole operation, a commit, an abort or a whole abort; none is told to wait"),
+     "in the clause `whole`: each event is a begin, a whole operation, a commit, an abort or a whole abort; none is told to "
+     "wait"),
     ("IsNew", "the manager from which a run begins: no transaction, an empty history, a file without records, these limits"),
     ("IsRun", "each event meets the contract of its call, one after another. These contracts fix what it may be told, and why"),
     ("IsExtendibleHashFile", "the clean pages are an extendible hash file: a look-up finds each live slot, and no key has two"),
     ("IsRecord live_records", "in the field `can_be`: balances are in range, and the records of counters and sizes have 64 bits"),
     ("GhostsAreKept ledger_by", "removals by open transactions have left their ghosts, with room to take them back"),
     ("HoldsLocksOfItsPass",
-     "a running operation holds locks of the pages that it came to on its way to its bucket, its pass, and exclusive ones of those "
-     "of which it keeps an image; whoever runs nothing holds none"),
+     "a running operation holds locks of the pages that it came to on its way to its bucket, its pass, and exclusive ones of "
+     "those of which it keeps an image; whoever runs nothing holds none"),
     ("MatchesHistory", "who is open, what may be taken back and what is held is what the history says"),
     ("AreBegunInOrder AreCounted", "numbers of transactions and of commits are given out in order, from 1"),
     ("Manager ManagerFields",
