@@ -1,5 +1,6 @@
 """Benchmarks: each runs through, small, and prints its lines; an interrupt leaves no process and no file behind. What is not
 there to build or to compare with is left out, and told. The load generator tells what the server has seen of it."""
+import csv
 import os
 import re
 import shutil
@@ -79,11 +80,20 @@ def check_hotspots(rows, left_out):
             holds(all(limit in " ".join(cells) for cells in told), f"{work}: {limit} in {told}")
 
 
+def check_csv(folder, rows):
+    """Each group has a file with its lines, which say of what build and of how many rounds they are."""
+    files = {file.stem: list(csv.DictReader(file.read_text().splitlines())) for file in folder.iterdir()}
+    told = [[f"{group}: {row['workload']}", row["value"]] for group, lines in files.items() for row in lines]
+    same(sorted(told), sorted([cells[0], cells[3].replace(",", "")] for cells in rows), "the rows of the files")
+    for row in (row for lines in files.values() for row in lines):
+        holds(row["build"].endswith("(quick)") and row["rounds"] == "1" and row["load"] and row["date"], f"{row}")
+
+
 @test(seconds=20)
 def each_benchmark_runs_through(mltx):
     """Each group has lines with a figure, or is told to be left out, which nothing is that needs a C compiler alone."""
     plot = mltx.folder / "plot.svg"
-    words = [RUN, "--quick", "--markdown", "--plot", plot, "--program", mltx.path]
+    words = [RUN, "--quick", "--markdown", "--plot", plot, "--csv", mltx.folder / "results", "--program", mltx.path]
     ran = subprocess.run(words, capture_output=True, text=True, env=in_folder(mltx), timeout=PATIENCE)
     same((ran.returncode, ran.stderr), (0, ""), f"the status and standard error; standard output was {ran.stdout}")
     measured = {cells[0].partition(":")[0] for cells in rows(ran.stdout)}
@@ -93,9 +103,11 @@ def each_benchmark_runs_through(mltx):
     holds(not shutil.which("cc") or groups_left_out <= NEED_MORE, f"these are left out: {left_out}")
     for cells in rows(ran.stdout):
         holds(re.fullmatch(r"-?[\d,.]+", cells[3]), f"this line has no figure: {cells}")
+    check_csv(mltx.folder / "results", rows(ran.stdout))
     check_hotspots([cells for cells in rows(ran.stdout) if cells[0].startswith("hotspots: ")], left_out)
     if shutil.which("cc"):
-        check_plot(Picture(plot.read_text()), [cells for cells in rows(ran.stdout) if ": 64 clients, a hot counter, 2 ms" in cells[0]])
+        drawn = [cells for cells in rows(ran.stdout) if ": 64 clients, a hot counter, 2 ms" in cells[0]]
+        check_plot(Picture(plot.read_text()), drawn)
     same(list(mltx.folder.glob("mltx-bench-*")), [], "the folders that are left behind")
 
 

@@ -1,13 +1,16 @@
 """Documents: each link leads somewhere, counts are what they say, and what pages show is what the program writes."""
+import csv
 import json
 import re
 import shutil
 import subprocess
+from html import unescape
 from itertools import zip_longest
 from pathlib import Path
+from urllib.parse import unquote
 from urllib.request import urlopen
 
-from harness import ROOT, each, free_address, holds, same, test
+from harness import ROOT, VERSION, each, free_address, holds, same, test
 
 LINK = re.compile(r"\]\(([^)\s]+)\)")
 # A link to a line of code: the name that is defined there, the file and the line.
@@ -18,7 +21,7 @@ NAME_LINK = re.compile(r"\[`(\w+)`\]\(\.\./crates/(\w+)/([^)\s#]+)\)")
 
 def pages():
     """The documents of the repository, with their texts."""
-    found = [ROOT / "README.md", *(ROOT / "docs").glob("*.md"), *(ROOT / "examples").glob("*.md")]
+    found = [*ROOT.glob("*.md"), *(ROOT / "docs").glob("*.md"), *(ROOT / "examples").glob("*.md")]
     found += (ROOT / "clients").glob("*/README.md")
     return {page: page.read_text() for page in [*found, *(ROOT / "crates").glob("*/README.md")]}
 
@@ -98,25 +101,26 @@ def each_name_of_the_concepts_is_defined(_mltx):
     """A name in code is defined in the file that it links. What else is set as code stands so in
     the pages on formats, as a word of a script, a reply, a refusal or a command."""
     text = (ROOT / "docs/CONCEPTS.md").read_text()
-    formats = "".join((ROOT / f"docs/{page}.md").read_text() for page in ("LANGUAGE", "SCHEDULES", "PROTOCOL", "OPERATING", "CLI"))
+    names = ("LANGUAGE", "SCHEDULES", "PROTOCOL", "OPERATING", "CLI")
+    formats = "".join((ROOT / f"docs/{page}.md").read_text() for page in names)
     rows = [row for row in text.splitlines() if NAME_LINK.search(row)]
     holds(len(rows) > 15, "the page has its rows")
     for row in rows:
-        lost = [name for name, crate, path in NAME_LINK.findall(row) if not defines((ROOT / "crates" / crate / path).read_text(), name)]
+        linked = [(name, (ROOT / "crates" / crate / path).read_text()) for name, crate, path in NAME_LINK.findall(row)]
+        lost = [name for name, code in linked if not defines(code, name)]
         same(lost, [], f"names that their files do not define, in {row}")
     words = [word for quoted in re.findall(r"`([^`]+)`", NAME_LINK.sub("", text)) for word in quoted.split()]
-    strange = [word for word in words if not word.isdecimal() and not re.match("mlt_", word) and not re.search(rf"\b{word}\b", formats)]
+    strange = [word for word in words if not re.match(r"mlt_|\d+$", word) and not re.search(rf"\b{word}\b", formats)]
     same(strange, [], "words that no page on formats has")
 
 
 @test
-def the_main_theorem_stands_in_four_documents(_mltx):
-    """Word for word it stands in README, where it is explained, where it is defined, and above its whole text. Elsewhere it is
-    linked."""
+def the_main_theorem_stands_in_three_documents(_mltx):
+    """Word for word it stands in README, where it is explained, and above its whole text. Elsewhere it is linked."""
     texts = {page.relative_to(ROOT): " ".join(text.replace("\n> ", "\n").split()).lower() for page, text in pages().items()}
     theorem = re.search(r"\*\*(after any list of [^*]*)\.\*\*", texts[(ROOT / "README.md").relative_to(ROOT)])[1]
     found = sorted(str(page) for page, text in texts.items() if theorem in text)
-    same(found, ["README.md", "docs/DEFINITIONS.md", "docs/HEADLINE.md", "docs/THEOREM.md"], "where it stands")
+    same(found, ["README.md", "docs/HEADLINE.md", "docs/THEOREM.md"], "where it stands")
 
 
 @test
@@ -135,7 +139,6 @@ def the_map_of_the_crates_is_that_of_their_list(_mltx):
     crates = re.findall(r"(?m)^(\w+):", (ROOT / "crates.txt").read_text())
     same(re.findall(r"(?m)^\| \[`(\w+)`\]\(\S+\) \| \S", table), crates, "the crates with a promise")
     same(sorted(crates), sorted(folder.name for folder in (ROOT / "crates").iterdir()), "the folders of crates")
-    holds(output_of("crate-map", "--types") in text, "tools/crate-map --write was not run: the types of each crate differ")
 
 
 def linked_libraries(kit):
@@ -187,7 +190,7 @@ def the_rooms_are_those_of_the_list(_mltx):
         room = found[1] if (found := re.match(r"# (\w+): ", line)) else room
         if crate := re.match(r"\w+(?=:)", line):
             known.setdefault(room, []).append(crate[0])
-    text = (ROOT / "docs/ARCHITECTURE.md").read_text().partition("## The rooms\n")[2].partition("\n**Which crate")[0]
+    text = (ROOT / "docs/ARCHITECTURE.md").read_text().partition("## The rooms\n")[2].partition("\n## ")[0]
     same(re.findall(r"(?m)^\| `(\w+)` \| \S", text), list(known), "the rooms with a promise")
     for room, crates in known.items():
         strange = [crate for crate in crates if not f"{crate}_".startswith((f"mlt_{room}_", "mltx_"))]
@@ -196,19 +199,15 @@ def the_rooms_are_those_of_the_list(_mltx):
 
 @test
 def lines_of_the_headline_are_counted(_mltx):
-    """The table under the headline has the counts of tools/headline-lines, and so do the sentences of three documents."""
+    """README and THEOREM have the counts of tools/headline-lines."""
     counted = output_of("headline-lines")
     *parts, views = re.findall(r"(?m)^ +(\d+) lines$", counted)
     total = re.search(r"(\d+) lines of definitions in all", counted)[1]
     same(str(sum(map(int, parts))), total, "the sum of the parts")
-    readme, theorem, definitions = ((ROOT / page).read_text() for page in ("README.md", "docs/THEOREM.md", "docs/DEFINITIONS.md"))
-    table = definitions.partition("## What the headline rests on")[2].partition("\n## ")[0]
-    same(re.findall(r"(?m)^\|.*\| (\d+) \|$", table), [*parts, views], "the lines of each part, and of the views")
-    said = re.findall(in_text("The definitions are") + r"\s+(\d+)\s+lines,\s+and\s+the\s+views\s+(\d+)\s+more", table)
-    same(said, [(total, views)], "the lines in DEFINITIONS")
+    readme, theorem = ((ROOT / page).read_text() for page in ("README.md", "docs/THEOREM.md"))
     said = re.findall(r"\[(\d+)\s+lines\s+of\s+definitions\s+and\s+(\d+)\s+lines\s+of\s+views\]", readme)
     same(said, [(total, views)], "the lines in README")
-    same(re.findall(r"last row of the table of DEFINITIONS:\s+(\d+)\s+lines", theorem), [views], "the lines in THEOREM")
+    same(set(re.findall(r"(\d+)\s+lines", theorem)), {views}, "the lines in THEOREM")
 
 
 def is_written_by(page, tool, *words):
@@ -221,10 +220,30 @@ def is_written_by(page, tool, *words):
 
 
 @test
-def each_definition_is_told_as_its_file_tells_it(_mltx):
-    """DEFINITIONS is what tools/definitions makes of its names and of the comments in specs/. A name that is gone fails, and so
-    does a comment that was changed there alone, or here alone."""
-    is_written_by(ROOT / "docs/DEFINITIONS.md", "definitions")
+def figures_are_those_that_were_measured(_mltx):
+    """PERFORMANCE has ten rows of bench/results. README, CONCEPTS and the picture have figures of these files."""
+    is_written_by(ROOT / "docs/PERFORMANCE.md", "results")
+    same(len(re.findall(r"(?m)^\| \w+: .*\|$", (ROOT / "docs/PERFORMANCE.md").read_text())), 10, "the rows")
+    known = {group: list(csv.DictReader((ROOT / f"bench/results/{group}.csv").read_text().splitlines()))
+             for group in ("hotspots", "serve", "connections", "hot")}
+
+    def commits(clients):
+        workload = f"{clients} clients, a hot counter, 2 ms to think, 10 % aborted"
+        rows = [row for row in known["hotspots"] if row["workload"] == workload]
+        return {"mltx": float(rows[0]["value"]), **{row["compared with"]: float(row["other value"]) for row in rows}}
+
+    readme, concepts = ((ROOT / page).read_text() for page in ("README.md", "docs/CONCEPTS.md"))
+    wanted, gap = commits(32), r"\D+"
+    wanted = [f"{wanted[name]:,.0f}" for name in ("mltx", "PostgreSQL", "Redis WATCH")]
+    same(re.search(rf"`mltx` commits ([\d,]+){gap}PostgreSQL (\d+){gap}(\d+)\.", readme).groups(), tuple(wanted), "README")
+    same(re.search(rf"`mltx` commits ([\d,]+){gap}PostgreSQL (\d+)", concepts).groups(), tuple(wanted[:2]), "CONCEPTS")
+    others = [row for group in ("serve", "connections", "hot") for row in known[group]]
+    ratios = [float(row["ratio"]) for row in others if row["compared with"] == "Redis"]
+    said = re.search(r"`serve` reached ([\d.]+) to ([\d.]+) times the rate of Redis", " ".join(readme.split()))
+    same(said.groups(), (f"{min(ratios):.2f}", f"{max(ratios):.1f}"), "the range in README")
+    drawn = dict(re.findall(r">([\w ]+): ([\d,]+)<", (ROOT / "docs/pictures/hotspots.svg").read_text()))
+    same(drawn.pop("no lock"), "14,400", "the limit in the picture")
+    same(drawn, {name: f"{figure:,.0f}" for name, figure in commits(64).items()}, "the figures in the picture")
 
 
 @test
@@ -252,19 +271,23 @@ def each_definition_that_counts_is_shown_once(_mltx):
 
 
 @test
-def each_definition_that_a_public_contract_names_has_its_place(_mltx):
-    """A contract that names a definition for which DEFINITIONS has no term fails."""
-    same(output_of("definitions", "--missing").splitlines(), [], "the definitions without a place")
-
-
-@test
-def each_view_that_counts_is_linked(_mltx):
-    """Each file of a type whose view counts stands in the row of the views, and no other: one that is left out fails."""
-    section = output_of("headline-lines").partition("\nthe views:\n")[2]
-    typed = {path for path in re.findall(r"(?m)^ +\d+ (\S+\.rt): ", section) if "ghost view" in (ROOT / "crates" / path).read_text()}
-    row = re.search(r"(?m)^\| The views \|.*$", (ROOT / "docs/DEFINITIONS.md").read_text())[0]
-    linked = {path for path in re.findall(r"\]\(\.\./crates/(\S+?\.rt)\)", row)}
-    same(sorted(linked), sorted(typed), "the files of views")
+def definitions_are_printed_and_linked(mltx):
+    """tools/definitions prints one with its place, its comment and the names that it uses. On its pages each link leads to a
+    definition, and each definition of specs/ has its place."""
+    path = ROOT / "crates/mlt_manager/specs/Events.antt"
+    code = re.search(r"(?m)(?:^--.*\n)+pub record Plays(?:.+\n)+", path.read_text())[0]
+    printed, line = output_of("definitions", "Plays"), path.read_text().partition("pub record Plays ")[0].count("\n") + 1
+    shown, _, used = printed.partition("\n\nuses\n")
+    same(shown.replace("\n    ", "\n"), f"{path.relative_to(ROOT)}:{line}\n\n{code.rstrip()}", "what is printed")
+    holds({"IsRun", "Event"} <= set(used.split()), f"the names that it uses: {used}")
+    output_of("definitions", "--site", mltx.folder / "site")
+    pages = {file.name: file.read_text() for file in (mltx.folder / "site").iterdir()}
+    places = {f"{name}#{place}" for name, text in pages.items() for place in re.findall(r'<pre id="([^"]*)"', text)}
+    linked = {unquote(link) for text in pages.values() for link in re.findall(r'<a href="([^"]*#[^"]*)"', text)}
+    same({unescape(place) for place in places}, linked, "the definitions that are linked")
+    starts = r"(?m)^ *(?:(?:abbrev|unfoldable) pub|pub (?:record|data)) "
+    found = [start for file in ROOT.glob("crates/*/specs/*.antt") for start in re.findall(starts, file.read_text())]
+    same(len(places), len(found), "the definitions")
 
 
 # The pages that show commands with what they write.
@@ -324,12 +347,20 @@ def numbers_of_an_operator_are_told_of(mltx):
 
 
 @test
+def version_of_the_pages_is_that_of_the_program(_mltx):
+    """Each version that a page shows is that of the client, which other tests compare with the program."""
+    for page in ("docs/OPERATING.md", "docs/DEVELOPING.md", "docs/mltx.1"):
+        same(set(re.findall(r"\bmltx (\d+\.\d+\.\d+)", (ROOT / page).read_text())), {VERSION}, f"the versions in {page}")
+
+
+@test
 def options_of_the_pages_exist(_mltx):
     """Each option that a page for users names is one of the program, as its help shows, or of a tool that the page calls."""
     known = set(re.findall(r"(?m)^ +(?:-\w, )?(--[\w-]+)", (ROOT / "docs/CLI.md").read_text())) | {"--page", "--pid", "--write"}
-    for page in ("README", *(f"docs/{name}" for name in ("TUTORIAL", "CONCEPTS", "LANGUAGE", "SCHEDULES", "PROTOCOL", "OPERATING", "CLI"))):
-        named = set(re.findall(r"(?<![\w-])--[a-z][\w-]*", (ROOT / f"{page}.md").read_text()))
-        same(named - known, set(), f"options in {page}.md that nothing has")
+    names = ("TUTORIAL", "CONCEPTS", "LANGUAGE", "SCHEDULES", "PROTOCOL", "OPERATING", "CLI")
+    for page in ("README.md", *(f"docs/{name}.md" for name in names)):
+        named = set(re.findall(r"(?<![\w-])--[a-z][\w-]*", (ROOT / page).read_text()))
+        same(named - known, set(), f"options in {page} that nothing has")
 
 
 @test
@@ -350,8 +381,8 @@ def pages_of_the_help_are_written(mltx):
 
 @test
 def tutorial_shows_two_sessions(mltx):
-    """The lines of two clients of a server, in the order of the table, get the answers of its last column. One that gets none yet is
-    answered in a later row."""
+    """The lines of two clients of a server, in the order of the table, get the answers of its last column. One that gets none yet
+    is answered in a later row."""
     rows = re.findall(r"(?m)^\| (first|second) \| (?:`(.*?)` )?\| (?:`(.*)`)?.*\|$", (ROOT / "docs/TUTORIAL.md").read_text())
     holds(len(rows) > 10, "the page has its rows")
     with mltx.serve("--endless", limit=None) as server, server.connect() as first, server.connect() as second:
