@@ -113,7 +113,7 @@ where
     let service = Service {
         shared: &shared,
         admission_queue: &AdmissionQueue::new(),
-        spin_policy: &SpinPolicy::new(),
+        spin_policy: &SpinPolicy::new(rt),
         options,
         door: &Door::new(listener),
         seats: &Seats::new(),

@@ -22,7 +22,7 @@ pub enum Failure {
 }
 
 /// A connection on which a read first looks for bytes for some microseconds, so that a client that sends its next line at once finds
-/// its session awake. It looks while no other session is there.
+/// its session awake. It looks while there are fewer sessions than processors.
 ///
 /// Where a socket has an idle time, a stop of the program interrupts what waits there. It waits on then, for what is left of the time.
 #[derive(Drop)]

@@ -15,7 +15,7 @@ pub(crate) const RESTART_MICROSECONDS: u64 = 12_800;
 /// How often that pause doubles at most, with each further one in a row. By `retries`.
 pub(crate) const MOST_RESTART_DOUBLINGS: u32 = 3;
 
-/// How many times a read looks for bytes before it sleeps, for some ten microseconds. By `serve`, one connection.
+/// How many times a read looks for bytes before it sleeps, for some ten microseconds. By `connections`, 1 and 2 of them.
 pub(crate) const READ_SPINS: u32 = 50;
 
 /// For how many seconds in all what a client still sends is read away: no longer than any idle time. Nothing measures it.
