@@ -10,17 +10,21 @@
 
    ACCEPTS is a list of numbers of faults: accept n fails with the n-th of them, and is made where that is 0.
 
+   With NO_NAPS no sleep takes longer than a yield.
+
    At the end of the program, how many requests and how many calls were counted is written into the file COUNTED. */
 #define _GNU_SOURCE
 #include <dlfcn.h>
 #include <errno.h>
 #include <fcntl.h>
 #include <pthread.h>
+#include <sched.h>
 #include <stdatomic.h>
 #include <stdio.h>
 #include <stdlib.h>
 #include <string.h>
 #include <sys/socket.h>
+#include <time.h>
 #include <unistd.h>
 
 typedef void *ask(size_t);
@@ -31,6 +35,7 @@ typedef ssize_t write_some(int, const void *, size_t);
 typedef ssize_t receive(int, void *, size_t, int);
 typedef ssize_t send_some(int, const void *, size_t, int);
 typedef int accept_one(int, struct sockaddr *, socklen_t *, int);
+typedef int nap(const struct timespec *, struct timespec *);
 typedef void leave(int);
 
 /* The function of this name that the C library has. */
@@ -130,6 +135,10 @@ static int accept_is_listed(void) {
 int accept4(int listener, struct sockaddr *address, socklen_t *size, int how) {
     if (accept_is_listed() || fails("accept", 0)) return -1;
     return NEXT(accept_one, "accept4")(listener, address, size, how);
+}
+
+int nanosleep(const struct timespec *time, struct timespec *rest) {
+    return getenv("NO_NAPS") ? sched_yield() : NEXT(nap, "nanosleep")(time, rest);
 }
 
 void _exit(int status) {

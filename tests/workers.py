@@ -53,11 +53,11 @@ def clients_side_by_side(mltx, workers):
 
 
 def gave_up(mltx, *options):
-    """How many scripts of a reader and a writer gave up; the base is what the others leave. The writer is at work for longer than
-    the reader naps before it begins beside it."""
-    ups = lines("begin 1|up 7 1" + "|up 8 1" * 20 + "|commit") * 5_000
+    """How many scripts of a reader and a writer gave up; the base is what the others leave. The naps of a worker that waits take
+    no time here, so that it often begins beside the other one."""
+    ups = lines("begin 1|up 7 1" + "|up 8 1" * 20 + "|commit") * 2_000
     reads = lines("begin 2|read 7|commit") * 400
-    ran = mltx.run("run", *options, "-", given=ups + reads)
+    ran = mltx.run("run", *options, "-", given=ups + reads, env=mltx.shim(NO_NAPS="1"))
     same((ran.status, ran.err), (0, b""), f"run {options}")
     committed, count = {"1": 0, "2": 0}, 0
     for client, told in outcomes(ran.out):
