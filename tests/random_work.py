@@ -469,7 +469,8 @@ SIDE_BY_SIDE = {
 
 @each(SIDE_BY_SIDE, seconds=4)
 def random_scripts_side_by_side(mltx, case):
-    """Scripts of several clients: what committed is what `solo` says of these scripts in the order of their commits."""
+    """Scripts of several clients: what committed is what `solo` says of these scripts in the order of their commits. Naps take no
+    time, so that workers meet."""
     workers, hash_name, cells = case
     for number in range(20 * harness.CASES):
         dice = dice_of(f"side by side {case}", number)
@@ -477,7 +478,7 @@ def random_scripts_side_by_side(mltx, case):
         text = "".join(scripts)
         options = ["--workers", workers, "--hash", hash_name, "--tries", dice.choice((3, 100, 10_000))]
         with told_in("side by side", number, text):
-            ran = mltx.run("run", *options, "--trace", "trace", "-", given=text)
+            ran = mltx.run("run", *options, "--trace", "trace", "-", given=text, env=mltx.shim(NO_NAPS="1"))
             expect(ran, out=ran.out)
             compared_with_solo(mltx, scripts, ran.out.decode())
 

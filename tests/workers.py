@@ -104,7 +104,8 @@ def transfers_over_four_accounts_seldom_give_up(mltx):
         for client in clients
         for one, other in (source.sample(range(1, 5), 2) for _ in range(scripts))
     ]
-    ran = mltx.run("run", "--workers", 8, "-", given=lines(f"begin 0|{opened}|commit") + "".join(transfers))
+    given = lines(f"begin 0|{opened}|commit") + "".join(transfers)
+    ran = mltx.run("run", "--workers", 8, "-", given=given, env=mltx.shim(NO_NAPS="1"))
     same((ran.status, ran.err), (0, b""), "run")
     ends = [told[-1].split()[0] for client, told in outcomes(ran.out) if client != "0"]
     same(len(ends), len(clients) * scripts, "how many scripts ended")

@@ -32,7 +32,8 @@ PHRASES: list[tuple[str, str]] = [
      "field `committed` of the [[Transcripts]] that the history tells of; by field `none_back` they took nothing back"),
     ("run alone in commit order", "field `alone` of [[KeepsMainPromise]]: [[IsSerialBase]]"),
     ("from the empty base,", "[[empty_base]], in field `alone`"),
-    ("give exactly the replies", "[[Step]], in field `alone`: it leads on with the reply that is told, and with no other"),
+    ("give exactly the replies",
+     "[[Step]], in field `alone`: it leads on with the reply that the operation got, and with no other"),
     ("that they were told,", "field `told` of [[Plays]]: [[AreToldBy]]"),
     ("and the base so reached is", "field `base` of [[KeepsMainPromise]]"),
     ("what the pages mean,", "field `means` of [[KeepsMainPromise]], for `state`"),
@@ -78,7 +79,7 @@ NOTATION: list[tuple[str, str]] = [
 HOW_TO_READ = """The definitions are written in two languages: those of files that end in `.rt` in Rattle, which is Rust with
 contracts, and those in `.antt` in that of its logic. Of the first one the types are as in Rust. Of the second one this is
 enough:"""
-LIBRARY_SAID = "What the library has, as lists and finite maps, is told [at the end](#names-of-the-library)."
+LIBRARY_SAID = "What the library has, as lists and finite maps, stands [at the end](#names-of-the-library)."
 
 CONTRACT = """`result` is what the call answers, and each `ensures` is a clause that is proved of it. `played.0` is the
 manager, `played.1.items` the list of what the events were told, and `events.now` the list of events. `P` is any type of
@@ -134,7 +135,7 @@ READING: list[Part] = [
          state to which. In the promise, states are bases and items are operations with their replies.
 
          [[UndoneTo]] leads forward, from the base to the state. [[Step]] is fixed backwards too: an item and the base after it
-         leave one base that can be before it. So whoever goes back from the state, operation by operation, comes to that base: it
+         leave one base that can be before it. So going back from the state, operation by operation, leads to that base: it
          is what is left when the open transactions are taken back. A history is finite, so they always have an interleaving: all
          of one, and then all of the next.""", [
              Block("What a history tells of", "mlt_manager/specs/Headline.antt", "Transcripts transcripts_of after_item"),
@@ -155,7 +156,7 @@ READING: list[Part] = [
              Block("The cell of an operation", "mlt_object_kinds/specs/Operations.antt"),
          ]),
     Part("Operations and their tables",
-         """Each kind has a table: in which states an operation is told which reply, and which state that leaves. The state of an
+         """Each kind has a table: in which states an operation gets which reply, and which state that leaves. The state of an
          account is its balance, if it is there; that of an element, whether it is in its set; that of a counter, its value.
          By [[Step]] an operation has at most one reply in each base; of a size it is [[TellsSize]] that fixes it. So if a run
          goes through with the replies that were told, it goes through with no others.""", [
@@ -260,7 +261,7 @@ NOT_SHOWN_SAID = """The definitions above name these too. The sentence reads no 
 # What stands in what is shown, and is not followed.
 NOT_SHOWN: list[tuple[str, str]] = [
     ("AreWholeEvents NoneWaits",
-     "in the clause `whole`: each event is a begin, a whole operation, a commit, an abort or a whole abort; none is told to "
+     "in the clause `whole`: each event is a begin, a whole operation, a commit, an abort or a whole abort; none has to "
      "wait"),
     ("IsNew", "the manager from which a run begins: no transaction, an empty history, a file without records, these limits"),
     ("IsRun", "each event meets the contract of its call, one after another. These contracts fix what it may be told, and why"),
@@ -269,7 +270,7 @@ NOT_SHOWN: list[tuple[str, str]] = [
     ("GhostsAreKept ledger_by", "removals by open transactions have left their ghosts, with room to take them back"),
     ("HoldsLocksOfItsPass",
      "a running operation holds locks of the pages that it came to on its way to its bucket, its pass, and exclusive ones of "
-     "those of which it keeps an image; whoever runs nothing holds none"),
+     "those of which it keeps an image; a transaction that runs nothing holds none"),
     ("MatchesHistory", "who is open, what may be taken back and what is held is what the history says"),
     ("AreBegunInOrder AreCounted", "numbers of transactions and of commits are given out in order, from 1"),
     ("Manager ManagerFields",
