@@ -1,8 +1,8 @@
-//! The program's command line: the job that its words ask for, and what is said where they ask for none. And what is
-//! said of a fault, and the status that the program ends with.
-//!
-//! The second line that is said of a fault where one asks for it: which file or address, the system's own words, and of a
-//! faulty text the line and what was expected there.
+//! The command line: `read_words` returns the job that the arguments ask for, with all numbers in
+//! range. `report_command_line` writes the help, the version or what is wrong with the arguments,
+//! and `command_line_status` is the status of each. `report_fault` writes the line of a fault, and
+//! `report_verbose` the second line, which `-v` asks for. Which job the arguments ask for, and all
+//! texts of help, are only tested.
 #![tactic(auto)]
 
 mod commands;

@@ -1,5 +1,8 @@
-//! Walks through an extendible hash file in pages (Fagin, Nievergelt, Pippenger and Strong, Extendible Hashing, ACM TODS
-//! 4(3), 1979), one page per step, side by side with the walks of other transactions.
+//! Walks through an extendible hash file, one page per step, beside the walks of other
+//! transactions. A `Walk` locks the header, a directory page and the bucket of its key, and changes
+//! the record of that key alone. If the bucket is full, a later pass splits it. What a walk has
+//! found stays true until it ends. It holds fewer than 300 pages. No clause says that a walk
+//! without a split takes no memory.
 #![tactic(auto)]
 
 mod adding;

@@ -1,8 +1,8 @@
-//! The pages that a running walk holds: how it locks, reads, writes and makes them, one at a time, and what it knows
-//! of them whatever others do.
-//!
-//! The laws of all running subtransactions at once: what is always true of their locks, images and pages, and which
-//! pages are clean. Each law is the contract of a function that does nothing.
+//! The pages that a running walk holds: each call locks, reads, writes or makes one page, and says
+//! how that changes the locks, the images, the store and the view of the walk. These are `lock`,
+//! `read_held`, `write_held` and `make_page`. A wait or a refusal changes nothing. Laws say of all
+//! running subtransactions at once that each may step, and that none changes the view of another.
+//! The caller ensures that a walk holds at most 300 pages.
 #![tactic(auto)]
 
 mod clean_laws;

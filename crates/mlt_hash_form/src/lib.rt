@@ -1,8 +1,8 @@
-//! The form of an extendible hash file in pages (Fagin, Nievergelt, Pippenger and Strong, Extendible Hashing,
-//! ACM TODS 4(3), 1979), and the laws of its changes. Each law is the contract of a function that does nothing.
-//!
-//! Records in one bucket: each change is a plan of slots to set, and says what it does to the bucket's live pairs.
-//! No call takes memory, and none writes: whoever holds the page does.
+//! The form of an extendible hash file (Fagin, Nievergelt, Pippenger and Strong 1979), and the laws
+//! by which each change of a record and each step of a split preserves it. `insert`, `update`,
+//! `remove` and `revive` plan a change as slots to set; the walk that holds the page writes them.
+//! `home_bucket` finds the bucket of a key without locks. Each law is the contract of a function
+//! that does nothing. No call allocates memory.
 #![tactic(auto)]
 
 mod change;

@@ -1,6 +1,8 @@
-//! Ghosts of open transactions in the pages of a hash file: where one is found, whose room is kept, and the laws
-//! by which operations and splits keep them. A ghost is the slot of a removed record whose room is kept until the
-//! transaction that removed it is closed. No call takes memory.
+//! Ghosts of open transactions in a hash file: the slot of a removed record is kept until the
+//! transaction that removed it has ended. `ghost_of` finds a ghost, and laws say that operations,
+//! undoing and splits preserve all of them. So undoing a removal always finds a slot. The laws
+//! require that no other open transaction holds the opposite operation on the key, which a granted
+//! object lock ensures. No call allocates memory.
 #![tactic(auto)]
 
 mod change_laws;

@@ -1,6 +1,8 @@
-//! The first pass of an operation on two keys of an extendible hash file in pages (Fagin, Nievergelt, Pippenger and
-//! Strong, Extendible Hashing, ACM TODS 4(3), 1979): one page per step, side by side with the walks of other
-//! transactions. It splits nothing and takes no memory.
+//! Finds two keys in one pass, one page per step, and changes at most one record of each. `Pair`
+//! locks the header, the directory pages and the buckets in one fixed order, at most five pages. It
+//! waits exactly if another transaction holds the next page in an incompatible mode. `change` and
+//! `write_earlier` write the buckets; if one has no room, `change` says which, and writes nothing.
+//! It splits nothing and takes no memory.
 #![tactic(auto)]
 
 mod answer;

@@ -1,5 +1,8 @@
-//! Splits of buckets by a walk, one page per step (Fagin, Nievergelt, Pippenger and Strong, Extendible Hashing, ACM
-//! TODS 4(3), 1979, section 4). The directory is pages under a header, so a doubling takes one step for each of them.
+//! Splits a full bucket, one page per step, without losing a record or a ghost of an open
+//! transaction. `Split` makes the bucket one deeper, and may double the directory. Each step writes
+//! or makes the page that its phase names, waits for no page but the directory page that it writes,
+//! and leaves one step fewer. NoRoom is returned exactly if a page is needed and the limit is
+//! reached. After a refusal the caller has to roll back.
 #![tactic(auto)]
 
 mod begin;

@@ -1,5 +1,6 @@
-//! Tests of pages, their store, locks and subtransactions, of hash files and of ghosts: what no contract says, or a reader wants to see.
-//! They stand apart, since a crate with tests is proved twice.
+//! Tests of pages, their store and locks, subtransactions, hash files and ghosts. A table lists
+//! calls of a hash file with what is visible after each, and one function runs all of them. The
+//! tests are in a crate of their own because a crate with tests is proved twice.
 #![tactic(auto)]
 
 #[cfg(test)]

@@ -1,9 +1,8 @@
-//! What is always true of a manager of transactions, and the laws by which each of its events keeps it.
-//!
-//! The history of a manager stays one that passes the checker. Each law is the contract of a function that does
-//! nothing.
-//!
-//! A base that is copied from the live slots of buckets.
+//! The invariant of a manager, and the laws by which each event preserves it. In a sound state the
+//! clean pages mean the history, the undo lists, object locks and reserved room are what the
+//! history says, and each transaction may step. The history also passes the checker. Each law is
+//! the contract of a function that does nothing. Only `copy_slots` has code: it copies the live
+//! slots of a bucket into the base that they mean.
 #![tactic(auto)]
 
 mod call_laws;

@@ -1,4 +1,8 @@
-//! What holds between any two events of a run of a manager, and how many steps operations take in it.
+//! Laws of the runs of a manager: its promises hold between any two events, and an operation takes
+//! as many steps as `mlt_tx_step_counts` says, whatever other transactions do. By
+//! `managers_of_a_run_keep_their_promises` each manager to which a run leads keeps them.
+//! `operations_of_a_run_take_few_steps` and `aborts_of_a_run_take_few_steps` have the counts. Each
+//! law is the contract of a function that does nothing.
 #![tactic(auto)]
 
 mod run_laws;

@@ -1,5 +1,8 @@
-//! A schedule of events from a reader, played by a manager of transactions, and the text of what came of it, with the reasons of
-//! what was told where they are asked for.
+//! Replays a schedule of events on a manager, and writes the result of each event and the base at
+//! the end. By the contract of `steps` the input spells the events, the manager has played them
+//! from its beginning, and the text shows their results. With `--explain` it adds the reason for
+//! each blocked operation and each wait. These lines are only tested, against some written by hand
+//! and against a model.
 #![tactic(auto)]
 
 mod cycles;

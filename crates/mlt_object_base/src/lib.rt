@@ -1,12 +1,8 @@
-//! The base of all objects kept in memory, without pages: operations in order, and its text. And records
-//! read as objects: what an operation finds, is told and changes, and how it is undone. Only `Base::apply` and
-//! `write_base` take memory.
-//!
-//! Undo lists: the operations that a transaction would have to take back, last in, first out.
-//!
-//! An operation that has ended is not undone by page images, but by a further operation that runs its
-//! inverse; a transaction is undone by the inverses of its operations, last to first (Weikum, ACM TODS
-//! 16(1), 1991, section 3). On a base, without pages, they are taken back at once.
+//! The state of all objects in memory, the meaning of records as objects, and undo lists. `Base`
+//! makes the step of an operation by `apply`. `access`, `reply` and `inverse` say which record an
+//! operation reads, what it returns and changes, and how it is undone (Weikum 1991). `UndoList` is
+//! a list with reserved room, and `take_back` undoes a list of operations on a base, the last one
+//! first. A caller of `inverse` has to know that the record is there.
 #![tactic(auto)]
 
 mod accounts;

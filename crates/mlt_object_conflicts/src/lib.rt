@@ -1,9 +1,9 @@
-//! Which operations conflict: the exact tables of accounts, elements and counters, what changes the size of a set,
-//! and the law that makes commit order right over them.
-//!
-//! An operation with its reply has a class. Of an ordered pair of classes, held and requested, the table says
-//! whether some operations of them, at some state, do not right commute backward (Weihl, IEEE Transactions on
-//! Computers 37(12), 1988); nothing else is marked. No call takes memory.
+//! The conflict tables of accounts, sets and counters: a `Table` marks two classes of operations,
+//! held and requested, exactly if some operations of them do not right commute backward in some
+//! state (Weihl 1988). `clash` compares two operations with their replies. Without a clash the
+//! requested one right commutes backward with the held one in every base. Two operations that clash
+//! may commute with the amounts at hand. No call allocates memory. The number of marks is only
+//! tested.
 #![tactic(auto)]
 
 mod accounts;

@@ -1,10 +1,8 @@
-//! Kinds of object: their operations, replies and states, and what a step of one cell is.
-//!
-//! An operation with its reply is the unit of conflict (Weihl, IEEE Transactions on Computers 37(12),
-//! 1988, section 2): each is legal in some states, and leads from each of these to one other.
-//!
-//! What numbers operations and replies can have: those of their types. Each law is the contract of a function that does
-//! nothing.
+//! Accounts, sets and counters: their operations, replies and states, and the step that an
+//! operation makes on one of them. `Kind` has `apply`, which is the step of the table, and `undo`,
+//! which restores the state before it. The laws say the same of whole bases and of the sizes of
+//! sets, and which numbers operations and replies can have. `Done` stores an operation with its
+//! reply in 24 bytes. No call allocates memory.
 #![tactic(auto)]
 
 mod account;

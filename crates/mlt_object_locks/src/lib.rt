@@ -1,8 +1,8 @@
-//! Object locks: the operations that open transactions hold to their end, with their replies.
-//!
-//! A lock is an operation with the reply that it was told, and it conflicts by what the two mean (Weihl, IEEE
-//! Transactions on Computers 37(12), 1988, section 3). It is kept up to the end of its transaction, while page
-//! locks end with the operation (Weikum, ACM TODS 16(1), 1991, section 3).
+//! Locks on objects: `ask` grants an operation with its reply exactly if no other transaction holds
+//! one that clashes with it, and otherwise returns the lowest such transaction. `ObjectLocks` keeps
+//! the classes of the operations that each transaction holds, by cell and set, until it ends. The
+//! operations themselves exist only in contracts, as a `HeldList`. Only `reserve` can be refused
+//! memory. The time that a call takes is only measured.
 #![tactic(auto)]
 
 mod cells;

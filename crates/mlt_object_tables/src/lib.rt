@@ -1,5 +1,7 @@
-//! The text of the conflict tables: for each kind of object a matrix, and for each of its marks an example in both
-//! orders.
+//! Prints the conflict tables: for each kind of object a matrix, and for each of its marks an
+//! example in both orders. `row_of` has marks exactly where its table marks the pair, and
+//! `orders_of` has an example for each pair that conflicts and for no other. `write_tables` returns
+//! and never panics. The layout of the text is only tested.
 #![tactic(auto)]
 
 mod cell_value;

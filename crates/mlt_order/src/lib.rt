@@ -1,12 +1,8 @@
-//! Commit order: what may be reordered, undone and committed while transactions run side by side.
-//!
-//! The laws are of any states and any items, so no account and no page stands in them. An item is an
-//! operation with its reply; it may be done where it right commutes backward with all that other open
-//! transactions hold (Weihl, IEEE Transactions on Computers 37(12), 1988). Then every interleaving of the
-//! open transcripts leads to the same state, each of them can be undone from its end, and the committed ones,
-//! in the order of their commits, are a serial run (Weikum, ACM TODS 16(1), 1991).
-//!
-//! Each law is the contract of a function that does nothing.
+//! The laws of commit order: in every history the committed transactions, in the order of their
+//! commits, are a serial run. They hold for any states and any items. An item is an operation with
+//! its reply; it may come next if it right commutes backward (Weihl 1988) with all items of other
+//! open transactions. Then each open transaction can be undone, its last item first (Weikum 1991).
+//! No law says that a transaction ends.
 #![tactic(auto)]
 
 mod history;

@@ -1,7 +1,8 @@
-//! The pages of an extendible hash file (Fagin, Nievergelt, Pippenger and Strong, Extendible Hashing, ACM TODS
-//! 4(3), 1979): the header, pages of the directory, and buckets of eight slots. No call takes memory.
-//!
-//! The store of pages, in memory.
+//! The pages of the hash file and their store: `HeadPage`, `DirPage` and `Bucket` are plain values,
+//! and `Store` maps page numbers to pages up to a limit. A bucket has eight slots, and each change
+//! sets one slot. A removed record leaves a ghost, which keeps its slot while its transaction is
+//! open. Only `grow` of the store takes memory. That it reuses the number of the page that was
+//! dropped last is only tested.
 #![tactic(auto)]
 
 mod bucket;

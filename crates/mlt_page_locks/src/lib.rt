@@ -1,6 +1,8 @@
-//! Page locks: which transaction may read and which may write a page (Gray, Lorie, Putzolu and Traiger,
-//! Granularity of Locks and Degrees of Consistency in a Shared Data Base, IFIP 1976). Each transaction
-//! has a list of locks at a place of its own, and masks of places say which lists to look at.
+//! Locks on pages: `ask` grants a lock exactly if it is compatible with all other holders of the
+//! page, and otherwise returns the lowest holder in the way (Gray, Lorie, Putzolu and Traiger
+//! 1976). `PageLocks` has a sorted list for each open transaction, and masks that show which lists
+//! have to be searched. Only `new` can be refused memory. Waiting, fairness and deadlocks are left
+//! to the caller.
 #![tactic(auto)]
 
 mod lock_list;

@@ -1,8 +1,8 @@
-//! Texts of scripts, and what stands in them.
-//!
-//! Scripts as trees of statements, with the texts of their lines, and parted by client.
-//!
-//! Scripts printed as texts that are read again as the same scripts.
+//! Reads and prints scripts: `parse` accepts exactly the texts of the grammar, and returns the
+//! first fault of any other text. A `Script` is stored as its lines; a contract sees a tree of
+//! statements, with at most 256 operations on a path. `print` writes a text that is read again as
+//! the same scripts, and `by_client` groups scripts by client. `front_op`, `op_line` and
+//! `front_reply` read lines as they are usually written; that they recognize these is only tested.
 #![tactic(auto)]
 
 mod clients;

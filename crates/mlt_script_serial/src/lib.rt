@@ -1,8 +1,8 @@
-//! Scripts that run one after another, without locks or pages, and the report of what became of them.
-//!
-//! Desks, which answer the calls of scripts, and what runs the scripts of a client at any desk.
-//!
-//! How a script goes on at each reply, and what plays it.
+//! Runs scripts, one after another on a base or at any desk, and writes the report of what became
+//! of them. `serial` returns the report of a serial run. `run_script` returns an outcome whose
+//! replies are the answers of the `Desk` to just the operations that the script asks for. `Cursor`
+//! holds what a script asks next. `write_report` writes the text of the report. If memory is
+//! refused while `serial` undoes a script, the whole call fails.
 #![tactic(auto)]
 
 mod answering;

@@ -1,4 +1,8 @@
-//! Sessions over TCP: connections that threads serve side by side on one manager.
+//! A server over TCP: threads serve connections side by side on one manager. By the contract of
+//! `serve_on` the outcomes of all sessions agree with the manager's history. `serve_endless` keeps
+//! no outcomes: the history has each begin, reply and commit that clients were answered, and their
+//! numbers agree. That sessions run at once, that slow or silent clients stop nobody else, that log
+//! messages and traces are written, and that memory stays flat is only tested.
 #![tactic(auto)]
 
 mod accepting;

@@ -1,4 +1,8 @@
-//! What an operator sees of a server, and may do to it, over HTTP.
+//! What an operator sees of a server, and may do to it, over HTTP: `serve_admin` answers requests
+//! for its state, and requests to end it or to cut a session. It is proved which requests are open,
+//! which status and headers each answer has, and that no answer reports an end or a cut without the
+//! call. The texts and the page are only tested. There is no password: anyone who can reach the
+//! address may do everything.
 #![tactic(auto)]
 
 mod json;

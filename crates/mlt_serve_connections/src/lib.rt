@@ -1,5 +1,8 @@
-//! Connections over TCP: how they are taken, read, written and closed; which sessions are at work, and how a
-//! restarted transaction begins.
+//! TCP connections, which sessions of a server are at work, and the pause of a restarted
+//! transaction. A `Socket` reads and writes, `accept` sorts the errors of an accept, and
+//! `lingering_close` ends a connection without losing its last answers. By an `AdmissionQueue` at
+//! most three sessions are at work at a time, without those that wait. Only safety, and that a read
+//! fits its buffer, is proved; all else is only tested.
 #![tactic(auto)]
 
 mod accepting;

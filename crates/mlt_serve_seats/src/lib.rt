@@ -1,6 +1,8 @@
-//! What the sessions of a server are doing, for others to see, and how others end them.
-//!
-//! What a server tells its operator as it goes: notes, which a thread writes, so that nobody waits for who reads them.
+//! What the sessions of a server are doing, for others to see, how others end a session, and the
+//! log messages of the server. A session thread shows its state at its `Seat`; a session that is
+//! cut has its socket shut down for reading. `Notes` are written by a thread of their own, so a
+//! slow reader of standard error delays no session. It is proved that this is safe. What is shown,
+//! cut and written is only tested.
 #![tactic(auto)]
 
 mod note;

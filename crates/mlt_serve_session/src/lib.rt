@@ -1,4 +1,8 @@
-//! Sessions: lines in, an answer a line out, over any desk.
+//! Executes the lines of a session at any desk, and writes one answer for each. What `session`
+//! writes, asks and records is a function of the bytes that it has read and of the desk's answers,
+//! however the input was cut into reads. A transaction that is open at the end is aborted.
+//! `Receipts` take the outcomes: a list keeps them, `NoReceipts` drops them, and `Tally` counts
+//! them. That an answer is written before the next read is only tested.
 #![tactic(auto)]
 
 mod batch;

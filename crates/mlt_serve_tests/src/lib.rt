@@ -1,5 +1,7 @@
-//! Tests of managers, and of what stands on them: schedules, scripts, sessions, and clients side by side over threads. They stand here
-//! and not in the crates that they test, since a crate with tests is proved twice.
+//! Tests of managers, scripts, sessions and workers, where the built program does not show the
+//! result. A gate holds a client after a given step until another one has committed, so an
+//! interleaving of threads can be repeated. The tests are in a crate of their own because a crate
+//! with tests is proved twice.
 #![tactic(auto)]
 
 #[cfg(test)]

@@ -1,4 +1,5 @@
-//! What the crates of tests share: comparisons, and numbers that look random.
+//! Comparisons and random-looking numbers for crates of tests. `same` and `same_at` return Ok
+//! exactly if both values are equal.
 #![tactic(auto)]
 
 mod compare;

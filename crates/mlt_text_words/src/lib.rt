@@ -1,4 +1,8 @@
-//! The text level of scripts: lines, words, and what a word is.
+//! Splits a text into lines, and a line into words: keywords, variables and numbers. `read_line`
+//! returns the first line of a text, whether it is longer than 200 bytes, whether each byte is
+//! allowed, and whether an LF ends it. `next_word` reads a word, and `front_number` and
+//! `front_keyword` read the beginning of a text. What `next_word`, `next_number` and
+//! `next_raw_word` return as the rest of the text is specified by its words alone.
 #![tactic(auto)]
 
 mod front;

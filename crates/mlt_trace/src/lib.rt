@@ -1,10 +1,8 @@
-//! Traces: what a manager's history holds, item by item, the list that a manager keeps of it, with room for items to
-//! come, and its text.
-//!
-//! The laws say what one more item makes of a history's entries and numbers, and what the rooms of its
-//! transactions add up to. Each law is the contract of a function that does nothing.
-//!
-//! The lines of a trace that is written as a server goes, so that a killed process leaves no part of a line.
+//! The history of a manager and its text, the trace. `History` is a list of items with reserved
+//! room, whose items can be handed out. `write_trace` writes one line for each `TraceItem`.
+//! `write_block` writes lines of which none crosses the end of a block of 4,096 bytes, so a killed
+//! server leaves no part of a line. Only `reserve` and `hand_out` can be refused. No clause says
+//! that a line fits: the longest has 89 bytes, and 96 are free.
 #![tactic(auto)]
 
 mod block;

@@ -1,10 +1,8 @@
-//! The check of a trace: whether its committed transactions, run alone in the order of their commits, give
-//! the replies that they were told. The trace comes from a reader, and what the check says of it goes to a writer.
-//!
-//! The history of a manager passes the checker: laws about the text of a history and the places of its items. Each
-//! law is the contract of a function that does nothing.
-//!
-//! The check of a trace of any length, line by line as it is read, in memory that does not grow with the text.
+//! Checks a trace: whether its committed transactions, run alone in the order of their commits, get
+//! the replies that the trace has. `check_trace` accepts exactly the accepted traces, and reports
+//! the first fault of any other text. `check_long_trace` does the same for a trace of any length;
+//! it may write lines before a fault, and that its memory does not grow with the input is in no
+//! clause. By `history_passes_the_checker` the text of each manager's history is accepted.
 #![tactic(auto)]
 
 mod check_engine;

@@ -1,5 +1,6 @@
-//! Tests of values, texts, locks, scripts, histories and command lines: what the built program does not show. They stand here and not in
-//! the crates that they test, since a crate with tests is proved twice.
+//! Tests of limits, reservations, locks, scripts, command lines, histories and audits, where the
+//! built program does not show the result. Whether outcomes agree with a history was worked out by
+//! hand. The tests are in a crate of their own because a crate with tests is proved twice.
 #![tactic(auto)]
 
 #[cfg(test)]

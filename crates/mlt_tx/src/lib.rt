@@ -1,7 +1,8 @@
-//! One transaction of a manager: its subtransaction, its undo list, and what it is at; and what each of its steps does to
-//! the pages, the object locks and the history, which all transactions share.
-//!
-//! The open transactions of a manager, by their numbers.
+//! One transaction of a manager, and what each of its steps does to the pages, the object locks and
+//! the history, which all transactions share. `call` of a `Transaction` reserves all memory for the
+//! end of the operation and for undoing it, so no step of an abort is refused. An operation is done
+//! only if no other transaction holds a clashing one; otherwise it is rolled back and runs again.
+//! `OpenTransactions` finds transactions by their numbers.
 #![tactic(auto)]
 
 mod activity;

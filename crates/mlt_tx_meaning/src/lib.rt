@@ -1,5 +1,7 @@
-//! Where objects and pages meet: clean pages and a history of transactions, the match of the two, and the laws by
-//! which each event of a manager keeps it. No lock, no first image and no store is named here. Each law is the
+//! The proof that the pages mean the history: through each event, the clean pages of a manager hold
+//! the state to which its history leads. The laws are of a begin, a commit, an abort, the end of an
+//! operation, and its undoing. They require that no other transaction holds a clashing operation,
+//! which a granted object lock ensures. No lock, image or store is named here. Each law is the
 //! contract of a function that does nothing.
 #![tactic(auto)]
 

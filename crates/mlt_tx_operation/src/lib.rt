@@ -1,14 +1,8 @@
-//! Operations of objects, run on pages: an operation goes to its record, learns there what it is told, and changes the
-//! record in place, one page per step. So does an inverse, which takes an operation back. Where an element is added or
-//! removed, or that is taken back, it goes to two records: the element's, and the size of its set.
-//!
-//! An operation is a subtransaction of its transaction (Weikum, ACM TODS 16(1), 1991, section 3). What it is told is
-//! known once the bucket is read; whether it may stand beside what other transactions hold is asked at its end, by the
-//! manager.
-//!
-//! An operation on one record takes four steps: the header, a page of the directory, the bucket, and its end. Where nobody
-//! holds a page, no step of it can wait, and what the steps lock is unlocked at the end. So the record can be found and
-//! changed without a lock, at once, and all is as after the steps.
+//! An operation on an object, run on pages: one page per step, or in one call if no page is locked.
+//! An `Operation` finds its record, decides its reply, changes the record in place, and ends; so
+//! does an inverse. A step that waits changes nothing; one that is refused rolls everything back.
+//! `plan_fast` finds the same reply and change without locks. No clause says that it finds a plan,
+//! or that a first pass takes no memory.
 #![tactic(auto)]
 
 mod access_path;

@@ -1,8 +1,8 @@
-//! Operations on two records of an extendible hash file in pages: one of an element, which is added or removed, and that of
-//! the size of its set; and the inverses of these. A first pass finds both keys side by side, and changes both records where
-//! they have room. Where one has none, a wide pass goes to one key after the other, and splits their buckets.
-//!
-//! One step touches one page, side by side with the operations of other transactions.
+//! An operation that adds or removes an element, run on two records: the element and the size of
+//! its set are both changed, or neither is. `TwoRecordWalk` finds both keys in a first pass of four
+//! to seven steps. If a bucket has no room, a wide pass splits it. The walk waits exactly if
+//! another transaction holds the page that it needs, and only a wide pass is refused. That the
+//! records are there is proved in `mlt_tx_meaning`.
 #![tactic(auto)]
 
 mod answer;

@@ -1,5 +1,8 @@
-//! The values that every crate of the server speaks of: cells and their keys, pseudokeys, numbers of
-//! transactions and pages, limits, the set of open transactions, and refusals.
+//! The values that all crates share: cells and their keys, pseudokeys, numbers of transactions and
+//! pages, limits, and refusals. Each `Limits` is in range, and no two cells have the same `Key`.
+//! `Pseudo` is any function from keys to 64 bits; `Mult` and `Low` are the two that the program
+//! offers. `OpenSet` is a set of at most 64 transactions. No call allocates memory. How evenly the
+//! pseudokeys are distributed is not specified.
 #![tactic(auto)]
 
 mod cell;

@@ -1,8 +1,7 @@
-//! How clients are given out to workers, and how the runs that workers give back are put together by the places of the
-//! clients. Which worker ran which client is not seen any more.
-//!
-//! Workers claim clients by a counter, from which the seats of threads draw numbers, each number once and none left
-//! out.
+//! Distributes clients to workers: each client is claimed once, and none is left out. Workers draw
+//! numbers from a `ClientCounter` by an atomic addition, without a lock. `collect` joins what all
+//! workers return: an outcome for each script of each client, in order, and the number of all
+//! events. It is refused only with OutOfMemory. Which worker runs which client is not specified.
 #![tactic(auto)]
 
 mod collecting;

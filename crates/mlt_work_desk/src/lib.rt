@@ -1,4 +1,8 @@
-//! Desks over one manager that threads share under a lock.
+//! Many threads share one manager behind one mutex: each hold of the lock executes at most one
+//! event, and none is lost. Each thread uses the manager through a `LockDesk`: `begin`,
+//! `operation`, `commit`, `abort`. A call returns the manager's answer, or puts the thread to sleep
+//! until what it waits for is released. In a deadlock the youngest transaction gets GaveUp. That a
+//! thread sleeps, is woken, and looks at the queue of blocked operations is only tested.
 #![tactic(auto)]
 
 mod blank_records;

@@ -1,7 +1,8 @@
-//! What threads have seen of a history that only grows, as contracts know of it. No item is kept here.
-//!
-//! Whoever adds to the history has the writer of its log. Whoever has seen it has a snapshot: the items that the history had then, which
-//! are the first ones of it at any later time.
+//! What threads have seen of a history that only grows, as contracts know it: the items of a
+//! snapshot stay the first ones of the history. A thread that adds items has the `LogWriter` of a
+//! `HistoryLog`; a thread that has seen some has a `LogSnapshot`. No item is stored here, and
+//! neither takes memory. That the items are those of a manager's history is proved in
+//! `mlt_work_desk`.
 #![tactic(auto)]
 
 mod log;

@@ -1,8 +1,8 @@
-//! Which transactions wait for which: a waits-for graph (Bernstein, Hadzilacos and Goodman, Concurrency Control and
-//! Recovery in Database Systems, 1987, section 3.4). No cycle ever stands in it: a wait that would close one is not taken in.
-//!
-//! Operations that were blocked, in order, and behind which of them another one waits for its turn. And the gate, which learns of
-//! each event of a client.
+//! The waits-for graph of transactions, in which no cycle ever stands, and the queue of blocked
+//! operations (Bernstein, Hadzilacos and Goodman 1987, section 3.4). `WaitsFor` adds a wait by
+//! `join` exactly if that closes no cycle and there is room, and `youngest` returns the victim of a
+//! cycle. `BlockedQueue` tells by `last_before` behind which operation a new one waits. A `Gate`
+//! can delay a client. No call takes memory. That each wait ends is not proved.
 #![tactic(auto)]
 
 mod blocked_queue;

@@ -1,4 +1,7 @@
-//! The program `mltx`: it reads the command line, opens the files and ends with a status.
+//! The program `mltx`: it reads the command line, opens the files, calls the engine of the command
+//! and ends with a status. It is proved that the program is safe, does not panic, and returns if
+//! the system's calls do. Which file or address it opens, and what it writes on standard output and
+//! standard error, is only tested.
 #![tactic(auto)]
 
 mod arguments;
