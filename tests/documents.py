@@ -22,8 +22,7 @@ NAME_LINK = re.compile(r"\[`(\w+)`\]\(\.\./crates/(\w+)/([^)\s#]+)\)")
 def pages():
     """The documents of the repository, with their texts."""
     found = [*ROOT.glob("*.md"), *(ROOT / "docs").glob("*.md"), *(ROOT / "examples").glob("*.md")]
-    found += (ROOT / "clients").glob("*/README.md")
-    return {page: page.read_text() for page in [*found, *(ROOT / "crates").glob("*/README.md")]}
+    return {page: page.read_text() for page in [*found, *(ROOT / "clients").glob("*/README.md")]}
 
 
 def anchors(text):
@@ -132,12 +131,12 @@ def each_group_of_tests_is_told_of(_mltx):
 
 @test
 def the_map_of_the_crates_is_that_of_their_list(_mltx):
-    """The table of crates in ARCHITECTURE is what tools/crate-map makes of crates.txt, and each crate has its promise."""
+    """The table of crates in ARCHITECTURE is what tools/crate-map makes of crates.txt and the comments of the crates."""
     text, made = (ROOT / "docs/ARCHITECTURE.md").read_text(), output_of("crate-map")
-    table = re.search(r"(?ms)^\| Crate \| Promise .*?\n(?=\n)", text)[0]
+    table = re.search(r"(?ms)^\| Crate \| What it does .*?\n(?=\n)", text)[0]
     same(table.splitlines(), made.splitlines(), "the table")
     crates = re.findall(r"(?m)^(\w+):", (ROOT / "crates.txt").read_text())
-    same(re.findall(r"(?m)^\| \[`(\w+)`\]\(\S+\) \| \S", table), crates, "the crates with a promise")
+    same(re.findall(r"(?m)^\| \[`(\w+)`\]\(\S+\) \| \S", table), crates, "the crates with a comment")
     same(sorted(crates), sorted(folder.name for folder in (ROOT / "crates").iterdir()), "the folders of crates")
 
 
