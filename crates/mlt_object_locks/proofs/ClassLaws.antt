@@ -159,19 +159,7 @@ not_counted class told uncounted h = by (size_cases told)
 has_changes_none : (answer told : ObjReply) → changes_told (element_class Has answer) told ≡ true → ⊥
 has_changes_none ObjReply.Yes told h = not_counted ElementClass.Yes told refl h
 has_changes_none ObjReply.No told h = not_counted ElementClass.No told refl h
-has_changes_none (ObjReply.Is n) told h = true≢false (sym h)
-has_changes_none ObjReply.Opened told h = true≢false (sym h)
-has_changes_none ObjReply.Exists told h = true≢false (sym h)
-has_changes_none ObjReply.Closed told h = true≢false (sym h)
-has_changes_none ObjReply.NotEmpty told h = true≢false (sym h)
-has_changes_none ObjReply.Done told h = true≢false (sym h)
-has_changes_none ObjReply.Over told h = true≢false (sym h)
-has_changes_none ObjReply.Short told h = true≢false (sym h)
-has_changes_none ObjReply.Missing told h = true≢false (sym h)
-has_changes_none ObjReply.Added told h = true≢false (sym h)
-has_changes_none ObjReply.Present told h = true≢false (sym h)
-has_changes_none ObjReply.Removed told h = true≢false (sym h)
-has_changes_none ObjReply.Absent told h = true≢false (sym h)
+has_changes_none _ told h = true≢false (sym h)
 
 -- ---- operations that share a place
 

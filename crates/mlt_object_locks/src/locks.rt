@@ -11,13 +11,12 @@ use crate::cells::{
     Cells, alone_at, give_up_cell, give_up_each, grant, grant_each, join_each, lowest_clash,
     release_each, release_noted,
 };
-use crate::held::HeldList;
 use crate::noted::Noted;
 use crate::places::{looked_at, only_place, places_if_any, places_of};
 use crate::reserved::Reserved;
 use indexmap::IndexMap;
 use mlt_object_kinds::Done;
-use mlt_types::{Cell, Refusal, TxId};
+use mlt_types::{Cell, GhostList, Refusal, TxId};
 use std::alloc::Global;
 use std::marker::Model;
 
@@ -31,7 +30,8 @@ pub struct ObjectLocks {
     latest: usize,
     reserved: Reserved,
     noted: Noted,
-    held: HeldList,
+    // For clauses alone.
+    held: GhostList<(TxId, Done)>,
 }
 
 impl Model for ObjectLocks {
@@ -41,10 +41,10 @@ impl Model for ObjectLocks {
     ghost Value = { Locks };
 
     ghost view = { λ locks.
-        record { held = locks.held.operations; reserved = locks.reserved.items } };
+        record { held = locks.held.items; reserved = locks.reserved.items } };
 
     ghost invariant = { λ locks.
-        IsSound locks.cells locks.reserved.items locks.noted locks.held.operations };
+        IsSound locks.cells locks.reserved.items locks.noted locks.held.items };
 }
 
 impl ObjectLocks {
@@ -57,7 +57,7 @@ impl ObjectLocks {
             latest: 0,
             reserved: Reserved::new(alloc),
             noted: Noted::new(alloc),
-            held: HeldList::new(),
+            held: GhostList::of(&(), &()),
         }
     }
 
@@ -135,14 +135,14 @@ impl ObjectLocks {
             if let Some(at) = alone_at(&self.cells, place, self.latest, tx) {
                 grant(&mut self.cells, &mut self.noted, place, at, tx, done);
                 self.reserved.take(tx);
-                self.held = self.held.and(&tx, done);
+                self.held = GhostList::of(&self.held, &(tx, *done));
                 return Ok(());
             }
         }
         self.ask_anywhere(tx, done)
     }
 
-    // The same, wherever the operation looks and stands, and whoever else does.
+    // The same, wherever the operation looks and stands, and whichever other operations do.
     #[inline(never)]
     fn ask_anywhere(&mut self, tx: TxId, done: &Done) -> Result<(), TxId>
         requires reserved { reservation_of self.old.reserved tx ≡ Some (cell_of done.now.0) }
@@ -163,7 +163,7 @@ impl ObjectLocks {
             tx,
             done,
         );
-        self.held = self.held.and(&tx, done);
+        self.held = GhostList::of(&self.held, &(tx, *done));
         Ok(())
     }
 
@@ -176,6 +176,6 @@ impl ObjectLocks {
         let places = places_if_any(self.reserved.take(tx));
         release_each(&mut self.cells, places.as_slice(), tx);
         release_noted(&mut self.cells, &mut self.noted, tx);
-        self.held = self.held.without(&tx);
+        self.held = GhostList::of(&self.held, &tx);
     }
 }

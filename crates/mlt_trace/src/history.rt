@@ -4,11 +4,10 @@ ghost use Rattle.std.specs.Prelude.{◌≡◌, ◌≢◌, ◌≤◌, ◌+◌, []
 ghost use Rattle.std.specs.Vec.{vec_capacity, vec_len};
 ghost use Rattle.mlt_trace.specs.Ranges.{AllFit};
 
-use crate::handed_out::{HandedOut, KeptItems};
 use crate::item::TraceItem;
 use crate::kept::KeptItem;
 use crate::ranges::item_fits;
-use mlt_types::Refusal;
+use mlt_types::{GhostList, Refusal};
 use std::alloc::Global;
 use std::marker::Model;
 use std::mem;
@@ -17,11 +16,12 @@ use std::mem;
 /// that were handed out, and the room: for how many more items memory is reserved.
 #[derive(Drop)]
 pub struct History {
-    kept: KeptItems,
+    kept: Vec<KeptItem>,
     room: usize,
     /// Whether an item was handed out.
     lacks: bool,
-    handed_out: HandedOut,
+    // For clauses alone.
+    handed_out: GhostList<KeptItem>,
 }
 
 impl Model for History {
@@ -33,16 +33,16 @@ impl Model for History {
     ghost Value = { ItemsWithRoom };
 
     ghost view = { λ history. record {
-      items = history.handed_out.items ++ history.kept.items.items;
+      items = history.handed_out.items ++ history.kept.items;
       handed = history.handed_out.items;
       room = history.room;
     } };
 
     ghost invariant = { λ history.
-        (vec_len history.kept.items + history.room ≤ vec_capacity history.kept.items)
+        (vec_len history.kept + history.room ≤ vec_capacity history.kept)
         × (history.lacks ≡ false → history.handed_out.items ≡ [])
         × (history.lacks ≡ true → history.handed_out.items ≢ [])
-        × AllFit (history.handed_out.items ++ history.kept.items.items) };
+        × AllFit (history.handed_out.items ++ history.kept.items) };
 }
 
 impl History {
@@ -53,12 +53,10 @@ impl History {
         ensures room { result.room ≡ 0 }
     {
         History {
-            kept: KeptItems {
-                items: Vec::new(alloc),
-            },
+            kept: Vec::new(alloc),
             room: 0,
             lacks: false,
-            handed_out: HandedOut::new(),
+            handed_out: GhostList::of(&(), &()),
         }
     }
 
@@ -77,8 +75,8 @@ impl History {
         let Some(room) = self.room.checked_add(count) else {
             return Err(Refusal::OutOfMemory);
         };
-        if self.kept.items.capacity() - self.kept.items.len() < room {
-            grow(&mut self.kept.items, room)?;
+        if self.kept.capacity() - self.kept.len() < room {
+            grow(&mut self.kept, room)?;
         }
         self.room = room;
         Ok(())
@@ -93,7 +91,7 @@ impl History {
     {
         item_fits(&item);
         self.room -= 1;
-        self.kept.items.push_reserved(KeptItem::of(item));
+        self.kept.push_reserved(KeptItem::of(item));
     }
 
     /// Gives up room for `count` items that won't come.
@@ -115,14 +113,14 @@ impl History {
         if self.lacks {
             return None;
         }
-        Some(self.kept.items.as_slice())
+        Some(self.kept.as_slice())
     }
 
     /// The items that were not handed out, in order.
     pub fn kept(&self) -> &[KeptItem]
         ensures { self.now.items ≡ self.now.handed ++ result.now }
     {
-        self.kept.items.as_slice()
+        self.kept.as_slice()
     }
 
     /// Hands out the items that are kept, in order: they are what the list has then, and what it had is gone. The history goes on
@@ -140,9 +138,9 @@ impl History {
     {
         list.clear();
         list.reserve(self.room)?;
-        self.handed_out = self.handed_out.and(&self.kept);
-        self.lacks = self.lacks || !self.kept.items.is_empty();
-        mem::swap(&mut self.kept.items, list);
+        self.handed_out = GhostList::of(&self.handed_out, &self.kept);
+        self.lacks = self.lacks || !self.kept.is_empty();
+        mem::swap(&mut self.kept, list);
         Ok(())
     }
 

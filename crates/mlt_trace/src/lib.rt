@@ -6,7 +6,6 @@
 #![tactic(auto)]
 
 mod block;
-mod handed_out;
 mod history;
 mod item;
 mod kept;

@@ -6,6 +6,7 @@
 #![tactic(auto)]
 
 mod cell;
+mod ghost_list;
 mod limits;
 mod mode;
 mod number;
@@ -14,6 +15,7 @@ mod pseudo;
 mod refusal;
 
 pub use cell::{Cell, Key};
+pub use ghost_list::GhostList;
 pub use limits::Limits;
 pub use mode::Mode;
 pub use number::{PageNo, TxId, Value};

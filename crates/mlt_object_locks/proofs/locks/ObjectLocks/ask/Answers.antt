@@ -41,8 +41,8 @@ invariant_of-self c =
     (granted_more s.cells s.cells now [] place tx c.grant.ensures.cells bit (nobody_granted s.cells tx bit c.self.invariant.unique) c.grant.ensures.grants) in
     let notes = subst (NotesEach start (noted_of noted tx).keys) place_alone
     (notes_more start start (noted_of noted tx).keys [] place (notes_nothing start) c.grant.ensures.notes) in
-    subst (IsSound now after noted) (sym c.and-self-inside.ensures)
-    (sound_granted s.cells now s.reserved.items after s.noted noted s.held.operations tx done c.self.invariant had range grants c.take.ensures.taken c.take.ensures.others c.grant.ensures.others notes)
+    subst (IsSound now after noted) (sym c.of-self-inside.ensures)
+    (sound_granted s.cells now s.reserved.items after s.noted noted s.held.items tx done c.self.invariant had range grants c.take.ensures.taken c.take.ensures.others c.grant.ensures.others notes)
 
 pub returns-in-Some-alone_at-clause-free : goal.returns-in-Some-alone_at-clause-free
 returns-in-Some-alone_at-clause-free c =
@@ -53,5 +53,5 @@ returns-in-Some-alone_at-clause-free c =
     let range = subst IsInRange c.cell-cell.ensures c.is_in_range.ensures in
     let nobody : IsLowestOf (StandsAtOne s.cells [] tx done) None = λ number h. none_in_empty h.0 h.1 in
     let here = lowest_with_none s.cells [] place tx done None nobody (alone (list_at s.cells place) tx done c.in-Some-alone_at.ensures.alone) in
-    lowest_of_all s.cells s.reserved.items s.noted s.held.operations c.self.invariant tx done range (place ∷ []) c.args.self.now.held (sym (c.in-Some.ensures.looks done.0 (sym c.cell-cell.ensures))) (ap (λ (l : Locks). l.held) c.self.view_is)
+    lowest_of_all s.cells s.reserved.items s.noted s.held.items c.self.invariant tx done range (place ∷ []) c.args.self.now.held (sym (c.in-Some.ensures.looks done.0 (sym c.cell-cell.ensures))) (ap (λ (l : Locks). l.held) c.self.view_is)
     None here

@@ -7,17 +7,14 @@ use Rattle.mlt_object_locks.proofs.locks.ObjectLocks.ask_anywhere.Goals as goal
 pub returns-in-Some : goal.returns-in-Some
 returns-in-Some c =
     let s = c.self.inside in
-    let old = c.args.self.now in
-    let tx = c.args.tx in
-    let done = c.args.done.now in
     let looked = c.as_slice.ensures.value ∙ c.looked_at-looked.ensures ∙ ap looked_at c.op.ensures in
-    let all = lowest_of_all s.cells s.reserved.items s.noted s.held.operations c.self.invariant tx done c.requires.range _ old.held looked (ap (λ (l : Locks). l.held) c.self.view_is) c.lowest_clash.result c.lowest_clash.ensures in
+    let all = lowest_of_all s.cells s.reserved.items s.noted s.held.items c.self.invariant c.args.tx c.args.done.now c.requires.range _ c.args.self.now.held looked (ap (λ (l : Locks). l.held) c.self.view_is) c.lowest_clash.result c.lowest_clash.ensures in
     record {
       free = search rules;
       granted = search rules;
       used = search rules;
       others = search rules;
-      lowest = subst (IsLowestOf (HoldsClash old.held tx done)) c.in-Some.is all;
+      lowest = subst (IsLowestOf (HoldsClash c.args.self.now.held c.args.tx c.args.done.now)) c.in-Some.is all;
       err = search rules;
     }
 
@@ -53,19 +50,16 @@ invariant_of-self c =
     let places = c.as_slice-2.ensures.value ∙ c.places_of-places.ensures ∙ ap places_of c.cell.ensures in
     let grants = subst (λ ks. GrantsAt s.cells now ks tx bit) places c.grant_each.ensures.grants in
     let notes = subst (NotesEach (noted_of s.noted tx).keys (noted_of noted tx).keys) places c.grant_each.ensures.notes in
-    subst (IsSound now after noted) (sym c.and-self-inside.ensures)
-    (sound_granted s.cells now s.reserved.items after s.noted noted s.held.operations tx done c.self.invariant had c.requires.range grants c.take.ensures.taken c.take.ensures.others c.grant_each.ensures.others notes)
+    subst (IsSound now after noted) (sym c.of-self-inside.ensures)
+    (sound_granted s.cells now s.reserved.items after s.noted noted s.held.items tx done c.self.invariant had c.requires.range grants c.take.ensures.taken c.take.ensures.others c.grant_each.ensures.others notes)
 
 pub returns : goal.returns
 returns c =
     let s = c.self.inside in
-    let old = c.args.self.now in
-    let tx = c.args.tx in
-    let done = c.args.done.now in
     let looked = c.as_slice.ensures.value ∙ c.looked_at-looked.ensures ∙ ap looked_at c.op.ensures in
-    let all = lowest_of_all s.cells s.reserved.items s.noted s.held.operations c.self.invariant tx done c.requires.range _ old.held looked (ap (λ (l : Locks). l.held) c.self.view_is) c.lowest_clash.result c.lowest_clash.ensures in
+    let all = lowest_of_all s.cells s.reserved.items s.noted s.held.items c.self.invariant c.args.tx c.args.done.now c.requires.range _ c.args.self.now.held looked (ap (λ (l : Locks). l.held) c.self.view_is) c.lowest_clash.result c.lowest_clash.ensures in
     record {
-      free = subst (IsLowestOf (HoldsClash old.held tx done)) c.in_default.is all;
+      free = subst (IsLowestOf (HoldsClash c.args.self.now.held c.args.tx c.args.done.now)) c.in_default.is all;
       granted = search rules;
       used = search rules;
       others = λ other ne. c.take.ensures.others other ne ∙ ap (λ (l : Locks). reservation_of l.reserved other) c.self.view_is;

@@ -10,8 +10,8 @@ invariant_of-self c =
     let after = c.take.new.self.items in
     let places : c.as_slice.result.now ≡ reserved_places s.reserved.items tx = c.as_slice.ensures.value ∙ c.places_if_any-places.ensures ∙ ap places_if_any c.take.ensures.cell in
     let first = subst (λ ks. ReleasesAt s.cells c.release_each.new.cells ks tx) places c.release_each.ensures in
-    subst (IsSound c.release_noted.new.cells after c.release_noted.new.noted) (sym c.without-self-inside.ensures)
-    (sound_released s.cells c.release_each.new.cells c.release_noted.new.cells s.reserved.items after s.noted c.release_noted.new.noted s.held.operations tx c.self.invariant first c.release_noted.ensures.released
+    subst (IsSound c.release_noted.new.cells after c.release_noted.new.noted) (sym c.of-self-inside.ensures)
+    (sound_released s.cells c.release_each.new.cells c.release_noted.new.cells s.reserved.items after s.noted c.release_noted.new.noted s.held.items tx c.self.invariant first c.release_noted.ensures.released
     c.take.ensures.taken c.take.ensures.others c.release_noted.ensures.others c.release_noted.ensures.none)
 
 pub returns-clause-others : goal.returns-clause-others

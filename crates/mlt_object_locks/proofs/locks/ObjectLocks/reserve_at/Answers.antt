@@ -9,8 +9,8 @@ invariant_of-self-in_err-make_room-2 c =
     let s = c.self.inside in
     let more = c.make_room-2.new.self in
     let kept = keeps_noted s.noted more c.args.tx c.make_room-2.ensures.others c.make_room-2.ensures.keys (λ had. subst (λ n. 2 ≤ n) (sym c.in_err-make_room-2.ensures.err) had) in
-    subst (λ reserved. IsSound s.cells reserved more s.held.operations) (sym c.make_room.ensures.items)
-    (sound_unchanged s.cells s.cells s.reserved.items s.noted more s.held.operations c.self.invariant (λ k. refl) c.self.invariant.unique kept)
+    subst (λ reserved. IsSound s.cells reserved more s.held.items) (sym c.make_room.ensures.items)
+    (sound_unchanged s.cells s.cells s.reserved.items s.noted more s.held.items c.self.invariant (λ k. refl) c.self.invariant.unique kept)
 
 pub invariant_of-self-in-Err : goal.invariant_of-self-in-Err
 invariant_of-self-in-Err c =
@@ -26,8 +26,8 @@ invariant_of-self-in-Err c =
     let had : c.as_slice.result.now ≡ reserved_places entries tx = c.as_slice.ensures.value ∙ c.places_if_any-kept.ensures ∙ ap places_if_any (c.cell_of.ensures ∙ ap (λ reserved. reservation_of reserved tx) c.make_room.ensures.items) in
     let gives = subst (λ ks. GivesUp mid now places ks tx) had (subst (λ ks. GivesUp mid now ks c.as_slice.result.now tx) c.requires c.give_up_each.ensures) in
     let here : IsHereAt mid (reserved_places entries tx) tx = λ k h. let there = c.self.invariant.opened tx k h in (there.0, joins.keeps k (holder_of tx there.0) there.1) in
-    subst (λ reserved. IsSound now reserved more s.held.operations) (sym c.make_room.ensures.items)
-    (sound_reserved s.cells mid now entries entries s.noted more s.held.operations tx places places c.self.invariant joins gives here (λ k h. inl h) (λ k h. inr h) (λ u ne. refl) kept (λ cell e. c.in_ok-make_room-2.ensures.room))
+    subst (λ reserved. IsSound now reserved more s.held.items) (sym c.make_room.ensures.items)
+    (sound_reserved s.cells mid now entries entries s.noted more s.held.items tx places places c.self.invariant joins gives here (λ k h. inl h) (λ k h. inr h) (λ u ne. refl) kept (λ cell e. c.in_ok-make_room-2.ensures.room))
 
 pub invariant_of-self-2 : goal.invariant_of-self-2
 invariant_of-self-2 c =
@@ -49,7 +49,7 @@ invariant_of-self-2 c =
     let before : c.put-before.result ≡ reservation_of entries tx = c.put-before.ensures.before ∙ ap (λ reserved. reservation_of reserved tx) c.make_room.ensures.items in
     let gives = subst (λ ks. GivesUp mid now (reserved_places entries tx) ks tx) (c.requires ∙ sym own_places)
     (subst (λ cell. GivesUp mid now (places_if_any cell) c.args.places.now tx) before c.give_up_cell.ensures) in
-    sound_reserved s.cells mid now entries after s.noted more s.held.operations tx places (reserved_places entries tx) c.self.invariant joins gives here (λ k h. inr (subst (λ ks. Contains ks k) (sym own_places) h)) (λ k h. inl h) others kept
+    sound_reserved s.cells mid now entries after s.noted more s.held.items tx places (reserved_places entries tx) c.self.invariant joins gives here (λ k h. inr (subst (λ ks. Contains ks k) (sym own_places) h)) (λ k h. inl h) others kept
     (λ cell e. c.in_ok-make_room-2.ensures.room)
 
 pub returns-clause-reserves : goal.returns-clause-reserves

@@ -10,4 +10,4 @@ invariant_of-self c =
     let len = c.push_reserved.ensures.len in
     let capacity = c.push_reserved.ensures.capacity in
     let fits : FitsItem c.of.result = subst FitsItem (sym c.of.ensures) c.item_fits.ensures in
-    (omega (arith, room, len, capacity, c.requires), was.1, was.2, one_more_kept_fits c.self.inside.handed_out.items c.self.inside.kept.items.items c.push_reserved.new.self.items c.of.result c.push_reserved.ensures.items fits was.3)
+    (omega (arith, room, len, capacity, c.requires), was.1, was.2, one_more_kept_fits c.self.inside.handed_out.items c.self.inside.kept.items c.push_reserved.new.self.items c.of.result c.push_reserved.ensures.items fits was.3)

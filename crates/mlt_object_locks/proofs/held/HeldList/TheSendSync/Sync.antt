@@ -1,7 +1,0 @@
--- The list owns nothing, so any thread may see it.
-use denote.Param.Send.{IsSync, part_keyless}
-use Rattle.mlt_object_locks.proofs.Names.{the_row}
-use Rattle.mlt_object_locks.proofs.held.HeldList.TheSendSync.Send.{send}
-
-pub sync : IsSync the_row
-sync = record { shared = λ d b o κ q. part_keyless the_row send q d b o }
