@@ -134,9 +134,4 @@ module _ (context : WalkContext) (walk after : WalkFields) (old new : LocalState
 -- what is not made takes no slot
 pub unmade_takes : (told : WalkAnswer) (context : WalkContext) (old new : View) (walk : WalkFields) (value : ℕ) → (told ≡ WalkAnswer.Changed → ⊥) → TakesSlot told context old new walk value
 unmade_takes WalkAnswer.Changed context old new walk value unchanged = absurd (unchanged refl)
-unmade_takes WalkAnswer.Going context old new walk value unchanged = tt
-unmade_takes (WalkAnswer.Waiting page by) context old new walk value unchanged = tt
-unmade_takes (WalkAnswer.Found found) context old new walk value unchanged = tt
-unmade_takes WalkAnswer.NeedSplit context old new walk value unchanged = tt
-unmade_takes WalkAnswer.Widen context old new walk value unchanged = tt
-unmade_takes (WalkAnswer.Refused reason) context old new walk value unchanged = tt
+unmade_takes other context old new walk value unchanged = tt

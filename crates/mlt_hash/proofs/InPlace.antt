@@ -12,7 +12,7 @@ use Rattle.mlt_hash_form.proofs.SingleChanges.{put_changes, revive_changes, set_
 use Rattle.mlt_hash_access.specs.Views.{WritesSlot}
 use Rattle.mlt_hash_access.proofs.Since.{reads_below_writes, rebased_writes_slot}
 use Rattle.mlt_hash_access.proofs.Unwritten.{first_write_is_not_third}
-use Rattle.mlt_hash.specs.Passes.{value_after}
+use Rattle.mlt_hash.specs.Passes.{change_to, value_after}
 use Rattle.mlt_hash.specs.Changes.{IsAtRecord, LacksMemory, WritesIfChanged}
 use Rattle.mlt_hash.proofs.Passed.{StepsOn, holds_at_bucket, holds_on, read_at_bucket, reads_on, steps_by_write}
 use Rattle.mlt_hash.proofs.Beside.{few_before, few_beside, more_beside, still_beside}
@@ -20,24 +20,12 @@ use Rattle.mlt_hash.proofs.Beside.{few_before, few_beside, more_beside, still_be
 -- a walk that found a record stands at its bucket,
 pub record_at : (context : WalkContext) (walk : WalkFields) (view : View) (phase : Phase) → IsAtRecord phase → Stands phase context walk view → (found : Option ℕ) × IsAtBucket context walk view (page_of phase) (directory_depth_of phase) found × IsSome found
 record_at context walk view (Phase.AtBucket bucket depth found) has stands = (found, stands, has)
-record_at context walk view Phase.Start has stands = absurd has
-record_at context walk view (Phase.Headed dir row depth) has stands = absurd has
-record_at context walk view (Phase.Placed bucket depth) has stands = absurd has
-record_at context walk view (Phase.Full next) has stands = absurd has
-record_at context walk view (Phase.Adding value bucket room_depth unsplit) has stands = absurd has
-record_at context walk view (Phase.Splitting value room_depth) has stands = absurd has
-record_at context walk view (Phase.Changed bucket done) has stands = absurd has
+record_at context walk view other has stands = absurd has
 
 -- and so does one that found none
 pub absent_at : (context : WalkContext) (walk : WalkFields) (view : View) (phase : Phase) → IsAtAbsent phase → Stands phase context walk view → IsAtBucket context walk view (page_of phase) (directory_depth_of phase) None
 absent_at context walk view (Phase.AtBucket bucket depth found) none stands = subst (λ found. IsAtBucket context walk view bucket depth found) none stands
-absent_at context walk view Phase.Start none stands = absurd none
-absent_at context walk view (Phase.Headed dir row depth) none stands = absurd none
-absent_at context walk view (Phase.Placed bucket depth) none stands = absurd none
-absent_at context walk view (Phase.Full next) none stands = absurd none
-absent_at context walk view (Phase.Adding value bucket room_depth unsplit) none stands = absurd none
-absent_at context walk view (Phase.Splitting value room_depth) none stands = absurd none
-absent_at context walk view (Phase.Changed bucket done) none stands = absurd none
+absent_at context walk view other none stands = absurd none
 
 -- a bucket is seen in one way
 pub same_bucket : (seen : Option (Option Page)) (a b : BucketFields) → seen ≡ Some (Some (Page.Bucket a)) → seen ≡ Some (Some (Page.Bucket b)) → a ≡ b
@@ -187,34 +175,16 @@ pub record ReadsBucket (context : WalkContext) (walk : WalkFields) (old : LocalS
 -- where a walk at its bucket stands
 pub bucket_at : (context : WalkContext) (walk : WalkFields) (view : View) (phase : Phase) → IsAtBucketPhase phase → Stands phase context walk view → (found : Option ℕ) × IsAtBucket context walk view (page_of phase) (directory_depth_of phase) found
 bucket_at context walk view (Phase.AtBucket bucket depth found) here stands = (found, stands)
-bucket_at context walk view Phase.Start here stands = absurd here
-bucket_at context walk view (Phase.Headed dir row depth) here stands = absurd here
-bucket_at context walk view (Phase.Placed bucket depth) here stands = absurd here
-bucket_at context walk view (Phase.Full next) here stands = absurd here
-bucket_at context walk view (Phase.Adding value bucket room_depth unsplit) here stands = absurd here
-bucket_at context walk view (Phase.Splitting value room_depth) here stands = absurd here
-bucket_at context walk view (Phase.Changed bucket done) here stands = absurd here
+bucket_at context walk view other here stands = absurd here
 
 -- so does one that found a record, or none
 pub at_bucket_with : (phase : Phase) → IsAtRecord phase → IsAtBucketPhase phase
 at_bucket_with (Phase.AtBucket bucket depth found) has = tt
-at_bucket_with Phase.Start has = has
-at_bucket_with (Phase.Headed dir row depth) has = has
-at_bucket_with (Phase.Placed bucket depth) has = has
-at_bucket_with (Phase.Full next) has = has
-at_bucket_with (Phase.Adding value bucket room_depth unsplit) has = has
-at_bucket_with (Phase.Splitting value room_depth) has = has
-at_bucket_with (Phase.Changed bucket done) has = has
+at_bucket_with other has = has
 
 pub at_bucket_without : (phase : Phase) → IsAtAbsent phase → IsAtBucketPhase phase
 at_bucket_without (Phase.AtBucket bucket depth found) none = tt
-at_bucket_without Phase.Start none = none
-at_bucket_without (Phase.Headed dir row depth) none = none
-at_bucket_without (Phase.Placed bucket depth) none = none
-at_bucket_without (Phase.Full next) none = none
-at_bucket_without (Phase.Adding value bucket room_depth unsplit) none = none
-at_bucket_without (Phase.Splitting value room_depth) none = none
-at_bucket_without (Phase.Changed bucket done) none = none
+at_bucket_without other none = none
 
 -- it holds its bucket,
 pub holds_bucket : (context : WalkContext) (walk : WalkFields) (m : LocalState) → MayWalk context m walk → IsAtBucketPhase walk.phase → (fields : BucketFields) × ReadsHeldBucket (view_of m) (page_of walk.phase) fields
@@ -334,3 +304,8 @@ module _ (context : WalkContext) (walk after : WalkFields) (old new : LocalState
   remove_tells owner own has plan told =
       let of_walk : SetsFirst number fields (is_live_of walk.key) (Ghost walk.key 0 owner) write = subst (λ k. SetsFirst number fields (is_live_of k) (Ghost k 0 owner) write) reads.key_is plan in
       record_changes Change.Remove (λ found some. some) has (subst (λ tx. SetsFirst number fields (is_live_of walk.key) (Ghost walk.key 0 tx) write) own of_walk) (λ live. live) told
+
+  -- **and one of both**
+  pub set_tells : (value : Option ℕ) (owner : ℕ) → owner ≡ context.tx → IsAtRecord walk.phase → SetsFirst number fields (is_live_of key) (slot_after (change_to value) key owner) write → TellsOfWrite old new walk after write (change_to value) result → TellsOfChange context new walk after (change_to value) result
+  set_tells (Some value) owner own has plan told = update_tells value has plan told
+  set_tells None owner own has plan told = remove_tells owner own has plan told

@@ -61,9 +61,7 @@ module _ (context : WalkContext) (fewer : set.FinSet nat_cmp) (walk : WalkFields
 
   still_stood : (done : Change) (slots : List Slot) (slot : Slot) → (is_kept fewer slot ≡ true → is_kept context.active slot ≡ true) → StoodBefore done context walk.key slots slot → StoodBefore done (record context { active = fewer }) walk.key slots slot
   still_stood (Change.Put value) slots slot kept was = (was.0, was.1, not_true (is_kept fewer slot) (λ is. false≢true (sym was.2 ∙ kept is)))
-  still_stood (Change.Revive value) slots slot kept was = was
-  still_stood (Change.Set value) slots slot kept was = was
-  still_stood Change.Remove slots slot kept was = was
+  still_stood other slots slot kept was = was
 
   still_changed : (n : ℕ) (done : Change) → IsChanged context walk view n done → IsChanged (record context { active = fewer }) walk view n done
   still_changed n done changed = record {

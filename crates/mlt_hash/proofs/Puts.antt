@@ -226,11 +226,7 @@ module _ (context : WalkContext) (walk after : WalkFields) (old new : LocalState
     puts_lowest tells.0,
   )
   put_tells (WalkAnswer.Refused reason) tells = subst (λ r. TellsOfAdding context (walk_step old new walk after) value n room_depth (WalkAnswer.Refused r)) (sym tells.0) refl
-  put_tells WalkAnswer.Going tells = absurd tells
-  put_tells (WalkAnswer.Waiting page by) tells = absurd tells
-  put_tells (WalkAnswer.Found found) tells = absurd tells
-  put_tells WalkAnswer.NeedSplit tells = absurd tells
-  put_tells WalkAnswer.Widen tells = absurd tells
+  put_tells other tells = absurd tells
 
 -- a put is never refused for want of room
 pub put_has_room : (old new : LocalState) (before after : WalkFields) (write : WriteFields) (value : ℕ) (told : WalkAnswer) → TellsOfWrite old new before after write (Change.Put value) told → told ≡ WalkAnswer.Refused Refusal.NoRoom → ⊥

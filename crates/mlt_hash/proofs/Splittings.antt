@@ -1,6 +1,7 @@
 -- Steps of a split, as steps of the walk whose bucket is split
 use Rattle.std.proofs.Common.{ℕ, ◌≡◌, ◌<◌, ◌≤◌, true, false, Option, None, Some, refl, sym, ◌∙◌, ap, subst, inl, inr, arith, ◌↔◌}
 use Rattle.std.specs.FinMap as map
+use Rattle.mlt_hash.specs.Steps.{IsSameWalk}
 use Rattle.mlt_hash.proofs.Names.{cases_eq, false≢true, Mode, Exclusive, Refusal, Agrees, over, can_write, HasFileOver, MayStep, LocalState, TouchesOnePage, view_of, step_keeps_tx, agrees_over, may_write, IsUnderWay, MayAdvance, SplitFields, steps_left, SplitTarget, IsDone, IsMaking, GoesOn, Rests, SplitAnswer, WalkContext, HasRead, HoldsByPass, IsAdding, IsSplitting, IsStanding, MayWalk, Stands, StaysNarrow, WalkFields, split_target, view_for, page_of, SplitCloses, SplitGoesOn, TellsOfAdding, TellsOfSplitting, WalkStep, walk_step, HasFound, steps_to_bucket, WalkAnswer, Pass, Phase}
 use Rattle.mlt_page_locks.specs.LockTables.{LockTable}
 use Rattle.mlt_page_locks.proofs.LockLaws.{can_write-granted}
@@ -90,6 +91,9 @@ module _ (context : WalkContext) (walk after : WalkFields) (old new : LocalState
   wide_now : walk.pass ≡ Pass.Wide → map.get (view_for context new).modes context.root ≡ Some Exclusive
   wide_now wide = stays_exclusive_in_step old new context.root may touches (splits.wide wide)
 
+  is_same : (next : Phase) (split : Option SplitFields) → after ≡ record walk { phase = next; split = split } → IsSameWalk walk after
+  is_same next split is = record { key = ap (λ (w : WalkFields). w.key) is; mode = ap (λ (w : WalkFields). w.mode) is; pass = ap (λ (w : WalkFields). w.pass) is }
+
   -- **The split goes on.**
   pub split_goes_on : (is : SplitFields) → after ≡ record walk { split = Some is } → GoesOn (split_target context walk room_depth) new was is → SplitGoesOn context new walk after value room_depth
   split_goes_on is after_is goes =
@@ -110,10 +114,7 @@ module _ (context : WalkContext) (walk after : WalkFields) (old new : LocalState
         wide = wide_now;
       } in
       record {
-        on = record {
-          same = record { key = ap (λ (w : WalkFields). w.key) after_is; mode = ap (λ (w : WalkFields). w.mode) after_is; pass = ap (λ (w : WalkFields). w.pass) after_is };
-          stands = subst (λ (w : WalkFields). Stands w.phase context w (view_for context new)) (sym after_is) (subst (λ p. Stands p context (record walk { split = Some is }) (view_for context new)) (sym phase) here);
-        };
+        on = record { same = is_same _ _ after_is; stands = subst (λ (w : WalkFields). Stands w.phase context w (view_for context new)) (sym after_is) (subst (λ p. Stands p context (record walk { split = Some is }) (view_for context new)) (sym phase) here) };
         phase = ap (λ (w : WalkFields). w.phase) after_is ∙ phase;
         was = was;
         is = is;
@@ -155,10 +156,7 @@ module _ (context : WalkContext) (walk after : WalkFields) (old new : LocalState
         wide = wide_now;
       } in
       record {
-        on = record {
-          same = record { key = ap (λ (w : WalkFields). w.key) after_is; mode = ap (λ (w : WalkFields). w.mode) after_is; pass = ap (λ (w : WalkFields). w.pass) after_is };
-          stands = subst (λ (w : WalkFields). Stands w.phase context w (view_for context new)) (sym after_is) here;
-        };
+        on = record { same = is_same _ _ after_is; stands = subst (λ (w : WalkFields). Stands w.phase context w (view_for context new)) (sym after_is) here };
         bucket = n;
         phase = ap (λ (w : WalkFields). w.phase) after_is;
         was = was;

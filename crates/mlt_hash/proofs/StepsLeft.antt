@@ -26,8 +26,7 @@ module _ (context : WalkContext) (old new : LocalState) (before after : WalkFiel
       let is : steps_to_put context.root after (view_for context new) ≡ steps_left b.split + steps_of_splits (room_depth - (b.split.depth + 1)) (b.split.depth + 1) (depth_after b.split.depth b.split.directory_depth) =
       ap (λ p. steps_to_put_at p context.root after (view_for context new)) b.phase ∙ ap (λ o. steps_with_split o room_depth) b.split_is in
       let one = one_split b.split.depth b.split.directory_depth room_depth deep in
-      let steps = b.steps in
-      omega (arith, was, is, one, steps)
+      omega (arith, was, is, one, b.steps)
 
   -- once it has gone on
   goes_on : (value room_depth : ℕ) → SplitGoesOn context new before after value room_depth
@@ -38,8 +37,7 @@ module _ (context : WalkContext) (old new : LocalState) (before after : WalkFiel
       ap (λ p. steps_to_put_at p context.root after (view_for context new)) s.phase ∙ ap (λ o. steps_with_split o room_depth) s.is_is in
       let rest : steps_of_splits (room_depth - (s.is.depth + 1)) (s.is.depth + 1) (depth_after s.is.depth s.is.directory_depth) ≡ steps_of_splits (room_depth - (s.was.depth + 1)) (s.was.depth + 1) (depth_after s.was.depth s.was.directory_depth) =
       (λ i. steps_of_splits (room_depth - (s.depth i + 1)) (s.depth i + 1) (depth_after (s.depth i) (s.directory_depth i))) in
-      let fewer = s.fewer in
-      omega (arith, was, is, rest, fewer)
+      omega (arith, was, is, rest, s.fewer)
 
   -- and once it has closed
   closes : (value room_depth : ℕ) → SplitCloses context new before after value room_depth
@@ -59,12 +57,7 @@ module _ (context : WalkContext) (old new : LocalState) (before after : WalkFiel
   fewer_at : (phase : Phase) → before.phase ≡ phase → IsPutting phase → TellsAt phase context old new before after WalkAnswer.Going → steps_to_put context.root after (view_for context new) + 1 ≡ steps_to_put_at phase context.root before (view_for context old)
   fewer_at (Phase.Adding value bucket room_depth unsplit) is putting tells = begins value bucket room_depth unsplit is tells
   fewer_at (Phase.Splitting value room_depth) is putting tells = elim tells.1 [ inl goes ↦ goes_on value room_depth goes | inr close ↦ closes value room_depth close ]
-  fewer_at Phase.Start is putting tells = absurd putting
-  fewer_at (Phase.Headed dir row depth) is putting tells = absurd putting
-  fewer_at (Phase.Placed bucket depth) is putting tells = absurd putting
-  fewer_at (Phase.AtBucket bucket depth found) is putting tells = absurd putting
-  fewer_at (Phase.Full next) is putting tells = absurd putting
-  fewer_at (Phase.Changed bucket done) is putting tells = absurd putting
+  fewer_at other is putting tells = absurd putting
 
 -- on the way nothing is to be put yet
 pub put_on_way : (p : Phase) (root : ℕ) (walk : WalkFields) (view : View) → 0 < steps_to_bucket p → steps_to_put_at p root walk view ≡ 0

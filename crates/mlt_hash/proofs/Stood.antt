@@ -24,10 +24,8 @@ slot_cases buckets buckets' n i s sets m j =
 
 -- what a change leaves in its slot is the transaction's own
 pub own_after : (done : Change) (key tx : ℕ) → IsOwnSlot tx (slot_after done key tx)
-own_after (Change.Put value) key tx = tt
-own_after (Change.Revive value) key tx = tt
-own_after (Change.Set value) key tx = tt
 own_after Change.Remove key tx = refl
+own_after other key tx = tt
 
 -- and its room is kept as long as the transaction is open
 own_is_kept : (active : set.FinSet nat_cmp) (tx : ℕ) (slot : Slot) → set.contains active tx ≡ true → IsOwnSlot tx slot → is_kept active slot ≡ true

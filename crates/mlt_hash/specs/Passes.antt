@@ -73,13 +73,19 @@ abbrev pub next_of : Phase → Pass
 next_of (Full next) = next
 next_of other = First
 
--- the value that the key has once a change is made, and what stands in its slot
+-- the value that the key has once a change is made
 abbrev pub value_after : Change → Option ℕ
 value_after (Put value) = Some value
 value_after (Revive value) = Some value
 value_after (Set value) = Some value
 value_after Remove = None
 
+-- the change that gives a key's record this value, or removes it where there is none
+abbrev pub change_to : Option ℕ → Change
+change_to (Some value) = Set value
+change_to None = Remove
+
+-- what stands in its slot once a change is made
 abbrev pub slot_after : Change → ℕ → ℕ → Slot
 slot_after (Put value) key tx = Live key value
 slot_after (Revive value) key tx = Live key value

@@ -1,12 +1,15 @@
 //! The changes that a walk makes in its bucket.
 
-ghost use Rattle.std.specs.Prelude.{◌≡◌, ◌≢◌, ◌≤◌, ◌↔◌, ℕ, IsTrue, Option, true};
+ghost use Rattle.std.specs.Prelude.{◌≡◌, ◌≢◌, ◌≤◌, ◌↔◌, ℕ, IsTrue, MatchOption, Option, true};
 ghost use Rattle.mlt_hash_access.specs.LocalStates.{MayStep, local};
+ghost use Rattle.mlt_page.specs.Slots.{is_live_of};
 ghost use Rattle.mlt_page.specs.Values.{BucketFields};
 ghost use Rattle.mlt_page_locks.specs.LockTables.{can_write};
 ghost use Rattle.mlt_hash_access.specs.PageSteps.{Leaves};
 ghost use Rattle.mlt_hash_access.specs.Views.{ReadsHeldBucket, view_of};
 ghost use Rattle.mlt_hash.specs.Walks.{WalkContext, context_in, one_key, view_for};
+ghost use Rattle.mlt_hash_form.specs.Plans.{IsNowhere, SetsFirst};
+ghost use Rattle.mlt_hash.specs.Passes.{change_to, slot_after};
 ghost use Rattle.mlt_hash.specs.declared.pass.Change.TheVariants as change;
 ghost use Rattle.mlt_hash.specs.Changes.{HasOwnGhost, IsAtAbsent, IsAtBucketPhase, IsAtRecord, IsFull, MayChange, MayChangeBy, MayChangeFirst, PlansSlot, RevivesFirst, TakesSlot, TellsOfAddition, TellsOfChange, TellsOfWrite, WritesIfChanged, page_of};
 
@@ -19,7 +22,7 @@ use mlt_hash_form::SlotWrite;
 use mlt_hash_split::Environment;
 use mlt_page::Bucket;
 use mlt_page_subtx::Subtx;
-use mlt_types::{PageNo, Pseudo, Refusal, Value};
+use mlt_types::{Key, PageNo, Pseudo, Refusal, TxId, Value};
 
 impl Walk {
     /// Adds a record of the walk's key, which has none: revives the transaction's own ghost of the key, else puts the
@@ -72,11 +75,7 @@ impl Walk {
             → TellsOfChange context (local subtx.new pages.new) self.old
             self.new (change.Set value) result }
     {
-        let (number, bucket) = held_bucket(self, subtx, pages);
-        let Some(write) = mlt_hash_form::update(number, bucket, self.key, value) else {
-            unreachable!()
-        };
-        write_change(self, write, Change::Set(value), subtx, pages)
+        self.set(Some(value), subtx, pages)
     }
 
     /// Removes the record of the walk's key, and leaves a ghost of the transaction. It takes no memory where the key is the
@@ -92,11 +91,32 @@ impl Walk {
             → TellsOfChange context (local subtx.new pages.new) self.old
             self.new change.Remove result }
     {
+        self.set(None, subtx, pages)
+    }
+
+    /// Gives the record of the walk's key this value, or removes it where there is none. It takes no memory where the key is
+    /// the walk's first.
+    pub fn set(
+        &mut self,
+        value: Option<Value>,
+        subtx: &mut Subtx,
+        pages: &mut LockedStore,
+    ) -> WalkAnswer
+        requires ready { MayChangeBy subtx.old.tx (local subtx.old pages.old) self.old }
+        requires found { IsAtRecord self.old.phase }
+        ensures writes { WritesIfChanged (local subtx.old pages.old) (local subtx.new pages.new)
+            (page_of self.old.phase) result }
+        ensures leaves { Leaves (local subtx.old pages.old) (local subtx.new pages.new) }
+        ensures tells { (context : WalkContext) → context.tx ≡ subtx.old.tx
+            → MayChange context (local subtx.old pages.old) self.old
+            → TellsOfChange context (local subtx.new pages.new) self.old
+            self.new (change_to value) result }
+    {
         let (number, bucket) = held_bucket(self, subtx, pages);
-        let Some(write) = mlt_hash_form::remove(number, bucket, self.key, subtx.tx()) else {
+        let Some(write) = plan_to_set(number, bucket, self.key, value, subtx.tx()) else {
             unreachable!()
         };
-        write_change(self, write, Change::Remove, subtx, pages)
+        write_change(self, write, done_to_set(value), subtx, pages)
     }
 
     /// Makes the ghost that the transaction left of the walk's key a record again, the first one. The key is the walk's
@@ -144,6 +164,33 @@ pub(crate) fn held_bucket<'a>(
     };
     let bucket = read_held_bucket(subtx, pages, number);
     (number, bucket)
+}
+
+// The plan of what gives a key's record this value, or removes it.
+fn plan_to_set(
+    number: PageNo,
+    bucket: &Bucket,
+    key: Key,
+    value: Option<Value>,
+    owner: TxId,
+) -> Option<SlotWrite>
+    ensures plan { MatchOption result (IsNowhere (is_live_of key) bucket.now.slots)
+        (SetsFirst number bucket.now (is_live_of key) (slot_after (change_to value) key owner)) }
+{
+    match value {
+        Some(value) => mlt_hash_form::update(number, bucket, key, value),
+        None => mlt_hash_form::remove(number, bucket, key, owner),
+    }
+}
+
+// That change.
+fn done_to_set(value: Option<Value>) -> Change
+    ensures { result ≡ change_to value }
+{
+    match value {
+        Some(value) => Change::Set(value),
+        None => Change::Remove,
+    }
 }
 
 /// Writes the bucket as the plan has it. The first two pages that a walk writes take no memory.

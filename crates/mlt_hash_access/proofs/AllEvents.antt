@@ -2,7 +2,7 @@
 use Rattle.std.proofs.Common.{◌≡◌, ◌≢◌, ℕ, ◌≤◌, ◌<◌, ◌+◌, Bool, false, true, cond, Option, None, Some, is_some, unwrap_or, refl, sym, ap, subst, ◌∙◌, inl, inr, arith, nat_cmp}
 use Rattle.std.specs.Cmp.{nat_cmp_total}
 use Rattle.std.specs.FinMap as map
-use Rattle.mlt_hash_access.proofs.SubtxNames.{cases_eq, false≢true, nat_tests, Mode, Exclusive, Page, PageStore, Pages, page_at, AreCompatible, KeepsOthers, LockTable, Modes, allows_write, can_read, can_write, page_count, pages_of, granted, released, can_write-granted, writer_reads, get_inserted, get_removed, Images, Running, image_of, or_image, put_back, with_image, not_there, not_true, page_at-put_back, Agrees, MayStep, LocalState, page_before, LocksAtMost, TouchesOnePage, WritesAtMost, page_written, view_of, may_after_lock_at_most, DropsImages, ImagesAreApart, ImagesAreLocked, ImagesAreThere, RunningImages, clean_pages, image_at, AllMayStep, AllRunning, clean_of, images_by, is_open, local_of}
+use Rattle.mlt_hash_access.proofs.Names.{cases_eq, false≢true, nat_tests, Mode, Exclusive, Page, PageStore, Pages, page_at, AreCompatible, KeepsOthers, LockTable, Modes, allows_write, can_read, can_write, page_count, pages_of, granted, released, can_write-granted, writer_reads, get_inserted, get_removed, Images, Running, image_of, or_image, put_back, with_image, not_there, not_true, page_at-put_back, Agrees, MayStep, LocalState, page_before, LocksAtMost, TouchesOnePage, WritesAtMost, page_written, view_of, DropsImages, ImagesAreApart, ImagesAreLocked, ImagesAreThere, RunningImages, clean_pages, image_at, AllMayStep, AllRunning, clean_of, images_by, is_open, local_of}
 use Rattle.mlt_page_locks.specs.LockTables.{is_holder}
 use Rattle.mlt_page_locks.specs.Requests.{with_page}
 use Rattle.mlt_page_locks.proofs.LockLaws.{compatible_released, no_holder-released, page_count-granted, pages_of-released, released_keeps_others}
@@ -10,7 +10,7 @@ use Rattle.mlt_page_locks.proofs.Maps.{same_entries}
 use Rattle.mlt_page_subtx.proofs.ImageLaws.{fresh_has_no_image, with_image-absent}
 use Rattle.mlt_hash_form.specs.Held.{own_or_clean, over}
 use Rattle.mlt_hash_access.specs.Views.{View, own_at, seen_at}
-use Rattle.mlt_hash_access.proofs.LocalStates.{may_after_step}
+use Rattle.mlt_hash_access.proofs.LocalStates.{may_after_lock_at_most, may_after_step}
 use Rattle.mlt_hash_access.proofs.OwnSteps.{step_keeps_tx}
 use Rattle.mlt_hash_access.specs.Running.{HoldsNothing, KeepsRunning, after_begin, after_close, after_end, after_roll_back, after_step}
 use Rattle.mlt_hash_access.proofs.AllRunning.{agrees_with_each, each_may_step}

@@ -1,7 +1,7 @@
 -- All running subtransactions at once: each of them may step, and which pages are clean for it
 use Rattle.std.proofs.Common.{◌≡◌, ℕ, ◌≤◌, ◌<◌, true, Option, None, is_some, List, [], ◌∷◌, length, eqb, refl, sym, ap, subst, ◌∙◌, inl, arith, nat_cmp}
 use Rattle.std.specs.List.{list_any}
-use Rattle.mlt_hash_access.proofs.SubtxNames.{unsigned_tied, find, false≢true, nat_tests, Mode, Page, PageStore, page_at, Modes, page_count, granted, Images, RunningImages, image_at, page_at-put_back, Agrees, MayStep, AllMayStep, AllRunning, clean_of, images_by, is_open, local_of, view_of}
+use Rattle.mlt_hash_access.proofs.Names.{unsigned_tied, find, false≢true, nat_tests, Mode, Page, PageStore, page_at, Modes, page_count, granted, Images, RunningImages, image_at, page_at-put_back, Agrees, MayStep, AllMayStep, AllRunning, clean_of, images_by, is_open, local_of, view_of}
 use Rattle.std.specs.FinMap as map
 use Rattle.mlt_page_locks.specs.LockTables.{HasRoom}
 use Rattle.mlt_page_locks.proofs.LockLaws.{few_none, room_to_grant}

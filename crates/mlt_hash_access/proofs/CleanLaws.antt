@@ -1,6 +1,6 @@
 -- Laws of clean pages: who may write a page, and what writes, ends and roll backs change. Other crates cite them.
 use Rattle.std.proofs.Common.{◌≡◌, ◌≢◌, ℕ, eqb, Bool, true, false, cond, ◌&&◌, ◌⊎◌, T, Option, None, Some, is_some, unwrap_or, List, [], ◌∷◌, refl, sym, ap, subst, ◌∙◌, inl, inr, arith, nat_cmp, is_lt}
-use Rattle.mlt_hash_access.proofs.SubtxNames.{unsigned_tied, find, false≢true, cases_eq, nat_tests, Page, Pages, page_at, get_inserted, get_removed, LockTable, can_read, can_write, AreCompatible, writer_reads, Images, image_of, or_image, put_back, with_image, not_there, not_true, page_at-put_back, RunningImages, image_at, clean_pages, ImagesAreLocked, ImagesAreApart, ImagesAreThere, DropsImages}
+use Rattle.mlt_hash_access.proofs.Names.{unsigned_tied, find, false≢true, cases_eq, nat_tests, Page, Pages, page_at, get_inserted, get_removed, LockTable, can_read, can_write, AreCompatible, writer_reads, Images, image_of, or_image, put_back, with_image, not_there, not_true, page_at-put_back, RunningImages, image_at, clean_pages, ImagesAreLocked, ImagesAreApart, ImagesAreThere, DropsImages}
 use Rattle.std.specs.FinMap as map
 use Rattle.std.specs.FinMap.Entries.{is_sorted, below_all}
 use Rattle.mlt_page.proofs.Numbered.{same_pages}

@@ -9,7 +9,6 @@ pub mod Since
 pub mod Turns
 pub mod Unwritten
 pub mod Views
-mod SubtxNames
 pub mod AllEvents
 pub mod AllRunning
 pub mod CleanLaws

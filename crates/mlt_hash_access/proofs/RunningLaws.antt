@@ -2,7 +2,7 @@
 -- pages that are locked. Other crates cite these laws.
 use Rattle.std.proofs.Common.{◌≡◌, ◌≢◌, ℕ, true, None, is_some, unwrap_or, sym, ap, ◌∙◌, inl, inr, arith}
 use Rattle.std.specs.FinMap as map
-use Rattle.mlt_hash_access.proofs.SubtxNames.{cases_eq, false≢true, nat_tests, Mode, Pages, page_at, LockTable, can_read, AreCompatible, granted, released, can_write-granted, or_image, put_back, not_there, not_true, page_at-put_back, RunningImages, image_at, ImagesAreLocked, ImagesAreApart, ImagesAreThere, DropsImages}
+use Rattle.mlt_hash_access.proofs.Names.{cases_eq, false≢true, nat_tests, Mode, Pages, page_at, LockTable, can_read, AreCompatible, granted, released, can_write-granted, or_image, put_back, not_there, not_true, page_at-put_back, RunningImages, image_at, ImagesAreLocked, ImagesAreApart, ImagesAreThere, DropsImages}
 use Rattle.mlt_page_locks.proofs.LockLaws.{can_read-released, can_write-released}
 use Rattle.mlt_page_subtx.specs.Locking.{LocksPagesThere}
 

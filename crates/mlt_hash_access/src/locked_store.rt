@@ -3,7 +3,7 @@
 use mlt_page::Store;
 use mlt_page_locks::PageLocks;
 
-/// The pages of all transactions, and who holds which of them.
+/// The pages of all transactions, and which transaction holds which of them.
 #[derive(Drop)]
 pub struct LockedStore {
     pub store: Store,

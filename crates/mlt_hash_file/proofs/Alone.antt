@@ -8,7 +8,6 @@ use Rattle.mlt_page_subtx.proofs.ImageLaws.{not_there}
 use Rattle.mlt_hash_form.specs.File.{FilePages}
 use Rattle.mlt_hash_form.specs.Held.{Agrees}
 use Rattle.mlt_hash_access.specs.PageSteps.{LocksAtMost, LocksPage}
-use Rattle.mlt_hash_access.proofs.Views.{agrees}
 use Rattle.mlt_hash_access.proofs.Rebased.{written_over}
 use Rattle.mlt_hash_access.proofs.Since.{agrees_over}
 
@@ -90,13 +89,16 @@ nothing_keeps old new same = record {
 holder_granted : (locks : LockTable) (tx q : ℕ) (mode : Mode) (u : ℕ) → u ≢ tx → is_holder (granted locks tx q mode) u ≡ is_holder locks u
 holder_granted locks tx q mode u ne = grind (arith, nat_tests, get_inserted locks.held tx (with_page (pages_of locks tx) q mode) u)
 
-lock_keeps : (old new : LocalState) (q : ℕ) (mode : Mode) → LocksPage old new q mode → KeepsBounds old new
-lock_keeps old new q mode step = record {
-  tx = ap (λ (r : Running). r.tx) step.running;
-  max_open = ap (λ (t : LockTable). t.max_open) step.locks;
-  max_pages = ap (λ (s : PageStore). s.max_pages) step.store;
-  holders = λ u ne. ap (λ (t : LockTable). is_holder t u) step.locks ∙ holder_granted old.locks old.running.tx q mode u ne;
+granted_keeps : (old new : LocalState) (q : ℕ) (mode : Mode) → new.running.tx ≡ old.running.tx → new.store.max_pages ≡ old.store.max_pages → new.locks ≡ granted old.locks old.running.tx q mode → KeepsBounds old new
+granted_keeps old new q mode tx max_pages locks = record {
+  tx = tx;
+  max_open = ap (λ (t : LockTable). t.max_open) locks;
+  max_pages = max_pages;
+  holders = λ u ne. ap (λ (t : LockTable). is_holder t u) locks ∙ holder_granted old.locks old.running.tx q mode u ne;
 }
+
+lock_keeps : (old new : LocalState) (q : ℕ) (mode : Mode) → LocksPage old new q mode → KeepsBounds old new
+lock_keeps old new q mode step = granted_keeps old new q mode (ap (λ (r : Running). r.tx) step.running) (ap (λ (s : PageStore). s.max_pages) step.store) step.locks
 
 write_keeps : (old new : LocalState) (q : ℕ) (page : Page) → WritesHeldPage old new q page → KeepsBounds old new
 write_keeps old new q page step = record {
@@ -107,12 +109,7 @@ write_keeps old new q page step = record {
 }
 
 make_keeps : (old new : LocalState) (q : ℕ) (page : Page) → MakesLockedPage old new q page → KeepsBounds old new
-make_keeps old new q page step = record {
-  tx = ap (λ (r : Running). r.tx) step.running;
-  max_open = ap (λ (t : LockTable). t.max_open) step.locks;
-  max_pages = ap (λ (s : PageStore). s.max_pages) step.store;
-  holders = λ u ne. ap (λ (t : LockTable). is_holder t u) step.locks ∙ holder_granted old.locks old.running.tx q Exclusive u ne;
-}
+make_keeps old new q page step = granted_keeps old new q Exclusive (ap (λ (r : Running). r.tx) step.running) (ap (λ (s : PageStore). s.max_pages) step.store) step.locks
 
 both_keep : (old mid new : LocalState) → KeepsBounds old mid → KeepsBounds mid new → KeepsBounds old new
 both_keep old mid new first next = record {

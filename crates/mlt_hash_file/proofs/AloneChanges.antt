@@ -1,11 +1,13 @@
 -- A change that a walk makes alone: what is in the store then
-use Rattle.std.proofs.Common.{◌≡◌, ℕ, ◌≤◌, Option, refl, sym, ap, subst, ◌∙◌, inl, inr, arith, nat_cmp}
+use Rattle.std.proofs.Common.{◌≡◌, ℕ, ◌≤◌, Option, None, Some, refl, sym, ap, subst, ◌∙◌, inl, inr, arith, nat_cmp}
 use Rattle.std.specs.FinSet as set
-use Rattle.mlt_hash_file.proofs.Names.{nat_tests, Page, PageStore, page_at, get_inserted, depth_of, header_of, look_up, over, IsCleanFor, MayStep, LocalState, TouchesOnePage, WritesAtMost, HasWritten, View, view_of, view_over, written_stays, IsAlone, context_of, pages_before, pages_since, HasChanged, HasMade, IsHashFile, IsAtRecord, Makes, WritesIfChanged, page_of, value_after, WalkContext, Before, IsAtBucket, IsStanding, Stands, WalkFields, view_for, WalkAnswer, Change, Phase}
+use Rattle.mlt_hash_file.proofs.Names.{nat_tests, Page, PageStore, page_at, get_inserted, depth_of, header_of, look_up, over, IsCleanFor, MayStep, LocalState, TouchesOnePage, WritesAtMost, HasWritten, view_of, view_over, written_stays, IsAlone, context_of, pages_before, pages_since, HasChanged, HasMade, IsHashFile, IsAtRecord, Makes, WritesIfChanged, page_of, value_after, WalkContext, Before, IsAtBucket, IsStanding, Stands, WalkFields, view_for, WalkAnswer, Change, Phase}
 use Rattle.mlt_hash_form.specs.File.{HasForm}
 use Rattle.mlt_hash_form.proofs.HeldPages.{changed_values}
 use Rattle.mlt_hash_file.specs.AloneWalks.{TellsOfMaking}
-use Rattle.mlt_hash.specs.Changes.{IsChangedPhase, TellsOfChange}
+use Rattle.mlt_hash.specs.Changes.{IsChangedPhase, TellsOfChange, directory_depth_of}
+use Rattle.mlt_hash.specs.Passes.{change_to}
+use Rattle.mlt_hash.proofs.InPlace.{record_at}
 use Rattle.mlt_hash.specs.Walks.{IsChanged, MayWalk}
 use Rattle.mlt_hash.proofs.Passed.{head_is_no_bucket}
 use Rattle.mlt_hash_file.proofs.Alone.{alone_after_write, before_is_clean, sees_since, store_is_since, unwritten_store, write_keeps_before}
@@ -43,18 +45,7 @@ other_page_stays old new q p step ne =
       | inr writes ↦ ap (λ (s : PageStore). page_at s.pages p) writes.1.store ∙ grind (arith, nat_tests, get_inserted old.store.pages q writes.0 p)
     ]
 
--- a walk that has found its key stands at its bucket
-pub stands_at_bucket : (context : WalkContext) (walk : WalkFields) (view : View) (phase : Phase) → IsAtRecord phase → Stands phase context walk view → (depth : ℕ) × (found : Option ℕ) × IsAtBucket context walk view (page_of phase) depth found
-stands_at_bucket context walk view (Phase.AtBucket bucket depth found) record_there stands = (depth, found, stands)
-stands_at_bucket context walk view Phase.Start record_there stands = absurd record_there
-stands_at_bucket context walk view (Phase.Headed dir row depth) record_there stands = absurd record_there
-stands_at_bucket context walk view (Phase.Placed bucket depth) record_there stands = absurd record_there
-stands_at_bucket context walk view (Phase.Full next) record_there stands = absurd record_there
-stands_at_bucket context walk view (Phase.Adding value bucket room_depth unsplit) record_there stands = absurd record_there
-stands_at_bucket context walk view (Phase.Splitting value room_depth) record_there stands = absurd record_there
-stands_at_bucket context walk view (Phase.Changed bucket done) record_there stands = absurd record_there
-
--- so a write of the bucket leaves the directory as deep as it was
+-- a write of the bucket leaves the directory as deep as it was
 pub shallow_after_write : (context : WalkContext) (old new : LocalState) (walk : WalkFields) (bucket depth : ℕ) (found : Option ℕ) → MayStep old → HasWritten context.before.written (view_of old) → IsHashFile context.bits (pages_since context.before old) context.root context.max_depth
     → IsAtBucket context walk (view_for context old) bucket depth found → WritesAtMost old new bucket → depth_of (page_at new.store.pages) context.root ≤ context.max_depth
 shallow_after_write context old new walk bucket depth found may written file at step =
@@ -95,30 +86,30 @@ may_walk_alone since bits active root max_depth mid old walk none same alone wri
 
 told_change : (context : WalkContext) (new : LocalState) (before after : WalkFields) (done : Change) (told : WalkAnswer) → TellsOfChange context new before after done told → (Makes context new before after done → HasMade context new before after (value_after done)) → TellsOfMaking context new before after (value_after done) told
 told_change context new before after done WalkAnswer.Changed tells made = made tells
-told_change context new before after done WalkAnswer.Going tells made = absurd tells
-told_change context new before after done (WalkAnswer.Waiting page by) tells made = absurd tells
-told_change context new before after done (WalkAnswer.Found value) tells made = absurd tells
-told_change context new before after done WalkAnswer.NeedSplit tells made = absurd tells
-told_change context new before after done WalkAnswer.Widen tells made = absurd tells
 told_change context new before after done (WalkAnswer.Refused reason) tells made = (tells.0, tells.1)
+told_change context new before after done other tells made = absurd tells
+
+value_set : (value : Option ℕ) → value_after (change_to value) ≡ value
+value_set (Some value) = refl
+value_set None = refl
 
 -- **A change of the record that a walk has found is in the store.**
-pub change_alone : (since : Before) (bits : ℕ → ℕ) (active : set.FinSet nat_cmp) (root max_depth : ℕ) (mid old new : LocalState) (before after : WalkFields) (done : Change) (told : WalkAnswer)
+pub change_alone : (since : Before) (bits : ℕ → ℕ) (active : set.FinSet nat_cmp) (root max_depth : ℕ) (mid old new : LocalState) (before after : WalkFields) (value : Option ℕ) (told : WalkAnswer)
     → active ≡ set.empty → mid ≡ old → IsAlone mid → IsAtRecord before.phase → HasWritten since.written (view_of old) → IsHashFile bits (pages_since since old) root max_depth → IsStanding (context_of since bits root max_depth old) before (view_over since.written old)
     → MayStep new → ((clean : ℕ → Option Page) → IsCleanFor mid clean → IsCleanFor new clean) → TouchesOnePage mid new → WritesAtMost mid new (page_of before.phase)
-    → TellsOfChange (record { bits = bits; active = active; root = root; max_depth = max_depth; tx = mid.running.tx; before = since }) new before after done told
-    → TellsOfMaking (context_of since bits root max_depth old) new before after (value_after done) told
-change_alone since bits active root max_depth mid old new before after done told none same alone record_there written was stood may clean touches step tells =
+    → TellsOfChange (record { bits = bits; active = active; root = root; max_depth = max_depth; tx = mid.running.tx; before = since }) new before after (change_to value) told
+    → TellsOfMaking (context_of since bits root max_depth old) new before after value told
+change_alone since bits active root max_depth mid old new before after value told none same alone record_there written was stood may clean touches step tells =
     let context : WalkContext = context_of since bits root max_depth mid in
     let written_mid : HasWritten since.written (view_of mid) = subst (λ (m : LocalState). HasWritten since.written (view_of m)) (sym same) written in
     let file : IsHashFile bits (pages_since since mid) root max_depth = subst (λ (m : LocalState). IsHashFile bits (pages_since since m) root max_depth) (sym same) was in
     let stands : IsStanding context before (view_over since.written mid) = subst (λ (m : LocalState). IsStanding (context_of since bits root max_depth m) before (view_over since.written m)) (sym same) stood in
-    let at = stands_at_bucket context before (view_over since.written mid) before.phase record_there stands in
-    let shallow = shallow_after_write context mid new before (page_of before.phase) at.0 at.1 alone.may written_mid file at.2 step in
+    let at = record_at context before (view_over since.written mid) before.phase record_there stands in
+    let shallow = shallow_after_write context mid new before (page_of before.phase) (directory_depth_of before.phase) at.0 alone.may written_mid file at.1 step in
     let keeps = write_keeps_before mid mid new (page_of before.phase) refl alone may clean step in
     let alone_new = alone_after_write mid new (page_of before.phase) alone may step in
     let written_new = written_stays since.written mid new alone.may touches written_mid in
-    let told_there : TellsOfChange context new before after done told = subst (λ (active : set.FinSet nat_cmp). TellsOfChange (record { bits = bits; active = active; root = root; max_depth = max_depth; tx = mid.running.tx; before = since }) new before after done told) none tells in
-    let made : TellsOfMaking context new before after (value_after done) told =
-    told_change context new before after done told told_there (λ makes. made_alone context new before after done alone_new written_new (file_kept since bits root max_depth mid new keeps file) shallow makes) in
-    subst (λ (m : LocalState). TellsOfMaking (context_of since bits root max_depth m) new before after (value_after done) told) same made
+    let told_there : TellsOfChange context new before after (change_to value) told = subst (λ (active : set.FinSet nat_cmp). TellsOfChange (record { bits = bits; active = active; root = root; max_depth = max_depth; tx = mid.running.tx; before = since }) new before after (change_to value) told) none tells in
+    let made : TellsOfMaking context new before after (value_after (change_to value)) told =
+    told_change context new before after (change_to value) told told_there (λ makes. made_alone context new before after (change_to value) alone_new written_new (file_kept since bits root max_depth mid new keeps file) shallow makes) in
+    subst (λ (m : LocalState). TellsOfMaking (context_of since bits root max_depth m) new before after value told) same (subst (λ (v : Option ℕ). TellsOfMaking context new before after v told) (value_set value) made)

@@ -34,11 +34,9 @@ made old new q p makes = ap (λ (s : PageStore). map.len s.pages) makes.store �
 
 -- where a split stands, as far as its pages are concerned
 pub may_stand : (phase : SplitPhase) (target : SplitTarget) (splitters : _) (base pages : ℕ → Option Page) (split : SplitFields) (bucket : BucketFields) → StandsAt phase target splitters base pages split bucket → MayStandAt phase split.depth split.directory_depth
-may_stand SplitPhase.OldBucket target splitters base pages split bucket stands = tt
 may_stand (SplitPhase.InPlace place end) target splitters base pages split bucket stands = stands.shallow
-may_stand (SplitPhase.Double place) target splitters base pages split bucket stands = tt
 may_stand (SplitPhase.SecondHalf place) target splitters base pages split bucket stands = (stands.deep, stands.long, stands.more)
-may_stand SplitPhase.Header target splitters base pages split bucket stands = tt
+may_stand other target splitters base pages split bucket stands = tt
 
 module _ (target : SplitTarget) (old new : LocalState) (split : SplitFields) (l g d : ℕ) (may : MayStep old) (within : l ≤ g) where
   -- **A step of a split leaves the number of pages that it leads to,**

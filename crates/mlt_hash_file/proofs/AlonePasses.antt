@@ -1,53 +1,34 @@
 -- What a pass finds that runs alone, and what it tells of its addition
-use Rattle.std.proofs.Common.{◌≡◌, ℕ, ◌≤◌, ◌<◌, ◌+◌, ◌^◌, true, false, Bool, Option, None, Some, IsSome, is_some, refl, sym, ap, subst, ◌∙◌, inl, inr, arith, ◌-◌, nat_cmp}
-use Rattle.mlt_hash_file.proofs.Names.{list_all, false≢true, Refusal, is_kept, BucketFields, Page, page_at, bucket_of, depth_of, header_of, look_up, Root, IsCleanFor, MayStep, LocalState, TouchesOnePage, WritesAtMost, HasWritten, IsUnwrittenSince, View, view_of, view_over, written_stays, over_since, held_page, IsAlone, KeepsBefore, context_of, pages_since, IsPutting, HasArrived, HasChanged, HasMade, IsFullFor, IsHashFile, IsReadySince, NeedsRoom, NeedsSplits, NeverHasRoomFor, TellsOfPass, added_value, IsAtRecord, Makes, WritesIfChanged, page_of, value_after, HasRoomAt, pages_for, pages_in_the_end, pages_left_at, pages_to_make, IsSameWalk, WalkContext, Before, IsAtBucket, IsStanding, Stands, WalkFields, view_for, WalkAnswer, Change, Pass, Phase}
+use Rattle.std.proofs.Common.{◌≡◌, ℕ, ◌≤◌, ◌<◌, ◌+◌, ◌^◌, true, false, Bool, Option, None, Some, IsSome, refl, sym, ap, subst, ◌∙◌, inl, inr, arith, nat_cmp}
+use Rattle.mlt_hash_file.proofs.Names.{list_all, false≢true, Refusal, is_kept, BucketFields, Page, page_at, bucket_of, depth_of, look_up, Root, IsCleanFor, MayStep, LocalState, TouchesOnePage, WritesAtMost, HasWritten, IsUnwrittenSince, View, view_of, view_over, written_stays, IsAlone, KeepsBefore, context_of, pages_since, IsPutting, HasArrived, HasChanged, HasMade, IsFullFor, IsHashFile, IsReadySince, NeedsRoom, NeedsSplits, NeverHasRoomFor, TellsOfPass, added_value, IsAtRecord, Makes, WritesIfChanged, page_of, value_after, HasRoomAt, pages_for, pages_in_the_end, pages_left_at, pages_to_make, IsSameWalk, WalkContext, Before, IsAtBucket, IsStanding, Stands, WalkFields, view_for, WalkAnswer, Change, Pass, Phase}
 use Rattle.std.specs.FinMap as map
 use Rattle.std.specs.FinSet as set
 use Rattle.mlt_hash_form.specs.File.{buckets_of, lead_of}
 use Rattle.mlt_hash_form.specs.Room.{is_crowded}
 use Rattle.mlt_hash_form.proofs.Crowd.{crowded_in_fewer, crowded_test}
 use Rattle.mlt_hash_form.proofs.InPages.{led_at}
-use Rattle.mlt_hash_split.proofs.Closing.{held_page_over}
-use Rattle.mlt_hash.specs.Changes.{HasNoRoom, IsAtAbsent, IsFull, NeedsSplit, TellsOfAddition, crowded_at}
+use Rattle.mlt_hash.specs.Changes.{HasNoRoom, IsAtAbsent, IsFull, NeedsSplit, TellsOfAddition, crowded_at, directory_depth_of}
 use Rattle.mlt_hash.specs.Passes.{HasRoomFrom, IsNextPass, next_of}
-use Rattle.mlt_hash_file.specs.SplitPages.{bucket_for}
 use Rattle.mlt_hash.specs.Steps.{HasFound}
 use Rattle.mlt_hash_file.proofs.Alone.{alone_after_write, sees_since, unwritten_store, write_keeps_before}
 use Rattle.mlt_hash_file.proofs.AloneChanges.{made_alone, shallow_after_write, writes_at_most}
 use Rattle.mlt_hash_file.proofs.AloneWalks.{file_kept, same_context, same_since, same_walks}
+use Rattle.mlt_hash.proofs.InPlace.{absent_at}
 use Rattle.mlt_hash.proofs.Laws.{found_there, path_taken}
 
 -- a walk that has arrived is at its bucket, with what it has found,
 arrived_at : (context : WalkContext) (walk : WalkFields) (view : View) (phase : Phase) (value : Option ℕ) → HasFound phase value → Stands phase context walk view → (depth : ℕ) × IsAtBucket context walk view (page_of phase) depth value
 arrived_at context walk view (Phase.AtBucket bucket depth found) value is stands = (depth, subst (λ (found : Option ℕ). IsAtBucket context walk view bucket depth found) is stands)
-arrived_at context walk view Phase.Start value is stands = absurd is
-arrived_at context walk view (Phase.Headed dir row depth) value is stands = absurd is
-arrived_at context walk view (Phase.Placed bucket depth) value is stands = absurd is
-arrived_at context walk view (Phase.Full next) value is stands = absurd is
-arrived_at context walk view (Phase.Adding own bucket room_depth unsplit) value is stands = absurd is
-arrived_at context walk view (Phase.Splitting own room_depth) value is stands = absurd is
-arrived_at context walk view (Phase.Changed bucket done) value is stands = absurd is
+arrived_at context walk view other value is stands = absurd is
 
 pub found_absent : (phase : Phase) (value : Option ℕ) → HasFound phase value → value ≡ None → IsAtAbsent phase
 found_absent (Phase.AtBucket bucket depth found) value is none = is ∙ none
-found_absent Phase.Start value is none = absurd is
-found_absent (Phase.Headed dir row depth) value is none = absurd is
-found_absent (Phase.Placed bucket depth) value is none = absurd is
-found_absent (Phase.Full next) value is none = absurd is
-found_absent (Phase.Adding own bucket room_depth unsplit) value is none = absurd is
-found_absent (Phase.Splitting own room_depth) value is none = absurd is
-found_absent (Phase.Changed bucket done) value is none = absurd is
+found_absent other value is none = absurd is
 
 -- a walk that has found a value is at a record
 pub found_record : (phase : Phase) (value : Option ℕ) → HasFound phase value → IsSome value → IsAtRecord phase
 found_record (Phase.AtBucket bucket depth found) value is there = subst IsSome (sym is) there
-found_record Phase.Start value is there = absurd is
-found_record (Phase.Headed dir row depth) value is there = absurd is
-found_record (Phase.Placed bucket depth) value is there = absurd is
-found_record (Phase.Full next) value is there = absurd is
-found_record (Phase.Adding own bucket room_depth unsplit) value is there = absurd is
-found_record (Phase.Splitting own room_depth) value is there = absurd is
-found_record (Phase.Changed bucket done) value is there = absurd is
+found_record other value is there = absurd is
 
 -- a walk that has arrived has written nothing
 pub arrived_store : (context : WalkContext) (m : LocalState) (before walk : WalkFields) (value : Option ℕ) → IsAlone m → HasWritten context.before.written (view_of m) → HasArrived context m before walk value → page_at m.store.pages ≡ pages_since context.before m
@@ -84,16 +65,6 @@ leads_here : (context : WalkContext) (m : LocalState) (walk : WalkFields) (bucke
 leads_here context m walk bucket depth found here may =
     (led_at (pages_since context.before m) context.root (context.bits walk.key) here.header here.dir bucket here.fields (path_taken context walk (view_for context m) bucket depth found (pages_since context.before m) here (sees_since context.before m may))).0
 
-pub absent_bucket : (context : WalkContext) (walk : WalkFields) (view : View) (phase : Phase) → IsAtAbsent phase → Stands phase context walk view → (depth : ℕ) × (found : Option ℕ) × IsAtBucket context walk view (page_of phase) depth found
-absent_bucket context walk view (Phase.AtBucket bucket depth found) none stands = (depth, found, stands)
-absent_bucket context walk view Phase.Start none stands = absurd none
-absent_bucket context walk view (Phase.Headed dir row depth) none stands = absurd none
-absent_bucket context walk view (Phase.Placed bucket depth) none stands = absurd none
-absent_bucket context walk view (Phase.Full next) none stands = absurd none
-absent_bucket context walk view (Phase.Adding own bucket room_depth unsplit) none stands = absurd none
-absent_bucket context walk view (Phase.Splitting own room_depth) none stands = absurd none
-absent_bucket context walk view (Phase.Changed bucket done) none stands = absurd none
-
 not_first : (crowded : ℕ → Bool) (l most g : ℕ) (next : Pass) → IsNextPass crowded l most g next → next ≡ Pass.First → ⊥
 not_first crowded l most g Pass.First is same = is
 not_first crowded l most g Pass.Narrow is same = cc
@@ -109,8 +80,8 @@ module _ (since : Before) (bits : ℕ → ℕ) (root max_depth : ℕ) (first mid
     abbrev ours : WalkContext
     ours = context_of since bits root max_depth first
 
-    here : (depth : ℕ) × (found : Option ℕ) × IsAtBucket ours walk (view_over since.written mid) (page_of walk.phase) depth found
-    here = absent_bucket ours walk (view_over since.written mid) walk.phase none stood
+    here : IsAtBucket ours walk (view_over since.written mid) (page_of walk.phase) (directory_depth_of walk.phase) None
+    here = absent_at ours walk (view_over since.written mid) walk.phase none stood
 
     keeps : KeepsBefore mid new
     keeps = write_keeps_before mid mid new (page_of walk.phase) refl alone may clean step
@@ -125,11 +96,11 @@ module _ (since : Before) (bits : ℕ → ℕ) (root max_depth : ℕ) (first mid
     file_new = file_kept since bits root max_depth mid new keeps file
 
     shallow : depth_of (page_at new.store.pages) root ≤ max_depth
-    shallow = let h = here in shallow_after_write ours mid new walk (page_of walk.phase) h.0 h.1 alone.may written file h.2 step
+    shallow = shallow_after_write ours mid new walk (page_of walk.phase) (directory_depth_of walk.phase) None alone.may written file here step
 
     -- the bucket that the walk sees is the key's
     leads : lead_of (pages_since since new) root (bits walk.key) ≡ page_of walk.phase
-    leads = let h = here in ap (λ (pages : ℕ → Option Page). lead_of pages root (bits walk.key)) (same_since since mid new keeps) ∙ leads_here ours mid walk (page_of walk.phase) h.0 h.1 h.2 alone.may
+    leads = ap (λ (pages : ℕ → Option Page). lead_of pages root (bits walk.key)) (same_since since mid new keeps) ∙ leads_here ours mid walk (page_of walk.phase) (directory_depth_of walk.phase) None here alone.may
 
     key_bucket : (fields : BucketFields) → (view_over since.written new).seen (page_of walk.phase) ≡ Some (Some (Page.Bucket fields)) → buckets_of (pages_since since new) (lead_of (pages_since since new) root (bits walk.key)) ≡ fields
     key_bucket fields sees = ap (buckets_of (pages_since since new)) leads ∙ ap bucket_of (sees_since since new may (page_of walk.phase) (Some (Page.Bucket fields)) sees)
@@ -164,7 +135,7 @@ module _ (since : Before) (bits : ℕ → ℕ) (root max_depth : ℕ) (first mid
 
     -- where nothing is written, the pages are those before
     store_is : new ≡ mid → page_at new.store.pages ≡ pages_since since new
-    store_is same = let h = here in unwritten_store since new may written_new (subst (λ (m : LocalState). IsUnwrittenSince since.written (view_over since.written m)) (sym same) h.2.unwritten)
+    store_is same = unwritten_store since new may written_new (subst (λ (m : LocalState). IsUnwrittenSince since.written (view_over since.written m)) (sym same) here.unwritten)
 
     pages_counted : (d : ℕ) → new ≡ mid → after.phase ≡ Phase.Adding value (page_of walk.phase) d true → pages_in_the_end root after new ≡ map.len new.store.pages + pages_for bits (pages_since since new) root walk.key d
     pages_counted d same phase =

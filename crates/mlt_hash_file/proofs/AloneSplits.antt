@@ -1,6 +1,6 @@
 -- The splits of a walk alone: they come to an end, and leave the directory as shallow as it has to be
-use Rattle.std.proofs.Common.{◌≡◌, ℕ, zero, suc, min, ◌<◌, ◌≤◌, ◌+◌, ◌*◌, ◌-◌, ◌^◌, Bool, true, false, cond, Option, None, Some, is_some, unwrap_or, nat_eq, nat_lt, if◌then◌else◌, refl, sym, ap, subst, ◌∙◌, inl, inr, arith}
-use Rattle.mlt_hash_file.proofs.Names.{list_all, pow-le-pow_right, Refusal, is_kept, BucketFields, Page, page_at, can_read, writer_reads, image_of, or_image, bucket_of, depth_of, header_of, own_or_clean, MayStep, LocalState, WritesAtMost, HasWritten, View, page_written, view_of, view_over, SplitTarget, held_page, SplitFields, directory_steps, steps_left_at, IsDone, SplitPhase, HasNotWaited, IsAlone, KeepsBefore, context_of, pages_before, pages_since, IsPutting, HasMade, IsHashFile, MayAdd, TellsOfSplits, added_value, Makes, left_from, pages_in_the_end, pages_left_at, pages_to_make, TellsAt, TellsOfAdding, TellsOfSplitting, walk_step, WalkContext, Before, IsStanding, Stands, WalkFields, view_for, IsSameWalk, WalkAnswer, Change, Phase}
+use Rattle.std.proofs.Common.{◌≡◌, ℕ, ◌<◌, ◌≤◌, ◌+◌, ◌*◌, ◌-◌, ◌^◌, Bool, true, false, cond, Option, None, Some, is_some, unwrap_or, nat_eq, nat_lt, if◌then◌else◌, refl, sym, ap, subst, ◌∙◌, inl, inr, arith}
+use Rattle.mlt_hash_file.proofs.Names.{list_all, pow-le-pow_right, Refusal, is_kept, BucketFields, Page, page_at, can_read, writer_reads, image_of, or_image, bucket_of, depth_of, header_of, own_or_clean, MayStep, LocalState, WritesAtMost, HasWritten, page_written, view_of, view_over, SplitTarget, held_page, SplitFields, directory_steps, steps_left_at, IsDone, SplitPhase, HasNotWaited, IsAlone, KeepsBefore, context_of, pages_before, pages_since, IsPutting, HasMade, IsHashFile, MayAdd, TellsOfSplits, added_value, Makes, left_from, pages_in_the_end, pages_left_at, pages_to_make, TellsAt, TellsOfAdding, TellsOfSplitting, walk_step, WalkContext, Before, IsStanding, Stands, WalkFields, view_for, IsSameWalk, WalkAnswer, Change, Phase}
 use Rattle.std.specs.FinMap as map
 use Rattle.std.specs.FinSet as set
 use Rattle.mlt_hash_access.specs.LocalStates.{HasFileOver}
@@ -10,14 +10,14 @@ use Rattle.mlt_hash_split.proofs.HeldPages.{clean_now}
 use Rattle.mlt_hash_split.proofs.Later.{begins_now, stands_now}
 use Rattle.mlt_hash_split.proofs.OldBucket.{depths_are_small}
 use Rattle.mlt_hash_file.specs.SplitPages.{left_from_split}
-use Rattle.mlt_hash.specs.Splitting.{BeginsSplit, HasToSplit, OfSplit, SplitCloses, SplitGoesOn}
+use Rattle.mlt_hash.specs.Splitting.{BeginsSplit, HasToSplit, OfSplit, SplitCloses, SplitGoesOn, StandsOn}
 use Rattle.mlt_hash.specs.Splitting.{IsUnderWay as HasNextStep}
 use Rattle.mlt_hash.specs.Walks.{IsAdding, IsSplitting, split_target}
-use Rattle.mlt_hash_file.proofs.Alone.{before_is_clean, keeps_both, sees_since, keeps_same, reads_image_back}
+use Rattle.mlt_hash_file.proofs.Alone.{before_is_clean, keeps_both, keeps_same, reads_image_back}
 use Rattle.mlt_hash_file.proofs.AloneChanges.{made_alone, other_page_stays}
 use Rattle.mlt_hash_file.proofs.AlonePages.{made, may_stand, pages_close, pages_go_on}
 use Rattle.mlt_hash.proofs.Puts.{found_below, kept_is_shallow}
-use Rattle.mlt_hash.proofs.StepsLeft.{one_fewer, some_is_one}
+use Rattle.mlt_hash.proofs.StepsLeft.{some_is_one}
 use Rattle.mlt_hash_file.proofs.AlonePasses.{retell_made}
 use Rattle.mlt_hash_file.proofs.SplitPages.{MayStandAt, begun, one_at_least, one_is_left}
 use Rattle.mlt_hash_file.proofs.AloneWalks.{file_kept, same_context, same_walks}
@@ -79,12 +79,7 @@ pub record IsSplittingOn (context : WalkContext) (old now : LocalState) (before 
 next_step : (phase : Phase) → IsPutting phase → HasNextStep phase
 next_step (Phase.Adding value bucket room_depth unsplit) adds = tt
 next_step (Phase.Splitting value room_depth) adds = tt
-next_step Phase.Start adds = absurd adds
-next_step (Phase.Headed dir row depth) adds = absurd adds
-next_step (Phase.Placed bucket depth) adds = absurd adds
-next_step (Phase.AtBucket bucket depth found) adds = absurd adds
-next_step (Phase.Full next) adds = absurd adds
-next_step (Phase.Changed bucket done) adds = absurd adds
+next_step other adds = absurd adds
 
 pub has_next_step : (context : WalkContext) (m : LocalState) (walk : WalkFields) → MayAdd context m walk → HasNextStep walk.phase
 has_next_step context m walk may = next_step walk.phase may.adds
@@ -126,6 +121,15 @@ module _ (since : Before) (bits : ℕ → ℕ) (root max_depth : ℕ) (first now
   abbrev ours : WalkContext
   ours = context_of since bits root max_depth first
 
+  advances : StandsOn ours new walk after → (was is : Phase) → after.phase ≡ is → walk.phase ≡ was → IsPutting is → added_value is ≡ added_value was → effort after new < effort walk now → pages_in_the_end root after new ≤ pages_in_the_end root walk now → Advances ours now new walk after
+  advances on was is phase before adds value less pages = record {
+    same = on.same;
+    value = ap added_value phase ∙ value ∙ sym (ap added_value before);
+    may = record { stands = on.stands; adds = subst IsPutting (sym phase) adds };
+    less = less;
+    pages = pages;
+  }
+
   clean_now_is : HasFileOver bits root since.written now
   clean_now_is = clean_file since bits root max_depth now alone.may file
 
@@ -161,16 +165,7 @@ module _ (since : Before) (bits : ℕ → ℕ) (root max_depth : ℕ) (first now
         let steps : directory_steps b.split.depth b.split.directory_depth ≤ 513 = few_steps b.split.depth b.split.directory_depth (omega (arith, fits, b.directory_depth, file.small)) in
         let now_is : effort walk now ≡ 1000 * (17 - b.bucket.depth) = ap (λ (phase : Phase). effort_at phase walk now) phase_is ∙ ap (λ (p : Option Page). 1000 * (17 - (bucket_of p).depth)) bucket in
         let new_is : effort after new ≡ 1000 * (16 - b.split.depth) + steps_left b.split = ap (λ (phase : Phase). effort_at phase after new) b.phase ∙ split_effort_is after.split b.split b.split_is in
-        record {
-          same = b.on.same;
-          value = ap added_value b.phase ∙ sym (ap added_value phase_is);
-          may = record {
-            stands = b.on.stands;
-            adds = subst IsPutting (sym b.phase) tt;
-          };
-          less = let small = stands.under_way.small in omega (arith, now_is, new_is, b.steps, steps, b.depth, deep, small);
-          pages = begins_pages b head bucket deep;
-        }
+        advances b.on _ _ b.phase phase_is tt refl (let small = stands.under_way.small in omega (arith, now_is, new_is, b.steps, steps, b.depth, deep, small)) (begins_pages b head bucket deep)
 
     not_root : root ≡ n → ⊥
     not_root same = let both : Some (Page.Head adding.header) ≡ Some (Page.Bucket adding.fields) = sym stored_head ∙ ap (page_at now.store.pages) same ∙ stored_bucket in cc
@@ -248,16 +243,7 @@ module _ (since : Before) (bits : ℕ → ℕ) (root max_depth : ℕ) (first now
     split_goes_on s done =
         let now_is = effort_now s.was s.was_is in
         let new_is : effort after new ≡ 1000 * (16 - s.is.depth) + steps_left s.is = ap (λ (phase : Phase). effort_at phase after new) s.phase ∙ split_effort_is after.split s.is s.is_is in
-        record {
-          same = s.on.same;
-          value = ap added_value s.phase ∙ sym (ap added_value phase_is);
-          may = record {
-            stands = s.on.stands;
-            adds = subst IsPutting (sym s.phase) tt;
-          };
-          less = omega (arith, now_is, new_is, s.fewer, ap (λ d. 1000 * (16 - d)) s.depth);
-          pages = goes_on_pages s done;
-        }
+        advances s.on _ _ s.phase phase_is tt refl (omega (arith, now_is, new_is, s.fewer, ap (λ d. 1000 * (16 - d)) s.depth)) (goes_on_pages s done)
 
     split_closes : SplitCloses ours new walk after value room_depth → OfSplit walk (λ (split : SplitFields). IsDone split.phase (split_target ours walk room_depth) now new split) → Advances ours now new walk after
     split_closes s done =
@@ -265,27 +251,15 @@ module _ (since : Before) (bits : ℕ → ℕ) (root max_depth : ℕ) (first now
         let bucket : page_at new.store.pages s.bucket ≡ Some (Page.Bucket s.rests.bucket) = held_is_stored ours new s.bucket (Page.Bucket s.rests.bucket) alone_new.may written_new s.rests.rest.found in
         let now_is = effort_now s.was s.was_is in
         let new_is : effort after new ≡ 1000 * (17 - s.rests.bucket.depth) = ap (λ (phase : Phase). effort_at phase after new) s.phase ∙ ap (λ (p : Option Page). 1000 * (17 - (bucket_of p).depth)) bucket in
-        record {
-          same = s.on.same;
-          value = ap added_value s.phase ∙ sym (ap added_value phase_is);
-          may = record {
-            stands = s.on.stands;
-            adds = subst IsPutting (sym s.phase) tt;
-          };
-          less = omega (arith, now_is, new_is, s.last, s.rests.deeper);
-          pages = closes_pages s head bucket done;
-        }
+        advances s.on _ _ s.phase phase_is tt refl (omega (arith, now_is, new_is, s.last, s.rests.deeper)) (closes_pages s head bucket done)
 
     splitting_goes : TellsOfSplitting ours (walk_step now new walk after) value room_depth WalkAnswer.Going → Advances ours now new walk after
     splitting_goes tells = elim tells.1 [ inl goes ↦ split_goes_on goes tells.0 | inr closes ↦ split_closes closes tells.0 ]
 
     -- where the store is full and a page is to be made, the splits lead to more pages than there may be
     one_left : (phase : SplitPhase) (l g : ℕ) → MayStandAt phase l g → IsMaking phase → 1 ≤ left_from l g room_depth phase
-    one_left SplitPhase.OldBucket l g stands making = absurd making
-    one_left (SplitPhase.InPlace place end) l g stands making = absurd making
-    one_left (SplitPhase.Double place) l g stands making = absurd making
     one_left (SplitPhase.SecondHalf place) l g stands making = let one = one_is_left l g place stands in omega (arith, one)
-    one_left SplitPhase.Header l g stands making = absurd making
+    one_left other l g stands making = absurd making
 
     full_in_split : (split : SplitFields) → walk.split ≡ Some split → IsMaking split.phase → map.len now.store.pages ≡ now.store.max_pages → new.store.max_pages < pages_in_the_end root walk now
     full_in_split split is making full = past_the_limit _ _ _ _ _ full keeps.max_pages (left_now split is) (one_left split.phase split.depth split.directory_depth (stands_there split is) making)

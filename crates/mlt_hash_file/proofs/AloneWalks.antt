@@ -1,10 +1,9 @@
 -- The way of a walk that runs alone
 use Rattle.mlt_hash_file.proofs.Names.{over, Page, Root, LocalState, HasWritten, view_of, view_over, nothing_written, KeepsBefore, context_of, pages_before, pages_since, HasArrived, IsHashFile, IsReadySince, TellsAt, IsSameWalk, TellsOfPath, steps_to_bucket, WalkContext, Before, IsAtStart, IsStanding, Stands, WalkFields, nothing_before, view_for, WalkAnswer, Phase}
-use Rattle.std.proofs.Common.{◌+◌, ◌<◌, ◌∙◌, ◌≡◌, ◌≤◌, Option, ap, arith, refl, subst, sym, ℕ}
+use Rattle.std.proofs.Common.{◌<◌, ◌∙◌, ◌≡◌, Option, ap, arith, refl, subst, sym, ℕ}
 use Rattle.std.specs.FinSet as set
 use Rattle.mlt_hash_file.specs.AloneWalks.{IsFileBefore}
 use Rattle.mlt_hash.specs.Splitting.{IsUnderWay}
-use Rattle.mlt_hash.proofs.Splittings.{none_left}
 use Rattle.mlt_hash_file.proofs.Alone.{keeps_both, keeps_same}
 
 -- the pages stand as they stood before, all at once
@@ -56,25 +55,16 @@ under_way_at : (phase : Phase) → 0 < steps_to_bucket phase → IsUnderWay phas
 under_way_at Phase.Start more = tt
 under_way_at (Phase.Headed dir row depth) more = tt
 under_way_at (Phase.Placed bucket depth) more = tt
-under_way_at (Phase.AtBucket bucket depth found) more = absurd (omega (arith, more))
-under_way_at (Phase.Full next) more = absurd (omega (arith, more))
-under_way_at (Phase.Adding value bucket room_depth unsplit) more = absurd (omega (arith, more))
-under_way_at (Phase.Splitting value room_depth) more = absurd (omega (arith, more))
-under_way_at (Phase.Changed bucket done) more = absurd (omega (arith, more))
+under_way_at other more = absurd (omega (arith, more))
 
 pub under_way : (context : WalkContext) (old now : LocalState) (before walk : WalkFields) → IsOnItsWay context old now before walk → IsUnderWay walk.phase
 under_way context old now before walk way = under_way_at walk.phase way.more
 
 -- which tells of its way
 path_tells : (phase : Phase) (context : WalkContext) (old new : LocalState) (before after : WalkFields) (told : WalkAnswer) → 0 < steps_to_bucket phase → TellsAt phase context old new before after told → TellsOfPath context old new before after told
-path_tells Phase.Start context old new before after told more tells = tells
-path_tells (Phase.Headed dir row depth) context old new before after told more tells = tells
-path_tells (Phase.Placed bucket depth) context old new before after told more tells = tells
-path_tells (Phase.AtBucket bucket depth found) context old new before after told more tells = tells
-path_tells (Phase.Full next) context old new before after told more tells = tells
 path_tells (Phase.Adding value bucket room_depth unsplit) context old new before after told more tells = absurd (omega (arith, more))
 path_tells (Phase.Splitting value room_depth) context old new before after told more tells = absurd (omega (arith, more))
-path_tells (Phase.Changed bucket done) context old new before after told more tells = tells
+path_tells other context old new before after told more tells = tells
 
 pub same_walks : (first next last : WalkFields) → IsSameWalk first next → IsSameWalk next last → IsSameWalk first last
 same_walks first next last one two = record { key = two.key ∙ one.key; mode = two.mode ∙ one.mode; pass = two.pass ∙ one.pass }

@@ -4,6 +4,7 @@ use Rattle.mlt_hash_file.proofs.Names.{transport, cases_eq, nat_tests, Refusal, 
 use Rattle.std.specs.FinMap as map
 use Rattle.mlt_hash_form.proofs.MapChanges.{map_is_look_up}
 use Rattle.mlt_hash_file.specs.AloneWalks.{ChangesValue, RefusesFor, TellsRefusal}
+use Rattle.mlt_hash_file.specs.HashFiles.{records_after}
 use Rattle.mlt_hash_file.proofs.Alone.{keeps_both}
 use Rattle.mlt_hash_file.proofs.AloneEnds.{idle_before, idle_store}
 use Rattle.mlt_hash_file.proofs.AlonePasses.{arrived_store, found_is_value, found_record}
@@ -65,11 +66,9 @@ module _ (bits : ℕ → ℕ) (root max_depth : ℕ) (old mid new : LocalState) 
   changes_file : (value : Option ℕ) → HasChanged (context_of nothing_before bits root max_depth mid) new key value → ChangesValue bits (page_at old.store.pages) (page_at new.store.pages) root max_depth key value
   changes_file value changed = change_of_file bits root max_depth old new key value idle (keeps_both old mid new keeps keeps_too) changed
 
-  pub inserts : (value : ℕ) → HasChanged (context_of nothing_before bits root max_depth mid) new key (Some value) → live_records new.store.pages ≡ map.insert (live_records old.store.pages) key value
-  inserts value changed = inserted bits root max_depth old.store.pages new.store.pages key value file (changes_file (Some value) changed)
-
-  pub removes : HasChanged (context_of nothing_before bits root max_depth mid) new key None → live_records new.store.pages ≡ map.remove (live_records old.store.pages) key
-  removes changed = removed bits root max_depth old.store.pages new.store.pages key file (changes_file None changed)
+  pub changes_records : (value : Option ℕ) → HasChanged (context_of nothing_before bits root max_depth mid) new key value → live_records new.store.pages ≡ records_after (live_records old.store.pages) key value
+  changes_records (Some value) changed = inserted bits root max_depth old.store.pages new.store.pages key value file (changes_file (Some value) changed)
+  changes_records None changed = removed bits root max_depth old.store.pages new.store.pages key file (changes_file None changed)
 
 -- who holds nothing, and kept the pages as they were before, left the store as it was
 pub idle_store_stays : (old new : LocalState) → IsIdle old → IsIdle new → KeepsBefore old new → new.store ≡ old.store

@@ -48,22 +48,18 @@ gains_as_many l g same large =
     omega (arith, twice (l + 1 - 8) (g - 8) (omega (arith, same, large)))
 
 none_of_none : (phase : SplitPhase) → gained_from phase 0 ≡ 0
-none_of_none SplitPhase.OldBucket = refl
-none_of_none (SplitPhase.InPlace place end) = refl
 none_of_none (SplitPhase.Double place) = omega arith
 none_of_none (SplitPhase.SecondHalf place) = omega arith
-none_of_none SplitPhase.Header = refl
+none_of_none other = refl
 
 none_left : (l g : ℕ) (phase : SplitPhase) → gained_pages l g ≡ 0 → gained_from phase (gained_pages l g) ≡ 0
 none_left l g phase none = ap (gained_from phase) none ∙ none_of_none phase
 
 -- where a split may stand, as far as its pages are concerned
 abbrev pub MayStandAt : SplitPhase → ℕ → ℕ → Type 0
-MayStandAt SplitPhase.OldBucket l g = Unit {0}
 MayStandAt (SplitPhase.InPlace place end) l g = l < g
-MayStandAt (SplitPhase.Double place) l g = Unit {0}
 MayStandAt (SplitPhase.SecondHalf place) l g = (l ≡ g) × (8 ≤ g) × (place < 2 ^ (g - 8))
-MayStandAt SplitPhase.Header l g = Unit {0}
+MayStandAt other l g = Unit {0}
 
 -- the steps of a directory that is doubled on many pages
 module _ (l g : ℕ) (same : l ≡ g) (large : 8 ≤ g) where

@@ -14,7 +14,7 @@ use Rattle.mlt_hash_form.specs.declared.root.Root.{Root}
 use Rattle.mlt_page_subtx.specs.Images.{put_back}
 use Rattle.mlt_hash_access.specs.LocalStates.{LocalState}
 use Rattle.mlt_hash_access.specs.Views.{HasWritten, view_of, view_over}
-use Rattle.mlt_hash.specs.Walks.{WalkContext, Before, IsAtStart, IsStanding, WalkFields, nothing_before, view_for}
+use Rattle.mlt_hash.specs.Walks.{WalkContext, Before, IsStanding, WalkFields, nothing_before, view_for}
 use Rattle.mlt_hash.specs.Steps.{HasFound, IsSameWalk}
 use Rattle.mlt_hash.specs.StepsLeft.{IsPutting}
 use Rattle.mlt_hash_file.specs.Alone.{context_alone, pages_before, pages_since}

@@ -1,5 +1,6 @@
 -- What a contract sees of a hash file
-use Rattle.std.specs.Prelude.{ℕ, refl}
+use Rattle.std.specs.Prelude.{ℕ, Option, None, Some, refl}
+use Rattle.std.specs.Ordering.{nat_cmp}
 use Rattle.std.specs.Coded.{Coded, code_by, coded×, coded_ℕ}
 use Rattle.std.specs.FinMap as map
 use Rattle.mlt_page.specs.contracts.page.Page.{the_row}
@@ -31,6 +32,11 @@ bounded_by bits_of file = record {
   max_depth = file.max_depth;
   max_pages = file.max_pages;
 }
+
+-- the records once a key has this value, or none
+abbrev pub records_after : map.FinMap nat_cmp ℕ → ℕ → Option ℕ → map.FinMap nat_cmp ℕ
+records_after records key (Some value) = map.insert records key value
+records_after records key None = map.remove records key
 
 -- why an addition of the key's record is refused: its bucket is full, and no split makes room, or
 -- there may not be as many pages as that takes, or a growth was refused

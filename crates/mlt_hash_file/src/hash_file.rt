@@ -5,7 +5,7 @@ ghost use Rattle.std.specs.FinMap as map;
 ghost use Rattle.mlt_page.specs.Stores.{page_at};
 ghost use Rattle.mlt_hash_form.specs.File.{depth_of};
 ghost use Rattle.mlt_hash_form.specs.Records.{live_records};
-ghost use Rattle.mlt_hash_file.specs.HashFiles.{IsFileOf, Refuses};
+ghost use Rattle.mlt_hash_file.specs.HashFiles.{IsFileOf, Refuses, records_after};
 
 use crate::runner::Runner;
 use mlt_hash::{Walk, WalkAnswer, open_file};
@@ -143,12 +143,7 @@ impl<P: Pseudo> HashFile<P> {
         ensures limits { self.new ≡ record self.old { pages = self.new.pages } }
         ensures file { IsFileOf P.bits_of self.new }
     {
-        let mut walk = Walk::find(self.alloc, key, Mode::Exclusive);
-        self.runner.find(&mut walk, &self.root);
-        match self.runner.update(&mut walk, value, &self.root) {
-            WalkAnswer::Changed => self.runner.end(),
-            _ => unreachable!(),
-        }
+        self.set(key, Some(value));
     }
 
     /// Removes a key's record.
@@ -159,9 +154,20 @@ impl<P: Pseudo> HashFile<P> {
         ensures limits { self.new ≡ record self.old { pages = self.new.pages } }
         ensures file { IsFileOf P.bits_of self.new }
     {
+        self.set(key, None);
+    }
+
+    // Gives a key's record this value, or removes it where there is none.
+    fn set(&mut self, key: Key, value: Option<Value>)
+        requires present { IsSome (map.get (live_records self.old.pages) key) }
+        ensures records { live_records self.new.pages
+            ≡ records_after (live_records self.old.pages) key value }
+        ensures limits { self.new ≡ record self.old { pages = self.new.pages } }
+        ensures file { IsFileOf P.bits_of self.new }
+    {
         let mut walk = Walk::find(self.alloc, key, Mode::Exclusive);
         self.runner.find(&mut walk, &self.root);
-        match self.runner.remove(&mut walk, &self.root) {
+        match self.runner.set(&mut walk, value, &self.root) {
             WalkAnswer::Changed => self.runner.end(),
             _ => unreachable!(),
         }

@@ -1,6 +1,6 @@
 //! A transaction that runs alone.
 
-ghost use Rattle.std.specs.Prelude.{◌≡◌, ◌≢◌, ◌≤◌, ◌<◌, ◌+◌, ℕ, None, Some};
+ghost use Rattle.std.specs.Prelude.{◌≡◌, ◌≢◌, ◌≤◌, ◌<◌, ◌+◌, ℕ, Some};
 ghost use Rattle.mlt_types.specs.declared.mode.Mode.{Mode};
 ghost use Rattle.mlt_page.specs.Stores.{page_at};
 ghost use Rattle.mlt_hash_form.specs.File.{look_up};
@@ -241,11 +241,11 @@ impl Runner {
         }
     }
 
-    /// Gives the record of the walk's key, which the walk has found, another value.
-    pub(crate) fn update<P: Pseudo>(
+    /// Gives the record of the walk's key, which the walk has found, this value, or removes it where there is none.
+    pub(crate) fn set<P: Pseudo>(
         &mut self,
         walk: &mut Walk,
-        value: Value,
+        value: Option<Value>,
         root: &Root<P>,
     ) -> WalkAnswer
         ghost since: { Before }
@@ -254,22 +254,9 @@ impl Runner {
         requires ready { IsReadySince since P.bits_of root.now self.old walk.old }
         ensures keeps { KeepsBefore self.old self.new }
         ensures tells { TellsOfMaking (context_alone since P.bits_of root.now self.old)
-            self.new walk.old walk.new (Some value) result }
+            self.new walk.old walk.new value result }
     {
-        walk.update(value, &mut self.subtx, &mut self.pages)
-    }
-
-    /// Removes the record of the walk's key, which the walk has found.
-    pub(crate) fn remove<P: Pseudo>(&mut self, walk: &mut Walk, root: &Root<P>) -> WalkAnswer
-        ghost since: { Before }
-        requires mode { walk.old.mode ≡ Mode.Exclusive }
-        requires found { IsAtRecord walk.old.phase }
-        requires ready { IsReadySince since P.bits_of root.now self.old walk.old }
-        ensures keeps { KeepsBefore self.old self.new }
-        ensures tells { TellsOfMaking (context_alone since P.bits_of root.now self.old)
-            self.new walk.old walk.new None result }
-    {
-        walk.remove(&mut self.subtx, &mut self.pages)
+        walk.set(value, &mut self.subtx, &mut self.pages)
     }
 
     /// Keeps what was written, and releases all locks.

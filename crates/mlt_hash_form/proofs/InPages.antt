@@ -9,16 +9,12 @@ use Rattle.mlt_hash_form.proofs.FillEnds.{page_listed}
 
 -- the kind of a page, told by what can be read of it
 pub dir_from_entries : (p : Option Page) → length (entries_of p) ≡ 256 → (d : List ℕ) × (p ≡ Some (Page.Dir d))
-dir_from_entries None h = absurd (omega arith)
-dir_from_entries (Some (Page.Head x)) h = absurd (omega arith)
 dir_from_entries (Some (Page.Dir d)) h = (d, refl)
-dir_from_entries (Some (Page.Bucket x)) h = absurd (omega arith)
+dir_from_entries other h = absurd (omega arith)
 
 pub data_from_slots : (p : Option Page) → length (bucket_of p).slots ≡ 8 → (b : BucketFields) × (p ≡ Some (Page.Bucket b))
-data_from_slots None h = absurd (omega arith)
-data_from_slots (Some (Page.Head x)) h = absurd (omega arith)
-data_from_slots (Some (Page.Dir d)) h = absurd (omega arith)
 data_from_slots (Some (Page.Bucket b)) h = (b, refl)
+data_from_slots other h = absurd (omega arith)
 
 -- what was read leads where the key leads, and the bucket is the key's
 pub led_at : (pages : ℕ → Option Page) (root x : ℕ) (h : HeadFields) (d : List ℕ) (b : ℕ) (bucket : BucketFields) → IsPath pages root x h d b bucket → (lead_of pages root x ≡ b) × (buckets_of pages b ≡ bucket)

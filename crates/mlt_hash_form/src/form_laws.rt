@@ -61,7 +61,7 @@ pub fn path_leads_home()
         × ((bucket.depth ≤ header.depth) × (header.depth ≤ 16)) }
 {}
 
-/// Each record and each ghost of a key, whoever left it, stands in the bucket that the key leads to.
+/// Each record and each ghost of a key, of any owner, is in the bucket that the key leads to.
 pub fn slots_of_a_key_are_in_its_bucket()
     ensures { (bits : ℕ → ℕ) (pages : FilePages) (root key : ℕ)
         (header : HeadFields) (dir : List ℕ) (n : ℕ) (bucket : BucketFields) (slot : Slot)

@@ -25,8 +25,8 @@ pub fn further_page_keeps_the_file()
         → KeepsFile bits active root seen own → KeepsFile bits active root more own }
 {}
 
-/// Owners may close, and others begin, while the walk runs: it keeps the file for those who are open now, if each
-/// slot of a held page whose room they keep had its room kept for those who were open before.
+/// Owners may close, and others begin, while the walk runs: it keeps the file for the owners that are open now, if each
+/// slot of a held page whose room they keep had its room kept for the owners that were open before.
 pub fn fewer_open_owners_keep_the_file()
     ensures { (bits : ℕ → ℕ) (active fewer : set.FinSet nat_cmp) (root : ℕ) (seen : SeenPages)
         (own : FilePages)

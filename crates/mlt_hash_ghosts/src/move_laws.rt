@@ -14,7 +14,7 @@ ghost use Rattle.mlt_hash_ghosts.specs.Ledgers.{Ledger};
 ghost use Rattle.mlt_hash_ghosts.specs.Moves.{MovesSlots};
 
 /// A split of the bucket on page `n` moves slots. Those that are to stay are kept, if those of them that were in the
-/// bucket had their room kept when it was split: who is open may have changed since.
+/// bucket had their room kept when it was split: the set of open owners may have changed since.
 pub fn split_moves_slots()
     ensures { (bits : ℕ → ℕ) (active : set.FinSet nat_cmp) (stays : Slot → Bool)
         (pages pages' : FilePages) (root n new : ℕ)

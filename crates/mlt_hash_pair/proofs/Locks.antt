@@ -89,10 +89,8 @@ locked_here bits root key (Descent.Placed dir bucket) read kind = subst (λ p. I
 locked_here bits root key (Descent.AtBucket dir bucket found) read kind = absurd kind
 
 mode_is : (descent : Descent) (read : Page) → KindIs descent read → next_mode descent ≡ mode_for read
-mode_is Descent.Start read kind = sym (ap mode_for kind.1)
-mode_is (Descent.Headed place dir row) read kind = sym (ap mode_for kind.1)
-mode_is (Descent.Placed dir bucket) read kind = sym (ap mode_for kind.1)
 mode_is (Descent.AtBucket dir bucket found) read kind = absurd kind
+mode_is other read kind = sym (ap mode_for kind.1)
 
 -- a page that is locked again in its mode keeps it
 same_mode : (mode : Mode) → stronger (Some mode) mode ≡ mode

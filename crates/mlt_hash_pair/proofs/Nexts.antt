@@ -24,23 +24,17 @@ next_is bits clean root key view (Descent.AtBucket dir bucket found) below agree
 
 -- a descent that is not done has a next page,
 pub has_next : (root : ℕ) (descent : Descent) → 0 < pages_to_read descent → IsNext root descent (next_page root descent)
-has_next root Descent.Start more = refl
-has_next root (Descent.Headed place dir row) more = refl
-has_next root (Descent.Placed dir bucket) more = refl
 has_next root (Descent.AtBucket dir bucket found) more = let none : ⊥ = omega (arith, more) in absurd none
+has_next root other more = refl
 
 pub next_is_page : (root : ℕ) (descent : Descent) (q : ℕ) → IsNext root descent q → q ≡ next_page root descent
-next_is_page root Descent.Start q next = next
-next_is_page root (Descent.Headed place dir row) q next = next
-next_is_page root (Descent.Placed dir bucket) q next = next
 next_is_page root (Descent.AtBucket dir bucket found) q next = absurd next
+next_is_page root other q next = next
 
 -- which is there
 pub next_there : (clean : ℕ → Option Page) (root : ℕ) (descent : Descent) → 0 < pages_to_read descent → NextIs clean root descent → is_some (clean (next_page root descent)) ≡ true
-next_there clean root Descent.Start more next = ap is_some next.1
-next_there clean root (Descent.Headed place dir row) more next = ap is_some next.1
-next_there clean root (Descent.Placed dir bucket) more next = ap is_some next.1
 next_there clean root (Descent.AtBucket dir bucket found) more next = let none : ⊥ = omega (arith, more) in absurd none
+next_there clean root other more next = ap is_some next.1
 
 -- a descent reads its next page, and no other
 pub after_next : (bits : ℕ → ℕ) (root key : ℕ) (descent : Descent) (q : ℕ) (read : Page) → IsNext root descent q → descent_after bits root key descent q read ≡ descent_by bits key descent read

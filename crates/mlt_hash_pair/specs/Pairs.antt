@@ -1,5 +1,5 @@
 -- Where a pair on its way stands, by the descents of its two keys: which pages it holds, and what it has read of them
-use Rattle.std.specs.Prelude.{ℕ, ◌≡◌, ◌≢◌, ◌<◌, ◌≤◌, ◌+◌, ◌⊎◌, ◌↔◌, ◌==◌, nat_lt, if◌then◌else◌, Option, None, Some}
+use Rattle.std.specs.Prelude.{ℕ, ◌≡◌, ◌≢◌, ◌<◌, ◌≤◌, ◌+◌, ◌*◌, ◌⊎◌, ◌↔◌, ◌==◌, nat_lt, if◌then◌else◌, Option, None, Some}
 use Rattle.std.specs.FinMap as map
 use Rattle.mlt_types.specs.declared.mode.Mode.{Mode}
 use Rattle.mlt_hash_form.specs.File.{GivesPseudokeys}
@@ -45,26 +45,23 @@ GoTogether descent other = ⊥
 abbrev pub steps_for : ℕ → ℕ → ℕ
 steps_for page other = if page == other then 1 else 2
 
--- how many steps a pair still takes at least, and at most, until it has found both keys, those that wait aside
+-- how many steps a pair still takes until it has found both keys, those that wait aside: at least, and at most where `more`
+-- is 1
+abbrev pub steps_to_both : ℕ → Descent → Descent → ℕ
+steps_to_both more Descent.Start other = 3 + 2 * more
+steps_to_both more (Descent.Headed place dir row) (Descent.Headed place' dir' row') = steps_for dir dir' + (1 + more)
+steps_to_both more (Descent.Headed place dir row) other = 2 + more
+steps_to_both more (Descent.Placed dir bucket) (Descent.Placed dir' bucket') = steps_for bucket bucket'
+steps_to_both more (Descent.Placed dir bucket) (Descent.AtBucket dir' bucket' found') = 1
+steps_to_both more (Descent.Placed dir bucket) other = 2 + more
+steps_to_both more (Descent.AtBucket dir bucket found) (Descent.AtBucket dir' bucket' found') = 0
+steps_to_both more (Descent.AtBucket dir bucket found) other = 1
+
 abbrev pub least_steps : Descent → Descent → ℕ
-least_steps Descent.Start other = 3
-least_steps (Descent.Headed place dir row) (Descent.Headed place' dir' row') = steps_for dir dir' + 1
-least_steps (Descent.Headed place dir row) other = 2
-least_steps (Descent.Placed dir bucket) (Descent.Placed dir' bucket') = steps_for bucket bucket'
-least_steps (Descent.Placed dir bucket) (Descent.AtBucket dir' bucket' found') = 1
-least_steps (Descent.Placed dir bucket) other = 2
-least_steps (Descent.AtBucket dir bucket found) (Descent.AtBucket dir' bucket' found') = 0
-least_steps (Descent.AtBucket dir bucket found) other = 1
+least_steps left right = steps_to_both 0 left right
 
 abbrev pub most_steps : Descent → Descent → ℕ
-most_steps Descent.Start other = 5
-most_steps (Descent.Headed place dir row) (Descent.Headed place' dir' row') = steps_for dir dir' + 2
-most_steps (Descent.Headed place dir row) other = 3
-most_steps (Descent.Placed dir bucket) (Descent.Placed dir' bucket') = steps_for bucket bucket'
-most_steps (Descent.Placed dir bucket) (Descent.AtBucket dir' bucket' found') = 1
-most_steps (Descent.Placed dir bucket) other = 3
-most_steps (Descent.AtBucket dir bucket found) (Descent.AtBucket dir' bucket' found') = 0
-most_steps (Descent.AtBucket dir bucket found) other = 1
+most_steps left right = steps_to_both 1 left right
 
 -- a key is not at its bucket yet
 abbrev pub IsUnderWay : PairFields → Type 0

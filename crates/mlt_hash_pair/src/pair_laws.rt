@@ -48,7 +48,7 @@ pub fn same_view_keeps_the_pair()
 {}
 
 /// So do transactions that close, and others that begin and left no ghost on a page that is held. On its way a pair knows
-/// nothing of who is open.
+/// nothing of the open transactions.
 pub fn closed_owners_keep_the_pair()
     ensures { (bits : ℕ → ℕ) (root : ℕ) (active fewer : set.FinSet nat_cmp) (tx : ℕ)
         (pair : PairFields) (view : View)

@@ -7,7 +7,7 @@ use Rattle.mlt_hash_form.proofs.HeldPages.{writes_over}
 use Rattle.mlt_hash_form.proofs.PageContents.{doubled_right}
 use Rattle.mlt_hash_split.proofs.Closing.{HasClean}
 use Rattle.mlt_hash_split.specs.Splits.{IsAtDouble}
-use Rattle.mlt_hash_split.proofs.Among.{few_are_held, locked_is_among}
+use Rattle.mlt_hash_split.proofs.Among.{locked_is_among}
 use Rattle.mlt_hash_split.proofs.Later.{IsLater, Rewrites, rewrites, agreed_before, begins_now, half_pages, held_over, later_by_rewrite, stands_now, stays_under_way}
 use Rattle.mlt_hash_split.proofs.SecondHalf.{among_all_made, named_among}
 
@@ -95,13 +95,6 @@ pub place_of_double : (target : SplitTarget) (m : LocalState) (split : SplitFiel
 place_of_double target m split place phase may file under =
     let depth = depth_of_double target m split place phase may file under in
     omega (arith, depth.1, half_pages split.directory_depth depth.0)
-
-pub few_at_double : (target : SplitTarget) (m : LocalState) (split : SplitFields) (place : ℕ) → split.phase ≡ SplitPhase.Double place → MayStep m → HasClean target (view_over target.before m) → IsUnderWay target (view_over target.before m) split → map.len (view_over target.before m).modes < 300
-few_at_double target m split place phase may file under =
-    let depth = depth_of_double target m split place phase may file under in
-    let among = subst (λ (p : SplitPhase). HoldsAmongAt p target.held_before (view_over target.before m) under.header.dirs split) phase under.among in
-    let few = few_are_held (view_over target.before m) _ _ _ _ _ _ among in
-    omega (arith, few, under.few_before, depth.0, depth.1, depth.2, half_pages split.directory_depth depth.0)
 
 same_header : (p : Option Page) (header other : HeadFields) → p ≡ Some (Page.Head header) → p ≡ Some (Page.Head other) → header ≡ other
 same_header p header other e f = let same : Some (Page.Head header) ≡ Some (Page.Head other) = sym e ∙ f in cc

@@ -21,18 +21,8 @@ few_at : (phase : SplitPhase) (target : SplitTarget) (splitters : set.FinSet nat
     → StandsAt phase target splitters base pages split bucket → HoldsAmongAt phase target.held_before view dirs split → map.len view.modes < 300
 few_at SplitPhase.OldBucket target splitters base pages split bucket view dirs deep small before stands among = let few = few_are_held view _ _ _ _ _ _ among in omega (arith, few, most_is_small target.held_before (split.depth + 1) split.directory_depth before (omega (arith, deep)) small)
 few_at (SplitPhase.InPlace place end) target splitters base pages split bucket view dirs deep small before stands among = let few = few_are_held view _ _ _ _ _ _ among in omega (arith, few, most_is_small target.held_before (split.depth + 1) split.directory_depth before (omega (arith, deep)) small)
-few_at (SplitPhase.Double place) target splitters base pages split bucket view dirs deep small before stands among =
-    let few = few_are_held view _ _ _ _ _ _ among in
-    let same = stands.deep in
-    let more = stands.more in
-    let lower : split.directory_depth < 16 = omega (arith, deep, same) in
-    omega (arith, few, deep, more, before, half_pages split.directory_depth lower)
-few_at (SplitPhase.SecondHalf place) target splitters base pages split bucket view dirs deep small before stands among =
-    let few = few_are_held view _ _ _ _ _ _ among in
-    let same = stands.deep in
-    let more = stands.more in
-    let lower : split.directory_depth < 16 = omega (arith, deep, same) in
-    omega (arith, few, deep, more, before, half_pages split.directory_depth lower)
+few_at (SplitPhase.Double place) target splitters base pages split bucket view dirs deep small before stands among = let few = few_are_held view _ _ _ _ _ _ among in omega (arith, few, deep, stands.more, before, half_pages split.directory_depth (omega (arith, deep, stands.deep)))
+few_at (SplitPhase.SecondHalf place) target splitters base pages split bucket view dirs deep small before stands among = let few = few_are_held view _ _ _ _ _ _ among in omega (arith, few, deep, stands.more, before, half_pages split.directory_depth (omega (arith, deep, stands.deep)))
 few_at SplitPhase.Header target splitters base pages split bucket view dirs deep small before stands among =
     let few = few_are_held view _ _ _ _ _ _ among in
     let same = stands.deep in

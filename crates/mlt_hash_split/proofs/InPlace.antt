@@ -1,10 +1,10 @@
 -- The steps that write a directory in place
 use Rattle.std.proofs.Common.{ℕ, ◌≡◌, ◌<◌, ◌≤◌, ◌+◌, ◌-◌, ◌*◌, ◌^◌, is_some, true, List, length, slice_index, Option, Some, refl, sym, ◌∙◌, ap, subst, arith, ◌⊎◌, nat_cmp}
 use Rattle.std.specs.FinSet as set
-use Rattle.mlt_hash_split.proofs.Names.{Exclusive, first_bits, BucketFields, HeadFields, Page, page_at, page_count, HasForm, Writes, bucket_of, buckets_of, depth_of, dirs_of, entry, header_of, Agrees, over, own_or_clean, half_of, bit_at, IsMidway, run_length, run_start, target_of, bucket_split, keeps_more, page_as_it_was, rewrites_a_page, MayStep, LocalState, ReadsPage, View, WritesPage, view_over, view_of, seen_over_held, SplitTarget, HoldsAmong, IsAtRest, IsIn, held_page, most_held, seed_of, Begins, HoldsAmongAt, IsInPlace, IsUnderWay, SplitFields, StandsAt, steps_left, steps_left_at, GoesOn, Rests, SplitPhase, reads_over}
+use Rattle.mlt_hash_split.proofs.Names.{Exclusive, first_bits, BucketFields, HeadFields, Page, page_at, HasForm, Writes, bucket_of, buckets_of, depth_of, dirs_of, entry, header_of, Agrees, over, own_or_clean, half_of, bit_at, IsMidway, run_length, run_start, target_of, bucket_split, keeps_more, page_as_it_was, rewrites_a_page, MayStep, LocalState, ReadsPage, View, WritesPage, view_over, view_of, seen_over_held, SplitTarget, HoldsAmong, IsAtRest, IsIn, held_page, most_held, seed_of, Begins, HoldsAmongAt, IsInPlace, IsUnderWay, SplitFields, StandsAt, steps_left, steps_left_at, GoesOn, Rests, SplitPhase, reads_over}
 use Rattle.mlt_hash_form.specs.Splits.{HasNewPlaces}
 use Rattle.mlt_hash_form.proofs.PageContents.{placed_right}
-use Rattle.mlt_hash_split.proofs.Among.{among_after_lock, count_is_few, few_pages, most_is_small}
+use Rattle.mlt_hash_split.proofs.Among.{among_after_lock, few_pages}
 use Rattle.mlt_hash_split.proofs.Closing.{HasClean, HasClosed, IsClosed, closed_in_place, closes, half_page, held_page_over}
 use Rattle.mlt_hash_split.proofs.Later.{IsLater, Rewrites, agreed_before, begins_now, held_still, later_by_rewrite, rewrites, same_head, stands_now, stays_under_way}
 use Rattle.mlt_hash_split.proofs.OldBucket.{depths_are_small}
@@ -123,11 +123,6 @@ module _ (target : SplitTarget) (m : LocalState) (split : SplitFields) (place en
 
   pub place_before_end : place < end
   place_before_end = stands_here.more
-
-  pub few_are_held_here : page_count m.locks m.running.tx < 300
-  few_are_held_here =
-      let d = depths_here in
-      count_is_few target.before m way.header.dirs way.header.dirs 0 (2 ^ (split.directory_depth - 8)) 0 (most_held target.held_before (split.depth + 1) split.directory_depth) among_here (most_is_small target.held_before (split.depth + 1) split.directory_depth way.few_before (omega (arith, d.0, d.1)) d.1)
 
   module _ (header : HeadFields) (head : held_page (view_over target.before m) target.root ≡ Some (Page.Head header)) (q : ℕ) (number : q ≡ slice_index header.dirs place) where
     number_is : q ≡ slice_index way.header.dirs place

@@ -51,11 +51,9 @@ module _ (target : SplitTarget) (splitters : set.FinSet nat_cmp) (base pages : �
 
   -- so is the next page of a split in place, at any phase
   next_is_own : (phase : SplitPhase) → StandsAt phase target splitters base pages split bucket → IsNextPage phase target view n → IsKeysPage target view n
-  next_is_own SplitPhase.OldBucket stands next = absurd next
   next_is_own (SplitPhase.InPlace place end) stands next = in_place place end stands next
   next_is_own (SplitPhase.Double place) stands next = absurd (let same = stands.deep in omega (arith, deep, same))
-  next_is_own (SplitPhase.SecondHalf place) stands next = absurd next
-  next_is_own SplitPhase.Header stands next = absurd next
+  next_is_own other stands next = absurd next
 
 -- **Where one page has all entries of the bucket, a split in place locks and writes the key's own page and no other.**
 pub narrow_next_page : (target : SplitTarget) (view : View) (split : SplitFields) (n : ℕ) (clean : ℕ → Option Page) → Agrees view.seen clean → HasForm target.bits clean target.root → IsUnderWay target view split
@@ -66,11 +64,8 @@ narrow_next_page target view split n clean agree form way deep narrow next =
 
 -- and it makes no page
 makes_none : (phase : SplitPhase) (target : SplitTarget) (splitters : set.FinSet nat_cmp) (base pages : ℕ → Option Page) (split : SplitFields) (bucket : BucketFields) → split.depth < split.directory_depth → StandsAt phase target splitters base pages split bucket → IsMaking phase → ⊥
-makes_none SplitPhase.OldBucket target splitters base pages split bucket deep stands making = making
-makes_none (SplitPhase.InPlace place end) target splitters base pages split bucket deep stands making = making
-makes_none (SplitPhase.Double place) target splitters base pages split bucket deep stands making = making
 makes_none (SplitPhase.SecondHalf place) target splitters base pages split bucket deep stands making = let same = stands.deep in omega (arith, deep, same)
-makes_none SplitPhase.Header target splitters base pages split bucket deep stands making = making
+makes_none other target splitters base pages split bucket deep stands making = making
 
 pub narrow_makes_none : (target : SplitTarget) (view : View) (split : SplitFields) (clean : ℕ → Option Page) → Agrees view.seen clean → HasForm target.bits clean target.root → IsUnderWay target view split → split.depth < split.directory_depth → IsMaking split.phase → ⊥
 narrow_makes_none target view split clean agree form way deep = makes_none split.phase target way.splitters (over clean way.rest) (over clean view.own) split way.bucket deep (way.stands clean agree form)
@@ -84,9 +79,7 @@ module _ (target : SplitTarget) (old new : LocalState) (split : SplitFields) (ma
       → IsDone phase target old new split → (view_over target.before new).own target.root ≡ (view_over target.before old).own target.root
   leaves_header SplitPhase.OldBucket stands elsewhere done = (write_writes old new split.old_page done.0 done.1).others target.root (header_is_elsewhere target (over clean way.rest) split way.bucket (way.begins clean agree form))
   leaves_header (SplitPhase.InPlace place end) stands elsewhere done = rewritten done.0 (elsewhere done.0 done.1) done.2
-  leaves_header (SplitPhase.Double place) stands elsewhere done = absurd (let same = stands.deep in omega (arith, deep, same))
-  leaves_header (SplitPhase.SecondHalf place) stands elsewhere done = absurd (let same = stands.deep in omega (arith, deep, same))
-  leaves_header SplitPhase.Header stands elsewhere done = absurd (let same = stands.deep in omega (arith, deep, same))
+  leaves_header other stands elsewhere done = absurd (let same = stands.deep in omega (arith, deep, same))
 
   pub narrow_leaves_header : ((n : ℕ) → IsNextPage split.phase target (view_over target.before old) n → target.root ≡ n → ⊥) → IsDone split.phase target old new split → (view_over target.before new).own target.root ≡ (view_over target.before old).own target.root
   narrow_leaves_header = leaves_header split.phase (way.stands clean agree form)

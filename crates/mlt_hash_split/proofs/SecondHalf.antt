@@ -5,7 +5,7 @@ use Rattle.mlt_hash_split.proofs.Names.{cases_lt, Exclusive, Page, HeadFields, M
 use Rattle.mlt_hash_form.proofs.SplitSteps.{makes_a_page}
 use Rattle.mlt_hash_split.proofs.Closing.{HasClean}
 use Rattle.mlt_hash_split.specs.Splits.{IsAtSecondHalf}
-use Rattle.mlt_hash_split.proofs.Among.{few_are_held, first_is_in, further_is_in, locked_is_among}
+use Rattle.mlt_hash_split.proofs.Among.{first_is_in, further_is_in, locked_is_among}
 use Rattle.mlt_hash_split.proofs.Later.{IsLater, agreed_before, begins_now, half_pages, later_by_making, stands_now, stays_under_way}
 
 -- a page number at the end of those that are set
@@ -51,13 +51,6 @@ pub place_of_second_half : (target : SplitTarget) (m : LocalState) (split : Spli
 place_of_second_half target m split place phase may file under =
     let depth = depth_of_second_half target m split place phase may file under in
     omega (arith, depth.2, half_pages split.directory_depth depth.1)
-
-pub few_at_second_half : (target : SplitTarget) (m : LocalState) (split : SplitFields) (place : ℕ) → split.phase ≡ SplitPhase.SecondHalf place → MayStep m → HasClean target (view_over target.before m) → IsUnderWay target (view_over target.before m) split → map.len (view_over target.before m).modes < 300
-few_at_second_half target m split place phase may file under =
-    let depth = depth_of_second_half target m split place phase may file under in
-    let among = subst (λ (p : SplitPhase). HoldsAmongAt p target.held_before (view_over target.before m) under.header.dirs split) phase under.among in
-    let few = few_are_held (view_over target.before m) _ _ _ _ _ _ among in
-    omega (arith, few, under.few_before, depth.1, depth.2, depth.3, half_pages split.directory_depth depth.1)
 
 module _ (target : SplitTarget) (view view' : View) (split : SplitFields) (place n : ℕ) (phase : split.phase ≡ SplitPhase.SecondHalf place) (under : IsUnderWay target view split) (makes : MakesPage view view' n (Page.Dir split.second)) (sized : 2 * place + 1 < length split.made.dirs) where
   later : IsLater target.root view view'

@@ -6,10 +6,8 @@
 #![tactic(auto)]
 
 mod begin;
-mod double;
 mod environment;
-mod in_place;
-mod old_bucket;
+mod pages;
 mod phase;
 mod split;
 mod split_laws;

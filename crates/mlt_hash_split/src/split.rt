@@ -10,9 +10,7 @@ ghost use Rattle.mlt_hash_split.specs.Splits.{MayAdvance};
 ghost use Rattle.mlt_hash_split.specs.Steps.{IsMaking, Touches};
 ghost use Rattle.mlt_hash_split.specs.Tells.{Tells};
 
-use crate::double::{double_page, make_second_half, write_header};
-use crate::in_place::write_in_place;
-use crate::old_bucket::write_old_bucket;
+use crate::pages::{double_page, make_second_half, write_header, write_in_place, write_old_bucket};
 use crate::phase::SplitPhase;
 use mlt_hash_access::LockedStore;
 use mlt_hash_form::first_bits;
@@ -87,7 +85,7 @@ impl Model for Split {
 
 impl Split {
     /// One step: writes the next page, or makes it. `root` is the page of the header. The ghost says what the split is
-    /// for, and who is open now.
+    /// for, and which transactions are open now.
     pub fn advance(
         &mut self,
         root: PageNo,

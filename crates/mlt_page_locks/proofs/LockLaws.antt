@@ -1,13 +1,10 @@
 -- Laws of lock tables: what a lock that is granted, and locks that are released, change. Other crates cite them.
-use Rattle.std.proofs.Common.{subst, ◌≡◌, ℕ, ◌≤◌, ◌<◌, ◌+◌, eqb, true, false, not, cond, ◌&&◌, ◌||◌, ◌⊎◌, Option, Some, None, is_some, List, [], ◌∷◌, length, refl, sym, ap, ◌∙◌, inl, inr, arith, nat_cmp}
+use Rattle.std.proofs.Common.{◌≡◌, ℕ, ◌≤◌, ◌<◌, ◌+◌, eqb, true, false, not, cond, ◌&&◌, ◌||◌, ◌⊎◌, Option, Some, None, is_some, List, [], ◌∷◌, length, refl, sym, ap, ◌∙◌, inl, inr, arith, nat_cmp}
 use Rattle.std.specs.List.{list_any}
 use Rattle.mlt_page_locks.proofs.Names.{nat_cmp_total, false≢true, nat_tests, Mode, Shared, Exclusive, no_locks, Modes, LockTable, pages_of, mode_held, page_count, can_write, allows_write, AreCompatible, HasRoom, conflicts, stronger, with_page, granted, released, IsNobody, is_against}
 use Rattle.std.specs.FinMap as map
 use Rattle.mlt_page_locks.proofs.Maps.{get_inserted, get_removed, same_entries}
 use Rattle.mlt_page_locks.specs.LockTables.{can_read, is_exclusive, KeepsOthers, HasAtMost, is_holder, HoldersAreAmong}
-use Rattle.mlt_page_locks.specs.declared.page_locks.Grant.{Grant}
-use Rattle.mlt_page_locks.specs.declared.page_locks.Grant.TheVariants.{Held, Waiting}
-use Rattle.mlt_page_locks.specs.Requests.{Answers}
 
 reads_where_writes : (mode : Option Mode) → allows_write mode ≡ true → is_some mode ≡ true
 reads_where_writes None h = h

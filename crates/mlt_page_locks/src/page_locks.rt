@@ -75,7 +75,7 @@ impl PageLocks {
     }
 
     /// Asks for a lock of `tx` on a page. It is held exactly where all other holders of the page go with it; else
-    /// the lowest that does not is told, and nothing changes. A transaction never waits for itself, and one that
+    /// the answer is the lowest that does not, and nothing changes. A transaction never waits for itself, and one that
     /// holds the page exclusively keeps it so.
     #[inline(always)]
     pub fn ask(&mut self, tx: TxId, page: PageNo, mode: Mode) -> Grant
@@ -219,8 +219,8 @@ fn lowest_conflict(
     lowest_of_marked(lists, mask, tx, page, mode)
 }
 
-// The same, at the places in the mask. Of those who share a page one is enough for a lock that is shared too: where there is
-// one, nobody has the page exclusively.
+// The same, at the places in the mask. Of several that share a page one is enough for a lock that is shared too: where there is
+// one, no transaction has the page exclusively.
 fn lowest_of_marked(
     lists: &[LockList],
     mask: u64,

@@ -20,10 +20,7 @@ stands g c = stands_at g.context c.args.walk.now (view_for g.context (before g c
 pub lock-requires-clause-few : goal.lock-requires-clause-few
 lock-requires-clause-few g c =
     let s = (goal.at.lock-requires-clause-few g c).Start in
-    let at = stands g s in
-    let small = (ready g s).small in
-    let shallow = at.shallow in
-    few_beside (view_for g.context (before g s)) at.header (g.context.before.buckets + 1) (omega (arith, few_before s.args.walk.now.pass g.context.before at.goes_after)) (omega (arith, shallow, small)) at.among
+    few_beside (view_for g.context (before g s)) (stands g s).header (g.context.before.buckets + 1) (omega (arith, few_before s.args.walk.now.pass g.context.before (stands g s).goes_after)) (omega (arith, ((stands g s).shallow), ((ready g s).small))) (stands g s).among
 
 -- the directory page is there
 dir : (g : Over) (s : Start g) → (dir : List ℕ) × (over (ready g s).file.clean g.context.before.written s.args.number ≡ Some (Page.Dir dir))

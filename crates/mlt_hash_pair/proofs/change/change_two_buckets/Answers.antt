@@ -8,67 +8,59 @@ returns-in-Full-clause-leaves c = leaves_it (local c.args.subtx.now c.args.pages
 
 pub returns-in-Full-right_plan : goal.returns-in-Full-right_plan
 returns-in-Full-right_plan c =
-    let m : LocalState = local c.args.subtx.now c.args.pages.now in
-    let changes = c.args.changes.now in
-    let left = plan_for c.plan_held-left_plan.result changes.left c.args.active.now c.args.subtx.now.tx c.pair.inside.left c.args.pair.now.left c.args.left (view_of m) (ap (λ (p : PairFields). p.left) c.pair.view_is) c.plan_held-left_plan.ensures.planned in
-    let right = plan_for c.plan_held-right_plan.result changes.right c.args.active.now c.args.subtx.now.tx c.pair.inside.right c.args.pair.now.right c.args.right (view_of m) (ap (λ (p : PairFields). p.right) c.pair.view_is) c.plan_held-right_plan.ensures.planned in
+    let left = plan_for c.plan_held-left_plan.result c.args.changes.now.left c.args.active.now c.args.subtx.now.tx c.pair.inside.left c.args.pair.now.left c.args.left (view_of (local c.args.subtx.now c.args.pages.now)) (ap (λ (p : PairFields). p.left) c.pair.view_is) c.plan_held-left_plan.ensures.planned in
+    let right = plan_for c.plan_held-right_plan.result c.args.changes.now.right c.args.active.now c.args.subtx.now.tx c.pair.inside.right c.args.pair.now.right c.args.right (view_of (local c.args.subtx.now c.args.pages.now)) (ap (λ (p : PairFields). p.right) c.pair.view_is) c.plan_held-right_plan.ensures.planned in
     record {
       writes = inl refl;
-      leaves = leaves_it m m c.requires.may refl;
-      tells = right_full c.args.active.now m m c.args.pair.now c.args.pair.now c.args.left c.args.right changes c.plan_held-left_plan.result c.plan_held-right_plan.result left right c.requires.apart c.in_default.not-Full c.in-Full-right_plan.is refl refl;
+      leaves = leaves_it (local c.args.subtx.now c.args.pages.now) (local c.args.subtx.now c.args.pages.now) c.requires.may refl;
+      tells = right_full c.args.active.now (local c.args.subtx.now c.args.pages.now) (local c.args.subtx.now c.args.pages.now) c.args.pair.now c.args.pair.now c.args.left c.args.right c.args.changes.now c.plan_held-left_plan.result c.plan_held-right_plan.result left right c.requires.apart c.in_default.not-Full c.in-Full-right_plan.is refl refl;
     }
 
 pub write_plan-requires : goal.write_plan-requires
 write_plan-requires c =
-    let m : LocalState = local c.args.subtx.now c.args.pages.now in
     record {
       may = c.requires.may;
       unwritten = c.requires.unwritten;
       within = c.plan_held-right_plan.ensures.within;
-      ready = may_write_plan c.plan_held-right_plan.result c.args.changes.now.right c.args.active.now c.pair.inside.right c.args.right m c.requires.right_held c.plan_held-right_plan.ensures.planned;
+      ready = may_write_plan c.plan_held-right_plan.result c.args.changes.now.right c.args.active.now c.pair.inside.right c.args.right (local c.args.subtx.now c.args.pages.now) c.requires.right_held c.plan_held-right_plan.ensures.planned;
     }
 
 pub write_plan-requires-2 : goal.write_plan-requires-2
 write_plan-requires-2 c =
-    let m : LocalState = local c.args.subtx.now c.args.pages.now in
     record {
       may = c.requires.may;
       unwritten = c.requires.unwritten;
       within = c.plan_held-left_plan.ensures.within;
-      ready = may_write_plan c.plan_held-left_plan.result c.args.changes.now.left c.args.active.now c.pair.inside.left c.args.left m c.requires.left_held c.plan_held-left_plan.ensures.planned;
+      ready = may_write_plan c.plan_held-left_plan.result c.args.changes.now.left c.args.active.now c.pair.inside.left c.args.left (local c.args.subtx.now c.args.pages.now) c.requires.left_held c.plan_held-left_plan.ensures.planned;
     }
 
 pub returns-then-left-right : goal.returns-then-left-right
 returns-then-left-right c =
-    let m : LocalState = local c.args.subtx.now c.args.pages.now in
     let new : LocalState = local c.write_plan.new.subtx c.write_plan.new.pages in
-    let changes = c.args.changes.now in
-    let left = plan_for c.plan_held-left_plan.result changes.left c.args.active.now c.args.subtx.now.tx c.pair.inside.left c.args.pair.now.left c.args.left (view_of m) (ap (λ (p : PairFields). p.left) c.pair.view_is) c.plan_held-left_plan.ensures.planned in
-    let right = plan_for c.plan_held-right_plan.result changes.right c.args.active.now c.args.subtx.now.tx c.pair.inside.right c.args.pair.now.right c.args.right (view_of m) (ap (λ (p : PairFields). p.right) c.pair.view_is) c.plan_held-right_plan.ensures.planned in
+    let left = plan_for c.plan_held-left_plan.result c.args.changes.now.left c.args.active.now c.args.subtx.now.tx c.pair.inside.left c.args.pair.now.left c.args.left (view_of (local c.args.subtx.now c.args.pages.now)) (ap (λ (p : PairFields). p.left) c.pair.view_is) c.plan_held-left_plan.ensures.planned in
+    let right = plan_for c.plan_held-right_plan.result c.args.changes.now.right c.args.active.now c.args.subtx.now.tx c.pair.inside.right c.args.pair.now.right c.args.right (view_of (local c.args.subtx.now c.args.pages.now)) (ap (λ (p : PairFields). p.right) c.pair.view_is) c.plan_held-right_plan.ensures.planned in
     let one : c.left.inside.0 ≡ c.args.left = c.left.view_is in
     let other : c.right.inside.0 ≡ c.args.right = c.right.view_is in
     let lower = c.if-left-right.true in
     let low : c.args.left < c.args.right = omega (arith, one, other, lower) in
     record {
-      writes = writes_right_later c.args.active.now m new c.args.pair.now c.owe_plan.new.pair c.args.left c.args.right changes c.plan_held-left_plan.result c.plan_held-right_plan.result left right c.requires.apart c.in_default.not-Full c.in_default-right_plan.not-Full c.owe_plan.result low c.write_plan.ensures.writes c.owe_plan.ensures;
+      writes = writes_right_later c.args.active.now (local c.args.subtx.now c.args.pages.now) new c.args.pair.now c.owe_plan.new.pair c.args.left c.args.right c.args.changes.now c.plan_held-left_plan.result c.plan_held-right_plan.result left right c.requires.apart c.in_default.not-Full c.in_default-right_plan.not-Full c.owe_plan.result low c.write_plan.ensures.writes c.owe_plan.ensures;
       leaves = c.write_plan.ensures.leaves;
-      tells = tells_right_later c.args.active.now m new c.args.pair.now c.owe_plan.new.pair c.args.left c.args.right changes c.plan_held-left_plan.result c.plan_held-right_plan.result left right c.requires.apart c.in_default.not-Full c.in_default-right_plan.not-Full c.owe_plan.result low c.write_plan.ensures.writes c.owe_plan.ensures;
+      tells = tells_right_later c.args.active.now (local c.args.subtx.now c.args.pages.now) new c.args.pair.now c.owe_plan.new.pair c.args.left c.args.right c.args.changes.now c.plan_held-left_plan.result c.plan_held-right_plan.result left right c.requires.apart c.in_default.not-Full c.in_default-right_plan.not-Full c.owe_plan.result low c.write_plan.ensures.writes c.owe_plan.ensures;
     }
 
 pub returns : goal.returns
 returns c =
-    let m : LocalState = local c.args.subtx.now c.args.pages.now in
     let new : LocalState = local c.write_plan-2.new.subtx c.write_plan-2.new.pages in
-    let changes = c.args.changes.now in
-    let left = plan_for c.plan_held-left_plan.result changes.left c.args.active.now c.args.subtx.now.tx c.pair.inside.left c.args.pair.now.left c.args.left (view_of m) (ap (λ (p : PairFields). p.left) c.pair.view_is) c.plan_held-left_plan.ensures.planned in
-    let right = plan_for c.plan_held-right_plan.result changes.right c.args.active.now c.args.subtx.now.tx c.pair.inside.right c.args.pair.now.right c.args.right (view_of m) (ap (λ (p : PairFields). p.right) c.pair.view_is) c.plan_held-right_plan.ensures.planned in
+    let left = plan_for c.plan_held-left_plan.result c.args.changes.now.left c.args.active.now c.args.subtx.now.tx c.pair.inside.left c.args.pair.now.left c.args.left (view_of (local c.args.subtx.now c.args.pages.now)) (ap (λ (p : PairFields). p.left) c.pair.view_is) c.plan_held-left_plan.ensures.planned in
+    let right = plan_for c.plan_held-right_plan.result c.args.changes.now.right c.args.active.now c.args.subtx.now.tx c.pair.inside.right c.args.pair.now.right c.args.right (view_of (local c.args.subtx.now c.args.pages.now)) (ap (λ (p : PairFields). p.right) c.pair.view_is) c.plan_held-right_plan.ensures.planned in
     let one : c.left.inside.0 ≡ c.args.left = c.left.view_is in
     let other : c.right.inside.0 ≡ c.args.right = c.right.view_is in
     let lower = c.if-left-right.false in
     let apart = c.requires.apart in
     let low : c.args.right < c.args.left = omega (arith, one, other, lower, apart) in
     record {
-      writes = writes_left_later c.args.active.now m new c.args.pair.now c.owe_plan-2.new.pair c.args.left c.args.right changes c.plan_held-left_plan.result c.plan_held-right_plan.result left right c.requires.apart c.in_default.not-Full c.in_default-right_plan.not-Full c.owe_plan-2.result low c.write_plan-2.ensures.writes c.owe_plan-2.ensures;
+      writes = writes_left_later c.args.active.now (local c.args.subtx.now c.args.pages.now) new c.args.pair.now c.owe_plan-2.new.pair c.args.left c.args.right c.args.changes.now c.plan_held-left_plan.result c.plan_held-right_plan.result left right c.requires.apart c.in_default.not-Full c.in_default-right_plan.not-Full c.owe_plan-2.result low c.write_plan-2.ensures.writes c.owe_plan-2.ensures;
       leaves = c.write_plan-2.ensures.leaves;
-      tells = tells_left_later c.args.active.now m new c.args.pair.now c.owe_plan-2.new.pair c.args.left c.args.right changes c.plan_held-left_plan.result c.plan_held-right_plan.result left right c.requires.apart c.in_default.not-Full c.in_default-right_plan.not-Full c.owe_plan-2.result low c.write_plan-2.ensures.writes c.owe_plan-2.ensures;
+      tells = tells_left_later c.args.active.now (local c.args.subtx.now c.args.pages.now) new c.args.pair.now c.owe_plan-2.new.pair c.args.left c.args.right c.args.changes.now c.plan_held-left_plan.result c.plan_held-right_plan.result left right c.requires.apart c.in_default.not-Full c.in_default-right_plan.not-Full c.owe_plan-2.result low c.write_plan-2.ensures.writes c.owe_plan-2.ensures;
     }

@@ -1,10 +1,10 @@
-use Rattle.std.proofs.Common.{◌≡◌, ◌∙◌, sym, ap, subst}
+use Rattle.std.proofs.Common.{◌≡◌, Some, ◌∙◌, sym, ap, subst}
 use Rattle.mlt_hash_file.proofs.Names.{transport, PageStore, page_at, live_records, IsHashFile}
 use Rattle.std.specs.FinMap as map
 use Rattle.mlt_hash_file.specs.HashFiles.{Refuses}
 use Rattle.mlt_hash_file.proofs.Alone.{keeps_both, keeps_same}
 use Rattle.mlt_hash_file.proofs.AloneEnds.{idle_starts}
-use Rattle.mlt_hash_file.proofs.HashFiles.{absent_before, file_before, idle_store_stays, inserts, refuses}
+use Rattle.mlt_hash_file.proofs.HashFiles.{absent_before, changes_records, file_before, idle_store_stays, refuses}
 use Rattle.mlt_hash_file.proofs.hash_file.HashFile.insert.Goals as goal
 
 pub insert-requires-clause-nothing : goal.insert-requires-clause-nothing
@@ -21,7 +21,7 @@ insert-requires-clause-absent g c =
 pub returns-in-Changed-clause-records : goal.returns-in-Changed-clause-records
 returns-in-Changed-clause-records g c =
     ap (λ (s : PageStore). live_records s.pages) c.end.ensures.store
-    ∙ inserts (g.P.Pseudo.bits_of c.self.inside.root.pseudo) c.self.inside.root.page c.self.inside.root.max_depth c.self.inside.runner c.self.inside.runner c.insert.new.self c.find-walk.result.key c.self.invariant.0 c.self.invariant.1 (keeps_same c.self.inside.runner) c.in-Changed.ensures.keeps c.args.value c.in-Changed.ensures.tells
+    ∙ changes_records (g.P.Pseudo.bits_of c.self.inside.root.pseudo) c.self.inside.root.page c.self.inside.root.max_depth c.self.inside.runner c.self.inside.runner c.insert.new.self c.find-walk.result.key c.self.invariant.0 c.self.invariant.1 (keeps_same c.self.inside.runner) c.in-Changed.ensures.keeps (Some c.args.value) c.in-Changed.ensures.tells
     ∙ (λ i. map.insert (live_records ((c.self.view_is i).pages)) ((c.find-walk.ensures i).key) c.args.value)
 
 pub invariant_of-self-in-Refused : goal.invariant_of-self-in-Refused

@@ -14,18 +14,13 @@ insert-requires g c κs within =
     (within, (refl, (ready, c.requires.1.1.0)))
 
 pub invariant_of-self : goal.invariant_of-self
-invariant_of-self g c = (
-  alone_after_write (local c.self.inside.subtx c.self.inside.pages) (local c.insert.new.subtx c.insert.new.pages) (page_of c.args.walk.now.phase) c.self.invariant.0 c.insert.ensures.leaves.may (writes_at_most _ _ _ c.insert.result c.insert.ensures.writes),
-  c.self.invariant.1,
-)
+invariant_of-self g c = (alone_after_write (local c.self.inside.subtx c.self.inside.pages) (local c.insert.new.subtx c.insert.new.pages) (page_of c.args.walk.now.phase) c.self.invariant.0 c.insert.ensures.leaves.may (writes_at_most _ _ _ c.insert.result c.insert.ensures.writes), c.self.invariant.1)
 
 pub returns-clause-keeps : goal.returns-clause-keeps
-returns-clause-keeps g c =
-    write_keeps_before (local c.self.inside.subtx c.self.inside.pages) c.args.self.now (local c.insert.new.subtx c.insert.new.pages) (page_of c.args.walk.now.phase) c.self.view_is c.self.invariant.0 c.insert.ensures.leaves.may c.insert.ensures.leaves.clean (writes_at_most _ _ _ c.insert.result c.insert.ensures.writes)
+returns-clause-keeps g c = write_keeps_before (local c.self.inside.subtx c.self.inside.pages) c.args.self.now (local c.insert.new.subtx c.insert.new.pages) (page_of c.args.walk.now.phase) c.self.view_is c.self.invariant.0 c.insert.ensures.leaves.may c.insert.ensures.leaves.clean (writes_at_most _ _ _ c.insert.result c.insert.ensures.writes)
 
 pub returns-clause-written : goal.returns-clause-written
-returns-clause-written g c =
-    written_after g.since.written (local c.self.inside.subtx c.self.inside.pages) c.args.self.now (local c.insert.new.subtx c.insert.new.pages) c.self.view_is c.self.invariant.0.may c.insert.ensures.leaves.touches c.requires.1.1.1.written
+returns-clause-written g c = written_after g.since.written (local c.self.inside.subtx c.self.inside.pages) c.args.self.now (local c.insert.new.subtx c.insert.new.pages) c.self.view_is c.self.invariant.0.may c.insert.ensures.leaves.touches c.requires.1.1.1.written
 
 pub returns-clause-tells : goal.returns-clause-tells
 returns-clause-tells g c =

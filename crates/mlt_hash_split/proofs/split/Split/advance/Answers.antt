@@ -1,7 +1,16 @@
 use Rattle.std.proofs.Common.{sym, ap, ◌∙◌}
-use Rattle.mlt_hash_split.proofs.Names.{SplitFields}
+use Rattle.mlt_hash_split.proofs.Names.{SplitFields, local}
+use Rattle.mlt_hash_split.proofs.Doubling.{place_of_double}
+use Rattle.mlt_hash_split.proofs.HeldPages.{clean_now}
 use Rattle.mlt_hash_split.proofs.Steps.{makes_second_half}
 use Rattle.mlt_hash_split.proofs.split.Split.advance.Goals as goal
+
+pub double_page-requires : goal.double_page-requires
+double_page-requires g c =
+    let phase = sym (ap (λ (s : SplitFields). s.phase) c.self.view_is) ∙ c.in-Double.is in
+    let old = local c.args.subtx.now c.args.pages.now in
+    let ready = c.requires.1 in
+    (phase, (c.requires.0, (ready, place_of_double g.target old c.args.self.now c.in-Double.place phase ready.may (clean_now g.target old ready.may ready.file) ready.under_way)))
 
 pub returns-in-SecondHalf-clause-no_room : goal.returns-in-SecondHalf-clause-no_room
 returns-in-SecondHalf-clause-no_room g c =

@@ -3,9 +3,10 @@ use Rattle.mlt_hash_file.proofs.AloneWalks.{more_from_start, ready_at_start}
 use Rattle.mlt_hash_file.proofs.AlonePasses.{ready_there}
 use Rattle.std.proofs.Common.{◌≡◌, ◌∙◌, IsSome, sym, ap, subst}
 use Rattle.std.specs.FinMap as map
+use Rattle.mlt_hash_file.specs.HashFiles.{records_after}
 use Rattle.mlt_hash_file.proofs.AloneEnds.{idle_starts}
-use Rattle.mlt_hash_file.proofs.HashFiles.{at_record, file_before, inserts}
-use Rattle.mlt_hash_file.proofs.hash_file.HashFile.update.Goals as goal
+use Rattle.mlt_hash_file.proofs.HashFiles.{at_record, file_before, changes_records}
+use Rattle.mlt_hash_file.proofs.hash_file.HashFile.set.Goals as goal
 
 pub find-requires : goal.find-requires
 find-requires g c κs within = (
@@ -16,8 +17,8 @@ find-requires g c κs within = (
   ),
 )
 
-pub update-requires : goal.update-requires
-update-requires g c κs within = (
+pub set-requires : goal.set-requires
+set-requires g c κs within = (
   within,
   (
     c.find.ensures.arrives.same.mode ∙ (λ i. (c.find-walk.ensures i).mode),
@@ -33,5 +34,5 @@ pub returns-clause-records : goal.returns-clause-records
 returns-clause-records g c =
     let key : c.find.new.walk.key ≡ c.args.key = c.find.ensures.arrives.same.key ∙ (λ i. (c.find-walk.ensures i).key) in
     ap (λ (s : PageStore). live_records s.pages) c.end.ensures.store
-    ∙ inserts (g.P.Pseudo.bits_of c.self.inside.root.pseudo) c.self.inside.root.page c.self.inside.root.max_depth c.self.inside.runner c.find.new.self c.update.new.self c.find.new.walk.key c.self.invariant.0 c.self.invariant.1 c.find.ensures.keeps c.in-Changed.ensures.keeps c.args.value c.in-Changed.ensures.tells.changed
-    ∙ (λ i. map.insert (live_records ((c.self.view_is i).pages)) (key i) c.args.value)
+    ∙ changes_records (g.P.Pseudo.bits_of c.self.inside.root.pseudo) c.self.inside.root.page c.self.inside.root.max_depth c.self.inside.runner c.find.new.self c.set.new.self c.find.new.walk.key c.self.invariant.0 c.self.invariant.1 c.find.ensures.keeps c.in-Changed.ensures.keeps c.args.value c.in-Changed.ensures.tells.changed
+    ∙ (λ i. records_after (live_records ((c.self.view_is i).pages)) (key i) c.args.value)

@@ -1,9 +1,10 @@
-//! Splits that double the directory.
+//! The pages that a split writes and makes once its new bucket is there, one in each step.
 
-ghost use Rattle.std.specs.Prelude.{◌≡◌, ◌≢◌, ◌↔◌, ℕ, ◌<◌, Option, length, slice_set};
+ghost use Rattle.std.specs.Prelude.{◌≡◌, ◌≢◌, ◌↔◌, ℕ, ◌<◌, ◌≤◌, Option, length, slice_set};
 ghost use Rattle.std.specs.FinMap as map;
 ghost use Rattle.mlt_hash_access.specs.LocalStates.{local};
 ghost use Rattle.mlt_hash_access.specs.PageSteps.{HasNoPageLeft, Leaves};
+ghost use Rattle.mlt_hash_split.specs.FirstPhases.{IsFirstPhase};
 ghost use Rattle.mlt_hash_split.specs.Rests.{SplitTarget};
 ghost use Rattle.mlt_hash_split.specs.Splits.{MayAdvance};
 ghost use Rattle.mlt_hash_split.specs.Steps.{Touches};
@@ -12,10 +13,85 @@ ghost use Rattle.mlt_hash_split.specs.Tells.{Tells};
 use crate::phase::SplitPhase;
 use crate::split::{Split, SplitAnswer};
 use mlt_hash_access::{LockedStore, lock, make_page, read_held_dir, read_held_head, write_held};
-use mlt_hash_form::{doubled_page, first_bits};
+use mlt_hash_form::{NewPlaces, doubled_page, first_bits, page_with_new_places};
 use mlt_page::{HeadPage, Page};
 use mlt_page_subtx::Subtx;
 use mlt_types::{Mode, PageNo, Refusal};
+
+/// Writes the old bucket.
+pub(crate) fn write_old_bucket(
+    split: &mut Split,
+    subtx: &mut Subtx,
+    pages: &mut LockedStore,
+) -> SplitAnswer
+    ghost target: { SplitTarget }
+    requires phase { split.old.phase ≡ SplitPhase.OldBucket }
+    requires ready { MayAdvance target (local subtx.old pages.old) split.old }
+    ensures leaves { Leaves (local subtx.old pages.old) (local subtx.new pages.new) }
+    ensures steps { Touches result target
+        (local subtx.old pages.old) (local subtx.new pages.new) split.old }
+    ensures no_room { result ≢ SplitAnswer.Refused Refusal.NoRoom }
+    ensures tells { Tells target
+        (local subtx.old pages.old) (local subtx.new pages.new) split.old split.new result }
+{
+    if let Err(refusal) = write_held(subtx, pages, split.old_page, Page::Bucket(split.zeros)) {
+        return SplitAnswer::Refused(refusal);
+    }
+    split.phase = first_directory_step(split);
+    SplitAnswer::Going
+}
+
+// Where the directory is written once the old bucket is.
+fn first_directory_step(split: &Split) -> SplitPhase
+    requires { (split.now.depth ≤ split.now.directory_depth) × (split.now.directory_depth ≤ 16) }
+    ensures { IsFirstPhase split.now result }
+{
+    if split.depth == split.directory_depth {
+        return SplitPhase::Double(0);
+    }
+    let places = NewPlaces::of(split.seed, split.depth, split.directory_depth);
+    let place = (places.first / 256) as usize;
+    let pages = (places.count / 256).max(1) as usize;
+    SplitPhase::InPlace(place, place + pages)
+}
+
+/// Writes the new bucket's entries on one page of the directory. `root` is the header's page.
+pub(crate) fn write_in_place(
+    split: &mut Split,
+    place: usize,
+    end: usize,
+    root: PageNo,
+    subtx: &mut Subtx,
+    pages: &mut LockedStore,
+) -> SplitAnswer
+    ghost target: { SplitTarget }
+    requires phase { split.old.phase ≡ SplitPhase.InPlace place end }
+    requires root { root ≡ target.root }
+    requires ready { MayAdvance target (local subtx.old pages.old) split.old }
+    ensures leaves { Leaves (local subtx.old pages.old) (local subtx.new pages.new) }
+    ensures steps { Touches result target
+        (local subtx.old pages.old) (local subtx.new pages.new) split.old }
+    ensures no_room { result ≢ SplitAnswer.Refused Refusal.NoRoom }
+    ensures tells { Tells target
+        (local subtx.old pages.old) (local subtx.new pages.new) split.old split.new result }
+{
+    let header = read_held_head(subtx, pages, root);
+    let number = header.dir(place);
+    if let Err(by) = lock(subtx, pages, number, Mode::Exclusive) {
+        return SplitAnswer::Waiting(number, by);
+    }
+    let dir = read_held_dir(subtx, pages, number);
+    let places = NewPlaces::of(split.seed, split.depth, split.directory_depth);
+    let page = page_with_new_places(dir, place, places, split.new_page);
+    if let Err(refusal) = write_held(subtx, pages, number, Page::Dir(page)) {
+        return SplitAnswer::Refused(refusal);
+    }
+    if place + 1 == end {
+        return SplitAnswer::Closed(split.key_bucket());
+    }
+    split.phase = SplitPhase::InPlace(place + 1, end);
+    SplitAnswer::Going
+}
 
 /// Rewrites a page of the old directory as its first half doubled, and keeps its second half. `root` is the header's
 /// page.
@@ -30,6 +106,7 @@ pub(crate) fn double_page(
     requires phase { split.old.phase ≡ SplitPhase.Double place }
     requires root { root ≡ target.root }
     requires ready { MayAdvance target (local subtx.old pages.old) split.old }
+    requires small { place < 128 }
     ensures leaves { Leaves (local subtx.old pages.old) (local subtx.new pages.new) }
     ensures steps { Touches result target
         (local subtx.old pages.old) (local subtx.new pages.new) split.old }

@@ -1,7 +1,7 @@
 use Rattle.std.proofs.Common.{◌≤◌, ◌<◌, ◌+◌, ◌/◌, sym, subst, arith}
 use Rattle.mlt_hash_split.proofs.Names.{IsFirstPhase, SplitFields, SplitPhase}
 use Rattle.mlt_hash_split.proofs.OldBucket.{new_pages}
-use Rattle.mlt_hash_split.proofs.old_bucket.first_directory_step.Goals as goal
+use Rattle.mlt_hash_split.proofs.pages.first_directory_step.Goals as goal
 
 pub of-places-requires : goal.of-places-requires
 of-places-requires c =

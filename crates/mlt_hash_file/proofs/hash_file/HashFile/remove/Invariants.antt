@@ -1,8 +1,0 @@
-use Rattle.mlt_hash_file.proofs.Names.{nothing_before}
-use Rattle.mlt_hash_file.proofs.hash_file.HashFile.remove.Given as goal
-
-abbrev pub ghost-find : goal.ghost-find
-ghost-find g a = nothing_before
-
-abbrev pub ghost-remove : goal.ghost-remove
-ghost-remove g a = nothing_before
