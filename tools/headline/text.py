@@ -1,287 +1,275 @@
-"""The order in which docs/HEADLINE.md has the definitions, and what it says between them.
+"""What docs/HEADLINE.md shows, in which order, and what it says between the definitions.
 
 `[[Name]]` becomes a link to where the definition of this name is shown."""
 from typing import NamedTuple
 
 
 class Block(NamedTuple):
-    """A heading, a file under crates/, and the definitions of it that stand there. Without names, all that are counted."""
+    """A file under crates/, and what is shown of it, in the notation of tools/headline-lines."""
 
-    title: str
     path: str
-    names: str = ""
+    names: str
 
 
-class Part(NamedTuple):
-    """A heading, what leads on, and the definitions."""
+class Section(NamedTuple):
+    """A heading, what leads on, and what is shown."""
 
     heading: str
     said: str
     blocks: list[Block]
 
 
-ABOUT = """For readers who know databases, and no proof assistant: the whole text of the main theorem, from the promise down
-to the last definition, each as it stands in its file. [THEOREM](THEOREM.md) tells the same in words, with an example, and
-says what one has to trust. `tools/headline-lines --write` writes this page: to change a definition, change its file."""
+ABOUT = """For readers who know databases and no proof assistant: the contracts and definitions of the main theorem, as they stand
+in their files, most without comments. [THEOREM](THEOREM.md) explains it. `tools/headline-lines --write` writes this page."""
 
-# The phrases of the sentence, each with what carries it.
-PHRASES: list[tuple[str, str]] = [
+# The two sentences, by phrases, each with what carries it.
+SENTENCES: list[list[tuple[str, str]]] = [[
     ("After any list of page steps, commits and aborts by any number of transactions,",
-     "the argument `events` of `play`: any list of [[Event]]s, of which a call and its steps, or an abort, may be one"),
-    ("the committed transactions,",
-     "field `committed` of the [[Transcripts]] that the history tells of; by field `none_back` they took nothing back"),
-    ("run alone in commit order", "field `alone` of [[KeepsMainPromise]]: [[IsSerialBase]]"),
-    ("from the empty base,", "[[empty_base]], in field `alone`"),
-    ("give exactly the replies",
-     "[[Step]], in field `alone`: it leads on with the reply that the operation got, and with no other"),
-    ("that they were told,", "field `told` of [[Plays]]: [[AreToldBy]]"),
-    ("and the base so reached is", "field `base` of [[KeepsMainPromise]]"),
-    ("what the pages mean,", "field `means` of [[KeepsMainPromise]], for `state`"),
+     "the argument `events` of [[Manager::play]]: any list of [[Event]]s"),
+    ("the committed transactions,", "field `committed` of the [[Course]] that the events tell"),
+    ("run alone in commit order", "field `alone` of [[KeepsPromiseOver]]: [[IsSerialBase]]"),
+    ("from the empty base,", "[[empty_base]], in `alone`"),
+    ("give exactly the replies", "[[Step]], in `alone`: a base gives an operation one reply and no other"),
+    ("that they were told,", "[[TellsAll]]: the course has each operation with the reply that its event returned"),
+    ("and the base so reached is", "field `base` of [[KeepsPromiseOver]]"),
+    ("what the pages mean,", "field `means`, for `state`"),
     ("read through both maps,",
-     "[[PagesMean]]: from pages to records by [[IsRecordOf]], and from records to a base by [[HoldsIn]]"),
-    ("once the pages of running subtransactions are put back", "field `put_back` of [[KeepsMainPromise]]: [[HasCleanPages]]"),
-    ("and the operations of open transactions are taken back.",
-     "field `taken_back` of [[KeepsMainPromise]]: [[UndoneTo]], from `base` to `state` in every order"),
-]
+     "[[PagesMean]]: [[IsRecordOf]] leads from pages to records, and [[HoldsIn]] from records to a base"),
+    ("once the pages of running subtransactions are put back", "field `put_back`: [[HasCleanPages]]"),
+    ("and the operations of open transactions are taken back.", "field `taken_back`: [[UndoneTo]], from `base` to `state`"),
+], [
+    ("The same holds", "[[Manager::keeps_its_promises]], a contract of every manager: [[KeepsMainPromise]]"),
+    ("whenever the lock of running threads is free.", "the type under the lock, [[LockedState]], has a `Manager`"),
+    ("Each call of the manager under it is one event,", "clause `meets` of [[LockedState::act]]"),
+    ("and none is lost.", "invariant `counted` of [[LockedState]], clause `amount` of [[LockedState::act]], and [[Agrees]]"),
+    ("Every history passes the checker of traces,", "[[Manager::passes_the_checker]], a contract of every manager"),
+    ("and what `run` and `serve_on` return", "[[run]] and [[serve_on]]: a list of [[Outcome]]s"),
+    ("stands in the history.", "[[Agrees]]"),
+]]
 
+HOW_TO_READ = """Files in `.rt` are in Rattle, which is Rust with contracts, and files in `.antt` in its logic. `in part` marks
+what lacks some of its fields or clauses. A long signature has no types of arguments."""
 # How the definitions are to be read: what is written, and what it says.
 NOTATION: list[tuple[str, str]] = [
     ("`name : A → B → C`, then `name a b = …`",
-     "a function of an `A` and a `B` to a `C`; of several lines the first one that fits counts, and `_` fits all"),
-    ("`… → Type 0`", "what it gives is a statement, or a kind of values"),
-    ("`(x : A) → P`", "for each `x` of `A`, `P`; of several in a row, as `(x : A) (y : B) → P`, for each of both"),
-    ("`(x : A) × P`", "there is an `x` of `A` with `P`"),
-    ("`f x`, `f`", "what the function `f` gives for `x`; without an `x`, or with fewer than it wants, the function itself"),
+     "a function of an `A` and a `B` to a `C`. The first line that fits counts, and `_` fits all"),
+    ("`… → Type 0`", "the function returns a statement, or a kind of values"),
+    ("`(x : A) → P`, `(x : A) × P`", "for each `x` of `A`, or for several, `P`; there is an `x` of `A` with `P`"),
+    ("`P → Q`, `P × Q`", "if `P`, then `Q`; `P` and `Q`"),
+    ("`⊥`, `Unit {0}`", "the false statement, and the true one. A map to `Unit {0}` is a set"),
+    ("`(a, b)`, `x.0`, `x.1`", "a pair of values, of kind `A × B`, and its parts"),
     ("`xs ++ y ∷ ys`",
      "`xs ++ (y ∷ ys)`. A function and its arguments go together first, then `∷` and `++`, then `≡`, `<`, `≤`, then `×`, "
      "then `→`"),
-    ("`P → Q`, `P × Q`, `P → ⊥`", "of statements: if `P`, then `Q`; `P` and `Q`; not `P`"),
-    ("`⊥`, `Unit {0}`",
-     "the statement that is false, and the one that is true. Of values, `Unit {0}` is a kind with only one: a map to it is a "
-     "set"),
-    ("`A × B`, `(a, b)`, `x.0`, `x.1`", "of values: pairs, one pair, its first and its second part"),
     ("`record`",
-     "a value with named fields. Where a field is a statement, it holds of the fields before it: so the record says that there "
-     "are such values. `record { f = v; }` is one, and `record r { f = v; }` is `r` with another `f`"),
-    ("`data`, `enum`",
-     "one of several cases, a line each: its name, and the values that it has. A case is written alone, as `Call`, or behind its "
-     "type, as `Event.Call`"),
-    ("`ensures name { P }`", "of a call: `P` holds when it returns. A clause may have no name"),
-    ("`self.now`", "the value of what `self`, or any other reference, leads to"),
-    ("`{X : Type 0}`", "for any kind `X` of values. A call leaves it out; on the left of a `=`, `{X}` only gives it a name"),
-    ("`λ x. e`, `let x = e in d`", "the function that gives `e` for `x`; `d`, where `x` is `e`"),
-    ("`b'`, `Account`",
-     "`'` is a letter. One name may be a case of several types, as `Account`: the kinds of its arguments tell which it is"),
-    ("`--`, `///`", "a comment"),
-    ("`abbrev`, `unfoldable`, `pub`, `#[derive(…)]`", "nothing for a reader"),
+     "a value with named fields. A field that is a statement holds of the fields before it, so the record says that there are "
+     "such values. `record r { f = v; }` is `r` with another `f`"),
+    ("`data`, `enum`", "one of several cases, as `Event.Call`; two types may share its name"),
+    ("`ensures name { P }`", "of a call: `P` holds when it returns"),
+    ("`ghost name: { P }`", "of a type: `P` holds of each value of it, whenever no call is at work on it"),
+    ("`ghost view = { f }`", "of a type: contracts see of its memory what `f` returns"),
+    ("`x.now`, `x.old`, `x.new`", "what the reference `x` leads to; before the call, and after it"),
+    ("`{X : Type 0}`", "for any kind `X` of values. A call leaves it out"),
+    ("`λ x. e`", "the function that returns `e` for `x`"),
 ]
 
-HOW_TO_READ = """The definitions are written in two languages: those of files that end in `.rt` in Rattle, which is Rust with
-contracts, and those in `.antt` in that of its logic. Of the first one the types are as in Rust. Of the second one this is
-enough:"""
-LIBRARY_SAID = "What the library has, as lists and finite maps, stands [at the end](#names-of-the-library)."
-
-CONTRACT = """`result` is what the call answers, and each `ensures` is a clause that is proved of it. `played.0` is the
-manager, `played.1.items` the list of what the events were told, and `events.now` the list of events. `P` is any type of
-functions from keys to pseudokeys: numbers whose bits lead a key to its bucket. `P.bits_of` says which function. The sentence is
-the clause `plays`. The clause `whole` says more than the sentence: among whole events nobody waits. The clause `refusal` says
-that the only failure is one of memory. Then nothing is promised."""
-
-READING: list[Part] = [
-    Part("The run and its promises",
-         """The sentence has two halves. One is about the history: it is what the events were told. It is the field `told` of the
-         first record. The other is about the last manager, to which the run leads: it keeps the main promise, the field `main` of
-         the second record, and all that the sentence says of pages and of commit order is there. Of a manager `m` it reads
-         three things: `m.shared.history.items`, the items of its history, `m.shared.pages.store.pages`, the pages of its
-         store, and `m.txs`, the open transactions with their first images. Each can be read by a call, which is shown
-         [at the end](#what-is-seen-of-a-manager).
-
-         The other fields of the two records say more, and [their names](#names-that-are-not-shown) are not followed here. Three
-         things that a careful reader will miss are said by them and by other contracts, and not by the sentence:
-
-         *Time.* By `run` each event meets the contract of its call on the manager that the events before it have left, whatever
-         comes later. And the manager between any two events keeps the same promises: that is the contract of
-         `Manager::keeps_its_promises`.
-
-         *The life of a transaction.* That a number begins once, does nothing before that, and nothing once it has committed or
-         was closed, is the contract of `Manager::keeps_a_placed_history`. An answer that does not fit its event is never told: by
-         `run`.
-
-         *That anything gets done.* A manager that refused each event would keep the sentence, and so would a `play` that always
-         answered that memory ran out. [THEOREM](THEOREM.md#what-it-does-not-say) tells what else is not said. How a server's
-         calls are events of a manager is said by [its own contracts](ARCHITECTURE.md#what-is-proved).""", [
-             Block("A run from a new manager", "mlt_manager/specs/Events.antt"),
-             Block("The promises", "mlt_manager/specs/Promises.antt"),
-             Block("The main promise", "mlt_manager/specs/Headline.antt", "KeepsMainPromise"),
-         ]),
-    Part("Events, and the history that was told",
-         """First the field `told`. The history is read off the events and what they were told: it has an operation exactly where
-         a step, or a whole operation, was told `done`, with that reply. Which operation that was, a table of those that were
-         called says. Of an abort that is one event, how many operations it took back is not told here: the field `run` says that
-         it is all that stood. A whole operation that would wait or is blocked is dropped, so none is pending behind it. The
-         `Done` of an item is the pair of an operation and its reply.""", [
-             Block("Events", "mlt_event/src/event.rt"),
-             Block("What an event is told", "mlt_event/src/told.rt"),
-             Block("Answers to steps", "mlt_event/src/answer.rt"),
-             Block("Items of a history", "mlt_trace/src/item.rt"),
-             Block("The history that was told", "mlt_manager/specs/Tolds.antt", "AreToldBy AddsItems"),
-             Block("Operations that were called", "mlt_manager/specs/Tolds.antt", "CalledOps none_called called_after"),
-             Block("A changed table", "mlt_order/specs/Tables.antt"),
-         ]),
-    Part("Commit order",
-         """Now the fields `none_back`, `alone` and `taken_back`. The history tells of transcripts, item by item. By `none_back`,
-         one that committed lacks nothing that was taken back. [[IsSerialBase]] and [[UndoneTo]] know nothing of pages, of locks
-         or of what an operation is: `S` is any kind of states, `P` any kind of items, and `step` says which item leads from which
-         state to which. In the promise, states are bases and items are operations with their replies.
-
-         [[UndoneTo]] leads forward, from the base to the state. [[Step]] is fixed backwards too: an item and the base after it
-         leave one base that can be before it. So going back from the state, operation by operation, leads to that base: it
-         is what is left when the open transactions are taken back. A history is finite, so they always have an interleaving: all
-         of one, and then all of the next.""", [
-             Block("What a history tells of", "mlt_manager/specs/Headline.antt", "Transcripts transcripts_of after_item"),
-             Block("A list without its last item", "mlt_order/specs/Histories.antt"),
-             Block("Runs", "mlt_order/specs/Runs.antt", "IsSerialBase Runs"),
-             Block("What is left when others are taken back", "mlt_order/specs/Interleavings.antt",
-                   "UndoneTo IsInterleaving items_of all_items"),
-         ]),
-    Part("Bases and steps",
-         """A base is what all accounts, sets and counters hold. A step leads from one base to another by an operation with its
-         reply. It is a step of one cell, by the table of its kind, and leaves all other cells as they are.""", [
-             Block("A step", "mlt_object_kinds/specs/Bases.antt", "Step SameBut TellsSize"),
-             Block("A base", "mlt_object_kinds/specs/Bases.antt", "Base element_cmp empty_base"),
-             Block("What a base holds", "mlt_object_kinds/specs/Bases.antt",
-                   "state_at account_at element_at counter_at counter_value size_at"),
-             Block("A step of a cell", "mlt_object_kinds/specs/Cells.antt"),
-             Block("Cells", "mlt_types/src/cell.rt", "Cell"),
-             Block("The cell of an operation", "mlt_object_kinds/specs/Operations.antt"),
-         ]),
-    Part("Operations and their tables",
-         """Each kind has a table: in which states an operation gets which reply, and which state that leaves. The state of an
-         account is its balance, if it is there; that of an element, whether it is in its set; that of a counter, its value.
-         By [[Step]] an operation has at most one reply in each base; of a size it is [[TellsSize]] that fixes it. So if a run
-         goes through with the replies that were told, it goes through with no others.""", [
-             Block("Operations and replies", "mlt_object_kinds/src/operation.rt"),
-             Block("Operations on accounts", "mlt_object_kinds/src/account.rt"),
-             Block("The table of accounts", "mlt_object_kinds/specs/Accounts.antt"),
-             Block("Operations on elements", "mlt_object_kinds/src/element.rt"),
-             Block("The table of elements", "mlt_object_kinds/specs/Elements.antt"),
-             Block("Operations on counters", "mlt_object_kinds/src/counter.rt"),
-             Block("The table of counters", "mlt_object_kinds/specs/Counters.antt"),
-         ]),
-    Part("What the pages mean",
-         """Now the field `means`. A page is the header, a page of the directory, or a bucket, and a bucket has slots. A live slot
-         is a record: a key with a value. A ghost is none: it keeps room for a record that may come back. Each cell has a key of
-         its own, and what the base holds in the cell is what the record of that key says. In the definitions numbers have no
-         limit, so there are cells that the program can't have; no two that it can have share a key. No header and no directory
-         is read here: that a look-up finds just these records is the field `file`. A live slot under a key that is that of no
-         cell is not seen here.""", [
-             Block("The base of the pages", "mlt_manager/specs/Headline.antt", "PagesMean HoldsIn IsRecordOf HasLiveSlot"),
-             Block("Keys of cells", "mlt_types/specs/Cells.antt"),
-             Block("Pages", "mlt_page/src/page.rt"),
-             Block("What a bucket holds", "mlt_page/specs/Values.antt"),
-             Block("Slots", "mlt_page/src/slot.rt"),
-         ]),
-    Part("First images and clean pages",
-         """Which pages are read so? The clean ones, by the field `put_back`. A *subtransaction* is what one operation, or what
-         takes one back, does to pages, a page a step; it is running from its first step up to its end. Before it first writes a
-         page, it keeps the page as it was, the first image. Of a page that it makes, it keeps that there was none. With its end
-         it drops them. The definitions take any image that an open transaction keeps. That only one who runs keeps any, and only
-         of pages that it holds exclusively, is the field `locks`. By `run` a step that ends no operation leaves the clean pages
-         as they are: so an image is the page as it was.""", [
-             Block("Clean pages of a manager", "mlt_manager/specs/Bases.antt"),
-             Block("Who keeps a first image", "mlt_tx/specs/Tables.antt", "KeepsImage KeepsNoImage Table"),
-             Block("A first image", "mlt_page_subtx/specs/Images.antt"),
-         ]),
+ONE: list[Section] = [
+    Section("The contract",
+            """`played.0` is the manager that `play` returns, and `played.1.items` the list of answers. By the clause `plays`,
+            which is not shown, each event meets the contract of its call. If memory runs out, `play` returns OutOfMemory and
+            promises nothing.""", [
+                Block("mlt_manager/src/manager.rt", "Manager.play():course,refusal"),
+            ]),
+    Section("The main promise",
+            """`c` is the course that the events tell, and `m` the manager after the last one. Between any two events the manager
+            keeps [the same promise](#the-promise-over-a-history). A manager that refused every event would keep it.""", [
+                Block("mlt_manager/specs/Courses.antt", "KeepsPromiseOver"),
+            ]),
+    Section("Events and answers",
+            """`Whole` is a call and its steps, and drops an operation that waits or is blocked. `WholeUndo` is the steps of an
+            abort, up to one that waits.""", [
+                Block("mlt_event/src/event.rt", "Event"),
+                Block("mlt_event/src/told.rt", "Told"),
+                Block("mlt_event/src/answer.rt", "Answer"),
+            ]),
+    Section("The course that events tell",
+            """By [[Tells]] a transaction does nothing before its begin or after its end, and has at most one pending operation.
+            Once its abort has begun, it does no operation and never commits. `Undoing` has no line with `Blocked` or an answer
+            `Refused`, so a step of an abort meets no missing slot. Any event may be refused here; for which reasons is in
+            `plays`.""", [
+                Block("mlt_manager/specs/Courses.antt", "TellsAll Tells# Turns Course# opening_course Life# Ops"),
+                Block("mlt_order/specs/Tables.antt", "table_with"),
+            ]),
+    Section("Commit order",
+            """By [[Step]] an operation, its reply and the base after it fix the base before it. So undoing the operations one by
+            one leads from the state back to the base.""", [
+                Block("mlt_order/specs/Runs.antt", "IsSerialBase Runs"),
+                Block("mlt_order/specs/Interleavings.antt", "UndoneTo IsInterleaving items_of all_items"),
+            ]),
+    Section("Bases and steps", "", [
+        Block("mlt_object_kinds/specs/Bases.antt", "Step SameBut TellsSize Base# element_cmp empty_base state_at account_at "
+              "element_at counter_at counter_value size_at"),
+        Block("mlt_object_kinds/specs/Cells.antt", "CellState CellStep"),
+        Block("mlt_types/src/cell.rt", "Cell"),
+        Block("mlt_object_kinds/specs/Operations.antt", "cell_of"),
+    ]),
+    Section("Operations and their tables", "", [
+        Block("mlt_object_kinds/src/operation.rt", "ObjOp ObjReply"),
+        Block("mlt_object_kinds/src/account.rt", "AccountOp"),
+        Block("mlt_object_kinds/specs/Accounts.antt", "max_balance IsLegalOnAccount account_after AccountStep"),
+        Block("mlt_object_kinds/src/element.rt", "ElementOp"),
+        Block("mlt_object_kinds/specs/Elements.antt", "IsLegalOnElement element_after ElementStep"),
+        Block("mlt_object_kinds/src/counter.rt", "CounterOp"),
+        Block("mlt_object_kinds/specs/Counters.antt", "IsLegalOnCounter counter_after CounterStep"),
+    ]),
+    Section("What the pages mean",
+            """A live slot is a record; a ghost keeps room for a record that may come back. The directory is not read here, and a
+            live slot whose key is that of no cell in range is not seen.""", [
+                Block("mlt_manager/specs/Headline.antt", "PagesMean HoldsIn IsRecordOf HasLiveSlot"),
+                Block("mlt_types/specs/Cells.antt", "key_number IsInRange"),
+                Block("mlt_page/src/page.rt", "Page"),
+                Block("mlt_page/specs/Values.antt", "BucketFields"),
+                Block("mlt_page/src/slot.rt", "Slot"),
+            ]),
+    Section("First images and clean pages",
+            """A *subtransaction* is one operation, or the undoing of one. Until it ends, it keeps the first image of each page
+            that it writes: the page as it was, or `None` where there was none. That no open transaction keeps other images is not
+            shown: fields `locks` and `history` of [[KeepsPromises]].""", [
+                Block("mlt_manager/specs/Bases.antt", "HasCleanPages"),
+                Block("mlt_tx/specs/Tables.antt", "KeepsImage KeepsNoImage"),
+            ]),
+    Section("One live slot a key",
+            """By [[IsRecordOf]] a key may have two live slots with one value. This contract of every manager excludes that, on
+            the same clean pages, since [[HasCleanPages]] fixes each page. By other fields of [[IsExtendibleHashFile]] the
+            directory leads from a key to the bucket of its slot.""", [
+                Block("mlt_manager/src/manager.rt", "Manager.keeps_its_promises()"),
+                Block("mlt_manager/specs/Promises.antt", "KeepsPromises:main,file"),
+                Block("mlt_hash_form/specs/Prefixes.antt", "IsExtendibleHashFile:once"),
+                Block("mlt_hash_form/specs/File.antt", "IsOnceLive"),
+                Block("mlt_hash_form/specs/Form.antt", "slot_at"),
+            ]),
+    Section("Views",
+            """A *view* says which value the memory of a type stands for. These calls return what the definitions read. Other
+            types are seen by their fields or cases, numbers as numbers, and arrays, slices and a `Vec` as lists.""", [
+                Block("mlt_manager/src/manager.rt", "Manager.pages() Manager.first_image()"),
+                Block("mlt_page/src/store.rt", "Store.read()"),
+                Block("mlt_page/src/bucket.rt", "Bucket="),
+                Block("mlt_types/src/number.rt", "TxId= PageNo="),
+                Block("mlt_types/src/cell.rt", "Key="),
+            ]),
 ]
 
-VIEWS: list[Part] = [
-    Part("What is seen of a manager",
-         """The definitions speak of values, and a program has memory. What value some memory stands for is its *view*, and
-         contracts speak of that. Of a manager the sentence reads the items of its history, the pages of its store, and the first
-         images that its open transactions keep. Each can be read by a call, and the contract of the call says what is seen:
-         whatever the memory looks like, the call answers just that.""", [
-             Block("The three things", "mlt_manager/src/manager.rt"),
-             Block("A page of the store", "mlt_page/src/store.rt"),
-             Block("An item of the history", "mlt_trace/src/kept.rt"),
-             Block("An operation with its reply", "mlt_object_kinds/src/done.rt"),
-         ]),
-    Part("What is seen of a bucket and of numbers",
-         """Where memory is as simple as its view, the view is shown: `Value` is the kind of the value, and `view` the value. The
-         `impl` of a view says more, which is left out here. A type without an `impl` is seen by its fields or its cases; a number
-         like `u64` as the number, an array and a slice as the list. Numbers of transactions, pages and keys have types of their
-         own, and are seen as numbers.""", [
-             Block("The memory of a bucket", "mlt_page/src/bucket.rt"),
-             Block("Numbers of transactions and pages", "mlt_types/src/number.rt"),
-             Block("Keys", "mlt_types/src/cell.rt", "Key"),
-         ]),
+TWO: list[Section] = [
+    Section("Under the lock",
+            """Threads share a manager in a [[LockedState]] behind a mutex, and its invariants hold while the mutex is free. The
+            desk of a client makes each event by [[LockedState::act]], which adds 1 to its share of `book.total`. A call that only
+            reads is no event, nor is handing out the history, as `serve --endless` does.""", [
+                Block("mlt_work_desk/src/locked_state.rt", "LockedState:manager,book,counted"),
+                Block("mlt_work_desk/src/holds.rt", "LockedState.act():meets,amount"),
+            ]),
+    Section("The promise over a history",
+            """The history has an item for each thing that a transaction did. [[transcripts_of]] reads from it what a course
+            has.""", [
+                Block("mlt_manager/specs/Headline.antt", "KeepsMainPromise transcripts_of after_item Transcripts"),
+                Block("mlt_order/specs/Histories.antt", "but_last"),
+                Block("mlt_trace/src/item.rt", "TraceItem"),
+            ]),
+    Section("The checker of traces", "", [
+        Block("mlt_manager/src/manager.rt", "Manager.passes_the_checker()"),
+        Block("mlt_manager/specs/Promises.antt", "PassesTheChecker:base,accepted"),
+    ]),
+    Section("What run and serve_on return",
+            """An outcome is that of a script, or of a transaction of a session. By `history` all of the history is there. Either
+            call may return an error instead, and a `run` that refused every script would meet its contract. `serve --endless`
+            calls another function, of which [less is proved](THEOREM.md#what-no-contract-says).""", [
+                Block("mlt_work/src/running.rt", "run():ran,history"),
+                Block("mlt_work/specs/Runs.antt", "HasRunAll:outcomes,events,agrees,base"),
+                Block("mlt_serve/src/serving.rt", "serve_on():history,outcomes,clients"),
+                Block("mlt_script_serial/src/outcome.rt", "Outcome End"),
+            ]),
+    Section("An outcome for each script",
+            """Those of `run` stand by client and by script. That a session writes to its client what its outcomes have is
+            [another contract](../crates/mlt_serve_session/src/sessions.rt); that `serve_on` returns the outcomes of all its
+            sessions is not in its contract.""", [
+                Block("mlt_work_clients/specs/Places.antt", "AreAllOutcomes AreClientOutcomes"),
+                Block("mlt_script_serial/specs/Clients.antt", "AreOutcomes IsOutcome"),
+                Block("mlt_script_serial/specs/DeskRuns.antt", "HasEndedAs"),
+            ]),
+    Section("Outcomes that agree with a history",
+            """Of the transaction of an outcome the history has just these operations, undone ones too, in this order and with
+            these replies, and one end.""", [
+                Block("mlt_trace_audit/specs/Agreement.antt",
+                      "Agrees AreOfHistory NumbersAgree IsOnce count_of IsOfBegunTx CommitsRise"),
+                Block("mlt_trace_audit/specs/Outcomes.antt", "IsOfHistory IsClosedSo ops_of closings_of Closing closing_by "
+                      "IsWithoutTx IsRefusedEmpty RisesTo"),
+                Block("mlt_trace/specs/Numbers.antt", "begun_txs"),
+                Block("mlt_order/specs/Histories.antt", "items_done"),
+                Block("mlt_trace/specs/Entries.antt", "entries_of entry_of"),
+            ]),
+    Section("Views of histories and outcomes", "", [
+        Block("mlt_manager/src/manager.rt", "Manager.history():some"),
+        Block("mlt_trace/src/kept.rt", "KeptItem.get()"),
+        Block("mlt_script_serial/src/outcome.rt", "Outcomes.as_slice() Transcript.as_slice()"),
+        Block("mlt_object_kinds/src/done.rt", "Done.op() Done.reply()"),
+    ]),
 ]
+PARTS: list[tuple[str, list[Section]]] = [("Part one: a list of events", ONE), ("Part two: threads", TWO)]
 
 # Names of the library and the kit that stand in what is shown. `a`, `b` and `c` take the places of what stands around a name.
 LIBRARY: list[tuple[str, str]] = [
-    ("ℕ", "the natural numbers, without a greatest one"),
-    ("◌+◌ ◌*◌ ◌^◌", "sum, product, power"),
+    ("ℕ", "the natural numbers"),
+    ("◌+◌ ◌*◌ ◌^◌ ◌%◌ min", "sum, product, power, remainder, the lesser of two"),
     ("◌-◌", "the difference, and 0 where `b` is greater than `a`"),
-    ("◌%◌", "the remainder of `a` by `b`"),
-    ("◌<◌ ◌≤◌", "the statements that `a` is less than `b`, and that it is at most `b`"),
-    ("◌≡◌ ◌≢◌", "the statements that `a` is `b`, and that it is not"),
-    ("Bool true false", "the two truth values"),
-    ("◌↔◌", "the statement that `a` holds just where `b` does"),
-    ("◌==◌", "the truth value that tells whether two numbers are the same"),
-    ("if◌then◌else◌", "`b` where `a` is true, and `c` where it is false"),
-    ("Option None Some", "a value, `Some x`, or none"),
-    ("is_some", "whether there is a value"),
-    ("unwrap_or", "`unwrap_or o x`: the value of `o`, or else `x`"),
-    ("option_copied", "what an answer lends, as a value"),
-    ("Result", "of a call: `Ok x`, its value, or `Err e`, a refusal"),
-    ("IfOk", "`IfOk r P`: if `r` is `Ok x`, then `P x`"),
-    ("IfSome IfNone", "`IfSome o P`: if `o` is `Some x`, then `P x`. `IfNone o P`: if it is `None`, then `P`"),
-    ("IsOkUnless", "`IsOkUnless r e`: if `r` is a refusal, it is `e`"),
-    ("List", "finite lists"),
-    ("[] ◌∷◌", "the empty list, and the list of `a` first and then `b`"),
-    ("◌++◌", "the one list, and then the other"),
-    ("Contains", "`Contains xs x`: `x` is an item of `xs`"),
-    ("fold", "`fold f a xs`: `f` of `a` and the first item of `xs`, `f` of that and the next item, and so on to the last"),
-    ("replicate", "`replicate n x`: the list of `n` times `x`"),
-    ("Ordering", "less, equal or greater"),
-    ("nat_cmp", "how two numbers compare"),
-    ("ordering_then", "the first comparison, and where that is equal the second one"),
+    ("◌<◌ ◌≤◌ ◌≡◌ ◌≢◌ ◌↔◌", "`a` is less than `b`, is at most `b`, is `b`, is not `b`, holds just where `b` does"),
+    ("Bool true false ◌==◌", "the truth values; whether two numbers are the same, as one of these"),
+    ("if◌then◌else◌", "`b` where `a` is true, else `c`"),
+    ("Option None Some is_some", "a value, `Some x`, or none; whether there is one"),
+    ("unwrap_or option_copied", "`unwrap_or o x`: the value of `o`, or else `x`; what an answer lends, as a value"),
+    ("Result", "of a call: `Ok x`, or `Err e`, an error"),
+    ("IfOk IfSome IfNone", "`IfOk r P`: if `r` is `Ok x`, then `P x`; so `IfSome`. `IfNone o P`: if `o` is `None`, then `P`"),
+    ("IsOkUnless", "`IsOkUnless r e`: if `r` is an error, it is `e`"),
+    ("List [] ◌∷◌ ◌++◌", "finite lists; the empty one; an item, or a list, before the list `b`"),
+    ("Contains All", "`Contains xs x`: `x` is an item of `xs`. `All P xs`: `P` holds of each item"),
+    ("length count_by", "how many items a list has, and of how many a test is true"),
+    ("slice_index_or", "`slice_index_or xs i x`: the item at place `i`, from 0, or else `x`"),
+    ("fold", "`fold f x ys`: from `x` on, `f` with each item of `ys` in order"),
+    ("Ordering nat_cmp ordering_then", "less, equal or greater; how two numbers compare; the second where the first is equal"),
     ("map.FinMap",
      "`map.FinMap cmp V`: finite maps to values of `V`, from keys that `cmp` compares. Two with the same value at each key are "
      "one"),
-    ("map.empty", "the map without keys"),
-    ("map.get", "`map.get m k`: the value at `k`, if there is one"),
-    ("map.retain_keys", "`map.retain_keys m p`: the map of those keys alone of which `p` is true"),
-    ("map.len", "how many keys there are"),
-    ("Vec", "a growing array. Its `items` are the list that it is seen as"),
-    ("Global", "the allocator"),
+    ("map.empty map.len map.get", "the map without keys; how many it has; `map.get m k` is the value at `k`, if any"),
+    ("map.retain_keys", "`map.retain_keys m p`: the map of those keys of which `p` is true"),
+    ("set.FinSet Vec", "finite sets; a growing array"),
+    ("Book", "of a ledger. Its total rises just by what is added to a share"),
 ]
 
-NOT_SHOWN_SAID = """The definitions above name these too. The sentence reads no more by them than what stands here.
-`tools/definitions NAME` prints those that are statements; the others are types of the program."""
+NOT_SHOWN_SAID = """The two sentences read no more by these names than what stands here."""
 # What stands in what is shown, and is not followed.
 NOT_SHOWN: list[tuple[str, str]] = [
-    ("AreWholeEvents NoneWaits",
-     "in the clause `whole`: each event is a begin, a whole operation, a commit, an abort or a whole abort; none has to "
-     "wait"),
-    ("IsNew", "the manager from which a run begins: no transaction, an empty history, a file without records, these limits"),
-    ("IsRun", "each event meets the contract of its call, one after another. These contracts fix what it may be told, and why"),
-    ("IsExtendibleHashFile", "the clean pages are an extendible hash file: a look-up finds each live slot, and no key has two"),
-    ("IsRecord live_records", "in the field `can_be`: balances are in range, and the records of counters and sizes have 64 bits"),
-    ("GhostsAreKept ledger_by", "removals by open transactions have left their ghosts, with room to take them back"),
-    ("HoldsLocksOfItsPass",
-     "a running operation holds locks of the pages that it came to on its way to its bucket, its pass, and exclusive ones of "
-     "those of which it keeps an image; a transaction that runs nothing holds none"),
-    ("MatchesHistory", "who is open, what may be taken back and what is held is what the history says"),
-    ("AreBegunInOrder AreCounted", "numbers of transactions and of commits are given out in order, from 1"),
-    ("Manager ManagerFields",
-     "a manager in memory, and what contracts see of it. Of its fields the sentence reads the three that calls answer"),
-    ("Limits", "how many transactions, numbers, pages and operations there may be, and how deep the directory may get"),
-    ("Refusal", "why an event was refused. No definition reads which; a clause of the contract names one"),
-    ("Transaction Images",
-     "an open transaction, and its first images: its part `subtx.images`, a finite map from numbers of pages to `Option Page`"),
-    ("Store page_at", "the pages in memory, and `page_at pages n`, which is `map.get pages n`"),
-    ("KeptItem Done", "an item as the history keeps it, and the pair of an operation and its reply as an item has it"),
-    ("SLOTS", "8, the number of slots that a bucket has"),
-    ("HeadPage DirPage", "the header and a page of the directory. The sentence reads no record from them"),
-    ("Value", "the value of a record, a `u64`"),
+    ("TellsNumber", "the reply is a number. For the size of a set [[TellsSize]] says which"),
+    ("Refusal", "why an event is refused"),
+    ("Manager ManagerFields Store", "a manager in memory, and what contracts see of it; the pages in memory"),
+    ("page_at image_of", "`map.get`, of pages, and of first images. Those of a transaction are `one.subtx.images`"),
+    ("Table Transaction", "the open transactions, a finite map from their numbers to what contracts see of each"),
+    ("HeadPage DirPage", "the header and a page of the directory"),
+    ("SLOTS Value", "8, the number of slots of a bucket; the value of a record, a `u64`"),
+    ("FilePages buckets_of", "the page of each number, if there is one; the bucket there, or one without slots"),
+    ("Meets counted", "an event meets the contract of its call, between two managers; a manager with one event more"),
+    ("Turn", "whether a desk sleeps after its event"),
+    ("MadeWith Pseudo", "types that a caller picks: a ledger, and functions from keys to hashes, `P.bits_of`"),
+    ("trace_text committed_txs", "the text of a history; the transactions of its commits, in order"),
+    ("IsAcceptedTrace",
+     "what [`check`](../crates/mlt_trace_check/src/trace_check.rt) accepts: each item stands behind the begin of its transaction "
+     "and before its end, commits have the numbers 1, 2, 3, and the committed transactions lead to the base"),
+    ("Report Served", "what `run` and `serve_on` return: outcomes, and a count of events or connections"),
+    ("AreOfClients", "the client of each outcome is the number of a connection, from 1 to how many there were"),
+    ("Limits", "the greatest numbers of transactions, pages and operations"),
+    ("IsBaseOfOutcomes",
+     "the committed outcomes, in the order of their numbers, run alone from the empty base and lead to this base"),
+    ("ScriptForm scripts_of_clients", "a script; the scripts of each client"),
+    ("Follows IsPartial",
+     "given the replies, the script asks for just these operations and ends so; they are the first of such a run"),
+    ("IsScriptEnd", "if the script is refused, it is for want of memory or room, by a limit, or because it gave up"),
+    ("Outcomes Transcript Done KeptItem", "kept in memory: outcomes, operations with their replies, one of them, an item"),
+    ("Entry Begun Did TookBack Committed Closed", "entries of a history, one case for each case of [[TraceItem]]"),
 ]

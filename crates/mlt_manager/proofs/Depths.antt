@@ -1,6 +1,7 @@
 -- What a page is on the clean pages, and the depth of the directory
 use Rattle.std.proofs.Common.{◌≡◌, ◌≤◌, ℕ, Option, Some, Bor, option_copied, sym, ap, subst, ◌∙◌}
 use Rattle.mlt_manager.proofs.Names.{HeadFields, Page, Pages, page_at, header_of, clean_pages, KeepsImage, KeepsNoImage, HasCleanPage, HasCleanPages, HasDepth, IsManager, ManagerFields}
+use Rattle.mlt_manager.specs.CleanBuckets.{IsCleanHead}
 use Rattle.mlt_manager.proofs.CleanPages.{pages_clean, same_clean}
 
 module _ {P : Type 0} (bits_of : P → ℕ → ℕ) (m : ManagerFields P) (h : IsManager bits_of m) where
@@ -28,19 +29,7 @@ module _ {P : Type 0} (bits_of : P → ℕ → ℕ) (m : ManagerFields P) (h : I
       subst (λ p. p ≡ Some (Page.Head (header_of p))) (sym same) h.sound.match.file.form.head
 
   -- with the depth of the directory, which is at most 16
-  pub has_depth : (p : Option Page) → HasCleanPage m m.root.page p → HasDepth m (header_of p).depth
-  has_depth p is = record {
-    clean = is.clean;
-    is_clean = is.is_clean;
-    header = subst (λ p. p ≡ Some (Page.Head (header_of p))) (sym is.has) (clean_header p is);
-    is_depth = ap (λ p. (header_of p).depth) is.has;
-  }
-
-  pub depth_at_most : (p : Option Page) → HasCleanPage m m.root.page p → (header_of p).depth ≤ 16
-  depth_at_most p is =
-      let same = sym is.has ∙ same_clean m is.clean (clean_pages h.images stored) m.root.page is.is_clean all_clean in
-      subst (λ p. (header_of p).depth ≤ 16) (sym same) h.sound.match.file.form.listed.small
-
--- the header of a page that was read
-pub header_read : (got : Option (Bor Page)) (one : Bor Page) (header : HeadFields) → got ≡ Some one → one.now ≡ Page.Head header → header_of (option_copied got) ≡ header
-header_read got one header is is_header = ap header_of (ap option_copied is ∙ ap Some is_header)
+  pub has_depth : (head : HeadFields) → IsCleanHead m head → HasDepth m head.depth × (head.depth ≤ 16)
+  has_depth head is =
+      let depth : (header_of (page_at (clean_pages h.images stored) m.root.page)).depth ≡ head.depth = ap (λ p. (header_of p).depth) (is _ all_clean) in
+      (record { clean = clean_pages h.images stored; is_clean = all_clean; header = h.sound.match.file.form.head; is_depth = depth }, subst (λ n. n ≤ 16) depth h.sound.match.file.form.listed.small)

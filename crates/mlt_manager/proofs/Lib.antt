@@ -5,6 +5,7 @@ pub mod Chains
 pub mod CleanPages
 mod CopiedBuckets
 pub mod Counts
+pub mod Courses
 pub mod Depths
 pub mod EachOpen
 pub mod Ended

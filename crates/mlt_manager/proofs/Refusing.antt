@@ -2,7 +2,6 @@
 use Rattle.std.proofs.Common.{◌≡◌, ℕ, Result, Ok, Err, OnOk, refl, ◌∙◌}
 use Rattle.mlt_manager.proofs.Names.{Refusal, ObjOp, IsOpInRange, AnswersCall, ChangesOpen, ManagerFields}
 use Rattle.mlt_tx.specs.OpenAt.{TriesCall}
-use Rattle.mlt_manager.specs.Answers.{IsNotIdle}
 
 -- what is so on Ok, where there is no error
 pub told_ok : {A E Q : Type 0} (r : Result A E) → ((reason : E) → r ≡ Err reason → ⊥) → OnOk r Q → Q

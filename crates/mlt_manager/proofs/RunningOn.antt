@@ -1,7 +1,7 @@
 -- The steps of a pending operation, one after another, come to an end
-use Rattle.std.proofs.Common.{◌≡◌, ◌<◌, ◌≤◌, ℕ, Option, None, Some, Err, refl, sym, ap, subst, ◌∙◌, arith}
+use Rattle.std.proofs.Common.{◌≡◌, ◌<◌, ◌≤◌, ℕ, Option, None, Some, refl, sym, ap, subst, ◌∙◌, arith}
 use Rattle.std.specs.FinMap as map
-use Rattle.mlt_manager.proofs.Names.{Refusal, ObjOp, local, view_of, context_by, OperationFields, Answer, SharedState, At, Transaction, TellsOfPending, IsPending, StepsPending, TellsAt, tx_state_of, Table, inserted_here, AnswersCall, HasCalled, HasStepped, IsOpenAt, txs_after, IsManager, ManagerFields, AnswersWhole, DropsIfItStands, HasRun, LetsGoOn, StepsOnUpTo, Stops}
+use Rattle.mlt_manager.proofs.Names.{ObjOp, local, view_of, context_by, OperationFields, Answer, SharedState, At, Transaction, TellsOfPending, IsPending, StepsPending, TellsAt, tx_state_of, Table, inserted_here, HasCalled, HasStepped, IsOpenAt, txs_after, IsManager, ManagerFields, DropsIfItStands, HasRun, LetsGoOn, StepsOnUpTo, Stops}
 use Rattle.mlt_tx_operation.specs.MostSteps.{most_steps}
 use Rattle.mlt_tx_operation.proofs.MostSteps.{one_fewer_at_least}
 use Rattle.mlt_tx.specs.Transactions.{pending_after}

@@ -33,7 +33,7 @@ first_by (Some size) root request view = omega arith
 first_steps : (root : ℕ) (request : Request) (view : View) → steps_left root (started_for request) view ≤ 1165
 first_steps root request view = first_by (size_key_of request) root request view
 
-undoing_of_at : (a : At) → IsUndoing a → (inverting : Option OperationFields) × (a ≡ At.Undoing inverting)
+pub undoing_of_at : (a : At) → IsUndoing a → (inverting : Option OperationFields) × (a ≡ At.Undoing inverting)
 undoing_of_at At.Idle none = absurd none
 undoing_of_at (At.Pending o) none = absurd none
 undoing_of_at (At.Undoing inverting) is = (inverting, refl)

@@ -2,6 +2,7 @@ pub mod Answers
 pub mod Bases
 pub mod Chains
 pub mod CleanBuckets
+pub mod Courses
 pub mod Events
 pub mod HandingOut
 pub mod Headline

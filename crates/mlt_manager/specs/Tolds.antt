@@ -1,4 +1,4 @@
--- What the history has, by the events and what they were told
+-- What the history has, by the events and their answers
 use Rattle.std.specs.Prelude.{ℕ, ◌≡◌, List, [], ◌∷◌, ◌++◌, Option, None, Some, replicate, true}
 use Rattle.mlt_object_kinds.specs.declared.operation.ObjOp.{ObjOp}
 use Rattle.mlt_order.specs.Tables.{table_with}
@@ -15,7 +15,7 @@ CalledOps = ℕ → Option ObjOp
 abbrev pub none_called : CalledOps
 none_called tx = None
 
--- the same after an event that was told this
+-- the same after an event with this answer
 abbrev pub called_after : Event → Told → CalledOps → CalledOps
 called_after (Event.Call tx op) Told.Called called = table_with called tx (Some op)
 called_after (Event.Step tx) (Told.Answered (Answer.Done reply)) called = table_with called tx None
@@ -24,7 +24,7 @@ called_after (Event.Step tx) (Told.Answered (Answer.Refused reason)) called =
 called_after (Event.Cancel tx) Told.Cancelled called = table_with called tx None
 called_after event told called = called
 
--- The items that an event that was told this adds to the history: that a transaction began; that it
+-- The items that an event with this answer adds to the history: that a transaction began; that it
 -- did the operation that it was called with; that it took its last one back; that it committed or
 -- was closed. Any other event adds none.
 abbrev pub AddsItems : Event → Told → CalledOps → List TraceItem → Type 0
@@ -45,7 +45,7 @@ AddsItems (Event.Commit tx) (Told.Committed number) called items =
 AddsItems (Event.Abort tx) (Told.Aborting true) called items = items ≡ TraceItem.Abort tx ∷ []
 AddsItems event told called items = items ≡ []
 
--- the items that events that were told this add, one event's after the other's
+-- the items that events with these answers add, one event's after the other's
 abbrev pub AreToldBy : List Event → List Told → CalledOps → List TraceItem → Type 0
 AreToldBy [] [] called items = items ≡ []
 AreToldBy (event ∷ events) (told ∷ tolds) called items =

@@ -1,6 +1,6 @@
 //! The base of the committed transactions, from the pages and the undo lists.
 
-ghost use Rattle.std.specs.Prelude.{◌≡◌, ◌<◌, ◌^◌, ℕ, IfOk, IsOkUnless};
+ghost use Rattle.std.specs.Prelude.{◌≡◌, ◌<◌, ◌≤◌, ◌^◌, ℕ, IfOk, IsOkUnless};
 ghost use Rattle.mlt_manager.specs.Bases.{HasBase, HasDepth};
 ghost use Rattle.mlt_manager.specs.CleanBuckets.{IsCleanBucket, IsCleanDirectory, IsCleanHead};
 ghost use Rattle.mlt_manager.specs.Managers.{IsManager};
@@ -59,6 +59,16 @@ impl<P: Pseudo> Parts<P> {
             unreachable!()
         };
         head
+    }
+
+    /// The depth of the directory, by the clean header.
+    pub(crate) fn depth(&self) -> u8
+        requires sound { IsManager P.bits_of (fields_of self.now) }
+        ensures depth { HasDepth (fields_of self.now) result }
+        ensures most { result ≤ 16 }
+    {
+        let head = self.clean_head();
+        head.depth
     }
 
     /// The page of the directory that has a place, on the clean pages.

@@ -6,6 +6,7 @@ ghost use Rattle.mlt_trace.specs.Numbers.{AreBegunInOrder};
 ghost use Rattle.mlt_tx.specs.Tables.{KeepsImage, KeepsNoImage};
 ghost use Rattle.mlt_manager.specs.Answers.{AnswersAbort, AnswersBegin, AnswersCall, AnswersCancel, AnswersCommit, AnswersStep, IsByAnother, counted};
 ghost use Rattle.mlt_manager.specs.Bases.{HasDepth, KeepsWhatCounts, LeavesBase, UndoingLeavesBase, WholeLeavesBase};
+ghost use Rattle.mlt_manager.specs.Courses.{Course, KeepsPromiseOver, TellsAll, opening_course};
 ghost use Rattle.mlt_manager.specs.Events.{AreWholeEvents, Meets, NoneWaits, Plays, told_of};
 ghost use Rattle.mlt_manager.specs.HandingOut.{HandsOut};
 ghost use Rattle.mlt_manager.specs.Managers.{IsManager};
@@ -174,7 +175,7 @@ impl<P: Pseudo> Manager<P> {
         self.parts.whole_undo(tx)
     }
 
-    /// One event: what is asked, and what it is told. Each event is one of the calls above.
+    /// Executes one event and returns its answer. Each event is one of the calls above.
     #[inline(always)]
     pub fn act(&mut self, event: Event) -> Told
         ensures meets { Meets P.bits_of event result (counted self.old) self.new }
@@ -207,11 +208,11 @@ impl<P: Pseudo> Manager<P> {
         }
     }
 
-    /// All events in order, from a new manager, and what each is told.
+    /// Executes all events in order, on a new manager, and returns the answer to each.
     ///
     /// # Errors
-    /// `OutOfMemory`, where a growth was refused to the new manager or to the list of what is told. An event that is
-    /// refused memory is told so, and the next one follows.
+    /// `OutOfMemory`, if memory was refused to the new manager or to the list of answers. An event that is refused memory
+    /// is answered so, and the next one follows.
     pub fn play(
         alloc: Global,
         limits: Limits,
@@ -222,6 +223,10 @@ impl<P: Pseudo> Manager<P> {
         P: Drop,
         ensures plays { IfOk result (λ played.
             Plays P.bits_of limits pseudo events.now played.1.items played.0) }
+        // what the events were told is a course of transactions, over which the promise is kept
+        ensures course { IfOk result (λ played. (c : Course)
+            × TellsAll opening_course events.now played.1.items c
+            × KeepsPromiseOver c played.0) }
         // all of the history is there
         ensures history { IfOk result (λ played. played.0.shared.history.handed ≡ []) }
         // among whole events nobody waits
@@ -352,7 +357,7 @@ impl<P: Pseudo> Manager<P> {
         let _parts = &self.parts;
     }
 
-    /// Ends the manager, and gives its memory back. Whoever owns a manager ends it by this call, and has no drop of its own.
+    /// Ends the manager, and gives its memory back. The owner of a manager ends it by this call, and has no drop of its own.
     pub fn close(self)
     where
         P: Drop,

@@ -175,21 +175,6 @@ impl<P: Pseudo> Parts<P> {
         }
     }
 
-    /// The depth of the directory, by the clean header.
-    pub(crate) fn depth(&self) -> u8
-        requires sound { IsManager P.bits_of (fields_of self.now) }
-        ensures depth { HasDepth (fields_of self.now) result }
-        ensures most { result ≤ 16 }
-    {
-        let Some(page) = self.clean_page(self.root.page) else {
-            unreachable!()
-        };
-        let Page::Head(header) = page else {
-            unreachable!()
-        };
-        header.depth
-    }
-
     pub(crate) fn begin(&mut self) -> Result<TxId, Refusal>
         requires sound { IsManager P.bits_of (fields_of self.old) }
         ensures answers { AnswersBegin (fields_of self.old) (fields_of self.new) result }
@@ -254,7 +239,7 @@ impl<P: Pseudo> Parts<P> {
         Ok(answer)
     }
 
-    /// One step of a transaction that is not at nothing. One that is told `Aborted` is open no more.
+    /// One step of a transaction that is not at nothing. After `Aborted` it is no longer open.
     fn step_open(&mut self, tx: TxId) -> Answer
         requires sound { IsManager P.bits_of (fields_of self.old) }
         requires busy { IsOpenAt self.old.txs tx IsBusy }
@@ -418,7 +403,7 @@ impl<P: Pseudo> Parts<P> {
     }
 }
 
-/// A transaction that is told `Aborted` is open no more.
+/// After `Aborted` a transaction is no longer open.
 #[inline(always)]
 fn leave_if_aborted(txs: &mut OpenTransactions, active: &mut OpenSet, tx: TxId, told: &Answer)
     ensures txs { txs.new ≡ txs_after told.now tx txs.old }

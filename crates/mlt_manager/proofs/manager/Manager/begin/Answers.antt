@@ -4,9 +4,7 @@ use Rattle.mlt_manager.proofs.Kept.{begin_kept}
 use Rattle.mlt_manager.proofs.manager.Manager.begin.Goals as goal
 
 pub begin-requires : goal.begin-requires
-begin-requires g c = record { sound = is_counted g.P.Pseudo.bits_of (fields_of c.self.inside.parts) c.self.invariant (fields_of c.count.new.self) c.count.ensures }
+begin-requires g c = record { sound = is_counted _ _ c.self.invariant _ c.count.ensures }
 
 pub invariant_of-self : goal.invariant_of-self
-invariant_of-self g c =
-    begin_kept g.P.Pseudo.bits_of (fields_of c.count.new.self) (fields_of c.begin.new.self)
-    (is_counted g.P.Pseudo.bits_of (fields_of c.self.inside.parts) c.self.invariant (fields_of c.count.new.self) c.count.ensures) c.begin.result c.begin.ensures.answers
+invariant_of-self g c = begin_kept _ _ _ (is_counted _ _ c.self.invariant _ c.count.ensures) c.begin.result c.begin.ensures.answers

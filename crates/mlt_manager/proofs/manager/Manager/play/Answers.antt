@@ -1,5 +1,6 @@
 use Rattle.std.proofs.Common.{refl, subst, sym, List, [], ◌∙◌}
 use Rattle.mlt_manager.proofs.Names.{Told, IsRun}
+use Rattle.mlt_manager.proofs.Courses.{played_course}
 use Rattle.mlt_manager.proofs.Playing.{all_played, played_on}
 use Rattle.mlt_manager.proofs.Quiet.{none_waits}
 use Rattle.mlt_manager.proofs.manager.Manager.play.Goals as goal
@@ -29,3 +30,8 @@ pub returns-clause-whole : goal.returns-clause-whole
 returns-clause-whole g c = λ whole.
     let plays = all_played g.P.Pseudo.bits_of c.args.limits c.args.pseudo c.args.events.now c.loop-event.event-index c.loop-event.tolds.items c.loop-event.manager c.loop-event-test.false c.loop-event.invariant.0 c.keeps_its_promises.ensures in
     none_waits g.P.Pseudo.bits_of c.args.limits c.args.pseudo c.args.events.now c.loop-event.tolds.items plays.first c.loop-event.manager plays.is_new plays.run whole
+
+pub returns-clause-course : goal.returns-clause-course
+returns-clause-course g c =
+    played_course g.P.Pseudo.bits_of c.args.limits c.args.pseudo c.args.events.now c.loop-event.tolds.items c.loop-event.manager g.met.P.Pseudo.has_64_bits
+    (all_played g.P.Pseudo.bits_of c.args.limits c.args.pseudo c.args.events.now c.loop-event.event-index c.loop-event.tolds.items c.loop-event.manager c.loop-event-test.false c.loop-event.invariant.0 c.keeps_its_promises.ensures)

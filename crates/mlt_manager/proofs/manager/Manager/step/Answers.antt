@@ -6,20 +6,15 @@ use Rattle.mlt_manager.proofs.Others.{step_others}
 use Rattle.mlt_manager.proofs.manager.Manager.step.Goals as goal
 
 pub step-requires : goal.step-requires
-step-requires g c = record { sound = is_counted g.P.Pseudo.bits_of (fields_of c.self.inside.parts) c.self.invariant (fields_of c.count.new.self) c.count.ensures }
+step-requires g c = record { sound = is_counted _ _ c.self.invariant _ c.count.ensures }
 
 pub invariant_of-self : goal.invariant_of-self
-invariant_of-self g c =
-    step_kept g.P.Pseudo.bits_of (fields_of c.count.new.self) (fields_of c.step.new.self)
-    (is_counted g.P.Pseudo.bits_of (fields_of c.self.inside.parts) c.self.invariant (fields_of c.count.new.self) c.count.ensures) c.args.tx c.step.result c.step.ensures.answers
+invariant_of-self g c = step_kept _ _ _ (is_counted _ _ c.self.invariant _ c.count.ensures) c.args.tx c.step.result c.step.ensures.answers
+
+pub returns-clause-others : goal.returns-clause-others
+returns-clause-others g c = step_others _ _ _ (is_counted _ _ c.self.invariant _ c.count.ensures) c.args.tx c.step.result c.step.ensures.answers
 
 pub returns-clause-base : goal.returns-clause-base
 returns-clause-base g c =
-    subst (λ m. IfOk c.step.result (λ told. LeavesBase told m (fields_of c.step.new.self) c.args.tx)) (c.count.ensures ∙ ap counted c.self.view_is)
-    (step_leads g.P.Pseudo.bits_of (fields_of c.count.new.self) (fields_of c.step.new.self)
-    (is_counted g.P.Pseudo.bits_of (fields_of c.self.inside.parts) c.self.invariant (fields_of c.count.new.self) c.count.ensures) c.args.tx c.step.result c.step.ensures.answers)
-
-pub returns-clause-others : goal.returns-clause-others
-returns-clause-others g c =
-    step_others g.P.Pseudo.bits_of (fields_of c.count.new.self) (fields_of c.step.new.self)
-    (is_counted g.P.Pseudo.bits_of (fields_of c.self.inside.parts) c.self.invariant (fields_of c.count.new.self) c.count.ensures) c.args.tx c.step.result c.step.ensures.answers
+    subst (λ m. IfOk c.step.result (λ told. LeavesBase told m (fields_of c.step.new.self) c.args.tx)) (c.count.ensures ∙ ap counted c.self.view_is) (step_leads _ _ _
+    (is_counted _ _ c.self.invariant _ c.count.ensures) c.args.tx c.step.result c.step.ensures.answers)

@@ -7,20 +7,15 @@ use Rattle.mlt_manager.proofs.Others.{whole_others}
 use Rattle.mlt_manager.proofs.manager.Manager.whole.Goals as goal
 
 pub whole-requires : goal.whole-requires
-whole-requires g c = record { sound = is_counted g.P.Pseudo.bits_of (fields_of c.self.inside.parts) c.self.invariant (fields_of c.count.new.self) c.count.ensures }
+whole-requires g c = record { sound = is_counted _ _ c.self.invariant _ c.count.ensures }
 
 pub invariant_of-self : goal.invariant_of-self
-invariant_of-self g c =
-    whole_kept g.P.Pseudo.bits_of (fields_of c.count.new.self) (fields_of c.whole.new.self)
-    (is_counted g.P.Pseudo.bits_of (fields_of c.self.inside.parts) c.self.invariant (fields_of c.count.new.self) c.count.ensures) c.args.tx c.args.op c.whole.result c.whole.ensures.answers
+invariant_of-self g c = whole_kept _ _ _ (is_counted _ _ c.self.invariant _ c.count.ensures) c.args.tx c.args.op c.whole.result c.whole.ensures.answers
 
 pub returns-clause-others : goal.returns-clause-others
-returns-clause-others g c =
-    whole_others g.P.Pseudo.bits_of (fields_of c.count.new.self) (fields_of c.whole.new.self)
-    (is_counted g.P.Pseudo.bits_of (fields_of c.self.inside.parts) c.self.invariant (fields_of c.count.new.self) c.count.ensures) c.args.tx c.args.op c.whole.result c.whole.ensures.answers
+returns-clause-others g c = whole_others _ _ _ (is_counted _ _ c.self.invariant _ c.count.ensures) c.args.tx c.args.op c.whole.result c.whole.ensures.answers
 
 pub returns-clause-base : goal.returns-clause-base
 returns-clause-base g c =
     subst (λ m. IfOk c.whole.result (λ told. WholeLeavesBase told m (fields_of c.whole.new.self) c.args.tx c.args.op)) (c.count.ensures ∙ ap counted c.self.view_is)
-    (whole_leads g.P.Pseudo.bits_of (fields_of c.count.new.self) (fields_of c.whole.new.self) c.args.tx c.args.op
-    (is_counted g.P.Pseudo.bits_of (fields_of c.self.inside.parts) c.self.invariant (fields_of c.count.new.self) c.count.ensures) c.whole.result c.whole.ensures.answers)
+    (whole_leads _ _ _ c.args.tx c.args.op (is_counted _ _ c.self.invariant _ c.count.ensures) c.whole.result c.whole.ensures.answers)

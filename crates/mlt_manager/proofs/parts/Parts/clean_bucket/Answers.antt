@@ -5,21 +5,14 @@ use Rattle.mlt_manager.proofs.parts.Parts.clean_bucket.Goals as goal
 
 pub unreachable-requires : goal.unreachable-requires
 unreachable-requires g c =
-    let within = c.requires.within in
-    let is = bucket_there g.P.Pseudo.bits_of (fields_of c.args.self.now) c.requires.sound c.args.place within.0 within.1 within.2 c.clean_directory-directory.result.now c.clean_directory-directory.ensures.directory
-    c.entry.result c.entry.ensures (option_copied c.clean_page.result) c.clean_page.ensures.clean in
-    let there = is.1 in
-    let none : option_copied c.clean_page.result ≡ None = ap option_copied c.in_default.is in
-    cc (there, none)
+    let is = bucket_there _ _ c.requires.sound c.args.place _ c.requires.within.1 c.requires.within.2 _ c.clean_directory-directory.ensures.directory _ c.entry.ensures _ c.clean_page.ensures.clean in
+    cc (is.1, ap option_copied c.in_default.is)
 
 pub unreachable-requires-in_default-page : goal.unreachable-requires-in_default-page
 unreachable-requires-in_default-page g c =
-    let within = c.requires.within in
-    let is = bucket_there g.P.Pseudo.bits_of (fields_of c.args.self.now) c.requires.sound c.args.place within.0 within.1 within.2 c.clean_directory-directory.result.now c.clean_directory-directory.ensures.directory
-    c.entry.result c.entry.ensures (option_copied c.clean_page.result) c.clean_page.ensures.clean in
+    let is = bucket_there _ _ c.requires.sound c.args.place _ c.requires.within.1 c.requires.within.2 _ c.clean_directory-directory.ensures.directory _ c.entry.ensures _ c.clean_page.ensures.clean in
     let there : Some c.in-Some.page.now ≡ Some (Page.Bucket is.0) = sym (ap option_copied c.in-Some.is) ∙ is.1 in
-    let is_bucket : c.in-Some.page.now ≡ Page.Bucket is.0 = cc there in
-    c.in_default-page.not-Bucket is.0 is_bucket
+    c.in_default-page.not-Bucket is.0 (cc there)
 
 pub returns : goal.returns
 returns g c =

@@ -8,21 +8,14 @@ dir-requires g c = let within = c.requires.within in few_places g.P.Pseudo.bits_
 
 pub unreachable-requires : goal.unreachable-requires
 unreachable-requires g c =
-    let within = c.requires.within in
-    let is = directory_there g.P.Pseudo.bits_of (fields_of c.args.self.now) c.requires.sound c.args.place within.0 within.1 within.2 c.clean_head-head.result.now c.clean_head-head.ensures.head
-    c.dir.result c.dir.ensures (option_copied c.clean_page.result) c.clean_page.ensures.clean in
-    let there = is.1 in
-    let none : option_copied c.clean_page.result ≡ None = ap option_copied c.in_default.is in
-    cc (there, none)
+    let is = directory_there _ _ c.requires.sound c.args.place _ c.requires.within.1 c.requires.within.2 _ c.clean_head-head.ensures.head _ c.dir.ensures _ c.clean_page.ensures.clean in
+    cc (is.1, ap option_copied c.in_default.is)
 
 pub unreachable-requires-in_default-page : goal.unreachable-requires-in_default-page
 unreachable-requires-in_default-page g c =
-    let within = c.requires.within in
-    let is = directory_there g.P.Pseudo.bits_of (fields_of c.args.self.now) c.requires.sound c.args.place within.0 within.1 within.2 c.clean_head-head.result.now c.clean_head-head.ensures.head
-    c.dir.result c.dir.ensures (option_copied c.clean_page.result) c.clean_page.ensures.clean in
+    let is = directory_there _ _ c.requires.sound c.args.place _ c.requires.within.1 c.requires.within.2 _ c.clean_head-head.ensures.head _ c.dir.ensures _ c.clean_page.ensures.clean in
     let there : Some c.in-Some.page.now ≡ Some (Page.Dir is.0) = sym (ap option_copied c.in-Some.is) ∙ is.1 in
-    let is_dir : c.in-Some.page.now ≡ Page.Dir is.0 = cc there in
-    c.in_default-page.not-Dir is.0 is_dir
+    c.in_default-page.not-Dir is.0 (cc there)
 
 pub returns : goal.returns
 returns g c =

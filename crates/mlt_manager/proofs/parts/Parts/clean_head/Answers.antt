@@ -5,18 +5,13 @@ use Rattle.mlt_manager.proofs.Depths.{clean_header}
 use Rattle.mlt_manager.proofs.parts.Parts.clean_head.Goals as goal
 
 pub unreachable-requires : goal.unreachable-requires
-unreachable-requires g c =
-    let is = clean_header g.P.Pseudo.bits_of (fields_of c.args.self.now) c.requires.sound (option_copied c.clean_page.result) c.clean_page.ensures.clean in
-    let none : option_copied c.clean_page.result ≡ None = ap option_copied c.in_default.is in
-    cc (is, none)
+unreachable-requires g c = cc (clean_header _ _ c.requires.sound _ c.clean_page.ensures.clean, ap option_copied c.in_default.is)
 
 pub unreachable-requires-in_default-page : goal.unreachable-requires-in_default-page
 unreachable-requires-in_default-page g c =
     let header = header_of (option_copied c.clean_page.result) in
-    let is = clean_header g.P.Pseudo.bits_of (fields_of c.args.self.now) c.requires.sound (option_copied c.clean_page.result) c.clean_page.ensures.clean in
-    let there : Some c.in-Some.page.now ≡ Some (Page.Head header) = sym (ap option_copied c.in-Some.is) ∙ is in
-    let is_header : c.in-Some.page.now ≡ Page.Head header = cc there in
-    c.in_default-page.not-Head header is_header
+    let there : Some c.in-Some.page.now ≡ Some (Page.Head header) = sym (ap option_copied c.in-Some.is) ∙ clean_header _ _ c.requires.sound _ c.clean_page.ensures.clean in
+    c.in_default-page.not-Head header (cc there)
 
 pub returns : goal.returns
 returns g c =

@@ -1,0 +1,499 @@
+-- What events tell of the course of transactions is what the manager's tables and history say
+use Rattle.std.proofs.Common.{◌≡◌, ◌≢◌, ℕ, ◌+◌, List, [], ◌∷◌, ◌++◌, length, true, false, Option, None, Some, is_some, Ok, Err, refl, sym, ap, subst, ◌∙◌, append_assoc, append-nil, length-append, arith, nat_cmp}
+use Rattle.std.specs.FinMap as map
+use Rattle.std.specs.FinSet as set
+use Rattle.mlt_manager.proofs.Names.{not_true, false≢true, Limits, Refusal, ObjOp, ObjReply, Step, empty_base, TraceItem, entries_of, Request, Do, OperationFields, WalkContext, context_by, local, Answer, Event, Told, SharedState, At, Transaction, TellsAt, Table, IsPending, IsUndoing, GivesPseudokeys, inserted_here, inserted_elsewhere, removed_here, FitsAt, State, state_of, HasCalled, HasEnded, HasStepped, IsOpenAt, txs_after, counted, ChangesOpen, LeavesBase, StepsBy, StepsUpTo, DropsIfItStands, HasRun, LetsGoOn, Stops, GoesOnBack, StopsBack, IsManager, ManagerFields, IsRun, Meets, Transcripts, UndoneTo, lists_by}
+use Rattle.mlt_object_base.specs.declared.request.Request.TheVariants.{TakeBack}
+use Rattle.mlt_order.specs.Histories.{Lists, after_entries, after_entry, lists_of, no_lists}
+use Rattle.mlt_order.specs.Runs.{IsSerialBase}
+use Rattle.mlt_order.specs.Tables.{table_with}
+use Rattle.mlt_order.proofs.Tables.{at_each, with_entry-other, with_entry-same}
+use Rattle.mlt_trace.proofs.ItemLaws.{transcripts_counted}
+use Rattle.mlt_trace.specs.Entries.{entry_of}
+use Rattle.mlt_trace_check.proofs.Histories.{nothing_of_others}
+use Rattle.mlt_tx.specs.Tables.{CallsNone, CancelsOne}
+use Rattle.mlt_manager_invariant.proofs.Tables.{removed_elsewhere}
+use Rattle.mlt_manager.specs.Answers.{HasBegun, HasBegunAbort, HasClosed, HasCommitted}
+use Rattle.mlt_manager.specs.Courses.{Course, KeepsPromiseOver, Life, Ops, Tells, TellsAll, Turns, opening_course}
+use Rattle.mlt_manager.specs.Events.{Plays}
+use Rattle.mlt_manager.specs.Headline.{KeepsMainPromise}
+use Rattle.mlt_manager.proofs.Chains.{steps_keep}
+use Rattle.mlt_manager.proofs.Called.{one_there, pending_of, was_idle, was_with}
+use Rattle.mlt_manager.proofs.Headline.{same_transcripts}
+use Rattle.mlt_manager.proofs.Keeping.{counted_keeps}
+use Rattle.mlt_manager.proofs.Kept.{abort_kept, begin_kept, call_kept, cancel_kept, commit_kept, new_kept, step_kept, whole_kept, whole_undo_kept}
+use Rattle.mlt_manager.proofs.Stepped.{step_keeps}
+use Rattle.mlt_manager.proofs.UndoingAll.{undoing_of_at}
+use Rattle.mlt_manager.proofs.WholeBases.{same_request}
+
+-- ## Tables
+
+-- tables with the same entries are one
+alike : {X : Type 0} (f g : ℕ → X) → ((j : ℕ) → f j ≡ g j) → f ≡ g
+alike f g same i j = same j i
+
+module _ {X : Type 0} (f : ℕ → X) (tx : ℕ) where
+  twice : (a b : X) → table_with (table_with f tx a) tx b ≡ table_with f tx b
+  twice a b = alike _ _ (at_each tx (λ j. table_with (table_with f tx a) tx b j ≡ table_with f tx b j)
+      (with_entry-same (table_with f tx a) tx tx b refl ∙ sym (with_entry-same f tx tx b refl))
+      (λ j ne. with_entry-other (table_with f tx a) tx j b ne ∙ with_entry-other f tx j a ne ∙ sym (with_entry-other f tx j b ne)))
+
+  as_was : (a : X) → f tx ≡ a → table_with f tx a ≡ f
+  as_was a is = alike _ _ (at_each tx (λ j. table_with f tx a j ≡ f j) (with_entry-same f tx tx a refl ∙ sym is) (λ j ne. with_entry-other f tx j a ne))
+
+-- ## Courses
+
+module _ (c : Course) (tx : ℕ) where
+  abbrev with_life : Life → Ops → Course
+  with_life life ops = record c { life = table_with c.life tx life; ops = table_with c.ops tx ops }
+
+  -- one turn after another is one
+  then_turns : (from mid mid' to : Life) (ops ops' : Ops) (m d : Course) → Turns c tx from mid ops m → Turns m tx mid' to ops' d → (mid ≡ mid') × (m.ops tx ≡ ops) × Turns c tx from to ops' d
+  then_turns from mid mid' to ops ops' m d (was, is) (was', is') = (
+    sym (with_entry-same c.life tx tx mid refl) ∙ sym (ap (λ (k : Course). k.life tx) is) ∙ was',
+    ap (λ (k : Course). k.ops tx) is ∙ with_entry-same c.ops tx tx ops refl,
+    (
+      was,
+      is' ∙ (λ i. record (is i) { life = table_with (is i).life tx to; ops = table_with (is i).ops tx ops' })
+          ∙ (λ i. record c { life = twice c.life tx mid to i; ops = twice c.ops tx ops ops' i }),
+    ),
+  )
+
+  -- a turn to the same is none
+  turns_to_same : (life : Life) (ops : Ops) (d : Course) → c.ops tx ≡ ops → Turns c tx life life ops d → d ≡ c
+  turns_to_same life ops d same (was, is) = is ∙ (λ i. record c { life = as_was c.life tx life was i; ops = as_was c.ops tx ops same i })
+
+  none_turns : (life : Life) (d : Course) → c.life tx ≡ life → d ≡ c → Turns c tx life life (c.ops tx) d
+  none_turns life d was is = (was, is ∙ (λ i. record c { life = sym (as_was c.life tx life was) i; ops = sym (as_was c.ops tx (c.ops tx) refl) i }))
+
+  -- the same turn, in other words
+  turns_as : (from from' to to' : Life) (ops ops' : Ops) (d : Course) → from ≡ from' → to ≡ to' → ops ≡ ops' → Turns c tx from to ops d → Turns c tx from' to' ops' d
+  turns_as from from' to to' ops ops' d was is stand (there, turns) = (there ∙ was, turns ∙ (λ i. with_life (is i) (stand i)))
+
+-- ## The course of a manager
+
+abbrev asked_op : Request → ObjOp
+asked_op (Do op) = op
+asked_op (TakeBack item) = item.0
+
+abbrev life_at : At → Life
+life_at At.Idle = Life.Idle
+life_at (At.Pending o) = Life.Pending (asked_op o.request)
+life_at (At.Undoing inverting) = Life.Undoing
+
+abbrev life_in : Option Transaction → Life
+life_in None = Life.NotOpen
+life_in (Some t) = life_at t.at
+
+abbrev ops_in : Option Transaction → Ops
+ops_in None = []
+ops_in (Some t) = t.undo.entries
+
+abbrev committed_by : List TraceItem → List Ops
+committed_by items = (lists_of (entries_of items)).committed
+
+abbrev pub course_of : {P : Type 0} → ManagerFields P → Course
+course_of m = record { begun = m.begun; committed = committed_by m.shared.history.items; life = λ tx. life_in (map.get m.txs tx); ops = λ tx. ops_in (map.get m.txs tx) }
+
+-- what is committed after more items
+lists_on : (items here : List TraceItem) (lists : Lists (ObjOp × ObjReply)) → after_entries lists (entries_of (items ++ here)) ≡ after_entries (after_entries lists (entries_of items)) (entries_of here)
+lists_on [] here lists = refl
+lists_on (item ∷ items) here lists = lists_on items here (after_entry lists (entry_of item))
+
+-- ## One transaction changes
+
+-- what is read of each number in a table, where one has changed
+module _ {X : Type 0} (F : Option Transaction → X) where
+  abbrev read : Table → ℕ → X
+  read txs j = F (map.get txs j)
+
+  read_inserted : (txs txs' : Table) (tx : ℕ) (after : Transaction) → txs' ≡ map.insert txs tx after → read txs' ≡ table_with (read txs) tx (F (Some after))
+  read_inserted txs txs' tx after is = ap read is ∙ alike _ _ (at_each tx (λ j. read (map.insert txs tx after) j ≡ table_with (read txs) tx (F (Some after)) j)
+      (ap F (inserted_here txs tx after) ∙ sym (with_entry-same (read txs) tx tx (F (Some after)) refl))
+      (λ j ne. ap F (inserted_elsewhere txs tx after j ne) ∙ sym (with_entry-other (read txs) tx j (F (Some after)) ne)))
+
+  read_removed : (txs txs' : Table) (tx : ℕ) → txs' ≡ map.remove txs tx → read txs' ≡ table_with (read txs) tx (F None)
+  read_removed txs txs' tx is = ap read is ∙ alike _ _ (at_each tx (λ j. read (map.remove txs tx) j ≡ table_with (read txs) tx (F None) j)
+      (ap F (removed_here txs tx) ∙ sym (with_entry-same (read txs) tx tx (F None) refl))
+      (λ j ne. ap F (removed_elsewhere txs tx j ne) ∙ sym (with_entry-other (read txs) tx j (F None) ne)))
+
+-- one number has this entry now, and every other one what it had
+abbrev HasEntry : Table → Table → ℕ → Option Transaction → Type 0
+HasEntry txs txs' tx entry = (read life_in txs' ≡ table_with (read life_in txs) tx (life_in entry)) × (read ops_in txs' ≡ table_with (read ops_in txs) tx (ops_in entry))
+
+inserted : (txs txs' : Table) (tx : ℕ) (after : Transaction) → txs' ≡ map.insert txs tx after → HasEntry txs txs' tx (Some after)
+inserted txs txs' tx after is = (read_inserted life_in txs txs' tx after is, read_inserted ops_in txs txs' tx after is)
+
+removed : (txs txs' : Table) (tx : ℕ) → txs' ≡ map.remove txs tx → HasEntry txs txs' tx None
+removed txs txs' tx is = (read_removed life_in txs txs' tx is, read_removed ops_in txs txs' tx is)
+
+-- who is told Aborted is open no more
+abbrev entry_after : Answer → Transaction → Option Transaction
+entry_after Answer.Aborted t = None
+entry_after other t = Some t
+
+stepped : (told : Answer) (txs txs' : Table) (tx : ℕ) (after : Transaction) → txs' ≡ map.insert txs tx after → HasEntry txs (txs_after told tx txs') tx (entry_after told after)
+stepped Answer.Aborted txs txs' tx after is = (
+  read_removed life_in txs' (map.remove txs' tx) tx refl ∙ ap (λ f. table_with f tx Life.NotOpen) (read_inserted life_in txs txs' tx after is) ∙ twice (read life_in txs) tx (life_at after.at) Life.NotOpen,
+  read_removed ops_in txs' (map.remove txs' tx) tx refl ∙ ap (λ f. table_with f tx []) (read_inserted ops_in txs txs' tx after is) ∙ twice (read ops_in txs) tx after.undo.entries [],
+)
+stepped other txs txs' tx after is = inserted txs txs' tx after is
+
+module _ {P : Type 0} (m m' : ManagerFields P) (tx : ℕ) where
+  abbrev SameCommitted : Type 0
+  SameCommitted = committed_by m'.shared.history.items ≡ committed_by m.shared.history.items
+
+  -- one transaction goes on, or ends
+  turned : (was entry : Option Transaction) → map.get m.txs tx ≡ was → HasEntry m.txs m'.txs tx entry → m'.begun ≡ m.begun → SameCommitted → Turns (course_of m) tx (life_in was) (life_in entry) (ops_in entry) (course_of m')
+  turned was entry there has begun committed = (ap life_in there, (λ i. record { begun = begun i; committed = committed i; life = has.0 i; ops = has.1 i }))
+
+  same_items : m'.shared.history.items ≡ m.shared.history.items → SameCommitted
+  same_items same = ap committed_by same
+
+  more_committed : (here : List TraceItem) → m'.shared.history.items ≡ m.shared.history.items ++ here → ((lists : Lists (ObjOp × ObjReply)) → (after_entries lists (entries_of here)).committed ≡ lists.committed) → SameCommitted
+  more_committed here is none = ap committed_by is ∙ ap (λ (l : Lists (ObjOp × ObjReply)). l.committed) (lists_on m.shared.history.items here no_lists) ∙ none (lists_of (entries_of m.shared.history.items))
+
+  step_committed : (told : Answer) → LeavesBase told m m' tx → SameCommitted
+  step_committed (Answer.Done reply) (op, makes) = more_committed (TraceItem.Op tx (op, reply) ∷ []) makes.adds.items (λ lists. refl)
+  step_committed (Answer.Blocked by) (keeps, found) = same_items keeps.items
+  step_committed Answer.Undone takes = more_committed (TraceItem.Back tx ∷ []) takes.2.items (λ lists. refl)
+  step_committed Answer.Aborted takes = more_committed (TraceItem.Back tx ∷ TraceItem.Abort tx ∷ []) takes.1.items (λ lists. refl)
+  step_committed other keeps = same_items keeps.items
+
+-- ## Steps
+
+-- busy is who has something pending, or an abort
+busy_by : (a : At) (life : Life) → life ≡ life_at a → (a ≡ At.Idle → ⊥) → (life ≢ Life.NotOpen) × (life ≢ Life.Idle)
+busy_by At.Idle life was not = absurd (not refl)
+busy_by (At.Pending o) life was not = (
+  (λ is. let both : Life.Pending (asked_op o.request) ≡ Life.NotOpen = sym was ∙ is in absurd cc),
+  (λ is. let both : Life.Pending (asked_op o.request) ≡ Life.Idle = sym was ∙ is in absurd cc),
+)
+busy_by (At.Undoing inverting) life was not = (
+  (λ is. let both : Life.Undoing ≡ Life.NotOpen = sym was ∙ is in absurd cc),
+  (λ is. let both : Life.Undoing ≡ Life.Idle = sym was ∙ is in absurd cc),
+)
+
+-- what a step makes of the course, by what the transaction was at
+module _ (c d : Course) (tx : ℕ) (context : WalkContext) (before after : Transaction) (old new : SharedState) (stood : c.ops tx ≡ before.undo.entries) where
+  abbrev StepTurns : Answer → At → Type 0
+  StepTurns told a = Turns c tx (life_at a) (life_in (entry_after told after)) (ops_in (entry_after told after)) d
+
+  stays_at : (a : At) → life_at after.at ≡ life_at a → after.undo.entries ≡ before.undo.entries → Turns c tx (life_at a) (life_at after.at) after.undo.entries d → d ≡ c
+  stays_at a is stand turns = turns_to_same c tx (life_at a) before.undo.entries d stood (turns_as c tx (life_at a) (life_at a) (life_at after.at) (life_at a) after.undo.entries before.undo.entries d refl is stand turns)
+
+  step_row : (a : At) (told : Answer) → TellsAt a context before after old new told → StepTurns told a → Tells c (Event.Step tx) (Told.Answered told) d
+  step_row At.Idle told none turns = absurd none
+  step_row (At.Pending o) Answer.Going s turns =
+      let on = same_request context (local before.subtx old.pages) (local after.subtx s.between.pages) o s.next s.tells.tells in
+      let busy = busy_by (At.Pending o) (c.life tx) turns.0 (λ is. absurd cc) in
+      (busy.0, busy.1, stays_at (At.Pending o) (ap life_at s.now_at ∙ ap (λ (r : Request). Life.Pending (asked_op r)) on) (λ i. (s.tells.rest.undo_kept i).entries) turns)
+  step_row (At.Pending o) (Answer.Waiting page by) s turns =
+      let busy = busy_by (At.Pending o) (c.life tx) turns.0 (λ is. absurd cc) in
+      (busy.0, busy.1, stays_at (At.Pending o) (ap life_at s.now_at ∙ ap (λ (n : OperationFields). Life.Pending (asked_op n.request)) s.tells.tells.stays) (λ i. (s.tells.rest.undo_kept i).entries) turns)
+  step_row (At.Pending o) (Answer.Blocked by) s turns =
+      (asked_op o.request, turns.0, stays_at (At.Pending o) (ap life_at s.now_at ∙ ap (λ (n : OperationFields). Life.Pending (asked_op n.request)) s.tells.1) (λ i. (s.tells.0.tells.kept i).entries) turns)
+  step_row (At.Pending o) (Answer.Done reply) s turns =
+      let done = s.tells.tells in (
+        s.tells.op,
+        turns_as c tx (life_at (At.Pending o)) (Life.Pending s.tells.op) (life_at after.at) Life.Idle after.undo.entries (c.ops tx ++ (s.tells.op, reply) ∷ []) d
+            (ap (λ (r : Request). Life.Pending (asked_op r)) s.tells.asked) (ap life_at s.now_at)
+            (done.1.entries ∙ (λ i. before.undo.entries ++ (s.tells.op, sym done.0 i) ∷ []) ∙ ap (λ (l : Ops). l ++ (s.tells.op, reply) ∷ []) (sym stood)) turns,
+      )
+  step_row (At.Pending o) (Answer.Refused reason) s turns = (
+    asked_op o.request,
+    turns_as c tx (life_at (At.Pending o)) (Life.Pending (asked_op o.request)) (life_at after.at) Life.Idle after.undo.entries (c.ops tx) d
+        refl (ap life_at s.now_at) ((λ i. (s.tells.rest.undo_kept i).entries) ∙ sym stood) turns,
+  )
+  step_row (At.Pending o) Answer.Undone s turns = absurd s.tells
+  step_row (At.Pending o) Answer.Aborted s turns = absurd s.tells
+  step_row (At.Undoing inverting) Answer.Going s turns =
+      let busy = busy_by (At.Undoing inverting) (c.life tx) turns.0 (λ is. absurd cc) in
+      (busy.0, busy.1, stays_at (At.Undoing inverting) (ap life_at s.now_at) (λ i. (s.tells.rest.undo_kept i).entries) turns)
+  step_row (At.Undoing inverting) (Answer.Waiting page by) s turns =
+      let busy = busy_by (At.Undoing inverting) (c.life tx) turns.0 (λ is. absurd cc) in
+      (busy.0, busy.1, stays_at (At.Undoing inverting) (ap life_at s.now_at) (λ i. (s.tells.rest.undo_kept i).entries) turns)
+  step_row (At.Undoing inverting) Answer.Undone s turns =
+      let takes = s.tells.takes in
+      (after.undo.entries, takes.off.last, stood ∙ takes.off.entries, takes.left, turns_as c tx Life.Undoing Life.Undoing (life_at after.at) Life.Undoing after.undo.entries after.undo.entries d refl (ap life_at s.now_at) refl turns)
+  step_row (At.Undoing inverting) Answer.Aborted s turns =
+      let takes = s.tells.takes in
+      (takes.off.last, stood ∙ takes.off.entries ∙ ap (λ (l : Ops). l ++ takes.off.last ∷ []) takes.none, turns)
+  step_row (At.Undoing inverting) (Answer.Blocked by) s turns = absurd s.tells
+  step_row (At.Undoing inverting) (Answer.Done reply) s turns = absurd s.tells
+  step_row (At.Undoing inverting) (Answer.Refused reason) s turns = absurd s.tells
+
+module _ {P : Type 0} (bits_of : P → ℕ → ℕ) (tx : ℕ) where
+  -- **What a step makes of the course.**
+  step_course : (m m' : ManagerFields P) (told : Answer) → HasStepped bits_of m m' tx told → LeavesBase told m m' tx → Tells (course_of m) (Event.Step tx) (Told.Answered told) (course_of m')
+  step_course m m' told d leaves =
+      let ch = d.steps.changes in
+      let has : HasEntry m.txs m'.txs tx (entry_after told ch.after) = subst (λ (t : Table). HasEntry m.txs t tx (entry_after told ch.after)) (sym (ap (λ (n : ManagerFields P). n.txs) d.rest)) (stepped told m.txs d.txs tx ch.after ch.is) in
+      step_row (course_of m) (course_of m') tx (context_by bits_of m.root m.active ch.before.subtx.tx) ch.before ch.after m.shared m'.shared (ap ops_in ch.was) ch.before.at told d.steps.tells
+      (turned m m' tx (Some ch.before) (entry_after told ch.after) ch.was has (ap (λ (n : ManagerFields P). n.begun) d.rest) (step_committed m m' tx told leaves))
+
+  step_told : (m m' : ManagerFields P) (told : Answer) → IsManager bits_of m → HasStepped bits_of m m' tx told → Tells (course_of m) (Event.Step tx) (Told.Answered told) (course_of m')
+  step_told m m' told h d = step_course m m' told d (step_keeps bits_of m h tx m' told d).1
+
+  -- ## Calls, cancels, and whole operations
+
+  call_course : (m m' : ManagerFields P) (op : ObjOp) → HasCalled m m' tx op → Turns (course_of m) tx Life.Idle (Life.Pending op) ((course_of m).ops tx) (course_of m')
+  call_course m m' op c =
+      let ch = c.calls.changes in
+      let makes = c.calls.tells.makes in
+      turns_as (course_of m) tx (life_at ch.before.at) Life.Idle (life_at ch.after.at) (Life.Pending op) ch.after.undo.entries ((course_of m).ops tx) (course_of m')
+      (ap life_at (was_idle m.txs tx c.may.0 ch.before c.may.1 ch.was)) (ap life_at c.calls.tells.pending) (makes.entries ∙ sym (ap ops_in ch.was))
+      (turned m m' tx (Some ch.before) (Some ch.after) ch.was (inserted m.txs m'.txs tx ch.after ch.is) (ap (λ (n : ManagerFields P). n.begun) c.rest) (same_items m m' tx makes.items))
+
+  cancel_course : (m m' : ManagerFields P) → IsOpenAt m.txs tx IsPending → CancelsOne tx m.txs m'.txs m.shared m'.shared → ChangesOpen m m' → (op : ObjOp) × Turns (course_of m) tx (Life.Pending op) Life.Idle ((course_of m).ops tx) (course_of m')
+  cancel_course m m' there c rest =
+      let ch = c.changes in
+      let o = pending_of there.one.at there.is_at in
+      let was_at : ch.before.at ≡ At.Pending o.0 = ap (λ (t : Transaction). t.at) (one_there m.txs tx ch.before there.one ch.was there.there) ∙ o.1 in (
+        asked_op o.0.request,
+        turns_as (course_of m) tx (life_at ch.before.at) (life_at (At.Pending o.0)) (life_at ch.after.at) Life.Idle ch.after.undo.entries ((course_of m).ops tx) (course_of m')
+            (ap life_at was_at) (ap life_at c.tells.idle) ((λ i. (c.tells.undo_kept i).entries) ∙ sym (ap ops_in ch.was))
+            (turned m m' tx (Some ch.before) (Some ch.after) ch.was (inserted m.txs m'.txs tx ch.after ch.is) (ap (λ (n : ManagerFields P). n.begun) rest) (same_items m m' tx (c.tells.room.items ∙ (λ i. (c.tells.history i).items)))),
+      )
+
+  -- steps that go on leave the course
+  on_course : (m last : ManagerFields P) (steps : List (ManagerFields P × Answer)) → IsManager bits_of m → StepsBy bits_of LetsGoOn m steps last tx → course_of last ≡ course_of m
+  on_course m last [] h same = ap course_of same
+  on_course m last ((next, Answer.Going) ∷ more) h (first, on, rest) =
+      on_course next last more (step_keeps bits_of m h tx next Answer.Going first).0 rest ∙ (step_told m next Answer.Going h first).2
+  on_course m last ((next, other) ∷ more) h (first, none, rest) = absurd none
+
+  -- what is called and then dropped is as it was
+  dropped : (c k d : Course) (op : ObjOp) → Turns c tx Life.Idle (Life.Pending op) (c.ops tx) k → (other : ObjOp) × Turns k tx (Life.Pending other) Life.Idle (k.ops tx) d → (c.life tx ≡ Life.Idle) × (d ≡ c)
+  dropped c k d op calls (other, drops) =
+      let both = then_turns c tx Life.Idle (Life.Pending op) (Life.Pending other) Life.Idle (c.ops tx) (k.ops tx) k d calls drops in
+      (calls.0, turns_to_same c tx Life.Idle (k.ops tx) d (sym both.1) both.2)
+
+  same_op : (op other : ObjOp) → Life.Pending op ≡ Life.Pending other → other ≡ op
+  same_op op other same = cc
+
+  whole_row : (told : Answer) (c k : Course) (stopped m' : ManagerFields P) (op : ObjOp) → Turns c tx Life.Idle (Life.Pending op) (c.ops tx) k → Tells k (Event.Step tx) (Told.Answered told) (course_of stopped) → Stops told → DropsIfItStands told stopped m' tx
+      → Tells c (Event.Whole tx op) (Told.Answered told) (course_of m')
+  whole_row (Answer.Done reply) c k stopped m' op calls (other, does) stops same =
+      let both = then_turns c tx Life.Idle (Life.Pending op) (Life.Pending other) Life.Idle (c.ops tx) (k.ops tx ++ (other, reply) ∷ []) k (course_of stopped) calls does in
+      subst (λ (n : ManagerFields P). Turns c tx Life.Idle Life.Idle (c.ops tx ++ (op, reply) ∷ []) (course_of n)) (sym same)
+      (turns_as c tx Life.Idle Life.Idle Life.Idle Life.Idle (k.ops tx ++ (other, reply) ∷ []) (c.ops tx ++ (op, reply) ∷ []) (course_of stopped) refl refl (λ i. both.1 i ++ (same_op op other both.0 i, reply) ∷ []) both.2)
+  whole_row (Answer.Waiting page by) c k stopped m' op calls row stops drops =
+      dropped c (course_of stopped) (course_of m') op (subst (Turns c tx Life.Idle (Life.Pending op) (c.ops tx)) (sym row.2) calls) (cancel_course stopped m' drops.pending drops.cancels drops.rest)
+  whole_row (Answer.Blocked by) c k stopped m' op calls row stops drops =
+      dropped c (course_of stopped) (course_of m') op (subst (Turns c tx Life.Idle (Life.Pending op) (c.ops tx)) (sym row.2) calls) (cancel_course stopped m' drops.pending drops.cancels drops.rest)
+  whole_row (Answer.Refused reason) c k stopped m' op calls row stops same =
+      subst (λ (n : ManagerFields P). (c.life tx ≡ Life.Idle) × (course_of n ≡ c)) (sym same) (dropped c k (course_of stopped) op calls row)
+  whole_row Answer.Going c k stopped m' op calls row none same = absurd none
+  whole_row Answer.Undone c k stopped m' op calls row none same = absurd none
+  whole_row Answer.Aborted c k stopped m' op calls row none same = absurd none
+
+  -- **What a whole operation makes of the course.**
+  whole_course : (m m' : ManagerFields P) (op : ObjOp) (told : Answer) → IsManager bits_of m → HasRun bits_of m m' tx op told → Tells (course_of m) (Event.Whole tx op) (Told.Answered told) (course_of m')
+  whole_course m m' op told h r =
+      let up = r.runs.steps in
+      let called = call_kept bits_of m r.called h tx op (Ok tt) r.calls in
+      let same = on_course r.called up.before up.steps called up.goes in
+      let row = step_told up.before r.runs.stopped told (steps_keep bits_of LetsGoOn tx r.called up.before up.steps called up.goes) up.ends in
+      whole_row told (course_of m) (course_of r.called) r.runs.stopped m' op (call_course m r.called op r.calls)
+      (subst (λ (c : Course). Tells c (Event.Step tx) (Told.Answered told) (course_of r.runs.stopped)) same row) up.stops r.runs.drops
+
+  -- ## Whole undoings
+
+  abbrev Unwinds : Course → Course → Type 0
+  Unwinds c d = (left : Ops) × (back : Ops) × (c.ops tx ≡ left ++ back) × Turns c tx Life.Undoing Life.Undoing left d
+
+  back_course : (m last : ManagerFields P) (steps : List (ManagerFields P × Answer)) → IsManager bits_of m → StepsBy bits_of GoesOnBack m steps last tx → (course_of m).life tx ≡ Life.Undoing → Unwinds (course_of m) (course_of last)
+  back_course m last [] h same was = ((course_of m).ops tx, [], sym (append-nil ((course_of m).ops tx)), none_turns (course_of m) tx Life.Undoing (course_of last) was (ap course_of same))
+  back_course m last ((next, Answer.Going) ∷ more) h (first, on, rest) was =
+      let same = (step_told m next Answer.Going h first).2 in
+      subst (λ (c : Course). Unwinds c (course_of last)) same (back_course next last more (step_keeps bits_of m h tx next Answer.Going first).0 rest ((λ i. (same i).life tx) ∙ was))
+  back_course m last ((next, Answer.Undone) ∷ more) h (first, on, rest) was =
+      let row = step_told m next Answer.Undone h first in
+      let turns = row.4 in
+      let later = back_course next last more (step_keeps bits_of m h tx next Answer.Undone first).0 rest ((λ i. (turns.1 i).life tx) ∙ with_entry-same (course_of m).life tx tx Life.Undoing refl) in
+      let both = then_turns (course_of m) tx Life.Undoing Life.Undoing Life.Undoing Life.Undoing row.0 later.0 (course_of next) (course_of last) turns later.3 in (
+        later.0,
+        later.1 ++ row.1 ∷ [],
+        row.2 ∙ ap (λ (l : Ops). l ++ row.1 ∷ []) (sym both.1 ∙ later.2) ∙ append_assoc later.0 later.1 (row.1 ∷ []),
+        both.2,
+      )
+  back_course m last ((next, other) ∷ more) h (first, none, rest) was = absurd none
+
+  -- who is being undone has something left
+  left_at : (s : State) (t : Transaction) (a : At) → FitsAt a s tx t → life_at a ≡ Life.Undoing → t.undo.entries ≢ []
+  left_at s t At.Idle fits is = absurd cc
+  left_at s t (At.Pending o) fits is = absurd cc
+  left_at s t (At.Undoing None) fits is = fits.1
+  left_at s t (At.Undoing (Some o)) fits is = λ none.
+      let both : length (fits.front ++ fits.last ∷ []) ≡ 0 = ap length (sym fits.entries ∙ none) in
+      let more = length-append fits.front (fits.last ∷ []) in
+      absurd (omega (arith, both, more))
+
+  undoing_left : (m : ManagerFields P) → IsManager bits_of m → (o : Option Transaction) → map.get m.txs tx ≡ o → life_in o ≡ Life.Undoing → ops_in o ≢ []
+  undoing_left m h None there is = absurd cc
+  undoing_left m h (Some t) there is = left_at (state_of bits_of m h.images h.base) t t.at (h.sound.fits tx t there).where_at is
+
+  -- **What a whole undoing makes of the course.**
+  undo_course : (m m' : ManagerFields P) (told : Answer) → IsManager bits_of m → IsOpenAt m.txs tx IsUndoing → StepsUpTo bits_of GoesOnBack StopsBack m m' tx told → Tells (course_of m) (Event.WholeUndo tx) (Told.Answered told) (course_of m')
+  undo_course m m' told h there s = by_told told (back_course m s.before s.steps h s.goes (ap life_in there.there ∙ ap life_at (undoing_of_at there.one.at there.is_at).1))
+      (step_told s.before m' told (steps_keep bits_of GoesOnBack tx m s.before s.steps h s.goes) s.ends) s.stops
+    where
+      by_told : (t : Answer) → Unwinds (course_of m) (course_of s.before) → Tells (course_of s.before) (Event.Step tx) (Told.Answered t) (course_of m') → StopsBack t → Tells (course_of m) (Event.WholeUndo tx) (Told.Answered t) (course_of m')
+      by_told Answer.Aborted (left, back, is, turns) (last, one, ends) stops = (then_turns (course_of m) tx Life.Undoing Life.Undoing Life.Undoing Life.NotOpen left [] (course_of s.before) (course_of m') turns ends).2
+      by_told (Answer.Waiting page by) (left, back, is, turns) row stops = (
+        left,
+        back,
+        is,
+        (λ none. undoing_left s.before (steps_keep bits_of GoesOnBack tx m s.before s.steps h s.goes) (map.get s.before.txs tx) refl
+            ((λ i. (turns.1 i).life tx) ∙ with_entry-same (course_of m).life tx tx Life.Undoing refl)
+            ((λ i. (turns.1 i).ops tx) ∙ with_entry-same (course_of m).ops tx tx left refl ∙ none)),
+        subst (Turns (course_of m) tx Life.Undoing Life.Undoing left) (sym row.2) turns,
+      )
+      by_told other u row none = absurd none
+
+-- ## Begins and ends
+
+none_in : (o : Option Transaction) → is_some o ≡ false → life_in o ≡ Life.NotOpen
+none_in None none = refl
+none_in (Some t) none = absurd cc
+
+no_ops : (ops : Ops) → length ops ≡ 0 → ops ≡ []
+no_ops [] is = refl
+no_ops (x ∷ xs) is = absurd cc
+
+module _ {P : Type 0} (bits_of : P → ℕ → ℕ) (m m' : ManagerFields P) (h : IsManager bits_of m) (tx : ℕ) where
+  begin_course : HasBegun m m' tx → Tells (course_of m) Event.Begin (Told.Begun tx) (course_of m')
+  begin_course b =
+      let not_open : set.contains m.active tx ≡ false = not_true (set.contains m.active tx) (λ is. let low = h.sound.match.file.ghosts.opened tx is in let next = b.number in absurd (omega (arith, low, next))) in
+      let has = inserted m.txs m'.txs tx b.one (ap (λ (n : ManagerFields P). n.txs) b.rest) in (
+        b.number,
+        (
+          none_in (map.get m.txs tx) (sym (h.sound.opened tx) ∙ not_open),
+          (λ i. record {
+            begun = (b.rest i).begun;
+            committed = more_committed m m' tx (TraceItem.Begin tx ∷ []) b.items (λ lists. refl) i;
+            life = (has.0 ∙ ap (λ a. table_with (read life_in m.txs) tx (life_at a)) b.idle) i;
+            ops = (has.1 ∙ ap (table_with (read ops_in m.txs) tx) b.entries) i;
+          }),
+        ),
+      )
+
+  ended_turns : (item : TraceItem) (committed : List Ops) → m'.begun ≡ m.begun → (e : HasEnded m m' tx item) → committed_by m'.shared.history.items ≡ committed → Turns (record (course_of m) { committed = committed }) tx Life.Idle Life.NotOpen [] (course_of m')
+  ended_turns item committed begun e is =
+      let has = removed m.txs m'.txs tx e.txs in
+      (ap life_in e.there ∙ ap life_at e.idle, (λ i. record { begun = begun i; committed = is i; life = has.0 i; ops = has.1 i }))
+
+  commit_course : (number : ℕ) → HasCommitted m m' tx number → Tells (course_of m) (Event.Commit tx) (Told.Committed number) (course_of m')
+  commit_course number c =
+      let e = c.ends in
+      let items = m.shared.history.items in
+      let stands : (lists_of (entries_of items)).transcripts tx ≡ (course_of m).ops tx = sym (h.sound.fits tx e.one e.there).stands ∙ sym (ap ops_in e.there) in (
+        c.next ∙ ap (λ n. n + 1) (h.limits.counted ∙ sym (transcripts_counted items)),
+        ended_turns (TraceItem.Commit tx number) (committed_by items ++ (course_of m).ops tx ∷ []) (ap (λ (n : ManagerFields P). n.begun) c.rest) e
+            (ap committed_by e.items ∙ ap (λ (l : Lists (ObjOp × ObjReply)). l.committed) (lists_on items (TraceItem.Commit tx number ∷ []) no_lists) ∙ ap (λ (l : Ops). committed_by items ++ l ∷ []) stands),
+      )
+
+  close_course : HasClosed m m' tx → Tells (course_of m) (Event.Abort tx) (Told.Aborting true) (course_of m')
+  close_course c =
+      let e = c.ends in (
+        ap ops_in e.there ∙ no_ops e.one.undo.entries (was_with m.txs tx 0 e.one c.nothing e.there),
+        ended_turns (TraceItem.Abort tx) (committed_by m.shared.history.items) (ap (λ (n : ManagerFields P). n.begun) c.rest) e (more_committed m m' tx (TraceItem.Abort tx ∷ []) e.items (λ lists. refl)),
+      )
+
+  abort_course : HasBegunAbort m m' tx → Tells (course_of m) (Event.Abort tx) (Told.Aborting false) (course_of m')
+  abort_course a =
+      let ch = a.puts.changes in
+      let count = was_with m.txs tx a.count ch.before a.idle ch.was in
+      let same = ap ops_in ch.was in (
+        (λ none. let zero_of : length ch.before.undo.entries ≡ 0 = ap length (sym same ∙ none) in let some = a.some in absurd (omega (arith, count, zero_of, some))),
+        turns_as (course_of m) tx (life_at ch.before.at) Life.Idle (life_at ch.after.at) Life.Undoing ch.after.undo.entries ((course_of m).ops tx) (course_of m')
+            (ap life_at (was_idle m.txs tx a.count ch.before a.idle ch.was)) (ap (λ (t : Transaction). life_at t.at) a.puts.put) (ap (λ (t : Transaction). t.undo.entries) a.puts.put ∙ sym same)
+            (turned m m' tx (Some ch.before) (Some ch.after) ch.was (inserted m.txs m'.txs tx ch.after ch.is) (ap (λ (n : ManagerFields P). n.begun) a.rest) (ap (λ (n : ManagerFields P). committed_by n.shared.history.items) a.rest)),
+      )
+
+  not_called_course : CallsNone tx m.txs m'.txs m.shared m'.shared → ChangesOpen m m' → course_of m' ≡ course_of m
+  not_called_course c rest =
+      let ch = c.changes in
+      let same = ap ops_in ch.was in
+      turns_to_same (course_of m) tx (life_at ch.before.at) ch.before.undo.entries (course_of m') same
+      (turns_as (course_of m) tx (life_at ch.before.at) (life_at ch.before.at) (life_at ch.after.at) (life_at ch.before.at) ch.after.undo.entries ch.before.undo.entries (course_of m') refl (ap life_at c.tells.idle) c.tells.makes.entries
+      (turned m m' tx (Some ch.before) (Some ch.after) ch.was (inserted m.txs m'.txs tx ch.after ch.is) (ap (λ (n : ManagerFields P). n.begun) rest) (same_items m m' tx c.tells.makes.items)))
+
+-- ## Runs
+
+module _ {P : Type 0} (bits_of : P → ℕ → ℕ) where
+  -- **What an event makes of the course.**
+  event_course : (m m' : ManagerFields P) → IsManager bits_of m → (e : Event) (t : Told) → Meets bits_of e t m m' → Tells (course_of m) e t (course_of m') × IsManager bits_of m'
+  event_course m m' h Event.Begin (Told.Begun tx) a = (begin_course bits_of m m' h tx a, begin_kept bits_of m m' h (Ok tx) a)
+  event_course m m' h Event.Begin (Told.Refused reason) a = (ap course_of a.1, begin_kept bits_of m m' h (Err reason) a)
+  event_course m m' h Event.Begin other none = absurd none
+  event_course m m' h (Event.Call tx op) Told.Called a = (call_course bits_of tx m m' op a, call_kept bits_of m m' h tx op (Ok tt) a)
+  event_course m m' h (Event.Call tx op) (Told.Refused Refusal.OutOfMemory) a = (not_called_course bits_of m m' h tx a.1 a.2, call_kept bits_of m m' h tx op (Err Refusal.OutOfMemory) a)
+  event_course m m' h (Event.Call tx op) (Told.Refused reason) a = (ap course_of a.1, call_kept bits_of m m' h tx op (Err reason) a)
+  event_course m m' h (Event.Call tx op) other none = absurd none
+  event_course m m' h (Event.Step tx) (Told.Answered told) (a, leaves, named) = (step_course bits_of tx m m' told a leaves, step_kept bits_of m m' h tx (Ok told) a)
+  event_course m m' h (Event.Step tx) (Told.Refused reason) a = (ap course_of a.1, step_kept bits_of m m' h tx (Err reason) a)
+  event_course m m' h (Event.Step tx) other none = absurd none
+  event_course m m' h (Event.Cancel tx) Told.Cancelled (a, keeps) = (cancel_course bits_of tx m m' a.0 a.1 a.2, cancel_kept bits_of m m' h tx (Ok tt) a)
+  event_course m m' h (Event.Cancel tx) (Told.Refused reason) a = (ap course_of a.1, cancel_kept bits_of m m' h tx (Err reason) a)
+  event_course m m' h (Event.Cancel tx) other none = absurd none
+  event_course m m' h (Event.Commit tx) (Told.Committed number) a = (commit_course bits_of m m' h tx number a, commit_kept bits_of m m' h tx (Ok number) a)
+  event_course m m' h (Event.Commit tx) (Told.Refused reason) a = (ap course_of a.1, commit_kept bits_of m m' h tx (Err reason) a)
+  event_course m m' h (Event.Commit tx) other none = absurd none
+  event_course m m' h (Event.Abort tx) (Told.Aborting true) a = (close_course bits_of m m' h tx a, abort_kept bits_of m m' h tx (Ok true) a)
+  event_course m m' h (Event.Abort tx) (Told.Aborting false) a = (abort_course bits_of m m' h tx a, abort_kept bits_of m m' h tx (Ok false) a)
+  event_course m m' h (Event.Abort tx) (Told.Refused reason) a = (ap course_of a.1, abort_kept bits_of m m' h tx (Err reason) a)
+  event_course m m' h (Event.Abort tx) other none = absurd none
+  event_course m m' h (Event.Whole tx op) (Told.Answered told) (a, leaves, named) = (whole_course bits_of tx m m' op told h a, whole_kept bits_of m m' h tx op (Ok told) a)
+  event_course m m' h (Event.Whole tx op) (Told.Refused Refusal.OutOfMemory) a = (not_called_course bits_of m m' h tx a.1 a.2, whole_kept bits_of m m' h tx op (Err Refusal.OutOfMemory) a)
+  event_course m m' h (Event.Whole tx op) (Told.Refused reason) a = (ap course_of a.1, whole_kept bits_of m m' h tx op (Err reason) a)
+  event_course m m' h (Event.Whole tx op) other none = absurd none
+  event_course m m' h (Event.WholeUndo tx) (Told.Answered told) (a, leaves, named) = (undo_course bits_of tx m m' told h a.0 a.1, whole_undo_kept bits_of m m' h tx (Ok told) a)
+  event_course m m' h (Event.WholeUndo tx) (Told.Refused reason) a = (ap course_of a.1, whole_undo_kept bits_of m m' h tx (Err reason) a)
+  event_course m m' h (Event.WholeUndo tx) other none = absurd none
+
+  -- **What a run makes of the course.**
+  run_course : (events : List Event) (tolds : List Told) (m m' : ManagerFields P) → IsManager bits_of m → IsRun bits_of m events tolds m' → TellsAll (course_of m) events tolds (course_of m') × IsManager bits_of m'
+  run_course [] [] m m' h same = (ap course_of same, subst (IsManager bits_of) (sym same) h)
+  run_course (e ∷ es) (t ∷ ts) m m' h (next, meets, rest) =
+      let one = event_course (counted m) next (counted_keeps bits_of m h) e t meets in
+      let more = run_course es ts next m' one.1 rest in
+      ((course_of next, one.0, more.0), more.1)
+  run_course [] (t ∷ ts) m m' h none = absurd none
+  run_course (e ∷ es) [] m m' h none = absurd none
+
+  -- what stands of an open transaction is what the history says
+  stands_in : (m : ManagerFields P) → IsManager bits_of m → (tx : ℕ) (o : Option Transaction) → map.get m.txs tx ≡ o → (lists_by m).transcripts tx ≡ ops_in o
+  stands_in m h tx None is =
+      nothing_of_others m.shared.history.items h.base h.sound.match.records.history tx
+      (λ runs. false≢true (sym (ap is_some is) ∙ sym (h.sound.opened tx) ∙ (h.sound.match.records.running tx).1 runs))
+  stands_in m h tx (Some one) is = sym (h.sound.fits tx one is).stands
+
+  -- **Every manager keeps the promise over its course.**
+  promise_over : (m : ManagerFields P) → IsManager bits_of m → KeepsMainPromise m → KeepsPromiseOver (course_of m) m
+  promise_over m h main =
+      let told = same_transcripts m.shared.history.items in
+      record {
+        base = main.base;
+        alone = subst (λ (t : Transcripts). IsSerialBase Step empty_base t.committed main.base) told main.alone;
+        clean = main.clean;
+        put_back = main.put_back;
+        state = main.state;
+        means = main.means;
+        taken_back = subst (λ f. UndoneTo Step main.base f main.state) (alike _ _ (λ tx. ap (λ (t : Transcripts). t.of_open tx) told ∙ stands_in m h tx (map.get m.txs tx) refl)) main.taken_back;
+      }
+
+  -- **What events were told, from a new manager, is a course, and the last manager keeps the promise over it.**
+  pub played_course : (limits : Limits) (pseudo : P) (events : List Event) (tolds : List Told) (last : ManagerFields P) → ((p : P) → GivesPseudokeys (bits_of p)) → Plays bits_of limits pseudo events tolds last
+      → (c : Course) × TellsAll opening_course events tolds c × KeepsPromiseOver c last
+  played_course limits pseudo events tolds last keys plays =
+      let new = plays.is_new in
+      let run = run_course events tolds plays.first last (new_kept bits_of plays.first limits pseudo (keys plays.first.root.pseudo) new) plays.run in
+      let opening : course_of plays.first ≡ opening_course = (λ i. record {
+        begun = new.begun i;
+        committed = ap committed_by new.items i;
+        life = (ap (read life_in) new.txs ∙ alike _ _ (λ tx. ap life_in (map.get-empty {X = Transaction} nat_cmp tx))) i;
+        ops = (ap (read ops_in) new.txs ∙ alike _ _ (λ tx. ap ops_in (map.get-empty {X = Transaction} nat_cmp tx))) i;
+      }) in
+      (course_of last, subst (λ (c : Course). TellsAll c events tolds (course_of last)) opening run.0, promise_over last run.1 plays.promises.main)
