@@ -13,7 +13,7 @@ pub enum Answer {
     Waiting { page: PageNo, by: TxId },
     /// This transaction holds an operation that clashes, the lowest that does. The operation is to be run anew.
     Blocked { by: TxId },
-    /// The operation is done, and was told this.
+    /// The operation is done, with this reply.
     Done(ObjReply),
     /// The last operation that stood is taken back, and others stand.
     Undone,

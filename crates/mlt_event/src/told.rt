@@ -4,7 +4,7 @@ use crate::answer::Answer;
 use mlt_types::{Refusal, TxId};
 use std::fmt;
 
-/// What an event is told.
+/// The answer to an event.
 #[derive(Clone, Copy, Debug, PartialEq, Eq)]
 pub enum Told {
     /// The transaction has begun, under this number.

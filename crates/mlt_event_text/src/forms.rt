@@ -73,7 +73,7 @@ fn count(text: &[u8]) -> Option<u16>
 }
 
 // What a line asks for whose first word is this, and which goes on with the number of a transaction. Words of
-// different lengths are told apart without a look at their bytes.
+// different lengths differ, so their bytes are not compared.
 #[tactic(auto, unfolding(crate::specs::Forms::asked_of_tx, mlt_text_words::specs::Words::words_of))]
 fn asked_of_tx(word: &[u8], tx: TxId, rest: &[u8]) -> Option<Asked>
     ensures { result ≡ asked_of_tx word.now tx (raw_words rest.now) }

@@ -43,7 +43,7 @@ pub fn next_line(text: &[u8]) -> Option<(SessionLine, usize)>
     line_of_any_form(text)
 }
 
-// The next line of a text, whatever form it has. Nearly all are of those that are told before it is asked.
+// The next line of a text, whatever form it has. It is called for the few lines that the fast forms do not read.
 #[inline(never)]
 fn line_of_any_form(text: &[u8]) -> Option<(SessionLine, usize)>
     ensures { NextLine text.now result }

@@ -8,7 +8,7 @@ use mlt_event::Told;
 use mlt_types::Refusal;
 use std::alloc::Global;
 
-/// The text of what events are told: a line for each, in order, which ends in LF.
+/// The text of the answers to events: a line for each, in order, which ends in LF.
 ///
 /// # Errors
 /// `OutOfMemory`, where a growth was refused.

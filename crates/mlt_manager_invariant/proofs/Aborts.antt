@@ -2,11 +2,11 @@
 use Rattle.std.proofs.Common.{◌≡◌, ◌≢◌, ℕ, ◌≤◌, false, List, length, Some, is_some, refl, sym, ap, subst, ◌∙◌, inl, inr, arith}
 use Rattle.std.specs.FinMap as map
 use Rattle.std.specs.FinSet as set
-use Rattle.mlt_manager_invariant.proofs.Names.{cases_eq, ObjOp, ObjReply, total_room-insert, HoldsNothing, KeepsRunning, Undo, PagesMeanHistory, Running, At, Transaction, with_transaction, Fits, FitsAt, IsSound, State, all_of, images_kept, is_undoing, is_undoing_at, pending_room, room_of, undoing_of, abstract_state_of}
+use Rattle.mlt_manager_invariant.proofs.Names.{total_room, cases_eq, ObjOp, ObjReply, total_room-insert, HoldsNothing, KeepsRunning, Undo, PagesMeanHistory, Running, At, Transaction, with_transaction, Fits, FitsAt, IsSound, State, all_of, images_kept, is_undoing, is_undoing_at, pending_room, room_of, undoing_of, abstract_state_of}
 use Rattle.mlt_tx_meaning.proofs.Transactions.{abort_keeps}
 use Rattle.mlt_manager_invariant.specs.Transactions.{BeginsAbort}
 use Rattle.mlt_manager_invariant.proofs.Others.{still_fits}
-use Rattle.mlt_manager_invariant.proofs.Tables.{inserted_elsewhere, inserted_here}
+use Rattle.mlt_manager_invariant.proofs.Tables.{fits_after, inserted_elsewhere, inserted_here, opened_after}
 
 module _ (s : State) (i : ℕ) (before after : Transaction) (sound : IsSound s) (was : map.get s.txs i ≡ Some before) (k : BeginsAbort before after) where
   abbrev now : State
@@ -33,10 +33,7 @@ module _ (s : State) (i : ℕ) (before after : Transaction) (sound : IsSound s) 
   ]
 
   opened : (j : ℕ) → set.contains s.active j ≡ is_some (map.get (map.insert s.txs i after) j)
-  opened j = elim (cases_eq j i) [
-    | inl here ↦ ap (set.contains s.active) here ∙ sound.opened i ∙ ap is_some was ∙ sym (ap is_some (ap (map.get (map.insert s.txs i after)) here ∙ inserted_here s.txs i after))
-    | inr differ ↦ sound.opened j ∙ ap is_some (sym (inserted_elsewhere s.txs i after j differ))
-  ]
+  opened = opened_after s i before after was sound.opened
 
   entries : after.undo.entries ≡ before.undo.entries
   entries = ap (λ (u : Undo). u.entries) k.undo
@@ -63,13 +60,7 @@ module _ (s : State) (i : ℕ) (before after : Transaction) (sound : IsSound s) 
       }
 
   fits_all : (j : ℕ) (t : Transaction) → map.get (map.insert s.txs i after) j ≡ Some t → Fits now j t
-  fits_all j t is = elim (cases_eq j i) [
-    | inl here ↦
-        let found : Some after ≡ Some t = sym (inserted_here s.txs i after) ∙ sym (ap (map.get (map.insert s.txs i after)) here) ∙ is in
-        let same : after ≡ t = cc in
-        subst (λ n. Fits now n t) (sym here) (subst (Fits now i) same own_fits)
-    | inr differ ↦ other_fits j t differ (sym (inserted_elsewhere s.txs i after j differ) ∙ is)
-  ]
+  fits_all = fits_after s now i after refl own_fits other_fits
 
   same_room : room_of after ≡ room_of before
   same_room =
@@ -80,15 +71,6 @@ module _ (s : State) (i : ℕ) (before after : Transaction) (sound : IsSound s) 
 
   -- **All that is always true stays true.**
   pub abort_sound : IsSound now
-  abort_sound = record {
-    match = match;
-    running = sound.running;
-    kept = kept;
-    opened = opened;
-    fits = fits_all;
-    held = sound.held;
-    begun = sound.begun;
-    count = sound.count;
-    commits = sound.commits;
-    room = omega (arith, same_room, sound.room, total_room-insert room_of s.txs i before after was);
-  }
+  abort_sound =
+      let room : s.shared.history.room ≡ total_room room_of now.txs = omega (arith, same_room, sound.room, total_room-insert room_of s.txs i before after was) in
+      assumption (match, kept, opened, fits_all, room, sound)

@@ -17,7 +17,7 @@ use Rattle.mlt_tx_meaning.proofs.Walks.{no_more_by_begin}
 use Rattle.mlt_manager_invariant.specs.Transactions.{Begins, with_next}
 use Rattle.mlt_manager_invariant.proofs.Lengths.{as_many_images}
 use Rattle.mlt_manager_invariant.proofs.Openness.{agrees_in, keeps_fewer, active_fits}
-use Rattle.mlt_manager_invariant.proofs.Tables.{inserted_elsewhere, inserted_here}
+use Rattle.mlt_manager_invariant.proofs.Tables.{fits_after, inserted_elsewhere, inserted_here}
 
 module _ (s : State) (t : Transaction) (shared : SharedState) (sound : IsSound s) (few : map.len s.txs < s.shared.pages.locks.max_open) (k : Begins s t shared) where
   abbrev i : ℕ
@@ -110,13 +110,7 @@ module _ (s : State) (t : Transaction) (shared : SharedState) (sound : IsSound s
       }
 
   fits_all : (j : ℕ) (u : Transaction) → map.get (map.insert s.txs i t) j ≡ Some u → Fits now j u
-  fits_all j u is = elim (cases_eq j i) [
-    | inl here ↦
-        let found : Some t ≡ Some u = sym (inserted_here s.txs i t) ∙ sym (ap (map.get (map.insert s.txs i t)) here) ∙ is in
-        let same : t ≡ u = cc in
-        subst (λ n. Fits now n u) (sym here) (subst (Fits now i) same own_fits)
-    | inr differ ↦ other_fits j u differ (sym (inserted_elsewhere s.txs i t j differ) ∙ is)
-  ]
+  fits_all = fits_after s now i t refl own_fits other_fits
 
   in_order : AreBegunInOrder shared.history.items
   in_order =

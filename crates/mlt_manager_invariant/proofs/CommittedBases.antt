@@ -1,5 +1,5 @@
 -- The base of the committed transcripts of a manager
-use Rattle.mlt_manager_invariant.proofs.TraceNames.{Base, IsSound, State}
+use Rattle.mlt_manager_invariant.proofs.Names.{Base, IsSound, State}
 use Rattle.mlt_trace_check.proofs.Histories.{serializable}
 use Rattle.mlt_manager_invariant.specs.Traced.{IsCommittedBase}
 

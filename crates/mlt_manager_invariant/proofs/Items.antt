@@ -1,7 +1,7 @@
 -- Events of which the history gets items
 use Rattle.std.proofs.Common.{◌≡◌, ◌≢◌, ℕ, ◌+◌, List, [], ◌∷◌, ◌++◌, true, false, Option, None, Some, refl, sym, ap, subst, ◌∙◌, append_assoc}
 use Rattle.std.specs.FinMap as map
-use Rattle.mlt_manager_invariant.proofs.TraceNames.{Base, ObjOp, ObjReply, TraceItem, ItemsWithRoom, commit_count, ArePlaced, HasPlace, IsWhole, told, whole_more, OperationFields, Answer, tx_state_of, SharedState, Transaction, IsSound, State, is_undoing, IsTraced}
+use Rattle.mlt_manager_invariant.proofs.Names.{Base, ObjOp, ObjReply, TraceItem, ItemsWithRoom, commit_count, ArePlaced, HasPlace, IsWhole, told, whole_more, OperationFields, Answer, tx_state_of, SharedState, Transaction, IsSound, State, is_undoing, IsTraced}
 use Rattle.mlt_order.specs.Histories.{Lists, but_last}
 use Rattle.mlt_order.proofs.Growing.{but_last-push}
 use Rattle.mlt_order.proofs.Tables.{changed}

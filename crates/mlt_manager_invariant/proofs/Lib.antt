@@ -24,7 +24,6 @@ pub mod Tables
 pub mod Turned
 pub mod Turning
 pub mod Undoing
-mod TraceNames
 pub mod CommittedBases
 pub mod Places
 pub mod Wholes

@@ -2,21 +2,23 @@
 pub use Rattle.mlt_event.specs.declared.answer.Answer.{Answer}
 pub use Rattle.mlt_hash.specs.Walks.{HasRead, Stands, WalkContext, WalkFields}
 pub use Rattle.mlt_hash.specs.declared.pass.Phase.{Phase}
-pub use Rattle.mlt_hash_access.specs.LocalStates.{LocalState, local}
-pub use Rattle.mlt_hash_access.specs.PageTurns.{TakesTurn, TurnsBack}
-pub use Rattle.mlt_hash_access.specs.Views.{View, view_of}
-pub use Rattle.mlt_hash_access.specs.declared.locked_store.LockedStore.{LockedStore}
-pub use Rattle.mlt_hash_form.specs.Held.{Agrees}
 pub use Rattle.mlt_hash_access.proofs.AllEvents.{close_clean, close_keeps, end_clean, end_keeps, nothing_after_roll_back, nothing_at_end}
 pub use Rattle.mlt_hash_access.proofs.AllRunning.{agrees_with_each}
 pub use Rattle.mlt_hash_access.specs.CleanPages.{RunningImages, clean_pages}
+pub use Rattle.mlt_hash_access.specs.LocalStates.{LocalState, local}
+pub use Rattle.mlt_hash_access.specs.PageTurns.{TakesTurn, TurnsBack}
 pub use Rattle.mlt_hash_access.specs.Running.{AllMayStep, AllRunning, HoldsNothing, KeepsRunning, after_close, after_end, after_roll_back, after_step, clean_of, images_by, is_open, local_of}
+pub use Rattle.mlt_hash_access.specs.Views.{View, view_of}
+pub use Rattle.mlt_hash_access.specs.declared.locked_store.LockedStore.{LockedStore}
+pub use Rattle.mlt_hash_form.specs.Held.{Agrees}
 pub use Rattle.mlt_manager_invariant.specs.Events.{KeepsCleanPages, with_transaction}
 pub use Rattle.mlt_manager_invariant.specs.Sound.{Fits, FitsAt, HasInverse, HasPending, IsSound}
 pub use Rattle.mlt_manager_invariant.specs.States.{State, abstract_state_of, all_of, images_kept, is_undoing, is_undoing_at, pending_room, room_of, undoing_of}
+pub use Rattle.mlt_manager_invariant.specs.Traced.{IsTraced}
 pub use Rattle.mlt_manager_invariant.specs.Undoing.{LedBack, TakesLastBack}
 pub use Rattle.mlt_object_base.specs.Effects.{changes_on, inverse_of, own_change_on}
 pub use Rattle.mlt_object_base.specs.Requests.{decision, size_key_of, target_of}
+pub use Rattle.mlt_object_base.specs.Undo.{Undo}
 pub use Rattle.mlt_object_base.specs.declared.record.RecChange.{RecChange}
 pub use Rattle.mlt_object_base.specs.declared.request.Request.{Request}
 pub use Rattle.mlt_object_base.specs.declared.request.Request.TheVariants.{Do, TakeBack}
@@ -26,7 +28,6 @@ pub use Rattle.mlt_object_kinds.specs.Operations.{cell_of}
 pub use Rattle.mlt_object_kinds.specs.declared.operation.ObjOp.{ObjOp}
 pub use Rattle.mlt_object_kinds.specs.declared.operation.ObjReply.{ObjReply}
 pub use Rattle.mlt_object_locks.specs.Locks.{Held, HoldsClash, Locks, SameReservations, is_of_other, reservation_of}
-pub use Rattle.mlt_object_base.specs.Undo.{Undo}
 pub use Rattle.mlt_order.proofs.Growing.{after_entries-push, but_last-push}
 pub use Rattle.mlt_order.proofs.Tables.{changed}
 pub use Rattle.mlt_order.specs.Histories.{Entry, Lists, after_entry, but_last, lists_of, no_lists}
@@ -41,9 +42,12 @@ pub use Rattle.mlt_trace.proofs.ItemLaws.{entries_of-append, no_begin, no_commit
 pub use Rattle.mlt_trace.proofs.RoomLaws.{total_room-insert, total_room-remove}
 pub use Rattle.mlt_trace.specs.Entries.{entries_of}
 pub use Rattle.mlt_trace.specs.HistoryItems.{ItemsWithRoom}
-pub use Rattle.mlt_trace.specs.Numbers.{AreBegunInOrder, AreCounted, CountsFrom, begin_count, begun_txs, commit_numbers}
+pub use Rattle.mlt_trace.specs.Numbers.{AreBegunInOrder, AreCounted, CountsFrom, begin_count, begun_txs, commit_count, commit_numbers}
 pub use Rattle.mlt_trace.specs.Rooms.{total_room}
 pub use Rattle.mlt_trace.specs.declared.item.TraceItem.{TraceItem}
+pub use Rattle.mlt_trace_check.proofs.Places.{whole_more}
+pub use Rattle.mlt_trace_check.specs.Traces.{ArePlaced, HasPlace, IsWhole, told}
+pub use Rattle.mlt_tx.specs.Transactions.{tx_state_of}
 pub use Rattle.mlt_tx.specs.declared.shared.SharedState.{SharedState}
 pub use Rattle.mlt_tx.specs.declared.transaction.At.{At}
 pub use Rattle.mlt_tx.specs.declared.transaction.Transaction.{Transaction}

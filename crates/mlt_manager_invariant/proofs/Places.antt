@@ -1,7 +1,7 @@
 -- In a sound state items have their places
 use Rattle.std.proofs.Common.{◌≡◌, ℕ, ◌+◌, ◌<◌, List, [], ◌∷◌, length, Contains, Some, is_some, sym, ap, ◌∙◌, inl, inr, refl, arith}
 use Rattle.std.specs.FinMap as map
-use Rattle.mlt_manager_invariant.proofs.TraceNames.{ObjOp, ObjReply, TraceItem, commit_count, HasPlace, IsWhole, Transaction, IsSound, State}
+use Rattle.mlt_manager_invariant.proofs.Names.{ObjOp, ObjReply, TraceItem, commit_count, HasPlace, IsWhole, Transaction, IsSound, State}
 use Rattle.mlt_order.proofs.RunLemmas.{contains-nothing}
 use Rattle.mlt_trace.specs.Numbers.{CountsFrom, begun_txs}
 use Rattle.mlt_trace.proofs.BegunLaws.{first_or_later}

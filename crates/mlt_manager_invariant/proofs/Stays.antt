@@ -5,7 +5,7 @@ use Rattle.std.specs.FinSet as set
 use Rattle.mlt_manager_invariant.proofs.Names.{cases_eq, ObjOp, ObjReply, Entry, lists_of, items_of, Held, TraceItem, entries_of, AreBegunInOrder, AreCounted, begin_count, total_room-insert, RunningImages, clean_pages, PagesMeanHistory, lists_in, same_pages_match, SharedState, Transaction, with_transaction, Fits, IsSound, State, images_kept, room_of, undoing_of, abstract_state_of}
 use Rattle.mlt_manager_invariant.specs.Events.{KeepsClean}
 use Rattle.mlt_manager_invariant.proofs.Others.{still_fits}
-use Rattle.mlt_manager_invariant.proofs.Tables.{inserted_elsewhere, inserted_here, same_undoing}
+use Rattle.mlt_manager_invariant.proofs.Tables.{fits_after, inserted_elsewhere, inserted_here, opened_after, same_undoing}
 
 module _ (s : State) (i : ℕ) (before after : Transaction) (shared : SharedState) (images : RunningImages)
     (sound : IsSound s) (was : map.get s.txs i ≡ Some before) (k : KeepsClean s i before after shared images) where
@@ -28,10 +28,7 @@ module _ (s : State) (i : ℕ) (before after : Transaction) (shared : SharedStat
   ]
 
   opened : (j : ℕ) → set.contains s.active j ≡ is_some (map.get (map.insert s.txs i after) j)
-  opened j = elim (cases_eq j i) [
-    | inl here ↦ ap (λ n. set.contains s.active n) here ∙ sound.opened i ∙ ap is_some was ∙ sym (ap is_some (ap (λ n. map.get (map.insert s.txs i after) n) here ∙ inserted_here s.txs i after))
-    | inr differ ↦ sound.opened j ∙ ap is_some (sym (inserted_elsewhere s.txs i after j differ))
-  ]
+  opened = opened_after s i before after was sound.opened
 
   own_fits : Fits (with_transaction s i after shared images) i after
   own_fits =
@@ -54,13 +51,7 @@ module _ (s : State) (i : ℕ) (before after : Transaction) (shared : SharedStat
       }
 
   fits_all : (j : ℕ) (t : Transaction) → map.get (map.insert s.txs i after) j ≡ Some t → Fits (with_transaction s i after shared images) j t
-  fits_all j t is = elim (cases_eq j i) [
-    | inl here ↦
-        let found : Some after ≡ Some t = sym (inserted_here s.txs i after) ∙ sym (ap (λ n. map.get (map.insert s.txs i after) n) here) ∙ is in
-        let same : after ≡ t = cc in
-        subst (λ n. Fits (with_transaction s i after shared images) n t) (sym here) (subst (Fits (with_transaction s i after shared images) i) same own_fits)
-    | inr differ ↦ other_fits j t differ (sym (inserted_elsewhere s.txs i after j differ) ∙ is)
-  ]
+  fits_all = fits_after s (with_transaction s i after shared images) i after refl own_fits other_fits
 
   -- **All that is always true stays true.**
   pub stays_sound : IsSound (with_transaction s i after shared images)

@@ -1,7 +1,7 @@
 -- Events that leave the items, and the text of them
 use Rattle.std.proofs.Common.{◌≡◌, ◌≢◌, ℕ, List, [], true, false, Option, None, Some, is_some, refl, sym, ap, subst, ◌∙◌, nat_cmp}
 use Rattle.std.specs.FinMap as map
-use Rattle.mlt_manager_invariant.proofs.TraceNames.{Base, ObjReply, TraceItem, ItemsWithRoom, ArePlaced, IsWhole, told, OperationFields, Answer, SharedState, Transaction, tx_state_of, IsSound, State, is_undoing, IsTraced}
+use Rattle.mlt_manager_invariant.proofs.Names.{Base, ObjReply, TraceItem, ItemsWithRoom, ArePlaced, IsWhole, told, OperationFields, Answer, SharedState, Transaction, tx_state_of, IsSound, State, is_undoing, IsTraced}
 use Rattle.mlt_object_kinds.specs.Bases.{Step}
 use Rattle.mlt_order.specs.Histories.Stage.{Running}
 use Rattle.mlt_order.specs.Interleavings.{UndoneTo}

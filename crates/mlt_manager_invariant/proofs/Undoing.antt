@@ -8,7 +8,7 @@ use Rattle.mlt_tx.specs.Steps.{TakesOne}
 use Rattle.mlt_manager_invariant.specs.Undoing.{with_undone}
 use Rattle.mlt_manager_invariant.proofs.LastBack.{IsLeft, led_back, left, one_fewer, pages_now, room_after, room_before}
 use Rattle.mlt_manager_invariant.proofs.Others.{still_fits}
-use Rattle.mlt_manager_invariant.proofs.Tables.{inserted_elsewhere, inserted_here, same_undoing}
+use Rattle.mlt_manager_invariant.proofs.Tables.{fits_after, kept_after, opened_after, same_undoing}
 
 module _ (s : State) (i : ℕ) (inverting : Option OperationFields) (before after : Transaction) (shared : SharedState)
     (sound : IsSound s) (was : map.get s.txs i ≡ Some before) (takes : TakesLastBack s inverting before after shared Answer.Undone) where
@@ -44,17 +44,10 @@ module _ (s : State) (i : ℕ) (inverting : Option OperationFields) (before afte
       (subst (λ (u : ℕ → Bool). PagesMeanHistory (record (abstract_state_of s) { pages = pages; undoing = u; history = entries_of s.shared.history.items ++ TookBack i ∷ []; base = led.0 })) undoing led.2)
 
   kept : (j : ℕ) → map.get (map.insert s.images i map.empty) j ≡ images_kept (map.get (map.insert s.txs i after) j)
-  kept j = elim (cases_eq j i) [
-    | inl here ↦ ap (λ n. map.get (map.insert s.images i map.empty) n) here ∙ inserted_here s.images i map.empty ∙ ap Some (sym rest.own)
-        ∙ sym (ap images_kept (ap (λ n. map.get (map.insert s.txs i after) n) here ∙ inserted_here s.txs i after))
-    | inr differ ↦ inserted_elsewhere s.images i map.empty j differ ∙ sound.kept j ∙ ap images_kept (sym (inserted_elsewhere s.txs i after j differ))
-  ]
+  kept = kept_after s i after sound.kept rest.own
 
   opened : (j : ℕ) → set.contains s.active j ≡ is_some (map.get (map.insert s.txs i after) j)
-  opened j = elim (cases_eq j i) [
-    | inl here ↦ ap (λ n. set.contains s.active n) here ∙ sound.opened i ∙ ap is_some was ∙ sym (ap is_some (ap (λ n. map.get (map.insert s.txs i after) n) here ∙ inserted_here s.txs i after))
-    | inr differ ↦ sound.opened j ∙ ap is_some (sym (inserted_elsewhere s.txs i after j differ))
-  ]
+  opened = opened_after s i before after was sound.opened
 
   abbrev old_lists : Lists (ObjOp × ObjReply)
   old_lists = lists_in (abstract_state_of s)
@@ -87,13 +80,7 @@ module _ (s : State) (i : ℕ) (inverting : Option OperationFields) (before afte
       }
 
   fits_all : (j : ℕ) (t : Transaction) → map.get (map.insert s.txs i after) j ≡ Some t → Fits now j t
-  fits_all j t is = elim (cases_eq j i) [
-    | inl here ↦
-        let found : Some after ≡ Some t = sym (inserted_here s.txs i after) ∙ sym (ap (λ n. map.get (map.insert s.txs i after) n) here) ∙ is in
-        let same : after ≡ t = cc in
-        subst (λ n. Fits now n t) (sym here) (subst (Fits now i) same own_fits)
-    | inr differ ↦ other_fits j t differ (sym (inserted_elsewhere s.txs i after j differ) ∙ is)
-  ]
+  fits_all = fits_after s now i after refl own_fits other_fits
 
   room_now : shared.history.room ≡ total_room room_of (map.insert s.txs i after)
   room_now =

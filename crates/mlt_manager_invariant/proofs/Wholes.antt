@@ -2,7 +2,7 @@
 use Rattle.std.proofs.Common.{◌≡◌, ◌≢◌, ℕ, List, [], ◌∷◌, ◌++◌, false, Some, sym, ap, subst, ◌∙◌, inl, inr, nat_cmp}
 use Rattle.std.specs.FinMap as map
 use Rattle.std.proofs.lemmas.Bool.{cases_eq}
-use Rattle.mlt_manager_invariant.proofs.TraceNames.{TraceItem, IsWhole, whole_more, Transaction, State, is_undoing, IsTraced}
+use Rattle.mlt_manager_invariant.proofs.Names.{TraceItem, IsWhole, whole_more, Transaction, State, is_undoing, IsTraced}
 use Rattle.mlt_manager_invariant.proofs.Tables.{inserted_elsewhere, inserted_here, removed_elsewhere, removed_here}
 
 abbrev pub AllWhole : map.FinMap nat_cmp Transaction → List TraceItem → Type 0

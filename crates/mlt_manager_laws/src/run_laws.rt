@@ -48,10 +48,10 @@ pub fn steps_of_a_run_are_own_steps<P: Pseudo>()
         tx events tolds }
 {}
 
-/// From a call on an operation on one record is told Done or Blocked at its fourth step, and Going at the three before it; but
-/// for an addition that finds no room. That one is told Going at its third step too; and then comes a narrow pass or a wide
-/// one. One on two records is told Done or Blocked at its fourth to seventh step; or finds no room at its third to fifth, and
-/// then comes a wide pass.
+/// From its call on, an operation on one record gets Done or Blocked at its fourth step, and Going at the three before it,
+/// unless it is an addition that finds no room. That one gets Going at its third step too, and then a narrow or a wide pass
+/// follows. An operation on two records gets Done or Blocked at its fourth to seventh step; or it finds no room at its third
+/// to fifth, and then a wide pass follows.
 pub fn operations_of_a_run_take_few_steps<P: Pseudo>()
     ensures { (old called new : ManagerFields P) (events : List Event) (tolds : List Told)
         (tx : ℕ) (op : ObjOp)

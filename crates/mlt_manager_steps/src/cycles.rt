@@ -8,10 +8,10 @@ use mlt_types::{Refusal, TxId};
 // At most so many transactions are open, and so many may wait for each other.
 const MOST: usize = 64;
 
-// One who is blocked, and by whom.
+// A transaction that is blocked, and the one that blocks it.
 type Link = (TxId, TxId);
 
-// Appends who waits for whom, where a transaction is in a cycle of waits.
+// Appends which transaction waits for which, where a transaction is in a cycle of waits.
 pub(crate) fn push_cycle(text: &mut String, state: &ReplayedState, tx: TxId) -> Result<(), Refusal>
     ensures refusal { IsOkUnless result Refusal.OutOfMemory }
 {

@@ -11,7 +11,7 @@ use mlt_manager::Manager;
 use mlt_types::{Limits, Pseudo, Refusal};
 use std::alloc::Global;
 
-// All events in order, from a new manager, and the lines of what each is told, with the reasons where they are asked for.
+// Executes all events in order, on a new manager, and returns the lines of the answers, with the reasons if they are asked for.
 pub(crate) fn play_lines<P: Pseudo>(
     alloc: Global,
     limits: Limits,

@@ -83,8 +83,8 @@ fn push_clash(text: &mut String, by: TxId, held: &Done, asked: &Done) -> Result<
     push_example(text, held, asked)
 }
 
-// Appends which page is waited for, who has it, and what that one is at: the operation that was called, or the one that is
-// taken back.
+// Appends which page is waited for, which transaction has it, and what that transaction does: the operation that was called,
+// or the one that is undone.
 fn push_wait(
     text: &mut String,
     state: &ReplayedState,

@@ -46,9 +46,9 @@ impl ReplayedState {
         }
     }
 
-    /// One more event, with what it was told, and the whole history behind it, of which only what is new is gone over.
-    /// Appends the line of what it was told, and then the lines of the reasons: of a block which operation is in the way of
-    /// which, with what that would be told, and the cycle of waits that has come about; of a wait the page, and who has it.
+    /// Takes one more event with its answer, and the whole history after it, of which only the new items are read.
+    /// Appends the line of the answer, and then the lines of the reasons: of a block which operation is in the way of which,
+    /// with the reply that it would get, and the cycle of waits that has come about; of a wait the page, and its holder.
     ///
     /// # Errors
     /// `OutOfMemory`, where a growth was refused.

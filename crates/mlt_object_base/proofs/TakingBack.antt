@@ -1,5 +1,5 @@
 -- An operation that takes another one back leads to the base before it.
-use Rattle.std.proofs.Common.{◌≡◌, ℕ, suc, ◌+◌, ◌<◌, Bool, true, false, Option, None, Some, [], ◌∷◌, ◌++◌, take, length, get_or, refl, sym, ap, subst, ◌∙◌, arith, inl, inr}
+use Rattle.std.proofs.Common.{◌≡◌, ℕ, suc, ◌+◌, ◌-◌, ◌<◌, ◌≤◌, Bool, true, false, Option, None, Some, [], ◌∷◌, ◌++◌, take, length, get_or, refl, sym, ap, subst, ◌∙◌, arith, inl, inr}
 use Rattle.std.proofs.Math.Seq.{take-suc}
 use Rattle.mlt_types.specs.declared.cell.Cell.{Cell}
 use Rattle.mlt_object_kinds.specs.declared.account.AccountOp.{AccountOp}
@@ -94,3 +94,11 @@ before_last b t i d c h r =
     let next : suc i ≡ i + 1 = omega arith in
     let longer : take (i + 1) t ≡ take i t ++ get_or t i d ∷ [] = subst (λ n. take n t ≡ take i t ++ get_or t i d ∷ []) next (take-suc t i d h) in
     runs_last b (take i t) (get_or t i d) c (subst (λ (z : Transcript). TranscriptLeads b z c) longer r)
+
+-- the last step of so many, which is told at their end
+pub last_step : (before : Base) (done : Transcript) (left : ℕ) (item : ObjOp × ObjReply) (base : Base) → 0 < left → left ≤ length done → item ≡ get_or done (left - 1) item → TranscriptLeads before (take left done) base
+    → (mid : Base) × TranscriptLeads before (take (left - 1) done) mid × Step mid item base
+last_step before done left item base some within is leads =
+    let left_is : left ≡ left - 1 + 1 = omega arith in
+    let last = before_last before done (left - 1) item base (omega arith) (subst (λ n. TranscriptLeads before (take n done) base) left_is leads) in
+    (last.0, last.1, subst (λ x. Step last.0 x base) (sym is) last.2)

@@ -15,7 +15,7 @@ use std::alloc::Global;
 use std::collections::BTreeMap;
 use std::marker::Model;
 
-// Does an operation on a balance that is kept, and answers what it is told; `None` where that is Closed, and nothing is
+// Executes an operation on a balance that is kept, and returns its reply; `None` if that is Closed, and then nothing is
 // done.
 fn change(balance: &mut u64, op: &AccountOp) -> Option<ObjReply>
     requires { IsAccount (Some balance.old) }
@@ -71,7 +71,7 @@ impl Accounts {
         self.balances.get(&account).copied()
     }
 
-    // Does an operation on an account that there is not, and answers what it is told.
+    // Executes an operation on an account that does not exist, and returns its reply.
     fn open(&mut self, account: u32, op: &AccountOp) -> Result<ObjReply, Refusal>
         requires { map.get self.old account ≡ None }
         ensures done { IfOk result (λ reply. DoesAt self.old account op.now reply self.new) }
@@ -86,7 +86,7 @@ impl Accounts {
         Ok(reply)
     }
 
-    // Does an operation, and answers what it is told. Where there is the account, it is searched for once, but to close it.
+    // Executes an operation, and returns its reply. An account that exists is searched for once, unless it is closed.
     pub(crate) fn apply(&mut self, account: u32, op: &AccountOp) -> Result<ObjReply, Refusal>
         ensures done { IfOk result (λ reply. DoesAt self.old account op.now reply self.new) }
         ensures err { OnErr result (self.new ≡ self.old) }

@@ -95,7 +95,7 @@ impl Base {
         self.accounts.put(account, balance)
     }
 
-    /// Does an operation, and answers what it is told. No other cell changes.
+    /// Executes an operation, and returns its reply. No other cell changes.
     ///
     /// # Errors
     /// `OutOfMemory`, where an account or an element was to be made, or a counter at 0 to be counted by

@@ -53,7 +53,7 @@ impl Counters {
         self.values.get(&counter).copied().unwrap_or(0)
     }
 
-    // Does an operation on a counter at 0, and answers what it is told.
+    // Executes an operation on a counter at 0, and returns its reply.
     fn start(&mut self, counter: u32, op: &CounterOp) -> Result<ObjReply, Refusal>
         requires { map.get self.old counter ≡ None }
         ensures done { IfOk result (λ reply. CountsAt self.old counter op.now reply self.new) }
@@ -68,7 +68,7 @@ impl Counters {
         Ok(reply)
     }
 
-    // Does an operation, and answers what it is told. A counter that is not 0 is searched for once, but where it comes to 0.
+    // Executes an operation, and returns its reply. A counter that is not 0 is searched for once, unless it becomes 0.
     pub(crate) fn apply(&mut self, counter: u32, op: &CounterOp) -> Result<ObjReply, Refusal>
         ensures done { IfOk result (λ reply. CountsAt self.old counter op.now reply self.new) }
         ensures err { OnErr result (self.new ≡ self.old) }

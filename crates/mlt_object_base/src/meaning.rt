@@ -13,7 +13,7 @@ ghost use Rattle.mlt_object_kinds.specs.declared.operation.ObjOp.{ObjOp};
 ghost use Rattle.mlt_object_kinds.specs.declared.operation.ObjReply.{ObjReply};
 ghost use Rattle.mlt_types.specs.Cells.{IsInRange};
 
-/// Live records mean one base at most. Where they mean a base, an operation is told the size of a set as it is (`size`).
+/// Live records mean at most one base. Where they mean a base, `size` returns the size of a set as it is (`size`).
 /// Where the record of an operation's cell changes so that the cell makes its step, the records after all that the
 /// operation changes mean a base that its step leads to (`step`). And where undoing it takes the cell back before the step,
 /// the records after all that this changes mean a base that the step leads from (`back`).

@@ -70,7 +70,7 @@ pub fn access(op: &ObjOp) -> (Key, Mode)
     (Key::of(&op.cell()), mode)
 }
 
-/// What an operation is told, and the change that it makes of the live record of its key, where that has the value, or
+/// The reply to an operation, and the change that it makes of the live record of its key, where that has the value, or
 /// with `None` where there is none. It is the operation's step on the cell that the record stands for. Whatever it changes
 /// of a size record beside, it changes no more than two records.
 pub fn reply(op: &ObjOp, live: Option<Value>) -> (ObjReply, Option<RecChange>)
@@ -184,7 +184,7 @@ fn down_reply(live: Option<Value>, amount: u64) -> (ObjReply, Option<RecChange>)
     (ObjReply::Done, Some(change))
 }
 
-/// The change that an operation which is told the reply makes of its set's size record, where that has the value, or
+/// The change that an operation with this reply makes of its set's size record, where that has the value, or
 /// with `None` where there is none.
 pub(crate) fn size_change(op: &ObjOp, reply: ObjReply, live: Option<Value>) -> Option<RecChange>
     ensures { result ≡ size_change_of (op.now, reply) live }

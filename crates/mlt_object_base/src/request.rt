@@ -45,7 +45,7 @@ impl Request {
         Some(Key::of(&Cell::Size(set)))
     }
 
-    /// What is told and changed where the key has this value, or none.
+    /// The reply and the change where the key has this value, or none.
     pub fn decide(&self, found: Option<Value>) -> (ObjReply, Option<RecChange>)
         requires possible { IsPossible self.now found }
         ensures told { result ≡ decision self.now found }
@@ -57,7 +57,7 @@ impl Request {
         }
     }
 
-    /// What is changed of the set's size record where the reply is told and that record has this value, or there is none:
+    /// The change of the set's size record by an operation with this reply, where that record has this value, or there is none:
     /// the size becomes one more, or one less, or there is no change. Where the decision changes the record of the
     /// operation's own key, it changes this one too, and else neither.
     pub fn resize(&self, reply: ObjReply, found: Option<Value>) -> Option<RecChange>

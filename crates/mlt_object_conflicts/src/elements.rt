@@ -104,7 +104,7 @@ fn item(class: ElementClass) -> (ElementOp, ObjReply)
     }
 }
 
-// The state in which an operation of the class is told its reply.
+// The state in which an operation of the class gets its reply.
 fn before(class: ElementClass) -> bool
     ensures { result ≡ element_before class }
 {

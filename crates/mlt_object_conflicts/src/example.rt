@@ -11,6 +11,6 @@ pub struct Example<State, Op, Reply> {
     pub first_reply: Reply,
     /// The operation that is requested.
     pub second: Op,
-    /// What the second is told, behind the first.
+    /// The reply to the second, after the first.
     pub second_reply: Reply,
 }

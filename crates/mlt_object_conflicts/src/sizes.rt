@@ -16,7 +16,7 @@ pub struct SizeExample {
     pub present: bool,
     /// The operation.
     pub op: ElementOp,
-    /// What the operation is told.
+    /// The reply to the operation.
     pub reply: ObjReply,
     /// The size of the set before the operation.
     pub before: u64,

@@ -41,6 +41,6 @@ pub trait Table: Kind {
             (λ x. IsExample Self.step class_of held requested x) }
         ensures state { IfSome result (λ x. Self.is_state x.state) };
 
-    /// Each class has an operation that is told its reply in some state.
+    /// Each class has an operation that gets its reply in some state.
     ghost each_is_legal: { (c : Self.Class) → HasLegalItem Self.step class_of c };
 }

@@ -14,7 +14,7 @@ abbrev pub IsAccount : Option ℕ → Type 0
 IsAccount None = Unit {0}
 IsAccount (Some balance) = balance ≤ max_balance
 
--- in which states an operation is told the reply
+-- in which states an operation gets the reply
 abbrev pub IsLegalOnAccount : AccountOp → ObjReply → Option ℕ → Type 0
 IsLegalOnAccount Open Opened None = Unit {0}
 IsLegalOnAccount Open Exists (Some b) = b ≤ max_balance
@@ -31,7 +31,7 @@ IsLegalOnAccount (Withdraw n) Missing None = n < 2 ^ 64
 IsLegalOnAccount Balance Missing None = Unit {0}
 IsLegalOnAccount _ _ _ = ⊥
 
--- the state after an operation that is told the reply
+-- the state after an operation that gets the reply
 abbrev pub account_after : AccountOp → ObjReply → Option ℕ → Option ℕ
 account_after Open Opened s = Some 0
 account_after Close Closed s = None
@@ -39,6 +39,6 @@ account_after (Deposit n) Done (Some b) = Some (b + n)
 account_after (Withdraw n) Done (Some b) = Some (b - n)
 account_after _ _ s = s
 
--- from the state before, the operation is told the reply and leads to the state after
+-- from the state before, the operation gets the reply and leads to the state after
 abbrev pub AccountStep : Option ℕ → AccountOp → ObjReply → Option ℕ → Type 0
 AccountStep before op reply after = IsLegalOnAccount op reply before × (account_after op reply before ≡ after)

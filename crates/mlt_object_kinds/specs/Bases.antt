@@ -88,12 +88,12 @@ with_state b _ _ = b
 abbrev pub SameBut : Base → Base → Cell → Type 0
 SameBut b b' cell = (other : Cell) → other ≢ cell → state_at b' other ≡ state_at b other
 
--- an operation that asks for the size of a set is told how many elements the set has
+-- an operation that asks for the size of a set gets the number of its elements
 abbrev pub TellsSize : Base → ObjOp × ObjReply → Type 0
 TellsSize b (ObjOp.Size s, reply) = reply ≡ Is (size_at b s)
 TellsSize b _ = Unit {0}
 
--- An operation with its reply is a step of the cell that it is on; all other cells are as before. A size is told as it is.
+-- An operation with its reply is a step of its cell; all other cells are as before. `size` returns the size as it is.
 abbrev pub Step : Base → ObjOp × ObjReply → Base → Type 0
 Step b x b' =
     CellStep (state_at b (cell_of x.0)) x (state_at b' (cell_of x.0)) × SameBut b b' (cell_of x.0) × TellsSize b x

@@ -60,7 +60,7 @@ impl Done {
         self.packed.op()
     }
 
-    /// What the operation was told.
+    /// The reply to the operation.
     pub fn reply(&self) -> ObjReply
         ensures { result ≡ self.now.1 }
     {

@@ -8,13 +8,13 @@ pub trait Kind {
     type State;
     /// The operations on a cell.
     type Op;
-    /// What an operation is told.
+    /// The reply to an operation.
     type Reply;
 
     /// Whether a cell can be in the state.
     ghost is_state: { Self.State → Type 0 };
 
-    /// From the state before, the operation is told the reply and leads to the state after.
+    /// From the state before, the operation gets the reply and leads to the state after.
     ghost step: { Self.State → Self.Op → Self.Reply → Self.State → Type 0 };
 
     /// The state after an operation, and its reply.

@@ -10,10 +10,10 @@ ghost use Rattle.mlt_object_kinds.specs.declared.operation.ObjReply.{ObjReply};
 ghost use Rattle.mlt_object_kinds.specs.declared.operation.ObjOp.{ObjOp};
 ghost use Rattle.mlt_types.specs.declared.cell.Cell.{Cell};
 
-/// A base is what its cells hold. An operation on it is told one reply and leads to one base, and with its
+/// A base is what its cells hold. An operation on it gets one reply and leads to one base, and with its
 /// reply it leads to a base from one base: each (operation, reply) is injective where it is legal. A step of
-/// the cell that an operation is on is a step of the base, where a size is told as it is. No operation is locked
-/// on more than two cells.
+/// the cell that an operation is on is a step of the base, where `size` returns the size as it is. No operation is
+/// locked on more than two cells.
 pub fn steps_of_bases_are_fixed()
     ensures cells { (b d : Base) → ((c : Cell) → state_at b c ≡ state_at d c) → b ≡ d }
     ensures one_answer { (b c d : Base) (op : ObjOp) (r q : ObjReply) → Step b (op, r) c

@@ -23,7 +23,7 @@ pub enum ObjOp {
     Size(u16),
 }
 
-/// What an operation is told.
+/// The reply to an operation.
 #[derive(Clone, Copy, Debug, PartialEq, Eq)]
 pub enum ObjReply {
     /// The account was made.

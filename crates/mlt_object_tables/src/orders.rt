@@ -9,7 +9,7 @@ use mlt_object_kinds::Done;
 use mlt_types::Refusal;
 use std::alloc::AllocError;
 
-/// Two operations on a cell, one after the other, with what each is told, and what they leave.
+/// Two operations on a cell, one after the other, with their replies, and what they leave.
 #[derive(Clone, Copy, Debug, PartialEq, Eq)]
 pub struct OpOrder {
     /// The one that is done first, with its reply.

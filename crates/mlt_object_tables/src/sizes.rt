@@ -44,7 +44,7 @@ fn order(first: &Done, second: &Done, present: bool) -> OpOrder
     }
 }
 
-// The size of set 1, as it is told.
+// The size of set 1, as an operation with its reply.
 fn size_told(size: u64) -> Done
     ensures { result ≡ told_size 1 size }
 {

@@ -1,6 +1,6 @@
 -- Lines of a script, one more at a time.
-use Rattle.std.proofs.Common.{◌≡◌, ℕ, ◌+◌, ◌≤◌, ◌<◌, max, List, [], ◌∷◌, ◌++◌, length, ltb, Bool, true, false, cond, Option, Some, None, refl, sym, ap, subst, ◌∙◌, append_assoc, arith, lt-ltb, le-ltb, ltb-true}
-use Rattle.mlt_script.proofs.Names.{ScriptCause, Frame, Asking, Wanted, Statement, Line, Block, Open, join, grow, longest, nesting, path, depth, widest, deepest, Nothing, Then, If, Top, InFirst, InSecond, line_fault, open_of, one_more, whole}
+use Rattle.std.proofs.Common.{◌≡◌, ℕ, ◌+◌, ◌≤◌, ◌<◌, max, List, [], ◌∷◌, ◌++◌, length, reverse, ltb, Bool, true, false, cond, Option, Some, None, refl, sym, ap, subst, ◌∙◌, append_assoc, arith, lt-ltb, le-ltb, ltb-true}
+use Rattle.mlt_script.proofs.Names.{reverse-append, ScriptCause, Frame, Asking, Wanted, Statement, Line, Block, Open, join, grow, longest, nesting, path, depth, widest, deepest, Nothing, Then, If, Top, InFirst, InSecond, line_fault, open_of, one_more, whole}
 use Rattle.mlt_types.specs.declared.refusal.ScriptCause.TheVariants.{Place, Deep, Long}
 use Rattle.mlt_script.specs.Blocks.{lines_of, lines_open}
 use Rattle.mlt_script.specs.Frames.{frames_of}
@@ -243,15 +243,19 @@ not_turned o f fs e h =
     let k : else_by (f ∷ fs) ≡ None = ap else_by (sym e) ∙ sym (else_is o) ∙ h in
     turned_by f f.turned refl k
 
-pub kept_else : (ls items : List Line) (n : ℕ) (f : Frame) (fs hs gs : List Frame) → items ≡ ls ++ Line.Else ∷ [] → hs ≡ f ∷ fs → gs ≡ record { other = n; turned = true } ∷ fs
-    → line_fault (open_of ls) Line.Else ≡ None → Kept ls n hs → Kept items f.other gs × (open_of items ≡ one_more (open_of ls) Line.Else)
-kept_else ls items n f fs hs gs e k g c h =
+pub kept_else : (ls items : List Line) (n : ℕ) (f : Frame) (left popped pushed : List Frame) → items ≡ ls ++ Line.Else ∷ [] → popped ≡ left ++ f ∷ [] → pushed ≡ left ++ record { other = n; turned = true } ∷ []
+    → line_fault (open_of ls) Line.Else ≡ None → Kept ls n (reverse popped) → Kept items f.other (reverse pushed) × (open_of items ≡ one_more (open_of ls) Line.Else)
+kept_else ls items n f left popped pushed e p q c h =
+    let fs = reverse left in
+    let next : Frame = record { other = n; turned = true } in
+    let k : reverse popped ≡ f ∷ fs = ap reverse p ∙ reverse-append left (f ∷ []) in
+    let g : reverse pushed ≡ next ∷ fs = ap reverse q ∙ reverse-append left (next ∷ []) in
     let o : open_of items ≡ one_more (open_of ls) Line.Else = ap open_of e ∙ open_more ls Line.Else in
     let t : f.turned ≡ false = not_turned (open_of ls) f fs (h.2 ∙ k) c in
     let s = sits_else (open_of ls) ls n f fs t (subst (λ (xs : List Frame). Sits (open_of ls) ls n xs) k h) in (
       subst (λ (xs : List Frame). Sits (open_of items) items f.other xs) (sym g)
-          (subst (λ (p : Open). Sits p items f.other (record { other = n; turned = true } ∷ fs)) (sym o)
-          (subst (λ (xs : List Line). Sits (turned (open_of ls)) xs f.other (record { other = n; turned = true } ∷ fs)) (sym e) s)),
+          (subst (λ (p : Open). Sits p items f.other (next ∷ fs)) (sym o)
+          (subst (λ (xs : List Line). Sits (turned (open_of ls)) xs f.other (next ∷ fs)) (sym e) s)),
       o,
     )
 

@@ -8,7 +8,7 @@ use mlt_script::Script;
 // The most operations on a path of a script.
 const MOST: usize = 256;
 
-/// So many operations a script asks at most, whatever it is told. It takes no memory.
+/// The most operations that a script executes, whatever replies it gets. It takes no memory.
 pub fn most_asked(script: &Script) -> usize
     ensures most { AsksAtMost result (questions_of_script script.now) }
     ensures limit { result ≤ 256 }

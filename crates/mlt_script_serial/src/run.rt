@@ -161,7 +161,7 @@ pub fn serial(alloc: Global, scripts: &[Script]) -> Result<Report, Refusal>
     Ok(report)
 }
 
-/// The scripts and their marks fix what is told of each script, and the base that is reached.
+/// The scripts and their marks fix the outcome of each script, and the base that is reached.
 pub fn scripts_and_marks_fix_the_run()
     ensures { (scripts : List ScriptForm) (marks : List (Option (ℕ × RefusalForm)))
         (one other : List OutcomeForm) (reached last : ObjectBase)

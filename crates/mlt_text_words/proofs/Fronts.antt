@@ -26,11 +26,11 @@ below_power ds n h l =
     let q : 10 ^ length ds ≤ 10 ^ n = pow-le-pow_right (omega arith) l in
     omega (arith, p, q)
 
-pub few_below : (text : List ℕ) (end value : ℕ) → end ≤ length text → end ≤ 18 → list_all is_digit (take end text) ≡ true → value ≡ digits_value 10 (take end text)
+pub short_value : (text : List ℕ) (end value : ℕ) → length text ≤ 19 → end < length text → list_all is_digit (take end text) ≡ true → value ≡ digits_value 10 (take end text)
     → value < 1000000000000000000
-few_below text end value l f d v =
-    let n : length (take end text) ≡ end = taken text end l in
-    let b : digits_value 10 (take end text) < 10 ^ 18 = below_power (take end text) 18 d (omega (arith, n, f)) in
+short_value text end value f l d v =
+    let n : length (take end text) ≡ end = taken text end (omega arith) in
+    let b : digits_value 10 (take end text) < 10 ^ 18 = below_power (take end text) 18 d (omega (arith, n, f, l)) in
     omega (arith, b, v)
 
 pub number_few : (ds : List ℕ) (value : ℕ) → 0 < length ds → length ds ≤ 19 → list_all is_digit ds ≡ true → value ≡ digits_value 10 ds → number_of ds ≡ Some value

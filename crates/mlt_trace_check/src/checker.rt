@@ -19,7 +19,7 @@ struct OpenTx {
     undoing: bool,
 }
 
-/// What is kept of a trace as its items are gone over: who is running and what they did, the greatest number that was
+/// What is kept of a trace while its items are read: the open transactions and what they did, the greatest number that was
 /// begun, how many committed, and the base that the commits lead to. So its memory grows with what is open and with the
 /// objects that there are, and not with the items. After an `Err` it is of no more use.
 #[derive(Drop)]

@@ -8,11 +8,8 @@
 mod check_engine;
 mod checker;
 mod first_line;
-mod history_law;
 mod laws;
-mod line_laws;
 mod long_check;
-mod place_laws;
 mod plain;
 mod progress;
 mod ranges;
@@ -21,12 +18,11 @@ mod trace_check;
 mod words;
 
 pub use check_engine::check_trace;
-pub use history_law::history_passes_the_checker;
 pub use laws::{
-    accepted_traces_have_one_answer, texts_are_accepted_or_faulty, texts_have_one_first_fault,
+    accepted_traces_have_one_answer, history_passes_the_checker, items_stay_placed,
+    texts_are_accepted_or_faulty, texts_have_one_first_fault, transactions_stay_whole,
+    written_items_are_read,
 };
-pub use line_laws::written_items_are_read;
 pub use long_check::check_long_trace;
-pub use place_laws::{items_stay_placed, transactions_stay_whole};
 pub use ranges::placed_items_are_writable;
 pub use trace_check::{Order, check};

@@ -1,5 +1,5 @@
-//! Outcomes against histories, also such as no manager has. Whether they agree was worked out by hand from the definition
-//! that `docs/DEFINITIONS.md` has of it.
+//! Outcomes against histories, also such as no manager has. Whether they agree was worked out by hand from `Agrees` in
+//! `mlt_trace_audit/specs/Agreement.antt`.
 
 use Item::{Abort, Back, Begin, Commit, Op};
 use mlt_object_kinds::{AccountOp, CounterOp, Done, ObjOp, ObjReply};
@@ -12,7 +12,7 @@ use mlt_types::{Refusal, TxId};
 use std::alloc::Global;
 use std::test::Fail;
 
-/// An operation, and what it is told.
+/// An operation, and its reply.
 type Told = (ObjOp, ObjReply);
 
 /// An item of a history.
@@ -115,7 +115,7 @@ const THREE: &[Item] = &[
 
 const AGREE: &[Row] = &[
     (ONE, &[(1, 1, 1, &[OPEN], Committed(1))]),
-    // A script that is refused is closed by an abort, and what was taken back is told.
+    // A script that is refused is closed by an abort, and its outcome has what was undone.
     (ONE_ABORTED, &[(1, 1, 1, &[UP], Aborted)]),
     (ONE_ABORTED, &[(1, 1, 1, &[UP], Refused(Refusal::LogFull))]),
     // Each has its own operations in order, whatever stands between, and outcomes may stand in any order.

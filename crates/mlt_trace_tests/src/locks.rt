@@ -31,7 +31,7 @@ fn reservation_released(rt: HostRuntime) -> Result<(), Fail> {
     same(&locks.ask(TxId(2), &deposited()), &Ok(()))
 }
 
-// What was reserved of an element stays reserved on its set, whoever gives up the like of it.
+// What was reserved of an element stays reserved on its set when another transaction releases the same.
 #[test]
 fn reservation_on_a_set(rt: HostRuntime) -> Result<(), Fail> {
     let mut locks = ObjectLocks::new(rt.alloc());

@@ -1,7 +1,7 @@
 -- Steps of one transaction at once, in the table of open ones
 use Rattle.std.proofs.Common.{◌≡◌, ℕ, None, Option, Some, refl, sym, ap, subst, ◌∙◌, inl, inr, arith, Err, IfOk, Ok, Result}
 use Rattle.std.specs.FinMap as map
-use Rattle.mlt_tx.proofs.OpenNames.{cases_eq, nat_tests, get_inserted, same_entries, ObjOp, ObjReply, WalkContext, SharedState, Transaction, ChangesOne, Table}
+use Rattle.mlt_tx.proofs.Names.{cases_eq, nat_tests, get_inserted, same_entries, ObjOp, ObjReply, WalkContext, SharedState, Transaction, ChangesOne, Table}
 use Rattle.mlt_page_subtx.specs.Images.{Running}
 use Rattle.mlt_event.specs.declared.answer.Answer.{Answer}
 use Rattle.mlt_tx.specs.Fast.{CallsFast, StepsFast, TakesStep}

@@ -1,7 +1,7 @@
 -- First images that the transactions of a table keep
 use Rattle.std.proofs.Common.{◌≡◌, ℕ, suc, IfNone, ◌<◌, ◌+◌, List, [], ◌∷◌, Option, Some, None, Bor, IfSome, is_some, true, false, length, get_or, refl, sym, ap, subst, ◌∙◌, ◌⊎◌, inl, inr, true≢false, arith, nat_cmp}
 use Rattle.std.specs.FinMap as map
-use Rattle.mlt_tx.proofs.OpenNames.{cases_eq, Transaction, TxSlot, Table, AreTxSlots, LackImage, is_free, is_slot_of, table_of}
+use Rattle.mlt_tx.proofs.Names.{cases_eq, Transaction, TxSlot, Table, AreTxSlots, LackImage, is_free, is_slot_of, table_of}
 use Rattle.std.proofs.lemmas.List.{get_or_default}
 use Rattle.mlt_page.specs.declared.page.Page.{Page}
 use Rattle.mlt_page_subtx.specs.Images.{image_of}

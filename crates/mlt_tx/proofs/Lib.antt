@@ -3,7 +3,6 @@ pub mod FastPath
 pub mod Backing
 pub mod Inverses
 pub mod Pending
-mod OpenNames
 pub mod FastCalls
 pub mod Images
 pub mod TakingBack

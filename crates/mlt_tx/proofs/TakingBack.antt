@@ -1,5 +1,5 @@
 -- What stands is taken back slot by slot.
-use Rattle.mlt_tx.proofs.OpenNames.{zero, UndoneTo, Step, ObjOp, ObjReply, Transaction, TxSlot, standing_in, HaveOneEach, is_free, is_slot_of, table_of}
+use Rattle.mlt_tx.proofs.Names.{zero, UndoneTo, Step, ObjOp, ObjReply, Transaction, TxSlot, standing_in, HaveOneEach, is_free, is_slot_of, table_of}
 use Rattle.std.proofs.Common.{suc, ◌≡◌, ◌≢◌, ℕ, ◌+◌, ◌<◌, ◌≤◌, true, false, not, ◌&&◌, cond, List, [], ◌∷◌, ◌++◌, length, drop, get_or, Option, None, Some, is_some, refl, sym, ap, subst, ◌∙◌, arith, ne_eqb, append-nil, nat_cmp}
 use Rattle.std.proofs.lemmas.List.{drop_more}
 use Rattle.std.specs.FinMap as map

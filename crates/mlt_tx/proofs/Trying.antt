@@ -2,7 +2,7 @@
 use Rattle.std.proofs.Common.{◌≡◌, ℕ, Some, None, Result, Ok, Err, OnOk, OnErr, IfErr, length, get_or, List, refl, sym, ap, subst, ◌∙◌, position}
 use Rattle.std.specs.FinMap as map
 use Rattle.mlt_types.specs.declared.refusal.Refusal.{Refusal}
-use Rattle.mlt_tx.proofs.OpenNames.{ObjOp, SharedState, At, Transaction, IsPending, IsUndoing, TxSlot, Table, IsBusy, is_slot_of, table_of}
+use Rattle.mlt_tx.proofs.Names.{ObjOp, SharedState, At, Transaction, IsPending, IsUndoing, TxSlot, Table, IsBusy, is_slot_of, table_of}
 use Rattle.mlt_tx.specs.declared.activity.ActivityState.{ActivityState}
 use Rattle.mlt_tx.specs.Tables.{CallsNone, CallsOne}
 use Rattle.mlt_tx.specs.OpenAt.{IsIdleWith, IsNotOpen, IsOpenAt, MayCallOne, TriesCall}

@@ -1,5 +1,5 @@
 -- The table of slots: the first slot of a number counts.
-use Rattle.mlt_tx.proofs.OpenNames.{zero, nat_tests, get_inserted, same_entries, Transaction, TxSlot, ChangesOne, Table, AreTxSlots, is_free, is_slot_of, table_of}
+use Rattle.mlt_tx.proofs.Names.{zero, nat_tests, get_inserted, same_entries, Transaction, TxSlot, ChangesOne, Table, AreTxSlots, is_free, is_slot_of, table_of}
 use Rattle.std.proofs.Common.{◌≡◌, ℕ, suc, ◌≤◌, ◌<◌, ◌+◌, eqb, true, false, not, cond, ◌&&◌, Some, None, is_some, IsSome, List, [], ◌∷◌, ◌++◌, length, get_or, set, refl, sym, ap, ◌∙◌, arith, position, nat_cmp}
 use Rattle.std.specs.List.{position_from}
 use Rattle.std.specs.Cmp.{nat_cmp_total}

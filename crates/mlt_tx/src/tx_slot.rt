@@ -46,7 +46,7 @@ impl TxSlot {
         self.transaction.restart(alloc, tx);
     }
 
-    // The first image of a page that who lies here keeps, if one does.
+    // The first image of a page that the transaction in this slot keeps, if there is one.
     fn first_image(&self, page: PageNo) -> Option<&Option<Page>>
         ensures kept { IfSome result (λ first. (is_free self.now ≡ false)
             × (image_of self.now.transaction.value.subtx.images page ≡ Some first.now)) }
@@ -59,7 +59,7 @@ impl TxSlot {
         self.transaction.subtx.first_image(page)
     }
 
-    // Takes back on a base what stands of who lies here.
+    // Undoes on a base the remaining operations of the transaction in this slot.
     fn take_back(&self, base: &mut Base) -> Result<(), Refusal>
         ensures back { OnOk result ((before : ObjectBase)
             → TranscriptLeads before (entries_in self.now) base.old → base.new ≡ before) }
@@ -107,7 +107,7 @@ pub(crate) fn image_in(slots: &[TxSlot], page: PageNo) -> Option<&Option<Page>>
     None
 }
 
-/// Takes back on a base what stands of those who lie in slots.
+/// Undoes on a base the remaining operations of the transactions in the slots.
 ///
 /// # Errors
 /// `OutOfMemory`, where a growth was refused.

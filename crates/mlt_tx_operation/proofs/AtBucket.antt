@@ -13,6 +13,10 @@ use Rattle.mlt_tx_two_records.proofs.WideOwn.{absent_at}
 use Rattle.mlt_tx_two_records.proofs.WideSize.{found_clean}
 use Rattle.mlt_tx_operation.proofs.Deciding.{changes_exclusively, never_revives}
 
+-- what was decided, with the change that it asks for
+pub decided_change : (request : Request) (found : Option ℕ) (told : ObjReply × Option RecChange) (change : Option RecChange) → told ≡ decision request found → told.1 ≡ change → decision request found ≡ (told.0, change)
+decided_change request found told change is asks = sym is ∙ ap (λ d. (told.0, d)) asks
+
 -- what was decided on locks the bucket exclusively
 target_exclusive : (request : Request) (found : Option ℕ) (reply : ObjReply) (change : RecChange) → decision request found ≡ (reply, Some change) → (target_of request).1 ≡ Exclusive
 target_exclusive (Do op) found reply change is = changes_exclusively op found reply change is

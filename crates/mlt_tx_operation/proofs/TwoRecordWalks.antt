@@ -14,14 +14,7 @@ asks_to_add other never = absurd never
 -- a turn within the pass, or from one stage of a wide pass to the other
 goes_on : (before after : TwoRecordWalk) (context : WalkContext) (old new : LocalState) (request : Request) → TakesTurn old new → (IsFirst before → IsFirst after) → Stands after (one_key context) request (view_of new) → GoesOnBy before after (one_key context) old new request
     → steps_of_two_records context.root after (view_of new) < steps_of_two_records context.root before (view_of old) → StepsOn (one_key context) old new (on_two request None before) (on_two request None after)
-goes_on before after context old new request turn first stands goes fewer = record {
-  turn = turn;
-  request = refl;
-  operates = stands;
-  in_first = first;
-  fewer = fewer;
-  how = goes;
-}
+goes_on before after context old new request turn first stands goes fewer = record { turn = turn; request = refl; operates = stands; in_first = first; fewer = fewer; how = goes }
 
 -- **One that goes on, or begins its wide pass.**
 pub two_records_goes_on : (before after : TwoRecordWalk) (context : WalkContext) (old new : LocalState) (request : Request) → Stands after (one_key context) request (view_of new) → GoesOnBy before after (one_key context) old new request

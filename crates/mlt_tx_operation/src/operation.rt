@@ -25,7 +25,7 @@ use std::marker::Model;
 pub struct Operation {
     alloc: Global,
     request: Request,
-    /// What it is told, once its next step is its end.
+    /// The reply, once only the final step is left.
     reply: Option<ObjReply>,
     access_path: AccessPath,
 }
@@ -86,7 +86,7 @@ impl Operation {
         self.request
     }
 
-    /// What it is told, once all that it changes is written, so that its next step is its end.
+    /// The reply, once all changes are written, so that only the final step is left.
     #[inline(always)]
     pub fn reply(&self) -> Option<ObjReply>
         ensures { result ≡ self.now.reply }

@@ -16,7 +16,7 @@ use mlt_page::Store;
 use mlt_page_subtx::Subtx;
 use mlt_types::Pseudo;
 
-/// What an operation on one record is told, and the slot that it sets, if it changes its record.
+/// The reply to an operation on one record, and the slot that it sets, if it changes its record.
 #[derive(Clone, Copy, Debug, PartialEq, Eq)]
 pub struct PlanFast {
     pub reply: ObjReply,

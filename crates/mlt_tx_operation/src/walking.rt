@@ -18,7 +18,7 @@ use mlt_page_subtx::Subtx;
 use mlt_types::{Pseudo, Value};
 
 /// One step of an operation on one record, up to the one before its end: on the way to its bucket it locks a page and reads
-/// it. At the bucket it learns what it is told, and makes its change there. Where there is no room, the pass is rolled back
+/// it. At the bucket it determines its reply, and makes its change there. Where there is no room, the pass is rolled back
 /// and another begins, which splits the bucket, one page a step.
 #[inline(always)]
 pub(crate) fn step_walk<P: Pseudo>(

@@ -16,9 +16,9 @@ ghost use Rattle.mlt_tx_step_counts.specs.Counts.{IsToTakeBack, TakesBackInFour,
 ghost use Rattle.mlt_tx_step_counts.specs.CountsOfTwo.{TakesBackInSeven, TakesFirstPassOfTwo, TakesWidePassOfTwo, started_wide};
 ghost use Rattle.mlt_tx_step_counts.specs.OwnSteps.{AreOwnSteps, OwnStep};
 
-/// From a call, or from a Blocked, an operation on one record is told Done or Blocked at its fourth step, and Going at the three
-/// before it; but for an addition that finds no room. That one is told Going at its third step too; and then comes a narrow pass
-/// or a wide one, as the two laws below have it.
+/// From a call, or from a Blocked, an operation on one record gets Done or Blocked at its fourth step, and Going at the three
+/// before it, unless it is an addition that finds no room. That one gets Going at its third step too, and then a narrow or a wide
+/// pass follows, as the two laws below have it.
 pub fn first_passes_take_four_steps()
     ensures { (context : WalkContext) (op : ObjOp) (t : Transaction) (seen : View)
         (steps : List OwnStep)
@@ -26,8 +26,8 @@ pub fn first_passes_take_four_steps()
         → AreOwnSteps (one_key context) t seen steps → TakesFirstPass (one_key context) op steps }
 {}
 
-/// A narrow pass is told so too; or it is refused earlier; or it is given up at its third step, told Going, for a wide
-/// one; or it splits its bucket, k times, and is told Done or Blocked at its step 5 + 3 * k + c, or it is refused before
+/// A narrow pass gets the same answers; or it is refused earlier; or it gets Going at its third step, and a wide one follows;
+/// or it splits its bucket, k times, and gets Done or Blocked at its step 5 + 3 * k + c, or it is refused before
 /// that.
 pub fn narrow_passes_take_few_steps()
     ensures { (context : WalkContext) (op : ObjOp) (t : Transaction) (seen : View)
@@ -54,9 +54,9 @@ pub fn inverses_take_four_steps_or_one()
         → TakesBackInFour last steps }
 {}
 
-/// From a call, or from a Blocked, an operation on two records is told Done or Blocked at its fourth to seventh step, and Going
-/// at those before it; but for one that finds no room. That one is told Going at the step that finds both buckets too, its third
-/// to fifth; and then comes a wide pass, as the next law has it.
+/// From a call, or from a Blocked, an operation on two records gets Done or Blocked at its fourth to seventh step, and Going
+/// at those before it, unless it finds no room. Then it gets Going also at the step that finds both buckets, its third to
+/// fifth, and a wide pass follows, as the next law has it.
 pub fn first_passes_on_two_take_four_to_seven_steps()
     ensures { (context : WalkContext) (op : ObjOp) (t : Transaction) (seen : View)
         (steps : List OwnStep)
@@ -65,7 +65,7 @@ pub fn first_passes_on_two_take_four_to_seven_steps()
         → TakesFirstPassOfTwo (one_key context) op steps }
 {}
 
-/// A wide pass on two records is told Done or Blocked at its fourth step, where the element is there already; at its sixth,
+/// A wide pass on two records gets Done or Blocked at its fourth step, where the element is there already; at its sixth,
 /// where both buckets have room; at its step 7 + 3 * k + c, where one of them is split, and 8 + 3 * k + c where both are, k
 /// times in all; and Going at those before it. Or it is refused before that.
 pub fn wide_passes_on_two_take_few_steps()

@@ -50,18 +50,7 @@ module _ (context : WalkContext) (request : Request) (pair : PairFields) (view :
       let own : IsMade context asks.change (found_of pair.left_descent) pair.left own_page view makes.mid = is_made context asks.change (found_of pair.left_descent) pair.left own_page view makes.mid own_can own_fits ghost makes.left in
       let fits = fits_beside (Some (asked_of asks.resize (found_of pair.right_descent))) (asked_of asks.change (found_of pair.left_descent)) context.active context.tx pair.left pair.right own_page size_page view makes.mid keys.apart size_fits makes.left in
       let size : IsMade context asks.resize (found_of pair.right_descent) pair.right size_page makes.mid new = is_made context asks.resize (found_of pair.right_descent) pair.right size_page makes.mid new size_can fits (size_ghost makes.mid) makes.right in
-      record {
-        asks = asks;
-        own_done = own.done;
-        size_done = size.done;
-        own_performs = own.performs;
-        size_performs = size.performs;
-        old = view;
-        mid = makes.mid;
-        unwritten = finding.unwritten;
-        own = own.writes;
-        size = size.writes;
-      }
+      record { asks = asks; own_done = own.done; size_done = size.done; own_performs = own.performs; size_performs = size.performs; old = view; mid = makes.mid; unwritten = finding.unwritten; own = own.writes; size = size.writes }
 
   -- **Or that of the later bucket is made, and the other is owed.**
   pub owes_one : (new : View) (owed : Option WriteFields) → HasChanged context.bits context.root context.active context.tx (record pair { owed = owed }) new → LeavesLeft task context.tx view new owed ⊎ LeavesRight task context.tx view new owed
@@ -162,18 +151,7 @@ pub owed_made : (context : WalkContext) (request : Request) (pair : PairFields) 
 owed_made context request pair reply view new owes writes = go owes.owes
   where
     both : (mid : View) → WritesRecord context owes.own_done pair.left (page_of pair.left_descent) owes.old mid → WritesRecord context owes.size_done pair.right (page_of pair.right_descent) mid new → ChangesBoth context request (record pair { owed = None }) reply new
-    both mid own size = record {
-      asks = owes.asks;
-      own_done = owes.own_done;
-      size_done = owes.size_done;
-      own_performs = owes.own_performs;
-      size_performs = owes.size_performs;
-      old = owes.old;
-      mid = mid;
-      unwritten = owes.unwritten;
-      own = own;
-      size = size;
-    }
+    both mid own size = record { asks = owes.asks; own_done = owes.own_done; size_done = owes.size_done; own_performs = owes.own_performs; size_performs = owes.size_performs; old = owes.old; mid = mid; unwritten = owes.unwritten; own = own; size = size }
 
     go : OwesEither context owes.own_done owes.size_done pair owes.old view owes.write → ChangesBoth context request (record pair { owed = None }) reply new
     go (inl (size, plan)) =

@@ -50,7 +50,7 @@ module _ (context : WalkContext) (fewer : set.FinSet nat_cmp) (view : View) (no_
             ap (λ s. is_kept context.active (slice_index_or s i Free)) same ∙ kept i (ap (λ s. is_kept fewer (slice_index_or s i Free)) (sym same) ∙ is)
       ]
 
-  plan_fewer : (done : Change) (key q : ℕ) (old : View) (write : WriteFields) → (plan : PlansRecord context done key q old write) → KeptFewer plan.bucket → PlansRecord (record context { active = fewer }) done key q old write
+  abbrev plan_fewer : (done : Change) (key q : ℕ) (old : View) (write : WriteFields) → (plan : PlansRecord context done key q old write) → KeptFewer plan.bucket → PlansRecord (record context { active = fewer }) done key q old write
   plan_fewer done key q old write plan kept = record {
     bucket = plan.bucket;
     reads = plan.reads;
@@ -63,14 +63,7 @@ module _ (context : WalkContext) (fewer : set.FinSet nat_cmp) (view : View) (no_
   write_fewer : (done : Change) (key q : ℕ) (old new : View) → (writes : WritesRecord context done key q old new) → KeptFewer writes.plan.bucket → WritesRecord (record context { active = fewer }) done key q old new
   write_fewer done key q old new writes kept = record {
     write = writes.write;
-    plan = record {
-      bucket = writes.plan.bucket;
-      reads = writes.plan.reads;
-      number = writes.plan.number;
-      within = writes.plan.within;
-      slot = writes.plan.slot;
-      was = stood_fewer done context fewer key writes.plan.bucket.slots (slice_index_or writes.plan.bucket.slots writes.write.at Free) (kept writes.write.at) writes.plan.was;
-    };
+    plan = plan_fewer done key q old writes.write writes.plan kept;
     writes = writes.writes;
   }
 

@@ -142,22 +142,10 @@ is_owed context change found key q view owed can fits ghost owes =
 
 -- what is planned on a page is planned there still, once another page is written
 abbrev pub planned_beside : (context : WalkContext) (done : Change) (key q n : ℕ) (old new : View) (page : Page) (write : WriteFields) → WritesPage old new n page → q ≢ n → PlansRecord context done key q old write → PlansRecord context done key q new write
-planned_beside context done key q n old new page write writes ne plan = record {
-  bucket = plan.bucket;
-  reads = reads_beside_still old new n q page plan.bucket writes ne plan.reads;
-  number = plan.number;
-  within = plan.within;
-  slot = plan.slot;
-  was = plan.was;
-}
+planned_beside context done key q n old new page write writes ne plan =
+    record { bucket = plan.bucket; reads = reads_beside_still old new n q page plan.bucket writes ne plan.reads; number = plan.number; within = plan.within; slot = plan.slot; was = plan.was }
 
 -- and it was planned there before
 abbrev pub planned_beside_before : (context : WalkContext) (done : Change) (key q n : ℕ) (old new : View) (page : Page) (write : WriteFields) → WritesPage old new n page → q ≢ n → PlansRecord context done key q new write → PlansRecord context done key q old write
-planned_beside_before context done key q n old new page write writes ne plan = record {
-  bucket = plan.bucket;
-  reads = reads_beside old new n q page plan.bucket writes ne plan.reads;
-  number = plan.number;
-  within = plan.within;
-  slot = plan.slot;
-  was = plan.was;
-}
+planned_beside_before context done key q n old new page write writes ne plan =
+    record { bucket = plan.bucket; reads = reads_beside old new n q page plan.bucket writes ne plan.reads; number = plan.number; within = plan.within; slot = plan.slot; was = plan.was }

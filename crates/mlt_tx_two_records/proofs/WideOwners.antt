@@ -54,15 +54,9 @@ module _ (context : WalkContext) (fewer : set.FinSet nat_cmp) (view : View) (cle
       (agreed_since context request view since clean put agree form) (form_since context request view since clean put agree form) stands
 
   pub own_still : (walk : WalkFields) → IsGoingToOwn context request walk view → IsGoingToOwn closed request walk view
-  own_still walk going = record {
-    adds = going.adds;
-    size = going.size;
-    keys = going.keys;
-    to_key = going.to_key;
-    under_way = going.under_way;
-    stands = stands_still (one_key context) fewer walk view clean no_more agree form going.stands;
-    puts = going.puts;
-  }
+  own_still walk going =
+      let stands = stands_still (one_key context) fewer walk view clean no_more agree form going.stands in
+      search (stands, going.adds, going.keys, going.to_key, going.under_way, going.puts)
 
   pub size_still : (walk : WalkFields) → IsGoingToSize context request walk view → IsGoingToSize closed request walk view
   unfolding put_still
@@ -78,19 +72,9 @@ module _ (context : WalkContext) (fewer : set.FinSet nat_cmp) (view : View) (cle
   }
 
   pub present_still : (walk : WalkFields) (reply : ObjReply) → HasToldPresent context request walk reply view → HasToldPresent closed request walk reply view
-  present_still walk reply told = record {
-    adds = told.adds;
-    size = told.size;
-    keys = told.keys;
-    to_key = told.to_key;
-    bucket = told.bucket;
-    depth = told.depth;
-    value = told.value;
-    at_bucket = told.at_bucket;
-    stands = stands_still (one_key context) fewer walk view clean no_more agree form told.stands;
-    decided = told.decided;
-    resized = told.resized;
-  }
+  present_still walk reply told =
+      let stands = stands_still (one_key context) fewer walk view clean no_more agree form told.stands in
+      search (stands, told.adds, told.keys, told.to_key, told.at_bucket, told.decided, told.resized)
 
   pub told_both_still : (walk : WalkFields) (reply : ObjReply) → HasToldBoth context request walk reply view → HasToldBoth closed request walk reply view
   unfolding put_still

@@ -11,7 +11,7 @@ pub enum TwoRecordAnswer {
     /// This page is held by this transaction, the lowest whose lock stands against the one asked for. Nothing has
     /// changed.
     Waiting(PageNo, TxId),
-    /// All that it changes is written, and it is told this: its next step is its end.
+    /// All changes are written, and this is the reply: only the final step is left.
     Told(ObjReply),
     /// There is no room (`NoRoom`) or no memory (`OutOfMemory`). All is rolled back.
     Refused(Refusal),

@@ -26,9 +26,9 @@ pub(crate) enum FirstAnswer {
     /// This page is held by this transaction, the lowest whose lock stands against the one asked for. Nothing has
     /// changed.
     Waiting(PageNo, TxId),
-    /// The later bucket is written, and the change of the earlier one is owed. The operation is told this reply.
+    /// The later bucket is written, and the change of the earlier one is owed. The operation has this reply.
     OneLeft(ObjReply),
-    /// All that it changes is written, and it is told this.
+    /// All changes are written, and this is the reply.
     Told(ObjReply),
     /// A bucket has no room. All is rolled back.
     Full,

@@ -74,7 +74,7 @@ pub fn two_record_walks_hold_fewer_than_300_pages()
         → map.len view.modes < 300 }
 {}
 
-/// What it is told goes with the records that the clean pages have of both keys, up to its end; and its changes are left
+/// Its reply goes with the records that the clean pages have of both keys, up to its end; and its changes are left
 /// there, one after the other.
 pub fn changes_are_left_as_told()
     ensures { (context : WalkContext) (request : Request) (reply : ObjReply)

@@ -24,7 +24,7 @@ pub enum TwoRecordWalk {
     /// Its first pass: both keys are found side by side, and both records are changed where they have room.
     First(Pair),
     /// The same pass: the later bucket is written, and the change of the earlier one is owed, or written by now. The
-    /// operation is told this reply.
+    /// operation has this reply.
     Owing(Pair, ObjReply),
     /// A wide pass, to one of the keys.
     Wide(WideStage, Walk),
@@ -49,7 +49,7 @@ impl TwoRecordWalk {
     }
 
     /// One step, up to the one before its end. In the first pass it locks a page, the next one of either key or of both, and
-    /// reads it. Once it has found both keys it learns what it is told, and changes both records: one step for each bucket.
+    /// reads it. Once it has found both keys it determines its reply, and changes both records: one step for each bucket.
     /// Where one of them has no room the pass is rolled back, and a wide one begins, which splits buckets, one page a step.
     ///
     /// It takes memory in a wide pass alone. Where it is refused all is rolled back.

@@ -5,13 +5,12 @@ use Rattle.mlt_order.proofs.UndoLaws.{one_base}
 use Rattle.mlt_object_conflicts.proofs.BaseOrder.{base_functional, base_injective}
 use Rattle.mlt_object_conflicts.proofs.laws.every_history_of_bases_is_serializable.Goals as goal
 
-pub returns-clause-serializable : goal.returns-clause-serializable
-returns-clause-serializable c = λ base history h. (kept_by_history Step empty_base base_functional base_injective history base h).serializable
-
-pub returns-clause-one : goal.returns-clause-one
-returns-clause-one c = λ base one other history h.
-    let mixed = (kept_by_history Step empty_base base_functional base_injective history base h).mixed in
-    one_base Step base_injective one other base (lists_of history).transcripts mixed.0 mixed.1
-
-pub returns-clause-undo : goal.returns-clause-undo
-returns-clause-undo c = λ base history i rest last h is. last_goes Step empty_base base_functional base_injective history base i rest last h is
+pub returns : goal.returns
+returns c = record {
+  serializable = λ base history h. (kept_by_history Step empty_base base_functional base_injective history base h).serializable;
+  one =
+      λ base one other history h.
+      let mixed = (kept_by_history Step empty_base base_functional base_injective history base h).mixed in
+      one_base Step base_injective one other base (lists_of history).transcripts mixed.0 mixed.1;
+  undo = λ base history i rest last h is. last_goes Step empty_base base_functional base_injective history base i rest last h is;
+}

@@ -1,24 +1,18 @@
 use Rattle.std.proofs.Common.{◌≡◌, ◌<◌, ◌≤◌, ◌-◌, get_or, length, arith}
 use Rattle.mlt_text_words.proofs.Digits.{digits_more, value_more}
-use Rattle.mlt_text_words.proofs.Fronts.{few_below}
+use Rattle.mlt_text_words.proofs.Fronts.{short_value}
 use Rattle.mlt_text_words.proofs.front.digits_of_few.Goals as goal
 
 pub overflow_mul-value : goal.overflow_mul-value
 overflow_mul-value c =
-    let l = c.loop-byte in
-    let i = l.invariant in
-    let within : l.end < length c.args.text.now = let e = i.counted in let t = c.loop-byte-test.true in omega (arith, e, t) in
-    let few : l.end ≤ 18 = let r = c.requires in omega (arith, within, r) in
-    let b : l.value < 1000000000000000000 = few_below c.args.text.now l.end l.value (omega (arith, within)) few i.digits i.value in
+    let i = c.loop-byte.invariant in
+    let b = short_value c.args.text.now c.loop-byte.end c.loop-byte.value c.requires (omega arith) i.digits i.value in
     omega (arith, b)
 
 pub overflow_add-value : goal.overflow_add-value
 overflow_add-value c =
-    let l = c.loop-byte in
-    let i = l.invariant in
-    let within : l.end < length c.args.text.now = let e = i.counted in let t = c.loop-byte-test.true in omega (arith, e, t) in
-    let few : l.end ≤ 18 = let r = c.requires in omega (arith, within, r) in
-    let b : l.value < 1000000000000000000 = few_below c.args.text.now l.end l.value (omega (arith, within)) few i.digits i.value in
+    let i = c.loop-byte.invariant in
+    let b = short_value c.args.text.now c.loop-byte.end c.loop-byte.value c.requires (omega arith) i.digits i.value in
     omega (arith, b)
 
 pub loop-byte-preserved : goal.loop-byte-preserved

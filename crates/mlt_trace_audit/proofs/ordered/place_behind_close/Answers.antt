@@ -17,20 +17,14 @@ not_closed : (history items : List TraceItem) (tx : ℕ) (done : Dones) (end : E
 not_closed history items tx done end (Some place) same other = tt
 not_closed history items tx done end None same other = λ whole. other (closed_same tx done end history items same whole)
 
-pub returns-clause-some : goal.returns-clause-some
-returns-clause-some c =
+pub returns : goal.returns
+returns c =
     let o = c.args.outcome.now in
     let history = c.args.history.now in
     let from = c.place_of_begin-from.result in
     let is : c.as_slice.result.now ≡ o.done = c.as_slice.ensures in
-    let closed = rw is at c.place_behind.ensures.closed in
-    with_rest history (drop from history) o.tx o.done o.end c.place_behind.result (from_begin history from o.tx c.place_of_begin-from.ensures.nothing) closed
-
-pub returns-clause-none : goal.returns-clause-none
-returns-clause-none c =
-    let o = c.args.outcome.now in
-    let history = c.args.history.now in
-    let from = c.place_of_begin-from.result in
-    let is : c.as_slice.result.now ≡ o.done = c.as_slice.ensures in
-    let other = rw is at c.place_behind.ensures.other in
-    not_closed history (drop from history) o.tx o.done o.end c.place_behind.result (from_begin history from o.tx c.place_of_begin-from.ensures.nothing) other
+    let begun = from_begin history from o.tx c.place_of_begin-from.ensures.nothing in
+    record {
+      some = with_rest history (drop from history) o.tx o.done o.end c.place_behind.result begun (rw is at c.place_behind.ensures.closed);
+      none = not_closed history (drop from history) o.tx o.done o.end c.place_behind.result begun (rw is at c.place_behind.ensures.other);
+    }

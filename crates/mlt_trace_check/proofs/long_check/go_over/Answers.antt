@@ -26,12 +26,10 @@ returns-in_err-tell_commits-clause-told g c =
 
 pub returns-in_err-tell_commits-clause-stopped : goal.returns-in_err-tell_commits-clause-stopped
 returns-in_err-tell_commits-clause-stopped g c =
-    let l = c.pieces in
     let f = c.in_ok-count.ensures.ok in
-    let text = take (l.held + c.in_ok-count.count) c.fill.new.buffer in
-    let now = reads_more _ _ _ _ _ _ l.invariant.going _ f.0 text f.5 f.1 in
-    let w = c.take_lines-went in
-    on_err_all _ _ (stops_telling _ _ _ _ _ _ now w.new.self _ (stops_somewhere w.result l.progress w.new.self text w.ensures.ok w.ensures.stopped) c.in_err-tell_commits.ensures.err)
+    let text = take (c.pieces.held + c.in_ok-count.count) c.fill.new.buffer in
+    let now = reads_more _ _ _ _ _ _ c.pieces.invariant.going _ f.0 text f.5 f.1 in
+    on_err_all _ _ (stops_telling _ _ _ _ _ _ now c.take_lines-went.new.self _ (stops_somewhere c.take_lines-went.result c.pieces.progress c.take_lines-went.new.self text c.take_lines-went.ensures.ok c.take_lines-went.ensures.stopped) c.in_err-tell_commits.ensures.err)
 
 pub returns-in_err-left-clause-told : goal.returns-in_err-left-clause-told
 returns-in_err-left-clause-told g c =
@@ -45,13 +43,11 @@ returns-in_err-left-clause-told g c =
 
 pub returns-in_err-left-clause-stopped : goal.returns-in_err-left-clause-stopped
 returns-in_err-left-clause-stopped g c =
-    let l = c.pieces in
     let f = c.in_ok-count.ensures.ok in
-    let text = take (l.held + c.in_ok-count.count) c.fill.new.buffer in
-    let now = reads_more _ _ _ _ _ _ l.invariant.going _ f.0 text f.5 f.1 in
-    let w = c.take_lines-went in
-    on_err_all _ _ (stops_telling _ _ _ _ _ _ now w.new.self _ (stops_somewhere w.result l.progress w.new.self text w.ensures.ok w.ensures.stopped)
-    (serial_lines w.new.self.txs.items, [], sym (append-nil _), c.in_ok-tell_commits.ensures.ok))
+    let text = take (c.pieces.held + c.in_ok-count.count) c.fill.new.buffer in
+    let now = reads_more _ _ _ _ _ _ c.pieces.invariant.going _ f.0 text f.5 f.1 in
+    on_err_all _ _ (stops_telling _ _ _ _ _ _ now c.take_lines-went.new.self _ (stops_somewhere c.take_lines-went.result c.pieces.progress c.take_lines-went.new.self text c.take_lines-went.ensures.ok c.take_lines-went.ensures.stopped)
+    (serial_lines c.take_lines-went.new.self.txs.items, [], sym (append-nil _), c.in_ok-tell_commits.ensures.ok))
 
 pub returns-then-ended-clause-ok : goal.returns-then-ended-clause-ok
 returns-then-ended-clause-ok g c =

@@ -1,4 +1,4 @@
-use Rattle.mlt_tx.proofs.OpenNames.{LackImage}
+use Rattle.mlt_tx.proofs.Names.{LackImage}
 use Rattle.mlt_tx.proofs.tx_slot.image_in.Given as goal
 
 -- nobody that was asked keeps one

@@ -1,5 +1,5 @@
 use Rattle.std.proofs.Common.{drop}
-use Rattle.mlt_tx.proofs.OpenNames.{UndoneTo, Step, standing_in, table_of}
+use Rattle.mlt_tx.proofs.Names.{UndoneTo, Step, standing_in, table_of}
 use Rattle.mlt_object_kinds.specs.Bases.{Base as ObjectBase}
 use Rattle.mlt_tx.proofs.tx_slot.take_back_each.Given as goal
 

@@ -8,19 +8,16 @@ use Rattle.mlt_tx_two_records.proofs.first.act_on_both.Goals as goal
 
 pub returns-in_default : goal.returns-in_default
 returns-in_default g c =
-    let context : WalkContext = context_in g.P.Pseudo.bits_of c.args.environment.now c.args.subtx.now.tx in
-    let old : LocalState = local c.args.subtx.now c.args.pages.now in
     let decided = c.decide-reply.result in
-    let alike = both_or_none context old c.args.request.now c.args.pair.now c.args.own c.args.size c.requires.1.1 decided c.decide-reply.ensures.told c.resize-resize.result c.resize-resize.ensures.change c.resize-resize.ensures.both in
+    let alike = both_or_none _ _ c.args.request.now c.args.pair.now c.args.own c.args.size c.requires.1.1 decided c.decide-reply.ensures.told c.resize-resize.result c.resize-resize.ensures.change c.resize-resize.ensures.both in
     let none : (decided.1 ≡ None) ⊎ (c.resize-resize.result ≡ None) = elim c.in_default.branch [
       | in_default-via-in-Some+in_default w ↦ inr w.in_default.is-1
       | in_default-via-in_default w ↦ inl w.in_default.is-0
     ] in
-    record { tells = told_nothing context old c.args.request.now c.args.pair.now c.args.own c.args.size c.requires.1.1 decided c.decide-reply.ensures.told c.resize-resize.result c.resize-resize.ensures.change alike none }
+    record { tells = told_nothing _ _ c.args.request.now c.args.pair.now c.args.own c.args.size c.requires.1.1 decided c.decide-reply.ensures.told c.resize-resize.result c.resize-resize.ensures.change alike none }
 
 pub change-requires : goal.change-requires
 change-requires g c =
-    let context : WalkContext = context_in g.P.Pseudo.bits_of c.args.environment.now c.args.subtx.now.tx in
     let old : LocalState = local c.args.subtx.now c.args.pages.now in (
       c.requires.1.1.may,
       (
@@ -29,7 +26,7 @@ change-requires g c =
           c.requires.1.1.found,
           (
             inl refl,
-            asked_fits_both context old c.args.request.now c.args.pair.now c.args.own c.args.size c.requires.1.1 c.decide-reply.result c.decide-reply.ensures.told c.resize-resize.result c.resize-resize.ensures.change
+            asked_fits_both _ old c.args.request.now c.args.pair.now c.args.own c.args.size c.requires.1.1 c.decide-reply.result c.decide-reply.ensures.told c.resize-resize.result c.resize-resize.ensures.change
                 c.in-Some-Some.change c.in-Some-Some.is-0 c.in-Some-Some.resize c.in-Some-Some.is-1 c.decide-reply.ensures.fits
                 (record { left = Some c.asked_for.result; right = Some c.asked_for-2.result }) (ap Some c.asked_for.ensures) (ap Some c.asked_for-2.ensures),
           ),
@@ -40,13 +37,12 @@ change-requires g c =
 pub returns-in-Changed : goal.returns-in-Changed
 returns-in-Changed g c =
     let context : WalkContext = context_in g.P.Pseudo.bits_of c.args.environment.now c.args.subtx.now.tx in
-    let old : LocalState = local c.args.subtx.now c.args.pages.now in
     let new : LocalState = local c.change.new.subtx c.change.new.pages in
     let changed : HasChanged context.bits context.root context.active context.tx c.change.new.self (view_of new) = subst (λ (r : FileRoot). HasChanged r.bits r.root context.active context.tx c.change.new.self (view_of new)) c.requires.1.0 c.in-Changed.ensures.stands in
     record {
       tells = (
         record { leaves = c.in-Changed.ensures.leaves; writes = c.in-Changed.ensures.writes },
-        told_changed context old c.args.request.now c.args.pair.now c.args.own c.args.size c.requires.1.1 c.decide-reply.result c.decide-reply.ensures.told c.resize-resize.result c.resize-resize.ensures.change
+        told_changed context _ c.args.request.now c.args.pair.now c.args.own c.args.size c.requires.1.1 c.decide-reply.result c.decide-reply.ensures.told c.resize-resize.result c.resize-resize.ensures.change
             c.in-Some-Some.change c.in-Some-Some.is-0 c.in-Some-Some.resize c.in-Some-Some.is-1 c.decide-reply.ensures.fits new c.change.new.self
             (record { left = Some c.asked_for.result; right = Some c.asked_for-2.result }) (ap Some c.asked_for.ensures) (ap Some c.asked_for-2.ensures)
             c.in-Changed.ensures.tells refl changed,
@@ -56,13 +52,12 @@ returns-in-Changed g c =
 pub returns-in-OneLeft : goal.returns-in-OneLeft
 returns-in-OneLeft g c =
     let context : WalkContext = context_in g.P.Pseudo.bits_of c.args.environment.now c.args.subtx.now.tx in
-    let old : LocalState = local c.args.subtx.now c.args.pages.now in
     let new : LocalState = local c.change.new.subtx c.change.new.pages in
     let changed : HasChanged context.bits context.root context.active context.tx c.change.new.self (view_of new) = subst (λ (r : FileRoot). HasChanged r.bits r.root context.active context.tx c.change.new.self (view_of new)) c.requires.1.0 c.in-OneLeft.ensures.stands in
     record {
       tells = (
         record { leaves = c.in-OneLeft.ensures.leaves; writes = c.in-OneLeft.ensures.writes },
-        told_one_left context old c.args.request.now c.args.pair.now c.args.own c.args.size c.requires.1.1 c.decide-reply.result c.decide-reply.ensures.told c.resize-resize.result c.resize-resize.ensures.change
+        told_one_left context _ c.args.request.now c.args.pair.now c.args.own c.args.size c.requires.1.1 c.decide-reply.result c.decide-reply.ensures.told c.resize-resize.result c.resize-resize.ensures.change
             c.in-Some-Some.change c.in-Some-Some.is-0 c.in-Some-Some.resize c.in-Some-Some.is-1 c.decide-reply.ensures.fits new c.change.new.self
             (record { left = Some c.asked_for.result; right = Some c.asked_for-2.result }) (ap Some c.asked_for.ensures) (ap Some c.asked_for-2.ensures)
             c.in-OneLeft.ensures.tells refl changed,
@@ -71,19 +66,17 @@ returns-in-OneLeft g c =
 
 pub returns-in-Full : goal.returns-in-Full
 returns-in-Full g c =
-    let context : WalkContext = context_in g.P.Pseudo.bits_of c.args.environment.now c.args.subtx.now.tx in
     let old : LocalState = local c.args.subtx.now c.args.pages.now in
     let mid : LocalState = local c.change.new.subtx c.change.new.pages in
-    let new : LocalState = local c.roll_back.new.self (record { store = c.roll_back.new.store; locks = c.roll_back.new.locks }) in
-    let stays : mid ≡ old = full_stays context old c.args.request.now c.args.pair.now c.args.own c.args.size c.requires.1.1 c.decide-reply.result c.decide-reply.ensures.told c.resize-resize.result c.resize-resize.ensures.change
+    let stays : mid ≡ old = full_stays _ old c.args.request.now c.args.pair.now c.args.own c.args.size c.requires.1.1 c.decide-reply.result c.decide-reply.ensures.told c.resize-resize.result c.resize-resize.ensures.change
     c.in-Some-Some.change c.in-Some-Some.is-0 c.in-Some-Some.resize c.in-Some-Some.is-1 c.decide-reply.ensures.fits mid c.change.new.self
     (record { left = Some c.asked_for.result; right = Some c.asked_for-2.result }) (ap Some c.asked_for.ensures) (ap Some c.asked_for-2.ensures)
     c.in-Full.field-0 c.in-Full.ensures.tells
     in
-    let back = rolls_back old mid new stays c.roll_back.ensures.store c.roll_back.ensures.locks c.roll_back.ensures.images in
+    let back = rolls_back old mid _ stays c.roll_back.ensures.store c.roll_back.ensures.locks c.roll_back.ensures.images in
     record {
-      tells = told_full context old c.args.request.now c.args.pair.now c.args.own c.args.size c.requires.1.1 c.decide-reply.result c.decide-reply.ensures.told c.resize-resize.result c.resize-resize.ensures.change
+      tells = told_full _ old c.args.request.now c.args.pair.now c.args.own c.args.size c.requires.1.1 c.decide-reply.result c.decide-reply.ensures.told c.resize-resize.result c.resize-resize.ensures.change
           c.in-Some-Some.change c.in-Some-Some.is-0 c.in-Some-Some.resize c.in-Some-Some.is-1 c.decide-reply.ensures.fits mid c.change.new.self
           (record { left = Some c.asked_for.result; right = Some c.asked_for-2.result }) (ap Some c.asked_for.ensures) (ap Some c.asked_for-2.ensures)
-          c.in-Full.field-0 c.in-Full.ensures.tells refl new back;
+          c.in-Full.field-0 c.in-Full.ensures.tells refl _ back;
     }

@@ -6,18 +6,16 @@ use Rattle.mlt_tx_two_records.proofs.wide.act_on_size.Goals as goal
 
 pub raise_size-requires : goal.raise_size-requires
 raise_size-requires g c κs within =
-    let context : WalkContext = context_in g.P.Pseudo.bits_of c.args.environment.now c.args.subtx.now.tx in
-    let m : LocalState = local c.args.subtx.now c.args.pages.now in
     let told_is : (decision c.args.request.now None).0 ≡ c.decide-reply.result.0 = ap (λ (d : ObjReply × Option RecChange). d.0) (sym c.decide-reply.ensures.told) in
     let is : size_decision c.args.request.now c.decide-reply.result.0 c.args.found ≡ Some c.in-Some.raise = sym c.resize.ensures.change ∙ c.in-Some.is in (
       within,
       (
-        may_raise context m c.args.request.now c.args.walk.now c.args.found g.since c.requires.1 c.decide-reply.result.0 told_is,
+        may_raise _ _ c.args.request.now c.args.walk.now c.args.found g.since c.requires.1 c.decide-reply.result.0 told_is,
         (
           c.requires.1.may.to_key.wide,
           (
             c.requires.1.at_bucket,
-            raises_it context m c.args.request.now c.args.walk.now c.args.found g.since c.requires.1 c.decide-reply.result.0 told_is c.in-Some.raise is,
+            raises_it _ _ c.args.request.now c.args.walk.now c.args.found g.since c.requires.1 c.decide-reply.result.0 told_is c.in-Some.raise is,
           ),
         ),
       ),
@@ -25,29 +23,19 @@ raise_size-requires g c κs within =
 
 pub returns-in-Changed : goal.returns-in-Changed
 returns-in-Changed g c =
-    let context : WalkContext = context_in g.P.Pseudo.bits_of c.args.environment.now c.args.subtx.now.tx in
-    let m : LocalState = local c.args.subtx.now c.args.pages.now in
-    let new : LocalState = local c.raise_size.new.subtx c.raise_size.new.pages in
     let told_is : (decision c.args.request.now None).0 ≡ c.decide-reply.result.0 = ap (λ (d : ObjReply × Option RecChange). d.0) (sym c.decide-reply.ensures.told) in
     let is : size_decision c.args.request.now c.decide-reply.result.0 c.args.found ≡ Some c.in-Some.raise = sym c.resize.ensures.change ∙ c.in-Some.is in
-    record { tells = raised context m c.args.request.now c.args.walk.now c.args.found g.since c.requires.1 c.decide-reply.result.0 told_is c.in-Some.raise is new c.raise_size.new.walk c.in-Changed.ensures.leaves c.in-Changed.ensures.tells c.in-Changed.ensures.writes }
+    record { tells = raised _ _ c.args.request.now c.args.walk.now c.args.found g.since c.requires.1 c.decide-reply.result.0 told_is c.in-Some.raise is _ c.raise_size.new.walk c.in-Changed.ensures.leaves c.in-Changed.ensures.tells c.in-Changed.ensures.writes }
 
 pub returns-in-NeedSplit : goal.returns-in-NeedSplit
 returns-in-NeedSplit g c =
-    let context : WalkContext = context_in g.P.Pseudo.bits_of c.args.environment.now c.args.subtx.now.tx in
-    let m : LocalState = local c.args.subtx.now c.args.pages.now in
-    let new : LocalState = local c.raise_size.new.subtx c.raise_size.new.pages in
     let told_is : (decision c.args.request.now None).0 ≡ c.decide-reply.result.0 = ap (λ (d : ObjReply × Option RecChange). d.0) (sym c.decide-reply.ensures.told) in
     let is : size_decision c.args.request.now c.decide-reply.result.0 c.args.found ≡ Some c.in-Some.raise = sym c.resize.ensures.change ∙ c.in-Some.is in
-    record { tells = splits_for_it context m c.args.request.now c.args.walk.now c.args.found g.since c.requires.1 c.decide-reply.result.0 told_is c.in-Some.raise is new c.raise_size.new.walk c.in-NeedSplit.ensures.writes c.in-NeedSplit.ensures.tells }
+    record { tells = splits_for_it _ _ c.args.request.now c.args.walk.now c.args.found g.since c.requires.1 c.decide-reply.result.0 told_is c.in-Some.raise is _ c.raise_size.new.walk c.in-NeedSplit.ensures.writes c.in-NeedSplit.ensures.tells }
 
 pub returns-in-Refused : goal.returns-in-Refused
 returns-in-Refused g c =
-    let context : WalkContext = context_in g.P.Pseudo.bits_of c.args.environment.now c.args.subtx.now.tx in
-    let m : LocalState = local c.args.subtx.now c.args.pages.now in
-    let mid : LocalState = local c.raise_size.new.subtx c.raise_size.new.pages in
-    let new : LocalState = local c.roll_back.new.self (record { store = c.roll_back.new.store; locks = c.roll_back.new.locks }) in
     let told_is : (decision c.args.request.now None).0 ≡ c.decide-reply.result.0 = ap (λ (d : ObjReply × Option RecChange). d.0) (sym c.decide-reply.ensures.told) in
     let is : size_decision c.args.request.now c.decide-reply.result.0 c.args.found ≡ Some c.in-Some.raise = sym c.resize.ensures.change ∙ c.in-Some.is in
-    let back = rolls_back m mid new c.in-Refused.ensures.writes c.roll_back.ensures.store c.roll_back.ensures.locks c.roll_back.ensures.images in
-    record { tells = refused_there context m c.args.request.now c.args.walk.now c.args.found g.since c.requires.1 c.decide-reply.result.0 told_is c.in-Some.raise is mid new c.raise_size.new.walk c.raise_size.new.walk c.in-Refused.reason c.in-Refused.ensures.writes c.in-Refused.ensures.tells back }
+    let back = rolls_back _ _ _ c.in-Refused.ensures.writes c.roll_back.ensures.store c.roll_back.ensures.locks c.roll_back.ensures.images in
+    record { tells = refused_there _ _ c.args.request.now c.args.walk.now c.args.found g.since c.requires.1 c.decide-reply.result.0 told_is c.in-Some.raise is _ _ c.raise_size.new.walk c.raise_size.new.walk c.in-Refused.reason c.in-Refused.ensures.writes c.in-Refused.ensures.tells back }

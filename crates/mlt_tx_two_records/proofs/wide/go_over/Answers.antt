@@ -5,7 +5,6 @@ use Rattle.mlt_tx_two_records.proofs.wide.go_over.Goals as goal
 
 pub go_on_to-requires : goal.go_on_to-requires
 go_on_to-requires g c κs within =
-    let m : LocalState = local c.args.subtx.now c.args.pages.now in
     let first = ap (λ (b : WalkContext). b.before) (sym c.requires.1.0) in (
       within,
       (
@@ -17,8 +16,8 @@ go_on_to-requires g c κs within =
             (
               c.requires.1.1.may.to_key.wide,
               (
-                has_changed g.context m c.args.request.now c.args.walk.now c.requires.1.1,
-                may_turn g.context m c.args.request.now c.args.walk.now c.requires.1.1 first,
+                has_changed g.context _ c.args.request.now c.args.walk.now c.requires.1.1,
+                may_turn g.context _ c.args.request.now c.args.walk.now c.requires.1.1 first,
               ),
             ),
           ),
@@ -28,6 +27,5 @@ go_on_to-requires g c κs within =
 
 pub returns-clause-goes : goal.returns-clause-goes
 returns-clause-goes g c =
-    let m : LocalState = local c.args.subtx.now c.args.pages.now in
     let walk = c.go_on_to.ensures.walk in
-    goes_over g.context m c.args.request.now c.args.walk.now c.requires.1.1 c.go_on_to.new.self c.in-Some.size walk.0 walk.1 walk.2 (sym c.size_key.ensures ∙ c.in-Some.is) walk.3 c.go_on_to.ensures.ready c.go_on_to.ensures.stood
+    goes_over g.context _ c.args.request.now c.args.walk.now c.requires.1.1 c.go_on_to.new.self c.in-Some.size walk.0 walk.1 walk.2 (sym c.size_key.ensures ∙ c.in-Some.is) walk.3 c.go_on_to.ensures.ready c.go_on_to.ensures.stood

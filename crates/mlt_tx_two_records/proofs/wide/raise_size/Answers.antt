@@ -19,7 +19,6 @@ returns-in-None-clause-tells g c =
 
 pub returns-in-Some-found-clause-tells : goal.returns-in-Some-found-clause-tells
 returns-in-Some-found-clause-tells g c =
-    let context : WalkContext = context_after g.since (context_in g.P.Pseudo.bits_of c.args.environment.now c.args.subtx.now.tx) in
-    update_raises context (local c.update.new.subtx c.update.new.pages) c.args.walk.now c.update.new.self c.args.raise c.args.found c.in-Some.value c.update.result
+    update_raises _ (local c.update.new.subtx c.update.new.pages) c.args.walk.now c.update.new.self c.args.raise c.args.found c.in-Some.value c.update.result
     (leaves c.args.raise c.args.found (Some c.in-Some.value) _ c.in-Some-found.is (can_raise c.args.found c.args.raise c.requires.1.1.1.1) (sym c.value_after.ensures ∙ c.in-Some.is))
-    (c.update.ensures.tells context refl c.requires.1.0)
+    (c.update.ensures.tells _ refl c.requires.1.0)

@@ -11,63 +11,39 @@ advance-requires g c κs within = (within, (refl, (c.requires.1.under_way, c.req
 
 pub act_on_size-requires : goal.act_on_size-requires
 act_on_size-requires g c κs within =
-    let context : WalkContext = context_in g.P.Pseudo.bits_of c.args.environment.now c.args.subtx.now.tx in
-    let old : LocalState = local c.args.subtx.now c.args.pages.now in
     let mid : LocalState = local c.advance.new.subtx c.advance.new.pages in
-    let tx : mid.running.tx ≡ old.running.tx = step_keeps_tx old mid c.in-Found.ensures.leaves.touches in
-    let may = may_act context old c.args.request.now c.args.walk.now g.since c.requires.1 mid c.advance.new.self c.in-Found.ensures.leaves c.in-Found.found c.in-Found.ensures.locks c.in-Found.ensures.tells in
-    (within, subst (λ (t : ℕ). MayActOnSize (context_in g.P.Pseudo.bits_of c.args.environment.now t) mid c.args.request.now c.advance.new.self c.in-Found.found g.since) (sym tx) may)
+    let may = may_act _ _ c.args.request.now c.args.walk.now g.since c.requires.1 mid c.advance.new.self c.in-Found.ensures.leaves c.in-Found.found c.in-Found.ensures.locks c.in-Found.ensures.tells in
+    (within, subst (λ (t : ℕ). MayActOnSize (context_in g.P.Pseudo.bits_of c.args.environment.now t) mid c.args.request.now c.advance.new.self c.in-Found.found g.since) (sym (step_keeps_tx _ _ c.in-Found.ensures.leaves.touches)) may)
 
 pub decide-requires : goal.decide-requires
 decide-requires g c = record { possible = is_possible c.args.request.now None c.requires.1.may.adds }
 
 pub unreachable-requires : goal.unreachable-requires
-unreachable-requires g c =
-    let on : WalkContext = context_after g.since (context_in g.P.Pseudo.bits_of c.args.environment.now c.args.subtx.now.tx) in
-    let old : LocalState = local c.args.subtx.now c.args.pages.now in
-    let mid : LocalState = local c.advance.new.subtx c.advance.new.pages in
-    never_needs on old mid c.args.walk.now c.advance.new.self c.advance.result c.advance.ensures.tells c.in-NeedSplit.is
+unreachable-requires g c = never_needs _ _ _ c.args.walk.now c.advance.new.self c.advance.result c.advance.ensures.tells c.in-NeedSplit.is
 
 pub returns-in-Going : goal.returns-in-Going
 returns-in-Going g c =
-    let context : WalkContext = context_in g.P.Pseudo.bits_of c.args.environment.now c.args.subtx.now.tx in
-    let old : LocalState = local c.args.subtx.now c.args.pages.now in
-    let mid : LocalState = local c.advance.new.subtx c.advance.new.pages in
-    record { tells = goes_to_size context old c.args.request.now c.args.walk.now g.since c.requires.1 mid c.advance.new.self c.in-Going.ensures.leaves c.in-Going.ensures.tells }
+    record { tells = goes_to_size _ _ c.args.request.now c.args.walk.now g.since c.requires.1 _ c.advance.new.self c.in-Going.ensures.leaves c.in-Going.ensures.tells }
 
 pub returns-in-Waiting : goal.returns-in-Waiting
 returns-in-Waiting g c =
-    let context : WalkContext = context_in g.P.Pseudo.bits_of c.args.environment.now c.args.subtx.now.tx in
-    let old : LocalState = local c.args.subtx.now c.args.pages.now in
-    let mid : LocalState = local c.advance.new.subtx c.advance.new.pages in
-    record { tells = waits_there context old c.args.request.now c.args.walk.now g.since c.requires.1 mid c.advance.new.self c.in-Waiting.page c.in-Waiting.by c.in-Waiting.ensures.tells }
+    record { tells = waits_there _ _ c.args.request.now c.args.walk.now g.since c.requires.1 _ c.advance.new.self c.in-Waiting.page c.in-Waiting.by c.in-Waiting.ensures.tells }
 
 pub returns-in-Found : goal.returns-in-Found
 returns-in-Found g c =
-    let context : WalkContext = context_in g.P.Pseudo.bits_of c.args.environment.now c.args.subtx.now.tx in
-    let old : LocalState = local c.args.subtx.now c.args.pages.now in
     let mid : LocalState = local c.advance.new.subtx c.advance.new.pages in
     let new : LocalState = local c.act_on_size.new.subtx c.act_on_size.new.pages in
-    let tx : mid.running.tx ≡ old.running.tx = step_keeps_tx old mid c.in-Found.ensures.leaves.touches in
-    let there : TellsAtSize context g.since mid new c.args.request.now c.advance.new.self c.act_on_size.new.walk c.act_on_size.result =
-    subst (λ (t : ℕ). TellsAtSize (context_in g.P.Pseudo.bits_of c.args.environment.now t) g.since mid new c.args.request.now c.advance.new.self c.act_on_size.new.walk c.act_on_size.result) tx c.act_on_size.ensures.tells in
-    record { tells = tells_there context old c.args.request.now c.args.walk.now g.since c.requires.1 mid c.advance.new.self c.in-Found.ensures.leaves c.in-Found.found c.in-Found.ensures.locks c.in-Found.ensures.tells new c.act_on_size.new.walk c.act_on_size.result there }
+    let there : TellsAtSize _ g.since mid new c.args.request.now c.advance.new.self c.act_on_size.new.walk c.act_on_size.result =
+    subst (λ (t : ℕ). TellsAtSize (context_in g.P.Pseudo.bits_of c.args.environment.now t) g.since mid new c.args.request.now c.advance.new.self c.act_on_size.new.walk c.act_on_size.result) (step_keeps_tx _ _ c.in-Found.ensures.leaves.touches) c.act_on_size.ensures.tells in
+    record { tells = tells_there _ _ c.args.request.now c.args.walk.now g.since c.requires.1 mid c.advance.new.self c.in-Found.ensures.leaves c.in-Found.found c.in-Found.ensures.locks c.in-Found.ensures.tells new c.act_on_size.new.walk c.act_on_size.result there }
 
 pub returns-in-Changed : goal.returns-in-Changed
 returns-in-Changed g c =
-    let context : WalkContext = context_in g.P.Pseudo.bits_of c.args.environment.now c.args.subtx.now.tx in
-    let old : LocalState = local c.args.subtx.now c.args.pages.now in
-    let mid : LocalState = local c.advance.new.subtx c.advance.new.pages in
     let is = ap (λ (d : ObjReply × Option RecChange). d.0) c.decide.ensures.told in
-    record { tells = told_behind context old c.args.request.now c.args.walk.now g.since c.requires.1 mid c.advance.new.self c.in-Changed.ensures.leaves c.decide.result.0 is c.in-Changed.ensures.tells }
+    record { tells = told_behind _ _ c.args.request.now c.args.walk.now g.since c.requires.1 _ c.advance.new.self c.in-Changed.ensures.leaves c.decide.result.0 is c.in-Changed.ensures.tells }
 
 pub returns-in-Refused : goal.returns-in-Refused
 returns-in-Refused g c =
-    let context : WalkContext = context_in g.P.Pseudo.bits_of c.args.environment.now c.args.subtx.now.tx in
-    let on : WalkContext = context_after g.since context in
-    let old : LocalState = local c.args.subtx.now c.args.pages.now in
-    let mid : LocalState = local c.advance.new.subtx c.advance.new.pages in
-    let new : LocalState = local c.roll_back.new.self (record { store = c.roll_back.new.store; locks = c.roll_back.new.locks }) in
-    let why = refused on old mid c.args.walk.now c.advance.new.self c.in-Refused.reason c.in-Refused.ensures.tells c.in-Refused.ensures.no_room in
-    let back = rolls_back mid mid new (refl {a = mid}) c.roll_back.ensures.store c.roll_back.ensures.locks c.roll_back.ensures.images in
-    record { tells = is_refused context old c.args.request.now c.args.walk.now g.since c.requires.1 mid c.advance.new.self c.in-Refused.ensures.leaves new c.in-Refused.reason why back }
+    let why = refused _ _ _ c.args.walk.now c.advance.new.self c.in-Refused.reason c.in-Refused.ensures.tells c.in-Refused.ensures.no_room in
+    let back = rolls_back _ _ _ (refl {a = _}) c.roll_back.ensures.store c.roll_back.ensures.locks c.roll_back.ensures.images in
+    record { tells = is_refused _ _ c.args.request.now c.args.walk.now g.since c.requires.1 _ c.advance.new.self c.in-Refused.ensures.leaves _ c.in-Refused.reason why back }

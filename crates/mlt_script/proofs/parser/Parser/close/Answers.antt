@@ -9,29 +9,13 @@ is_none : (fs : List Frame) → length fs ≡ 0 → reverse fs ≡ []
 is_none [] h = refl
 is_none (f ∷ fs) h = absurd (omega (arith, h))
 
-pub new-requires-clause-lines : goal.new-requires-clause-lines
+pub new-requires : goal.new-requires
 unfolding tree_of
-new-requires-clause-lines c =
+new-requires c =
     let s = c.in-Some.script in
     let z : length s.ifs.items ≡ 0 = search rules in
-    rw c.give_back.ensures
-    (at_top (open_of s.lines.items) s.lines.items s.count (s.kept, s.counted, s.framed ∙ is_none s.ifs.items z, s.wide, s.deep)).1
-
-pub new-requires-clause-longest : goal.new-requires-clause-longest
-unfolding tree_of
-new-requires-clause-longest c =
-    let s = c.in-Some.script in
-    let z : length s.ifs.items ≡ 0 = search rules in
-    rw c.give_back.ensures
-    (at_top (open_of s.lines.items) s.lines.items s.count (s.kept, s.counted, s.framed ∙ is_none s.ifs.items z, s.wide, s.deep)).2
-
-pub new-requires-clause-nesting : goal.new-requires-clause-nesting
-unfolding tree_of
-new-requires-clause-nesting c =
-    let s = c.in-Some.script in
-    let z : length s.ifs.items ≡ 0 = search rules in
-    rw c.give_back.ensures
-    (at_top (open_of s.lines.items) s.lines.items s.count (s.kept, s.counted, s.framed ∙ is_none s.ifs.items z, s.wide, s.deep)).3
+    let top = at_top (open_of s.lines.items) s.lines.items s.count (s.kept, s.counted, s.framed ∙ is_none s.ifs.items z, s.wide, s.deep) in
+    record { client = search rules; lines = rw c.give_back.ensures top.1; longest = rw c.give_back.ensures top.2; nesting = rw c.give_back.ensures top.3 }
 
 pub returns-in_ok-push-in-Some : goal.returns-in_ok-push-in-Some
 unfolding tree_of

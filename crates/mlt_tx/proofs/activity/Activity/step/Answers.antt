@@ -15,11 +15,9 @@ was_pending s o i whole view is = sym (pending_is s o i is) ∙ view
 pub returns-in-Done-clause-tells : goal.returns-in-Done-clause-tells
 returns-in-Done-clause-tells g c =
     let context : WalkContext = context_in g.P.Pseudo.bits_of c.args.environment.now c.args.subtx.now.tx in
-    let told : Answer = c.step_on-answer.result in
-    let o : OperationFields = c.self.inside.operation in
     let after : Transaction = transaction_at c.step_on-answer.new.subtx c.step_on-answer.new.undo At.Idle in
     let new : SharedState = c.step_on-answer.new.shared in
-    subst (λ (a : At). TellsAt a context (transaction_at c.args.subtx.now c.args.undo.now a) after c.args.shared.now new told) (was_pending c.self.inside.state o c.self.inside.inverting c.args.self.now c.self.view_is c.in-Pending.is) (record {
+    subst (λ (a : At). TellsAt a context (transaction_at c.args.subtx.now c.args.undo.now a) after c.args.shared.now new c.step_on-answer.result) (was_pending c.self.inside.state c.self.inside.operation c.self.inside.inverting c.args.self.now c.self.view_is c.in-Pending.is) (record {
       next = c.step_on-answer.new.operation;
       between = new;
       tells = c.step_on-answer.ensures.tells;
@@ -30,12 +28,10 @@ returns-in-Done-clause-tells g c =
 pub returns-in-Refused-clause-tells : goal.returns-in-Refused-clause-tells
 returns-in-Refused-clause-tells g c =
     let context : WalkContext = context_in g.P.Pseudo.bits_of c.args.environment.now c.args.subtx.now.tx in
-    let told : Answer = c.step_on-answer.result in
-    let o : OperationFields = c.self.inside.operation in
     let after : Transaction = transaction_at c.step_on-answer.new.subtx c.step_on-answer.new.undo At.Idle in
     let between : SharedState = c.step_on-answer.new.shared in
     let new : SharedState = record { alloc = between.alloc; pages = between.pages; objects = between.objects; history = c.release.new.self } in
-    subst (λ (a : At). TellsAt a context (transaction_at c.args.subtx.now c.args.undo.now a) after c.args.shared.now new told) (was_pending c.self.inside.state o c.self.inside.inverting c.args.self.now c.self.view_is c.in-Pending.is) (record {
+    subst (λ (a : At). TellsAt a context (transaction_at c.args.subtx.now c.args.undo.now a) after c.args.shared.now new c.step_on-answer.result) (was_pending c.self.inside.state c.self.inside.operation c.self.inside.inverting c.args.self.now c.self.view_is c.in-Pending.is) (record {
       next = c.step_on-answer.new.operation;
       between = between;
       tells = c.step_on-answer.ensures.tells;

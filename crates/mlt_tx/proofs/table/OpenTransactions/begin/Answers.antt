@@ -1,6 +1,6 @@
 use Rattle.std.proofs.Common.{◌≡◌, ◌+◌, ◌++◌, ◌∷◌, [], List, length, sym, ap, subst, ◌∙◌, arith}
 use Rattle.std.specs.FinMap as map
-use Rattle.mlt_tx.proofs.OpenNames.{TxSlot, Table, AreTxSlots, table_of}
+use Rattle.mlt_tx.proofs.Names.{TxSlot, Table, AreTxSlots, table_of}
 use Rattle.mlt_tx.proofs.TxSlots.{Changed, transaction_changed, slot_given, no_more_taken, none_sits, one_is_free, one_more_slot}
 use Rattle.mlt_tx.proofs.table.OpenTransactions.begin.Goals as goal
 

@@ -1,5 +1,5 @@
 use Rattle.std.proofs.Common.{ℕ, sym, ◌∙◌}
-use Rattle.mlt_tx.proofs.OpenNames.{on_err_weaker, WalkContext, ChangesOne}
+use Rattle.mlt_tx.proofs.Names.{on_err_weaker, WalkContext, ChangesOne}
 use Rattle.mlt_hash.specs.Walks.{context_in}
 use Rattle.mlt_tx.proofs.FastCalls.{calls_if_ok}
 use Rattle.mlt_tx.proofs.TxSlots.{transaction_changed, it_sits, not_open, one_changes}

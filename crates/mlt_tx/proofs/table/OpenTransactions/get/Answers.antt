@@ -1,6 +1,6 @@
 use Rattle.std.proofs.Common.{Some, sym, ap, ◌∙◌, option_copied}
 use Rattle.std.specs.FinMap as map
-use Rattle.mlt_tx.proofs.OpenNames.{TxSlot, Table}
+use Rattle.mlt_tx.proofs.Names.{TxSlot, Table}
 use Rattle.mlt_tx.proofs.TxSlots.{none_sits, who_sits}
 use Rattle.mlt_tx.proofs.table.OpenTransactions.get.Goals as goal
 

@@ -1,5 +1,5 @@
 use Rattle.std.proofs.Common.{List, sym, subst}
-use Rattle.mlt_tx.proofs.OpenNames.{TxSlot, AreTxSlots}
+use Rattle.mlt_tx.proofs.Names.{TxSlot, AreTxSlots}
 use Rattle.mlt_tx.proofs.TxSlots.{no_slots}
 use Rattle.mlt_tx.proofs.table.OpenTransactions.new.Goals as goal
 

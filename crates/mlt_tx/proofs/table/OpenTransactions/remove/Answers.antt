@@ -1,6 +1,6 @@
 use Rattle.std.proofs.Common.{◌≡◌, ◌+◌, ◌-◌, true, sym, ap, ◌∙◌, refl, arith}
 use Rattle.std.specs.FinMap as map
-use Rattle.mlt_tx.proofs.OpenNames.{Table}
+use Rattle.mlt_tx.proofs.Names.{Table}
 use Rattle.mlt_tx.proofs.TxSlots.{freed_slot, none_freed, some_taken}
 use Rattle.mlt_tx.proofs.table.OpenTransactions.remove.Goals as goal
 

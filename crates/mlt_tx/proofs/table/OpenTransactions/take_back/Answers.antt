@@ -1,5 +1,5 @@
 use Rattle.std.proofs.Common.{◌≡◌, OnOk, sym, ap, subst, ◌∙◌}
-use Rattle.mlt_tx.proofs.OpenNames.{UndoneTo, Step, standing_in, Table, HaveOneEach, table_of}
+use Rattle.mlt_tx.proofs.Names.{UndoneTo, Step, standing_in, Table, HaveOneEach, table_of}
 use Rattle.mlt_object_kinds.specs.Bases.{Base as ObjectBase}
 use Rattle.mlt_tx.proofs.table.OpenTransactions.take_back.Goals as goal
 

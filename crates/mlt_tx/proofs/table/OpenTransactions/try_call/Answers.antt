@@ -1,5 +1,5 @@
 use Rattle.std.proofs.Common.{refl, sym, ◌∙◌}
-use Rattle.mlt_tx.proofs.OpenNames.{on_err_weaker, IsPending, IsUndoing}
+use Rattle.mlt_tx.proofs.Names.{on_err_weaker, IsPending, IsUndoing}
 use Rattle.std.proofs.lemmas.Result.{on_ok_weaker}
 use Rattle.mlt_tx.proofs.TxSlots.{transaction_changed, one_changes}
 use Rattle.mlt_tx.proofs.Trying.{call_tried, not_found, found_at, found_idle}

@@ -1,5 +1,5 @@
 use Rattle.std.proofs.Common.{◌≡◌, Some, refl, sym, subst, ◌∙◌}
-use Rattle.mlt_tx.proofs.OpenNames.{Transaction, IsBusy}
+use Rattle.mlt_tx.proofs.Names.{Transaction, IsBusy}
 use Rattle.mlt_tx.specs.OpenAt.{IsIdle}
 use Rattle.mlt_tx.proofs.TxSlots.{transaction_changed, one_changes}
 use Rattle.mlt_tx.proofs.Trying.{busy_unless_idle, not_found, found_there, found_at}

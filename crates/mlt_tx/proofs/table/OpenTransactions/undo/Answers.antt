@@ -1,5 +1,5 @@
 use Rattle.std.proofs.Common.{sym, ap, ◌∙◌}
-use Rattle.mlt_tx.proofs.OpenNames.{At}
+use Rattle.mlt_tx.proofs.Names.{At}
 use Rattle.mlt_tx.proofs.TxSlots.{transaction_changed, none_open, one_changes}
 use Rattle.mlt_tx.proofs.table.OpenTransactions.undo.Goals as goal
 

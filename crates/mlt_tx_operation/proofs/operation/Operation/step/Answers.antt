@@ -8,18 +8,16 @@ use Rattle.mlt_tx_operation.proofs.operation.Operation.step.Goals as goal
 pub step_walk-requires-clause-ready : goal.step_walk-requires-clause-ready
 step_walk-requires-clause-ready g c =
     let context : WalkContext = context_in g.P.Pseudo.bits_of c.args.environment.now c.args.subtx.now.tx in
-    let m : LocalState = local c.args.subtx.now c.args.pages.now in
     let o : WalkingFields = walking c.self.inside.request c.self.inside.reply c.in-One.walk in
     let is : c.args.self.now ≡ on_one o = sym ((λ i. record { request = c.self.inside.request; reply = c.self.inside.reply; access_path = sym c.in-One.is i }) ∙ c.self.view_is) in
-    may_walk_on context m o (subst (MayOperate context m) is c.requires.ready)
+    may_walk_on context _ o (subst (MayOperate context _) is c.requires.ready)
 
 pub step-requires : goal.step-requires
 step-requires g c =
     let context : WalkContext = context_in g.P.Pseudo.bits_of c.args.environment.now c.args.subtx.now.tx in
-    let m : LocalState = local c.args.subtx.now c.args.pages.now in
     let none : c.self.inside.reply ≡ None = ap (λ (o : OperationFields). o.reply) c.self.view_is ∙ c.requires.untold in
     let is : c.args.self.now ≡ on_two c.self.inside.request None c.in-Two.two_records = sym ((λ i. record { request = c.self.inside.request; reply = sym none i; access_path = sym c.in-Two.is i }) ∙ c.self.view_is) in
-    record { ready = may_go_on context m c.self.inside.request c.in-Two.two_records (subst (MayOperate context m) is c.requires.ready) }
+    record { ready = may_go_on context _ c.self.inside.request c.in-Two.two_records (subst (MayOperate context _) is c.requires.ready) }
 
 pub returns-in-Going : goal.returns-in-Going
 returns-in-Going g c =

@@ -16,9 +16,8 @@ pub returns-in-Owing : goal.returns-in-Owing
 returns-in-Owing g c =
     let context : WalkContext = context_in g.P.Pseudo.bits_of c.args.environment.now c.args.subtx.now.tx in
     let old : LocalState = local c.args.subtx.now c.args.pages.now in
-    let new : LocalState = local c.write_earlier.new.subtx c.write_earlier.new.pages in
     let owes : OwesOne context c.args.request.now c.in-Owing.pair c.in-Owing.reply (view_of old) = subst (λ (d : TwoRecordWalk). Stands d context c.args.request.now (view_of old)) c.in-Owing.is c.requires.ready.stands in
-    let tells = owing_tells context old new c.args.request.now c.in-Owing.pair c.write_earlier.new.self c.in-Owing.reply owes c.write_earlier.ensures.leaves c.write_earlier.ensures.writes c.write_earlier.ensures.holding c.write_earlier.ensures.pair in
+    let tells = owing_tells context old _ c.args.request.now c.in-Owing.pair c.write_earlier.new.self c.in-Owing.reply owes c.write_earlier.ensures.leaves c.write_earlier.ensures.writes c.write_earlier.ensures.holding c.write_earlier.ensures.pair in
     record { tells = (tells.0, subst (λ (d : TwoRecordWalk). TellsLast d (Owing c.write_earlier.new.self c.in-Owing.reply)) (sym c.in-Owing.is) refl, tells.1) }
 
 pub returns-in-Own : goal.returns-in-Own

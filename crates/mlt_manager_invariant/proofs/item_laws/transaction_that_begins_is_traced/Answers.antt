@@ -1,5 +1,0 @@
-use Rattle.mlt_manager_invariant.proofs.Items.{begin_traced}
-use Rattle.mlt_manager_invariant.proofs.item_laws.transaction_that_begins_is_traced.Goals as goal
-
-pub returns : goal.returns
-returns c = begin_traced

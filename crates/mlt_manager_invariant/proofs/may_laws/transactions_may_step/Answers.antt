@@ -1,5 +1,0 @@
-use Rattle.mlt_manager_invariant.proofs.MaySteps.{may_step}
-use Rattle.mlt_manager_invariant.proofs.may_laws.transactions_may_step.Goals as goal
-
-pub returns : goal.returns
-returns c = may_step

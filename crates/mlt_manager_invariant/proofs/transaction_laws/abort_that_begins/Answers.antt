@@ -1,5 +1,0 @@
-use Rattle.mlt_manager_invariant.proofs.Aborts.{abort_sound}
-use Rattle.mlt_manager_invariant.proofs.transaction_laws.abort_that_begins.Goals as goal
-
-pub returns : goal.returns
-returns c = abort_sound

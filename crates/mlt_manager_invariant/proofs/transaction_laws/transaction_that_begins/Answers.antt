@@ -1,5 +1,0 @@
-use Rattle.mlt_manager_invariant.proofs.Begins.{begin_sound}
-use Rattle.mlt_manager_invariant.proofs.transaction_laws.transaction_that_begins.Goals as goal
-
-pub returns : goal.returns
-returns c = begin_sound

@@ -1,5 +1,0 @@
-use Rattle.mlt_manager_invariant.proofs.Undoing.{undone_sound}
-use Rattle.mlt_manager_invariant.proofs.undo_laws.undone_operation_keeps_all.Goals as goal
-
-pub returns : goal.returns
-returns c = undone_sound

@@ -1,5 +1,0 @@
-use Rattle.mlt_trace_check.proofs.Lines.{lines_say_items}
-use Rattle.mlt_trace_check.proofs.line_laws.written_items_are_read.Goals as goal
-
-pub returns : goal.returns
-returns c = lines_say_items

@@ -1,5 +1,0 @@
-use Rattle.mlt_tx_meaning.proofs.Operations.{operation_keeps}
-use Rattle.mlt_tx_meaning.proofs.operation_laws.operation_keeps_the_match.Goals as goal
-
-pub returns : goal.returns
-returns c = operation_keeps
