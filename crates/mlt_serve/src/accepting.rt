@@ -114,7 +114,7 @@ impl<'a, R: Wait + Clock> Acceptor<'a, R> {
         }
     }
 
-    /// An accept has succeeded. It answers whether who has come is let in.
+    /// An accept has succeeded. It returns whether the client is admitted.
     fn lets_in(&mut self) -> bool {
         if self.is_pausing {
             self.notes.tell(self.rt, Note::AcceptGoesOn);
@@ -128,7 +128,7 @@ impl<'a, R: Wait + Clock> Acceptor<'a, R> {
     }
 
     /// An accept has failed, for want of descriptors or buffers or not, and is to be tried again: after a pause if so, or if another
-    /// has failed before. The first of either kind in a row is told.
+    /// has failed before. The first of either kind in a row is logged.
     fn try_again(&mut self, is_want: bool, note: Note) {
         let is_first = if is_want {
             !self.is_pausing
@@ -188,7 +188,7 @@ fn turn_away(stream: TcpStream) {
 
 /// Accepts as many connections as the limit says, numbers them from 1, and sends each on as it comes. It accepts no more once an
 /// accept has failed by the listener, a sending was refused, a session was refused a growth, or the server is to stop. Then clients
-/// are refused from now on, and why is told. What it has accepted it has sent on, unless that was refused.
+/// are refused from now on, and a log message says why. What it has accepted it has sent on, unless that was refused.
 pub(crate) fn accept_all<R: Wait + Clock>(
     rt: &R,
     door: &Door<'_>,

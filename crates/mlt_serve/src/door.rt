@@ -38,7 +38,7 @@ impl<'a> Door<'a> {
         accept(self.listener)
     }
 
-    /// From now on clients are refused, and who waits for the next connection fails.
+    /// From now on clients are refused, and a thread that waits for the next connection fails.
     pub(crate) fn close(&self) {
         refuse_all(self.listener);
     }

@@ -45,19 +45,19 @@ fn served_of<P: Pseudo + Drop>(
     limit: u32,
 ) -> Result<ServedEndless<P>, Refusal>
     requires clients { ended.gathered.is_short ≡ false
-        → AreOfClients ended.gathered.last ended.gathered.outcomes.told.outcomes }
+        → AreOfClients ended.gathered.last ended.gathered.outcomes.told.items }
     requires told { ended.gathered.is_short ≡ false
         → TellsOutcomes ended.manager.shared.history.items
-        ended.gathered.outcomes.told.outcomes }
+        ended.gathered.outcomes.told.items }
     ensures manager { IfOk result (λ got. got.manager ≡ ended.manager) }
     ensures begun { IfOk result
-        (λ got. length got.tally.told.outcomes ≡ got.manager.begun) }
+        (λ got. length got.tally.told.items ≡ got.manager.begun) }
     ensures commits { IfOk result
-        (λ got. commits_told got.tally.told.outcomes ≡ got.manager.commits) }
+        (λ got. commits_told got.tally.told.items ≡ got.manager.commits) }
     ensures clients { IfOk result
-        (λ got. AreOfClients got.connections got.tally.told.outcomes) }
+        (λ got. AreOfClients got.connections got.tally.told.items) }
     ensures told { IfOk result
-        (λ got. TellsOutcomes got.manager.shared.history.items got.tally.told.outcomes) }
+        (λ got. TellsOutcomes got.manager.shared.history.items got.tally.told.items) }
     ensures few { IfOk result (λ got. got.connections ≤ limit) }
     ensures refusal { IfErr result (λ refusal.
         (refusal ≡ Refusal.Io) ⊎ (refusal ≡ Refusal.OutOfMemory) ⊎ (refusal ≡ Refusal.Audit)) }
@@ -114,17 +114,17 @@ where
     ensures made { IfOk result (λ got. IsMadeWith got.manager options.now.limits pseudo) }
     // as many transactions were told begun as the manager has begun
     ensures begun { IfOk result
-        (λ got. length got.tally.told.outcomes ≡ got.manager.begun) }
+        (λ got. length got.tally.told.items ≡ got.manager.begun) }
     // as many were told committed as it has committed
     ensures commits { IfOk result
-        (λ got. commits_told got.tally.told.outcomes ≡ got.manager.commits) }
+        (λ got. commits_told got.tally.told.items ≡ got.manager.commits) }
     // the history of the manager tells all that is in an outcome: that the transaction has begun, each of its operations with its
     // reply, and its commit
     ensures told { IfOk result
-        (λ got. TellsOutcomes got.manager.shared.history.items got.tally.told.outcomes) }
+        (λ got. TellsOutcomes got.manager.shared.history.items got.tally.told.items) }
     // each outcome was that of one of the connections, which are no more than the options say
     ensures clients { IfOk result
-        (λ got. AreOfClients got.connections got.tally.told.outcomes) }
+        (λ got. AreOfClients got.connections got.tally.told.items) }
     ensures few { IfOk result (λ got. got.connections ≤ options.now.connections) }
     ensures refusal { IfErr result (λ refusal.
         (refusal ≡ Refusal.Io) ⊎ (refusal ≡ Refusal.OutOfMemory) ⊎ (refusal ≡ Refusal.Audit)) }

@@ -1,14 +1,16 @@
 //! What all session threads have served, put together.
 
-ghost use Rattle.std.specs.Prelude.{◌≡◌, ◌+◌, ◌-◌, ◌*◌, ◌^◌, ◌≤◌, ◌++◌, [], IfOk, IsPermutation, false, min, vec_len};
+ghost use Rattle.std.specs.Prelude.{◌≡◌, ◌+◌, ◌-◌, ◌*◌, ◌^◌, ◌≤◌, ◌⊎◌, ◌++◌, [], Err, IfErr, IfOk, IsOk, IsOkUnless, IsPermutation, OnOk, false, min, true, vec_len};
 ghost use Rattle.mlt_work_log.specs.Seats.{IsWriterOf, all_items, id_of};
 ghost use Rattle.mlt_serve.specs.Clients.{AreOfClients};
+ghost use Rattle.mlt_serve.specs.Endings.{result_of_accepting};
 ghost use Rattle.mlt_serve.specs.Tellings.{TellsOutcomes};
 ghost use Rattle.mlt_serve.specs.Threads.{AllHaveMemory, all_outcomes};
 
+use crate::accepting::Accepting;
 use crate::session_thread::SessionThread;
 use mlt_serve_session::Receipts;
-use mlt_types::Pseudo;
+use mlt_types::{Pseudo, Refusal};
 use mlt_work_desk::{MadeWith, Unlocked};
 use mlt_work_log::{HistoryLog, LogWriter};
 use std::alloc::{AllocError, Global};
@@ -102,23 +104,42 @@ impl<K: Receipts + Drop> Gathered<K> {
         ensures short { self.new.is_short ≡ false
             → (self.old.is_short ≡ false) × (thread.is_short ≡ false) }
     {
-        let SessionThread {
-            share,
-            events,
-            outcomes,
-            connections,
-            last,
-            is_short,
-            snapshot,
-            pseudo: _,
-        } = thread;
-        desks.compare(snapshot);
-        all.merge(share);
-        self.events = self.events.saturating_add(events);
-        self.connections = self.connections.saturating_add(connections);
-        self.last = self.last.max(last);
-        let refused = self.outcomes.take_in(outcomes).is_err();
-        self.is_short = self.is_short || is_short || refused;
+        desks.compare(thread.snapshot);
+        all.merge(thread.share);
+        self.events = self.events.saturating_add(thread.events);
+        self.connections = self.connections.saturating_add(thread.connections);
+        self.last = self.last.max(thread.last);
+        let refused = self.outcomes.take_in(thread.outcomes).is_err();
+        self.is_short = self.is_short || thread.is_short || refused;
+    }
+
+    /// How many connections were served, where these are all that were accepted.
+    ///
+    /// # Errors
+    /// Why the accepting ended by a fault; else `OutOfMemory`, where a growth was refused; else `Audit`, where not as many connections
+    /// were served as were accepted, or more than the limit says.
+    pub(crate) fn served(&self, accepting: Accepting, limit: u32) -> Result<u32, Refusal>
+        ensures accepted { IfOk result (λ count. count ≡ accepting.connections) }
+        ensures served { IfOk result (λ count. self.now.connections ≡ count) }
+        ensures few { IfOk result (λ count. count ≤ limit) }
+        ensures whole { OnOk result (self.now.is_short ≡ false) }
+        ensures early { IfErr (result_of_accepting accepting.end) (λ refusal. result ≡ Err refusal) }
+        ensures short { IsOk (result_of_accepting accepting.end) → self.now.is_short ≡ true
+            → result ≡ Err Refusal.OutOfMemory }
+        ensures audit { IsOk (result_of_accepting accepting.end) → self.now.is_short ≡ false
+            → IsOkUnless result Refusal.Audit }
+        ensures refusal { IfErr result (λ refusal.
+            (refusal ≡ Refusal.Io) ⊎ (refusal ≡ Refusal.OutOfMemory) ⊎ (refusal ≡ Refusal.Audit)) }
+    {
+        accepting.result()?;
+        if self.is_short {
+            return Err(Refusal::OutOfMemory);
+        }
+        let count = accepting.connections;
+        if count > limit || self.connections != u64::from(count) {
+            return Err(Refusal::Audit);
+        }
+        Ok(count)
     }
 }
 

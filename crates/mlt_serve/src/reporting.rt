@@ -1,9 +1,8 @@
 //! The outcomes, once all connections are served.
 
-ghost use Rattle.std.specs.Prelude.{◌≡◌, ◌≤◌, ◌↔◌, IfErr, IsOk, IsOkUnless, IfOk, IsPermutation, IsTrue, Err, [], true, false};
+ghost use Rattle.std.specs.Prelude.{◌≡◌, ◌≤◌, ◌↔◌, ◌⊎◌, IfErr, IfOk, IsPermutation, IsTrue, []};
 ghost use Rattle.mlt_trace_audit.specs.Agreement.{Agrees};
 ghost use Rattle.mlt_serve.specs.Clients.{AreByClientAndNumber, AreOfClients, IsOfClient};
-ghost use Rattle.mlt_serve.specs.Endings.{result_of_accepting};
 
 use crate::accepting::Accepting;
 use crate::gathering::Gathered;
@@ -45,8 +44,7 @@ fn in_order(outcomes: Vec<Outcome>) -> Vec<Outcome>
 /// The outcomes of all sessions, by client and then by number, where they agree with the manager's history.
 ///
 /// # Errors
-/// Why the accepting ended by a fault; else `OutOfMemory`, where a growth was refused; else `Audit`, where not as many connections
-/// were served as were accepted, or more than the limit says, or the outcomes are not those of the history.
+/// As those of `Gathered::served`, and then `Audit`, where the outcomes are not those of the history.
 pub(crate) fn outcomes_of<P: Pseudo>(
     alloc: Global,
     accepting: Accepting,
@@ -60,21 +58,10 @@ pub(crate) fn outcomes_of<P: Pseudo>(
     ensures clients { IfOk result (λ outcomes. AreOfClients accepting.connections outcomes) }
     ensures order { IfOk result (λ outcomes. AreByClientAndNumber outcomes) }
     ensures few { IfOk result (λ _. accepting.connections ≤ limit) }
-    ensures served { IfOk result (λ _. gathered.connections ≡ accepting.connections) }
-    ensures early { IfErr (result_of_accepting accepting.end) (λ refusal. result ≡ Err refusal) }
-    ensures short { IsOk (result_of_accepting accepting.end) → gathered.is_short ≡ true
-        → result ≡ Err Refusal.OutOfMemory }
-    ensures audit { IsOk (result_of_accepting accepting.end) → gathered.is_short ≡ false
-        → IsOkUnless result Refusal.Audit }
+    ensures refusal { IfErr result (λ refusal.
+        (refusal ≡ Refusal.Io) ⊎ (refusal ≡ Refusal.OutOfMemory) ⊎ (refusal ≡ Refusal.Audit)) }
 {
-    accepting.result()?;
-    if gathered.is_short {
-        return Err(Refusal::OutOfMemory);
-    }
-    let accepted = accepting.connections;
-    if accepted > limit || gathered.connections != u64::from(accepted) {
-        return Err(Refusal::Audit);
-    }
+    let accepted = gathered.served(accepting, limit)?;
     let outcomes = in_order(gathered.outcomes);
     if !are_of_clients(outcomes.as_slice(), accepted) {
         return Err(Refusal::Audit);

@@ -15,7 +15,6 @@ use crate::operating::{EndSignal, Operating, TraceFile};
 use crate::options::ServeOptions;
 use crate::reporting::outcomes_of;
 use crate::service::Service;
-use crate::threads_beside::serve_with_notes;
 use mlt_manager::Manager;
 use mlt_script_serial::{Outcome, Outcomes};
 use mlt_serve_connections::{AdmissionQueue, SpinPolicy};
@@ -122,14 +121,7 @@ where
         is_watched: operating.admin.is_some() || options.open.is_some(),
         is_endless,
     };
-    let ran = serve_with_notes(
-        rt,
-        alloc,
-        &service,
-        outlet,
-        operating,
-        threads.as_mut_slice(),
-    );
+    let ran = service.serve_with_notes(rt, alloc, outlet, operating, threads.as_mut_slice());
     notes.end(rt);
     let mut desks = shared.unlock();
     let gathered = gather(alloc, &mut all, threads, &mut desks);
@@ -183,8 +175,8 @@ fn served_of<P: Pseudo + Drop>(
 
 /// Serves connections on a new manager, with these options: accepts as many as they say, or fewer where the server is to end before,
 /// and hands them to the session threads by a bounded channel. Connections have the numbers 1, 2, 3 in the order in which they are
-/// accepted; each is served by one session, whose transactions have that number as their client. An operation that is told to wait, or
-/// that it is blocked, is given up once its tries are spent, or it has waited for too long. The outcomes stand by client and then by
+/// accepted; each is served by one session, whose transactions have that number as their client. An operation that waits or is
+/// blocked gets `GaveUp` once its tries are used up, or it has waited for too long. The outcomes stand by client and then by
 /// number.
 ///
 /// A connection that gives nothing to read, or takes nothing that is written, for the idle time, if there is one, ends as by a
@@ -192,8 +184,8 @@ fn served_of<P: Pseudo + Drop>(
 /// long, the others go on. After a session at most a second is spent on reading away what its client still sends.
 ///
 /// Once no more connections are accepted the listener is shut down, so that clients are refused. Where the server is to end, sessions
-/// hear nothing more: they answer what has come, and those that are not done after some seconds are cut. What goes on beside this is
-/// told by notes. The trace, if there is a file for it, is written as the server goes, and whole at any end.
+/// hear nothing more: they answer what has come, and those that are not done after some seconds are cut. What else happens is
+/// written as log messages. The trace, if there is a file for it, is written as the server goes, and whole at any end.
 ///
 /// # Errors
 /// `Io`, where an accept failed by the listener; others are tried again. `OutOfMemory`, where a growth or a thread

@@ -43,39 +43,8 @@ impl Ran {
     }
 }
 
-/// Serves connections with a thread beside them that writes notes, and the others. Where one of these is refused, nothing is accepted.
-pub(crate) fn serve_with_notes<P, L, K, R, N, T, S>(
-    rt: &R,
-    alloc: Global,
-    service: &Service<'_, P, L>,
-    outlet: Outlet,
-    operating: Operating<'_, N, T, S>,
-    threads: &mut [SessionThread<P, L, K>],
-) -> Ran
-where
-    P: Pseudo + Send,
-    L: MadeWith<P> + Send + Sync,
-    K: Receipts + Send + Drop,
-    R: Threads + Wait + Clock + Sync + Send + Copy + 'static,
-    N: Write + Send + Drop + 'static,
-    T: TraceFile + Send + Drop,
-    S: EndSignal + Send + Drop,
-    requires { 0 < length threads.old }
-{
-    let Operating {
-        notes,
-        trace,
-        signal,
-        admin,
-    } = operating;
-    if !starts_to_write(rt, alloc, outlet, notes) {
-        return Ran::none();
-    }
-    serve_with_watch(rt, alloc, service, trace, signal, admin, threads)
-}
-
-/// Starts the thread that writes notes, and answers whether there is one. Nobody joins it: who reads the notes may have stopped, and
-/// then it stays in its write. It has all that it needs.
+/// Starts the thread that writes notes, and returns whether there is one. No thread joins it: if the reader of the notes has
+/// stopped, it stays in its write. It has all that it needs.
 fn starts_to_write<R, N>(rt: &R, alloc: Global, outlet: Outlet, writer: N) -> bool
 where
     R: Threads + Wait + Clock + Sync + Send + Copy + 'static,
@@ -87,157 +56,179 @@ where
     thread::spawn(rt, write).is_ok()
 }
 
-/// Serves connections with a thread beside them that looks after them, and the others.
-fn serve_with_watch<P, L, K, R, T, S>(
-    rt: &R,
-    alloc: Global,
-    service: &Service<'_, P, L>,
-    trace: Option<T>,
-    signal: S,
-    admin: Option<Admin<'_>>,
-    threads: &mut [SessionThread<P, L, K>],
-) -> Ran
-where
-    P: Pseudo + Send,
-    L: MadeWith<P> + Send + Sync,
-    K: Receipts + Send + Drop,
-    R: Threads + Wait + Clock + Sync,
-    T: TraceFile + Send + Drop,
-    S: EndSignal + Send + Drop,
-    requires { 0 < length threads.old }
-{
-    let watch_ending = DoneSignal::new();
-    let ending = &watch_ending;
-    thread::scope(
-        thread::scope_env(),
-        rt,
-        |scope| -> Ran
-            requires { 0 < length threads.now }
-        {
-            let look = move || supervise(rt, service, ending, signal);
-            let Ok(watching) = scope.spawn(look) else {
-                return Ran::none();
-            };
-            let ran = serve_with_trace(rt, alloc, service, trace, admin, threads);
-            ending.end(rt);
-            watching.join(rt);
-            ran
-        },
-    )
-}
-
-/// Serves connections with a thread beside them that writes the trace, if there is one, or takes the history out of the manager, and
-/// the others.
-fn serve_with_trace<P, L, K, R, T>(
-    rt: &R,
-    alloc: Global,
-    service: &Service<'_, P, L>,
-    trace: Option<T>,
-    admin: Option<Admin<'_>>,
-    threads: &mut [SessionThread<P, L, K>],
-) -> Ran
-where
-    P: Pseudo + Send,
-    L: MadeWith<P> + Send + Sync,
-    K: Receipts + Send + Drop,
-    R: Threads + Wait + Clock + Sync,
-    T: TraceFile + Send + Drop,
-    requires { 0 < length threads.old }
-{
-    if trace.is_none() && !service.is_endless {
-        return Ran {
-            accepting: serve_with_admin(rt, alloc, service, admin, threads),
-            trace_failure: None,
-        };
+impl<'a, P: Pseudo + Send, L: MadeWith<P> + Send + Sync> Service<'a, P, L> {
+    /// Serves connections with a thread beside them that writes notes, and the others. Where one of these is refused, nothing is
+    /// accepted.
+    pub(crate) fn serve_with_notes<
+        K: Receipts + Send + Drop,
+        R: Threads + Wait + Clock + Sync + Send + Copy + 'static,
+        N: Write + Send + Drop + 'static,
+        T: TraceFile + Send + Drop,
+        S: EndSignal + Send + Drop,
+    >(
+        &self,
+        rt: &R,
+        alloc: Global,
+        outlet: Outlet,
+        operating: Operating<'_, N, T, S>,
+        threads: &mut [SessionThread<P, L, K>],
+    ) -> Ran
+        requires { 0 < length threads.old }
+    {
+        let Operating {
+            notes,
+            trace,
+            signal,
+            admin,
+        } = operating;
+        if !starts_to_write(rt, alloc, outlet, notes) {
+            return Ran::none();
+        }
+        self.serve_with_watch(rt, alloc, trace, signal, admin, threads)
     }
-    let Ok(next) = room_for_items(alloc) else {
-        return Ran::none();
-    };
-    let trace_ending = DoneSignal::new();
-    let ending = &trace_ending;
-    thread::scope(
-        thread::scope_env(),
-        rt,
-        |scope| -> Ran
-            requires { 0 < length threads.now }
-        {
-            let keep = move || keep_trace(rt, service, trace, next, ending);
-            let Ok(keeping) = scope.spawn(keep) else {
-                return Ran::none();
-            };
-            let accepting = serve_with_admin(rt, alloc, service, admin, threads);
-            ending.end(rt);
-            Ran {
-                accepting,
-                trace_failure: keeping.join(rt),
-            }
-        },
-    )
-}
 
-/// Serves connections with two threads beside them that answer the operator, if there is one.
-fn serve_with_admin<P, L, K, R>(
-    rt: &R,
-    alloc: Global,
-    service: &Service<'_, P, L>,
-    admin: Option<Admin<'_>>,
-    threads: &mut [SessionThread<P, L, K>],
-) -> Accepting
-where
-    P: Pseudo + Send,
-    L: MadeWith<P> + Send + Sync,
-    K: Receipts + Send + Drop,
-    R: Threads + Wait + Clock + Sync,
-    requires { 0 < length threads.old }
-{
-    let Some(admin) = admin else {
-        return serve_connections(rt, alloc, service, threads);
-    };
-    let operator = Operator::new(rt, service);
-    let is_over = AtomicBool::new(false);
-    serve_beside_operator(rt, alloc, service, admin, &operator, &is_over, threads)
-}
+    /// Serves connections with a thread beside them that looks after them, and the others.
+    fn serve_with_watch<
+        K: Receipts + Send + Drop,
+        R: Threads + Wait + Clock + Sync,
+        T: TraceFile + Send + Drop,
+        S: EndSignal + Send + Drop,
+    >(
+        &self,
+        rt: &R,
+        alloc: Global,
+        trace: Option<T>,
+        signal: S,
+        admin: Option<Admin<'_>>,
+        threads: &mut [SessionThread<P, L, K>],
+    ) -> Ran
+        requires { 0 < length threads.old }
+    {
+        let service = self;
+        let ending = &DoneSignal::new();
+        thread::scope(
+            thread::scope_env(),
+            rt,
+            |scope| -> Ran
+                requires { 0 < length threads.now }
+            {
+                let look = move || supervise(rt, service, ending, signal);
+                let Ok(watching) = scope.spawn(look) else {
+                    return Ran::none();
+                };
+                let ran = service.serve_with_trace(rt, alloc, trace, admin, threads);
+                ending.end(rt);
+                watching.join(rt);
+                ran
+            },
+        )
+    }
 
-/// Serves connections with two threads beside them that answer this operator, until it is over.
-fn serve_beside_operator<P, L, K, R, O>(
-    rt: &R,
-    alloc: Global,
-    service: &Service<'_, P, L>,
-    admin: Admin<'_>,
-    operator: &O,
-    is_over: &AtomicBool,
-    threads: &mut [SessionThread<P, L, K>],
-) -> Accepting
-where
-    P: Pseudo + Send,
-    L: MadeWith<P> + Send + Sync,
-    K: Receipts + Send + Drop,
-    R: Threads + Wait + Clock + Sync,
-    O: Operated + Sync,
-    requires { 0 < length threads.old }
-{
-    let Admin { listener, keys } = admin;
-    thread::scope(
-        thread::scope_env(),
-        rt,
-        |scope| -> Accepting
-            requires { 0 < length threads.now }
-        {
-            let answer = move || serve_admin(rt, alloc, keys, listener, operator, is_over);
-            let Ok(first) = scope.spawn(answer) else {
-                return Accepting::none();
+    /// Serves connections with a thread beside them that writes the trace, if there is one, or takes the history out of the manager, and
+    /// the others.
+    fn serve_with_trace<
+        K: Receipts + Send + Drop,
+        R: Threads + Wait + Clock + Sync,
+        T: TraceFile + Send + Drop,
+    >(
+        &self,
+        rt: &R,
+        alloc: Global,
+        trace: Option<T>,
+        admin: Option<Admin<'_>>,
+        threads: &mut [SessionThread<P, L, K>],
+    ) -> Ran
+        requires { 0 < length threads.old }
+    {
+        let service = self;
+        if trace.is_none() && !service.is_endless {
+            return Ran {
+                accepting: service.serve_with_admin(rt, alloc, admin, threads),
+                trace_failure: None,
             };
-            // With one alone an operator waits for another.
-            let more = move || serve_admin(rt, alloc, keys, listener, operator, is_over);
-            let second = scope.spawn(more);
-            let accepting = serve_connections(rt, alloc, service, threads);
-            is_over.store(true, Ordering::SeqCst);
-            refuse_all(listener);
-            first.join(rt);
-            if let Ok(second) = second {
-                second.join(rt);
-            }
-            accepting
-        },
-    )
+        }
+        let ending = &DoneSignal::new();
+        let Ok(next) = room_for_items(alloc) else {
+            return Ran::none();
+        };
+        thread::scope(
+            thread::scope_env(),
+            rt,
+            |scope| -> Ran
+                requires { 0 < length threads.now }
+            {
+                let keep = move || keep_trace(rt, service, trace, next, ending);
+                let Ok(keeping) = scope.spawn(keep) else {
+                    return Ran::none();
+                };
+                let accepting = service.serve_with_admin(rt, alloc, admin, threads);
+                ending.end(rt);
+                Ran {
+                    accepting,
+                    trace_failure: keeping.join(rt),
+                }
+            },
+        )
+    }
+
+    /// Serves connections with two threads beside them that answer the operator, if there is one.
+    fn serve_with_admin<K: Receipts + Send + Drop, R: Threads + Wait + Clock + Sync>(
+        &self,
+        rt: &R,
+        alloc: Global,
+        admin: Option<Admin<'_>>,
+        threads: &mut [SessionThread<P, L, K>],
+    ) -> Accepting
+        requires { 0 < length threads.old }
+    {
+        let Some(admin) = admin else {
+            return serve_connections(rt, alloc, self, threads);
+        };
+        let operator = Operator::new(rt, self);
+        let is_over = AtomicBool::new(false);
+        self.serve_beside_operator(rt, alloc, admin, &operator, &is_over, threads)
+    }
+
+    /// Serves connections with two threads beside them that answer this operator, until it is over.
+    fn serve_beside_operator<
+        K: Receipts + Send + Drop,
+        R: Threads + Wait + Clock + Sync,
+        O: Operated + Sync,
+    >(
+        &self,
+        rt: &R,
+        alloc: Global,
+        admin: Admin<'_>,
+        operator: &O,
+        is_over: &AtomicBool,
+        threads: &mut [SessionThread<P, L, K>],
+    ) -> Accepting
+        requires { 0 < length threads.old }
+    {
+        let service = self;
+        let Admin { listener, keys } = admin;
+        thread::scope(
+            thread::scope_env(),
+            rt,
+            |scope| -> Accepting
+                requires { 0 < length threads.now }
+            {
+                let answer = move || serve_admin(rt, alloc, keys, listener, operator, is_over);
+                let Ok(first) = scope.spawn(answer) else {
+                    return Accepting::none();
+                };
+                // With one alone an operator waits for another.
+                let more = move || serve_admin(rt, alloc, keys, listener, operator, is_over);
+                let second = scope.spawn(more);
+                let accepting = serve_connections(rt, alloc, service, threads);
+                is_over.store(true, Ordering::SeqCst);
+                refuse_all(listener);
+                first.join(rt);
+                if let Ok(second) = second {
+                    second.join(rt);
+                }
+                accepting
+            },
+        )
+    }
 }

@@ -179,7 +179,7 @@ impl<'a, P: Pseudo, L: MadeWith<P>, T: TraceFile + Drop> TraceKeeper<'a, P, L, T
         }
     }
 
-    /// Writes the items that are about to be, if they are written and no write has failed. Where that fails it is told.
+    /// Writes the items that are about to be, if they are written and no write has failed. A failure is logged.
     fn write_next<R: Wait + Clock>(&mut self, rt: &R, notes: &Notes) {
         let Some(file) = &mut self.file else {
             return;

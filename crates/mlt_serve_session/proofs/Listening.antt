@@ -1,7 +1,7 @@
 -- A session that goes on, and how it ends.
 use Rattle.std.proofs.Common.{◌≡◌, ◌⊎◌, inl, inr, ℕ, ◌+◌, ◌≤◌, List, [], ◌∷◌, ◌++◌, length, take, drop, Option, Bool, true, false, refl, sym, ap, subst, ◌∙◌, arith, append_assoc, append-nil, take-append-drop, length-append, length-take, take_all, flat_map}
 use Rattle.std.proofs.Math.Seq.{take-append_seam}
-use Rattle.mlt_serve_session.proofs.Names.{map-append, flat_map-append, Consumes, IsAtEnd, Appends-nil, Consumes-nil, AppendsFront, SessionLine, Covers, IsRest, front, lines_in, lines_of, Begins, Splits, Listens, Talked, Broken, BrokenHeard, AreLines, EndsInput, streams, Turn, turn_text, TalkState, Goes, splits_both, Moves}
+use Rattle.mlt_serve_session.proofs.Names.{map-append, flat_map-append, Consumes, IsAtEnd, Appends-nil, Consumes-nil, AppendsFront, SessionLine, Covers, IsRest, front, lines_in, lines_of, Begins, Splits, Listens, Talked, Broken, BrokenHeard, Heard, AreLines, EndsInput, streams, Turn, turn_text, TalkState, Goes, splits_both, Moves}
 use Rattle.std.specs.Io.KnownBytes.{Appends}
 use Rattle.std.proofs.KnownBytes.{Appends-trans, Consumes-trans}
 use Rattle.mlt_serve_session.specs.Batches.{Answered}
@@ -45,16 +45,37 @@ no_piece (x ∷ xs) e ys = absurd (omega arith)
 taken_length : (prefix held piece : List ℕ) (total most : ℕ) → total ≡ length prefix + length held → total + length piece ≤ most → length ((prefix ++ held) ++ piece) ≤ most
 taken_length prefix held piece total most e l = omega (arith, length-append (prefix ++ held) piece, length-append prefix held)
 
+-- what was read so far and one piece more, with the turns so far
+abbrev so_far : {D : Type 0} (moves : Moves D) (client : ℕ) (p q : TalkState D) (a b c w v : Option (List ℕ)) (held piece : List ℕ) (total most : ℕ)
+    → Listens moves client p (streams a b w v) held total q → total + length piece ≤ most → Consumes b c piece → Heard moves client p a c most q
+so_far moves client p q a b c w v held piece total most h fits read =
+    record {
+      taken = (h.prefix ++ held) ++ piece;
+      turns = h.turns;
+      consumed = Consumes-trans a b c (h.prefix ++ held) piece h.consumed read;
+      within = taken_length h.prefix held piece total most h.sum fits;
+      goes = h.goes;
+    }
+
+-- and with more turns
+abbrev and_more : {D : Type 0} (moves : Moves D) (client : ℕ) (p m q : TalkState D) (a b c w v : Option (List ℕ)) (held piece : List ℕ) (total most : ℕ) (us : List Turn)
+    → Listens moves client p (streams a b w v) held total m → total + length piece ≤ most → Consumes b c piece → Goes moves client m us q → Heard moves client p a c most q
+and_more moves client p m q a b c w v held piece total most us h fits read goes =
+    let heard = so_far moves client p m a b c w v held piece total most h fits read in
+    record {
+      taken = heard.taken;
+      turns = h.turns ++ us;
+      consumed = heard.consumed;
+      within = heard.within;
+      goes = goes_on moves client p m q h.turns us h.goes goes;
+    }
+
 -- the input ended
 pub ends_here : {D : Type 0} (moves : Moves D) (client : ℕ) (p q : TalkState D) (a b c w v : Option (List ℕ)) (held piece : List ℕ) (total : ℕ)
     → Listens moves client p (streams a b w v) held total q → total + length piece ≤ 16777216 → q.progress.over ≡ false → length piece ≡ 0 → Consumes b c piece → IsAtEnd c → Talked moves client p (streams a c w v) q
 ends_here moves client p q a b c w v held piece total h fits o n read end =
     record {
-      taken = (h.prefix ++ held) ++ piece;
-      turns = h.turns;
-      consumed = Consumes-trans a b c (h.prefix ++ held) piece h.consumed read;
-      within = taken_length h.prefix held piece total 16777216 h.sum fits;
-      goes = h.goes;
+      heard = so_far moves client p q a b c w v held piece total 16777216 h fits read;
       lines = subst (λ over. AreLines over ((h.prefix ++ held) ++ piece) (lines_in h.turns)) (sym o)
           (ap lines_of (no_piece piece n (h.prefix ++ held)) ∙ prefix_lines h.prefix held (lines_in h.turns) h.splits h.lines ∙ ap (λ (l : List SessionLine). lines_in h.turns ++ l) h.rest ∙ append-nil (lines_in h.turns));
       wrote = h.wrote;
@@ -69,11 +90,7 @@ pub breaks : {D : Type 0} (moves : Moves D) (client : ℕ) (p q : TalkState D) (
     → Listens moves client p (streams a b w v) held total q → total + length piece ≤ 16777217 → Consumes b c piece → Broken moves client p (streams a c w v) q
 breaks moves client p q a b c w v held piece total h fits read =
     record {
-      taken = (h.prefix ++ held) ++ piece;
-      turns = h.turns;
-      consumed = Consumes-trans a b c (h.prefix ++ held) piece h.consumed read;
-      within = taken_length h.prefix held piece total 16777217 h.sum fits;
-      goes = h.goes;
+      heard = so_far moves client p q a b c w v held piece total 16777217 h fits read;
       begins = (lines_of (held ++ piece), ap lines_of (append_assoc h.prefix held piece) ∙ prefix_lines h.prefix (held ++ piece) (lines_in h.turns) h.splits h.lines);
       wrote = prefix_of_all w v (flat_map turn_text h.turns) h.wrote;
     }
@@ -108,11 +125,7 @@ pub stops : {D : Type 0} (moves : Moves D) (client : ℕ) (p m q : TalkState D) 
     → Listens moves client p (streams a b w v) held total m → total + length piece ≤ 16777217 → Consumes b c piece → text ≡ held ++ piece → Stopped moves client m text v u q → Broken moves client p (streams a c w u) q
 stops moves client p m q a b c w v u held piece text total h fits read e s =
     record {
-      taken = (h.prefix ++ held) ++ piece;
-      turns = h.turns ++ s.turns;
-      consumed = Consumes-trans a b c (h.prefix ++ held) piece h.consumed read;
-      within = taken_length h.prefix held piece total 16777217 h.sum fits;
-      goes = goes_on moves client p m q h.turns s.turns h.goes s.goes;
+      heard = and_more moves client p m q a b c w v held piece total 16777217 s.turns h fits read s.goes;
       begins = subst (λ bytes. Begins bytes (lines_in (h.turns ++ s.turns))) (sym (append_assoc h.prefix held piece))
           (subst (Begins (h.prefix ++ (held ++ piece))) (sym (lines_join h.turns s.turns))
           (prefix_begins h.prefix (held ++ piece) (lines_in h.turns) (lines_in s.turns) h.splits h.lines (subst (λ bytes. Begins bytes (lines_in s.turns)) e s.begins)));
@@ -161,11 +174,7 @@ pub is_over : {D : Type 0} (moves : Moves D) (client : ℕ) (p m q : TalkState D
 is_over moves client p m q a b c w v u held piece text total at h fits read e r o =
     let begins = subst (λ over. Covers over text at (lines_in r.turns)) o r.covers in
     record {
-      taken = (h.prefix ++ held) ++ piece;
-      turns = h.turns ++ r.turns;
-      consumed = Consumes-trans a b c (h.prefix ++ held) piece h.consumed read;
-      within = taken_length h.prefix held piece total 16777216 h.sum fits;
-      goes = goes_on moves client p m q h.turns r.turns h.goes r.goes;
+      heard = and_more moves client p m q a b c w v held piece total 16777216 r.turns h fits read r.goes;
       lines = subst (λ over. AreLines over ((h.prefix ++ held) ++ piece) (lines_in (h.turns ++ r.turns))) (sym o)
           (subst (λ bytes. Begins bytes (lines_in (h.turns ++ r.turns))) (sym (append_assoc h.prefix held piece))
           (subst (Begins (h.prefix ++ (held ++ piece))) (sym (lines_join h.turns r.turns))

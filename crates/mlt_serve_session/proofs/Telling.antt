@@ -1,6 +1,6 @@
 -- The turns that were taken are those that the whole input and the answers fix.
 use Rattle.std.proofs.Common.{◌≡◌, ℕ, ◌+◌, List, [], ◌∷◌, ◌++◌, length, take, Option, Bool, true, false, ◌||◌, Some, None, refl, sym, ap, subst, ◌∙◌, arith, append-nil, cond}
-use Rattle.mlt_serve_session.proofs.Names.{Appends-nil, Consumes-nil, All-nil, empty, Outcome, DeskAnswer, DeskCall, SessionLine, Says, TooLong, lines_in, Moves, Begins, GaveAll, begins_by, outcomes_of, Talked, Broken, BrokenHeard, AreLines, EndsInput, streams, SpokenLong, Summed, BrokenOff, HeardAll, Turn, turns, ends, open_after, call_for, TalkState, Step, Goes, Asked}
+use Rattle.mlt_serve_session.proofs.Names.{Acted, Appends-nil, Consumes-nil, All-nil, empty, Outcome, DeskAnswer, DeskCall, SessionLine, Says, TooLong, lines_in, Moves, Begins, GaveAll, begins_by, outcomes_of, Talked, Broken, BrokenHeard, AreLines, EndsInput, streams, SpokenLong, Summed, BrokenOff, HeardAll, Turn, turns, ends, open_after, call_for, TalkState, Step, Goes, Asked}
 use Rattle.mlt_serve_session.proofs.Giving.{gave_all}
 use Rattle.mlt_serve_session.proofs.Receiving.{noted_by, noted_all, all_noted}
 use Rattle.mlt_serve_session.specs.Desks.{Answers}
@@ -166,25 +166,36 @@ noted_turns moves client p q rs ss ts i j n x z h =
     ∙ all_noted client 0 p.outcomes (lines_in ts) (answers_in ts) ∙ ap (λ us. p.outcomes ++ outcomes_of client 0 us) f
     ∙ ap (λ (l : List Outcome). l ++ outcomes_of client 0 ts) i
 
+-- what came of the turns
+acts : {D : Type 0} (moves : Moves D) (client : ℕ) (p q : TalkState D) (desk : D) (a b w v : Option (List ℕ)) (rs ss : List Outcome) (ts : List Turn)
+    → p.outcomes ≡ rs → q.outcomes ≡ ss → p.progress.over ≡ false → p.progress.tx ≡ None → p.progress.begun ≡ 0
+    → Goes moves client p ts q → Answers moves q.desk (closing q.progress.tx) (closing_answers q.progress.tx) desk
+    → Acted moves client (scene p.desk a w rs) (scene desk b v ss) (answers_in ts) ts
+acts moves client p q desk a b w v rs ss ts i j n x z goes k =
+    record {
+      given = refl;
+      asked = asked_closed moves client p q desk ts x goes k;
+      noted = noted_turns moves client p q rs ss ts i j n x z goes;
+      gave = gave_all moves desk client 0 p q ts goes (record { calls = closing q.progress.tx; answers = closing_answers q.progress.tx; run = k });
+    }
+
 -- a session that ended by itself
 pub speaks : {D : Type 0} (moves : Moves D) (client : ℕ) (p q : TalkState D) (desk : D) (a b w v : Option (List ℕ)) (rs ss : List Outcome)
     → p.outcomes ≡ rs → q.outcomes ≡ ss → p.progress.over ≡ false → p.progress.tx ≡ None → p.progress.begun ≡ 0
     → Talked moves client p (streams a b w v) q → Answers moves q.desk (closing q.progress.tx) (closing_answers q.progress.tx) desk
     → Spoken moves client (scene p.desk a w rs) (scene desk b v ss)
 speaks moves client p q desk a b w v rs ss i j n x z t k =
+    let h = t.heard in
     record {
-      taken = t.taken;
-      answers = answers_in t.turns;
-      turns = t.turns;
-      is = exact_turns moves client p q t.taken t.turns q.progress.over refl n x t.goes t.lines;
-      consumed = t.consumed;
-      within = t.within;
-      ended = λ no. subst (λ over. EndsInput over b) (over_if_ends moves client p q t.turns t.goes n ∙ no) t.ended;
-      given = refl;
-      asked = asked_closed moves client p q desk t.turns x t.goes k;
+      taken = h.taken;
+      answers = answers_in h.turns;
+      turns = h.turns;
+      is = exact_turns moves client p q h.taken h.turns q.progress.over refl n x h.goes t.lines;
+      consumed = h.consumed;
+      within = h.within;
+      ended = λ no. subst (λ over. EndsInput over b) (over_if_ends moves client p q h.turns h.goes n ∙ no) t.ended;
+      acted = acts moves client p q desk a b w v rs ss h.turns i j n x z h.goes k;
       wrote = t.wrote;
-      noted = noted_turns moves client p q rs ss t.turns i j n x z t.goes;
-      gave = gave_all moves desk client 0 p q t.turns t.goes (record { calls = closing q.progress.tx; answers = closing_answers q.progress.tx; run = k });
     }
 
 -- its counts
@@ -195,13 +206,13 @@ pub sums : {D : Type 0} (moves : Moves D) (client : ℕ) (p q : TalkState D) (de
     → Summed moves client (scene p.desk a w rs) (scene desk b v ss) q.progress.lines q.progress.commits
 unfolding speaks
 sums moves client p q desk a b w v rs ss i j n x z l c g s t k =
-    let ls = lines_counted moves client p q t.turns t.goes in
-    let cs = commits_counted moves client p q t.turns t.goes in
+    let ls = lines_counted moves client p q t.heard.turns t.heard.goes in
+    let cs = commits_counted moves client p q t.heard.turns t.heard.goes in
     record {
       spoken = speaks moves client p q desk a b w v rs ss i j n x z t k;
       lines_are = omega (arith, ls, l);
       commits_are = omega (arith, cs, c);
-      short = sym (long_if_long moves client p q t.turns t.goes g) ∙ s;
+      short = sym (long_if_long moves client p q t.heard.turns t.heard.goes g) ∙ s;
     }
 
 -- a session that a line ended that was too long
@@ -214,7 +225,7 @@ unfolding speaks
 speaks_long moves client p q desk a b w v rs ss i j n x z g s t k =
     record {
       spoken = speaks moves client p q desk a b w v rs ss i j n x z t k;
-      long = sym (long_if_long moves client p q t.turns t.goes g) ∙ s;
+      long = sym (long_if_long moves client p q t.heard.turns t.heard.goes g) ∙ s;
     }
 
 -- a session that was broken off
@@ -223,20 +234,18 @@ pub breaks_off : {D : Type 0} (moves : Moves D) (client : ℕ) (p q : TalkState 
     → Broken moves client p (streams a b w v) q → Answers moves q.desk (closing q.progress.tx) (closing_answers q.progress.tx) desk
     → BrokenOff moves client (scene p.desk a w rs) (scene desk b v ss)
 breaks_off moves client p q desk a b w v rs ss i j n x z t k =
-    let e = first_turns moves client p q t.taken t.turns q.progress.over refl n x t.goes t.begins in
+    let h = t.heard in
+    let e = first_turns moves client p q h.taken h.turns q.progress.over refl n x h.goes t.begins in
     record {
-      taken = t.taken;
-      answers = answers_in t.turns;
-      heard = t.turns;
+      taken = h.taken;
+      answers = answers_in h.turns;
+      heard = h.turns;
       unheard = e.0;
       is = e.1;
-      consumed = t.consumed;
-      within = t.within;
-      given = refl;
-      asked = asked_closed moves client p q desk t.turns x t.goes k;
+      consumed = h.consumed;
+      within = h.within;
+      acted = acts moves client p q desk a b w v rs ss h.turns i j n x z h.goes k;
       wrote = t.wrote;
-      noted = noted_turns moves client p q rs ss t.turns i j n x z t.goes;
-      gave = gave_all moves desk client 0 p q t.turns t.goes (record { calls = closing q.progress.tx; answers = closing_answers q.progress.tx; run = k });
     }
 
 -- a session that was broken off when it had heard all lines
@@ -248,7 +257,7 @@ unfolding breaks_off
 hears_all moves client p q desk a b w v rs ss i j n x z t k =
     record {
       off = breaks_off moves client p q desk a b w v rs ss i j n x z t.broken k;
-      all = exact_turns moves client p q (take 16777216 t.broken.taken) t.broken.turns q.progress.over refl n x t.broken.goes t.lines;
+      all = exact_turns moves client p q (take 16777216 t.broken.heard.taken) t.broken.heard.turns q.progress.over refl n x t.broken.heard.goes t.lines;
       whole = t.whole;
     }
 
@@ -263,9 +272,6 @@ nothing_said moves client desk a w rs =
       consumed = Consumes-nil a;
       within = omega arith;
       is = ap (λ ls. turns None ls []) empty;
-      given = refl;
+      acted = record { given = refl; asked = refl; noted = sym (append-nil rs); gave = All-nil (GaveAll moves desk) };
       wrote = ([], [], refl, Appends-nil w);
-      asked = refl;
-      noted = sym (append-nil rs);
-      gave = All-nil (GaveAll moves desk);
     }

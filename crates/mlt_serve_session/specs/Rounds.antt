@@ -74,34 +74,35 @@ abbrev pub EndsInput : Bool → Option (List ℕ) → Type 0
 EndsInput false rest = IsAtEnd rest
 EndsInput true rest = Unit {0}
 
+-- what was read of a session, at most so many bytes, and the turns that it made
+pub record Heard {D : Type 0} (moves : Moves D) (client : ℕ) (p : TalkState D)
+    (before after : Option (List ℕ)) (most : ℕ) (q : TalkState D) : Type 0 where
+  pub taken : List ℕ
+  pub turns : List Turn
+  pub consumed : Consumes before after taken
+  pub within : length taken ≤ most
+  pub goes : Goes moves client p turns q
+
 -- a session that ended by itself: all that was read was answered, up to the line that ended it
 pub record Talked {D : Type 0} (moves : Moves D) (client : ℕ) (p : TalkState D)
     (bytes : Streams) (q : TalkState D) : Type 0 where
-  pub taken : List ℕ
-  pub turns : List Turn
-  pub consumed : Consumes bytes.read_before bytes.read_after taken
-  pub within : length taken ≤ 16777216
-  pub goes : Goes moves client p turns q
-  pub lines : AreLines q.progress.over taken (lines_in turns)
-  pub wrote : Appends bytes.wrote_before bytes.wrote_after (flat_map turn_text turns)
+  pub heard : Heard moves client p bytes.read_before bytes.read_after 16777216 q
+  pub lines : AreLines q.progress.over heard.taken (lines_in heard.turns)
+  pub wrote : Appends bytes.wrote_before bytes.wrote_after (flat_map turn_text heard.turns)
   pub ended : EndsInput q.progress.over bytes.read_after
 
 -- a session that was broken off
 pub record Broken {D : Type 0} (moves : Moves D) (client : ℕ) (p : TalkState D)
     (bytes : Streams) (q : TalkState D) : Type 0 where
-  pub taken : List ℕ
-  pub turns : List Turn
-  pub consumed : Consumes bytes.read_before bytes.read_after taken
-  pub within : length taken ≤ 16777217
-  pub goes : Goes moves client p turns q
-  pub begins : Begins taken (lines_in turns)
-  pub wrote : AppendsFront bytes.wrote_before bytes.wrote_after (flat_map turn_text turns)
+  pub heard : Heard moves client p bytes.read_before bytes.read_after 16777217 q
+  pub begins : Begins heard.taken (lines_in heard.turns)
+  pub wrote : AppendsFront bytes.wrote_before bytes.wrote_after (flat_map turn_text heard.turns)
 
 -- a session that a read, a write or the byte limit broke off: all that was read up to the limit was
 -- answered
 pub record BrokenHeard {D : Type 0} (moves : Moves D) (client : ℕ) (p : TalkState D)
     (bytes : Streams) (q : TalkState D) : Type 0 where
   pub broken : Broken moves client p bytes q
-  pub lines : AreLines q.progress.over (take 16777216 broken.taken) (lines_in broken.turns)
-  pub whole : length broken.taken ≡ 16777217
-      → Appends bytes.wrote_before bytes.wrote_after (flat_map turn_text broken.turns)
+  pub lines : AreLines q.progress.over (take 16777216 broken.heard.taken) (lines_in broken.heard.turns)
+  pub whole : length broken.heard.taken ≡ 16777217
+      → Appends bytes.wrote_before bytes.wrote_after (flat_map turn_text broken.heard.turns)

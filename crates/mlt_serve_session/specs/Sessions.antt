@@ -33,6 +33,17 @@ abbrev pub scene : {D : Type 0} → D → Option (List ℕ) → Option (List ℕ
 scene desk unread written outcomes =
     record { desk = desk; unread = unread; written = written; outcomes = outcomes }
 
+-- what came of these turns at the desk, which gave these answers
+pub record Acted {D : Type 0} (moves : Moves D) (client : ℕ) (old new : Scene D)
+    (answers : List DeskAnswer) (turns : List Turn) : Type 0 where
+  -- these calls were made, and the desk gave these answers
+  pub given : answers_in turns ≡ answers
+  pub asked : Answers moves old.desk (all_calls turns) (all_answers turns) new.desk
+  -- an outcome was added for each transaction that began
+  pub noted : new.outcomes ≡ old.outcomes ++ outcomes_of client 0 turns
+  -- all that is in these is what the desk answered
+  pub gave : All (GaveAll moves new.desk) (outcomes_of client 0 turns)
+
 -- a session that ended by itself: its text, its calls and its outcomes are those that are fixed by the
 -- bytes that it read and by the desk's answers
 pub record Spoken {D : Type 0} (moves : Moves D) (client : ℕ) (old new : Scene D) : Type 0 where
@@ -44,15 +55,9 @@ pub record Spoken {D : Type 0} (moves : Moves D) (client : ℕ) (old new : Scene
   pub consumed : Consumes old.unread new.unread taken
   pub within : length taken ≤ 16777216
   pub ended : ends_in turns ≡ false → IsAtEnd new.unread
-  -- these calls were made, and the desk gave these answers
-  pub given : answers_in turns ≡ answers
-  pub asked : Answers moves old.desk (all_calls turns) (all_answers turns) new.desk
+  pub acted : Acted moves client old new answers turns
   -- the text was written
   pub wrote : Appends old.written new.written (flat_map turn_text turns)
-  -- an outcome was added for each transaction that began
-  pub noted : new.outcomes ≡ old.outcomes ++ outcomes_of client 0 turns
-  -- all that is in these is what the desk answered
-  pub gave : All (GaveAll moves new.desk) (outcomes_of client 0 turns)
 
 -- so many lines were answered, and so many of them committed
 pub record Summed {D : Type 0} (moves : Moves D) (client : ℕ) (old new : Scene D)
@@ -77,15 +82,9 @@ pub record BrokenOff {D : Type 0} (moves : Moves D) (client : ℕ) (old new : Sc
   -- these bytes were read, at most one of them past the limit
   pub consumed : Consumes old.unread new.unread taken
   pub within : length taken ≤ 16777217
-  -- these calls were made, and the desk gave these answers
-  pub given : answers_in heard ≡ answers
-  pub asked : Answers moves old.desk (all_calls heard) (all_answers heard) new.desk
+  pub acted : Acted moves client old new answers heard
   -- a prefix of the text was written
   pub wrote : AppendsFront old.written new.written (flat_map turn_text heard)
-  -- an outcome was added for each transaction that began
-  pub noted : new.outcomes ≡ old.outcomes ++ outcomes_of client 0 heard
-  -- all that is in these is what the desk answered
-  pub gave : All (GaveAll moves new.desk) (outcomes_of client 0 heard)
 
 -- a session that a read, a write or the byte limit broke off: it has heard all lines of the bytes that
 -- it read up to the limit

@@ -1,12 +1,11 @@
 //! Executes the lines of a session at any desk, and writes one answer for each. What `session`
 //! writes, asks and records is a function of the bytes that it has read and of the desk's answers,
 //! however the input was cut into reads. A transaction that is open at the end is aborted.
-//! `Receipts` take the outcomes: a list keeps them, `NoReceipts` drops them, and `Tally` counts
+//! `Receipts` take the outcomes: a list keeps them, and a `Tally` counts
 //! them. That an answer is written before the next read is only tested.
 #![tactic(auto)]
 
 mod batch;
-mod no_receipts;
 mod notes;
 mod noting;
 mod receipts;
@@ -15,7 +14,6 @@ mod sessions;
 mod tally;
 mod turn;
 
-pub use no_receipts::NoReceipts;
-pub use receipts::Receipts;
+pub use receipts::{EndedTx, Receipts};
 pub use sessions::{Summary, session};
 pub use tally::Tally;

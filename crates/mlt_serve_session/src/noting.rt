@@ -7,7 +7,7 @@ ghost use Rattle.mlt_serve_session.specs.Talks.{ends, is_long};
 ghost use Rattle.mlt_serve_session.specs.Turns.{after_line, start};
 
 use crate::notes::{Progress, SessionRecord};
-use crate::receipts::Receipts;
+use crate::receipts::{EndedTx, Receipts};
 use mlt_event_text::{Command, SessionLine};
 use mlt_script_serial::End;
 use mlt_types::TxId;
@@ -73,9 +73,13 @@ impl<K: Receipts> SessionRecord<K> {
         ensures outcomes { K.receipts self.new.outcomes ≡ K.receipts self.old.outcomes
             ++ outcome_of client self.old.progress.begun tx self.old.done.items end ∷ [] }
     {
-        let number = self.progress.begun;
-        self.outcomes
-            .put(self.alloc, client, number, tx, &mut self.done, end);
+        let ended = EndedTx {
+            client,
+            number: self.progress.begun,
+            tx,
+            end,
+        };
+        self.outcomes.put(self.alloc, ended, &mut self.done);
         self.progress.tx = None;
     }
 

@@ -5,12 +5,37 @@ ghost use Rattle.std.specs.Vec.{vec_capacity};
 ghost use Rattle.mlt_script_serial.specs.declared.outcome.Outcome.{Outcome};
 ghost use Rattle.mlt_serve_session.specs.Outcomes.{outcome_of};
 
-use crate::no_receipts::NoReceipts;
 use mlt_object_kinds::Done;
 use mlt_script_serial::{End, Outcome, Transcript};
 use mlt_types::TxId;
 use std::alloc::{AllocError, Global};
 use std::mem;
+
+/// How a transaction ended.
+#[derive(Clone, Copy, Debug)]
+pub struct EndedTx {
+    /// Whose it was.
+    pub client: u32,
+    /// Its number among those of the session, from 1.
+    pub number: u64,
+    pub tx: TxId,
+    pub end: End,
+}
+
+impl EndedTx {
+    /// Its outcome, where it has done this.
+    pub(crate) fn outcome(self, done: Vec<Done>) -> Outcome
+        ensures { result ≡ outcome_of self.client self.number self.tx done.items self.end }
+    {
+        Outcome {
+            client: self.client,
+            number: self.number,
+            tx: self.tx.0,
+            done: Transcript::new(done),
+            end: self.end,
+        }
+    }
+}
 
 /// Who takes the outcomes of transactions, as each ends.
 pub trait Receipts {
@@ -32,20 +57,12 @@ pub trait Receipts {
         ensures same { receipts self.new ≡ receipts self.old }
         ensures room { OnOk result (0 < room self.new) };
 
-    /// Takes the outcome of a transaction that has done this, in order, and ended so. What becomes of the list of what was done is not
+    /// Takes the outcome of a transaction that ended so and has done this, in order. What becomes of the list of what was done is not
     /// said.
-    fn put(
-        &mut self,
-        alloc: Global,
-        client: u32,
-        number: u64,
-        tx: TxId,
-        done: &mut Vec<Done>,
-        end: End,
-    )
+    fn put(&mut self, alloc: Global, ended: EndedTx, done: &mut Vec<Done>)
         requires { 0 < room self.old }
-        ensures { receipts self.new
-            ≡ receipts self.old ++ outcome_of client number tx done.old.items end ∷ [] };
+        ensures { receipts self.new ≡ receipts self.old ++ outcome_of ended.client ended.number
+            ended.tx done.old.items ended.end ∷ [] };
 
     /// Takes in all outcomes of another. In which order they stand then is not said.
     ///
@@ -70,65 +87,12 @@ impl Receipts for Vec<Outcome> {
         self.reserve(1)
     }
 
-    fn put(
-        &mut self,
-        alloc: Global,
-        client: u32,
-        number: u64,
-        tx: TxId,
-        done: &mut Vec<Done>,
-        end: End,
-    ) {
-        self.push_reserved(Outcome {
-            client,
-            number,
-            tx: tx.0,
-            done: Transcript::new(noted(alloc, done)),
-            end,
-        });
+    fn put(&mut self, alloc: Global, ended: EndedTx, done: &mut Vec<Done>) {
+        self.push_reserved(ended.outcome(noted(alloc, done)));
     }
 
     fn take_in(&mut self, more: Vec<Outcome>) -> Result<(), AllocError> {
         join(self, more)
-    }
-}
-
-/// Keeps nothing.
-impl Receipts for NoReceipts {
-    ghost receipts = { λ none. none.outcomes };
-
-    ghost room = { λ _. 1 };
-
-    fn none(_alloc: Global) -> NoReceipts {
-        NoReceipts::new()
-    }
-
-    fn make_room(&mut self) -> Result<(), AllocError> {
-        Ok(())
-    }
-
-    fn put(
-        &mut self,
-        alloc: Global,
-        client: u32,
-        number: u64,
-        tx: TxId,
-        done: &mut Vec<Done>,
-        end: End,
-    ) {
-        let outcome = Outcome {
-            client,
-            number,
-            tx: tx.0,
-            done: Transcript::new(mem::replace(done, Vec::new(alloc))),
-            end,
-        };
-        *self = self.and(&outcome);
-    }
-
-    fn take_in(&mut self, more: NoReceipts) -> Result<(), AllocError> {
-        *self = self.with(&more);
-        Ok(())
     }
 }
 

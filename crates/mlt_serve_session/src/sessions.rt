@@ -128,39 +128,6 @@ fn finish<D: Desk, K: Receipts + Drop>(mut notes: SessionRecord<K>, desk: &mut D
     notes.outcomes
 }
 
-// A session with its buffers.
-fn converse<R: Read, W: Write, D: Desk, K: Receipts + Drop>(
-    reader: &mut R,
-    writer: &mut W,
-    desk: &mut D,
-    client: u32,
-    outcomes: &mut K,
-    alloc: Global,
-    buffer: &mut [u8],
-) -> Result<Summary, Refusal>
-    requires { (200 < length buffer.old) × (length buffer.old < 2 ^ 32) }
-    ensures answers { SessionAnswers D.moves client
-        (scene desk.old (R.remaining reader.old) (W.contents writer.old) (K.receipts outcomes.old))
-        (scene desk.new (R.remaining reader.new) (W.contents writer.new) (K.receipts outcomes.new))
-        result }
-    ensures refusal { IfErr result (λ refusal. (refusal ≡ Refusal.LineTooLong)
-        ⊎ (refusal ≡ Refusal.OutOfMemory) ⊎ (refusal ≡ Refusal.Io)) }
-{
-    let mut out = Vec::new(alloc);
-    let mut notes = SessionRecord::new(alloc, mem::replace(outcomes, K::none(alloc)));
-    let listened = listen(reader, writer, &mut notes, desk, client, buffer, &mut out);
-    let progress = notes.progress;
-    *outcomes = finish(notes, desk, client);
-    listened?;
-    if progress.long {
-        return Err(Refusal::LineTooLong);
-    }
-    Ok(Summary {
-        lines: progress.lines,
-        commits: progress.commits,
-    })
-}
-
 /// Reads lines, asks the desk and answers each, until the input or a line ends the session. A transaction
 /// that is open then is taken back. For each transaction that began an outcome of this client is added,
 /// numbered from 1, whatever the session answers. The answers to all complete lines of one read go out in
@@ -189,13 +156,18 @@ pub fn session<R: Read, W: Write, D: Desk, K: Receipts + Drop>(
     let Ok(mut buffer) = zeros(alloc, BUFFER) else {
         return Err(Refusal::OutOfMemory);
     };
-    converse(
-        reader,
-        writer,
-        desk,
-        client,
-        outcomes,
-        alloc,
-        buffer.as_mut_slice(),
-    )
+    let mut out = Vec::new(alloc);
+    let mut notes = SessionRecord::new(alloc, mem::replace(outcomes, K::none(alloc)));
+    let buffer = buffer.as_mut_slice();
+    let listened = listen(reader, writer, &mut notes, desk, client, buffer, &mut out);
+    let progress = notes.progress;
+    *outcomes = finish(notes, desk, client);
+    listened?;
+    if progress.long {
+        return Err(Refusal::LineTooLong);
+    }
+    Ok(Summary {
+        lines: progress.lines,
+        commits: progress.commits,
+    })
 }

@@ -3,12 +3,12 @@
 ghost use Rattle.std.specs.Prelude.{◌≡◌, ◌-◌, ◌^◌, [], length, min};
 ghost use Rattle.mlt_serve_session.specs.Tallies.{commits_by, commits_told};
 
-use crate::no_receipts::NoReceipts;
-use crate::receipts::Receipts;
+use crate::receipts::{EndedTx, Receipts};
 use mlt_object_kinds::Done;
-use mlt_script_serial::End;
-use mlt_types::TxId;
+use mlt_script_serial::{End, Outcome};
+use mlt_types::GhostList;
 use std::alloc::{AllocError, Global};
+use std::mem;
 
 /// Who takes outcomes, counts them and keeps none: only clauses know which there were. It takes no memory.
 #[derive(Drop)]
@@ -18,14 +18,14 @@ pub struct Tally {
     /// How many of them were commits; it stays at 2^64 - 1.
     pub commits: u64,
     /// The outcomes, for clauses alone.
-    pub told: NoReceipts,
-    ghost begun_are: { begun ≡ min (length told.outcomes) (2 ^ 64 - 1) },
-    ghost commits_are: { commits ≡ min (commits_told told.outcomes) (2 ^ 64 - 1) },
+    pub told: GhostList<Outcome>,
+    ghost begun_are: { begun ≡ min (length told.items) (2 ^ 64 - 1) },
+    ghost commits_are: { commits ≡ min (commits_told told.items) (2 ^ 64 - 1) },
 }
 
 /// Counts, and keeps nothing.
 impl Receipts for Tally {
-    ghost receipts = { λ tally. tally.told.outcomes };
+    ghost receipts = { λ tally. tally.told.items };
 
     ghost room = { λ _. 1 };
 
@@ -33,7 +33,7 @@ impl Receipts for Tally {
         Tally {
             begun: 0,
             commits: 0,
-            told: NoReceipts::new(),
+            told: GhostList::of(&(), &()),
         }
     }
 
@@ -41,24 +41,17 @@ impl Receipts for Tally {
         Ok(())
     }
 
-    fn put(
-        &mut self,
-        alloc: Global,
-        client: u32,
-        number: u64,
-        tx: TxId,
-        done: &mut Vec<Done>,
-        end: End,
-    ) {
+    fn put(&mut self, alloc: Global, ended: EndedTx, done: &mut Vec<Done>) {
         self.begun = self.begun.saturating_add(1);
-        self.commits = self.commits.saturating_add(commits_by(end));
-        self.told.put(alloc, client, number, tx, done, end);
+        self.commits = self.commits.saturating_add(commits_by(ended.end));
+        let outcome = ended.outcome(mem::replace(done, Vec::new(alloc)));
+        self.told = GhostList::of(&self.told, &outcome);
     }
 
     fn take_in(&mut self, more: Tally) -> Result<(), AllocError> {
         self.begun = self.begun.saturating_add(more.begun);
         self.commits = self.commits.saturating_add(more.commits);
-        self.told = self.told.with(&more.told);
+        self.told = GhostList::of(&self.told, &more.told);
         Ok(())
     }
 }

@@ -9,8 +9,8 @@ use mlt_types::{Limits, Low, Refusal};
 use std::alloc::Global;
 use std::test::Fail;
 
-/// Lines of events, and what is told next: so many times this text. An event may stand in one row and what it is told in
-/// a later one, as where `step 1 4` is told `going` three times and then `undone`.
+/// Lines of events, and the next answers: so many times this text. An event may be in one row and its answer in a later
+/// one, as where `step 1 4` gets `going` three times and then `undone`.
 pub type Row = (&'static str, usize, &'static str);
 
 /// What is to be seen of a manager.
@@ -83,7 +83,7 @@ fn by_play(alloc: Global, limits: Limits, schedule: &Schedule) -> Result<(), Fai
     same_at(&schedule.name, &found.as_str(), &wanted.as_str())
 }
 
-// The lines of the events of these rows, and of what they are told.
+// The lines of the events of these rows, and of their answers.
 fn texts_of(alloc: Global, rows: &[Row]) -> Result<(String, String), Refusal> {
     let mut events = String::new(alloc);
     let mut tells = String::new(alloc);

@@ -8,7 +8,7 @@ use std::sync::atomic::{AtomicBool, AtomicU64, Ordering};
 /// How often a test looks before it lets go.
 const MOST_TURNS: u32 = 200_000_000;
 
-/// Holds who comes to it until it is opened.
+/// Holds each thread that comes to it until it is opened.
 #[derive(Drop)]
 pub struct Latch {
     open: AtomicBool,
@@ -43,7 +43,7 @@ impl Latch {
     }
 }
 
-/// Counts the events that it is told of.
+/// Counts the events that come to it.
 #[derive(Drop)]
 pub struct EventCounter {
     events: AtomicU64,

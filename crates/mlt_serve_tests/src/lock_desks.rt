@@ -211,7 +211,7 @@ fn is(alloc: Global, talk: &Talk, manager: &Manager<Mult>, session: &Session) ->
     same_at(&session.name, &found, &wanted)
 }
 
-// The gate is told of each event, of the steps of an abort too.
+// Each event comes to the gate, also the steps of an abort.
 #[test]
 fn sessions_over_managers(rt: HostRuntime) -> Result<(), Fail> {
     let alloc = rt.alloc();

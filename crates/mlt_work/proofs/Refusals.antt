@@ -23,21 +23,18 @@ begin_refuses Refusal.IdsSpent h = tt
 begin_refuses Refusal.OutOfMemory h = tt
 begin_refuses other h = absurd h
 
-operation_refuses : (r : Refusal) → IsOfOperation r → IsScriptRefusal (refusal_of_script r)
-operation_refuses Refusal.NoSuchTx h = tt
-operation_refuses Refusal.Undoing h = tt
-operation_refuses Refusal.Running h = tt
-operation_refuses Refusal.LogFull h = tt
-operation_refuses Refusal.NoRoom h = tt
-operation_refuses Refusal.OutOfMemory h = tt
-operation_refuses Refusal.GaveUp h = tt
-operation_refuses other h = absurd h
-
 commit_refuses : (r : Refusal) → IsOfCommit r → IsScriptRefusal (refusal_of_script r)
 commit_refuses Refusal.NoSuchTx h = tt
 commit_refuses Refusal.Undoing h = tt
 commit_refuses Refusal.Running h = tt
 commit_refuses other h = absurd h
+
+operation_refuses : (r : Refusal) → IsOfOperation r → IsScriptRefusal (refusal_of_script r)
+operation_refuses Refusal.LogFull h = tt
+operation_refuses Refusal.NoRoom h = tt
+operation_refuses Refusal.OutOfMemory h = tt
+operation_refuses Refusal.GaveUp h = tt
+operation_refuses other h = commit_refuses other h
 
 -- an outcome ends as a script may
 abbrev pub EndsSo : Outcome → Type 0

@@ -43,9 +43,9 @@ fn run_with<
     requires nine { records.blank.parts ≡ 9 }
     requires some { 0 < options.now.workers }
     requires most { options.now.workers ≤ 8 }
-    ensures ran { IfOk result
-        (λ got. HasRunAll (scripts_of_clients clients.now) options.now.limits pseudo got.0 got.1) }
-    ensures history { IfOk result (λ got. got.1.shared.history.handed ≡ []) }
+    ensures ran { IfOk result (λ got.
+        HasRunAll (scripts_of_clients clients.now) options.now.limits pseudo got.0 got.1
+        × (got.1.shared.history.handed ≡ [])) }
     ensures refusal { IfErr result
         (λ refusal. (refusal ≡ Refusal.OutOfMemory) ⊎ (refusal ≡ Refusal.Audit)) }
 {
@@ -97,8 +97,8 @@ fn run_with<
 }
 
 /// Runs the scripts of all clients on a new manager, with these options. Each worker claims a client, runs
-/// its scripts in order, and claims the next; each call of the manager is one event, under one lock. A script that is told to
-/// wait, or that it is blocked, more often than it has tries is aborted, as is one that is refused an operation; its outcome says
+/// its scripts in order, and claims the next; each call of the manager is one event, under one lock. A script that
+/// waits or is blocked more often than it has tries is aborted, as is one of which an operation is refused; its outcome says
 /// why.
 ///
 /// # Errors

@@ -1,14 +1,16 @@
 -- Runs at their places.
-use Rattle.std.proofs.Common.{◌≡◌, ◌≢◌, ◌⊎◌, ℕ, zero, suc, ◌+◌, ◌-◌, ◌<◌, ◌≤◌, List, [], ◌∷◌, ◌++◌, length, map, set, append_assoc, cond, Bool, refl, sym, ap, ◌∙◌, subst, inl, inr, ⊎_elim, arith, get_or, Option, Some, None, IfSome, IsSome, lt-ltb, append-nil, length-set, get_or-set_same, get_or-set_other}
-use Rattle.std.proofs.lemmas.List.{map-append}
+use Rattle.std.proofs.Common.{◌≡◌, ◌≢◌, ◌⊎◌, ℕ, zero, suc, ◌+◌, ◌-◌, ◌<◌, ◌≤◌, List, [], ◌∷◌, ◌++◌, length, map, set, append_assoc, cond, Bool, refl, sym, ap, ◌∙◌, subst, inl, inr, ⊎_elim, arith, get_or, Option, Some, None, IfSome, IsSome, lt-ltb, append-nil, length-set, get_or-set_same, get_or-set_other, All, Vec, Global}
+use Rattle.std.proofs.lemmas.List.{length-map, map-append}
+use Rattle.std.proofs.lemmas.List.Elements.{All-pop}
 use Rattle.std.proofs.lemmas.Bool.Decides.{eqb_tells, nat_tests}
 use Rattle.mlt_work_clients.specs.declared.view.SeatView.{SeatView}
 use Rattle.mlt_work_clients.specs.Claims.{view, times, once_below, after_draw}
 use Rattle.mlt_work_clients.proofs.Moves.{times-append}
 use Rattle.mlt_script_serial.specs.declared.outcome.Outcome.{Outcome}
+use Rattle.mlt_script.specs.declared.script.Script.{Script}
 use Rattle.mlt_script.specs.Scripts.{ScriptForm}
 use Rattle.mlt_work_clients.specs.declared.forms.ClientRun.{ClientRun}
-use Rattle.mlt_work_clients.specs.Places.{AllHaveRuns, AreAllOutcomes, AreClientOutcomes, AreInPlace, HaveRuns, IsClientRun, KeepsRuns, place_of}
+use Rattle.mlt_work_clients.specs.Places.{AllHaveRuns, AreAllOutcomes, AreClientOutcomes, AreInPlace, HasRunAt, HaveRuns, IsClientRun, KeepsRuns, place_of, scripts_of_clients}
 
 -- a draw of a client
 pub draws_client : (v w : SeatView) (clients n : ℕ) (drawn : List ℕ) → v ≡ view 1 1 clients drawn → w ≡ after_draw v n → n < clients → w ≡ view 1 1 clients (drawn ++ n ∷ [])
@@ -55,6 +57,29 @@ filled_step slots r before rest i e within (inr h) =
   where
     not_one : (i n k : ℕ) → i ≢ n → 0 < k + times i (n ∷ []) → 0 < k
     not_one i n k ne h = grind (arith, nat_tests)
+
+-- Runs are being put at their places. These numbers are the places of all of them: each has its run, or that is still to be put.
+pub record ArePut (clients : List (Vec Script Global)) (before : List (Option ClientRun)) (places : List ℕ) (slots : List (Option ClientRun)) (rest : List ClientRun) : Type 0 where
+  pub len : length slots ≡ length clients
+  pub placed : AreInPlace (scripts_of_clients clients) slots
+  pub runs : All (IsClientRun (scripts_of_clients clients)) rest
+  pub kept : KeepsRuns before slots
+  pub filled : (place : ℕ) → place < length clients → 0 < times place places → HasRunAt slots place ⊎ (0 < times place (map place_of rest))
+
+-- the last of them is put
+pub last_put : (clients : List (Vec Script Global)) (before : List (Option ClientRun)) (places : List ℕ) (slots : List (Option ClientRun)) (all rest : List ClientRun) (r : ClientRun)
+    → ArePut clients before places slots all → all ≡ rest ++ r ∷ [] → ArePut clients before places (set slots r.place (Some r)) rest
+last_put clients before places slots all rest r h e =
+    let lists : List (List ScriptForm) = scripts_of_clients clients in
+    let popped = All-pop (IsClientRun lists) all rest (Some r) e h.runs in
+    let within : r.place < length slots = omega (arith, popped.1.0, length-map clients (λ (client : Vec Script Global). client.items), h.len) in
+    record {
+      len = length-set slots r.place (Some r) ∙ h.len;
+      placed = in_place_set lists slots r popped.1 within h.placed;
+      runs = popped.0;
+      kept = λ i below had. still_some slots r i within (h.kept i below had);
+      filled = λ i below drawn. filled_step slots r all rest i e within (h.filled i below drawn);
+    }
 
 -- what the first seat and another drew has its runs
 pub filled_join : (clients n : ℕ) (slots after : List (Option ClientRun)) (first drawn places : List ℕ) → length slots ≡ clients → length after ≡ clients → drawn ≡ places ++ n ∷ [] → clients ≤ n

@@ -117,9 +117,10 @@ impl<'a, P: Pseudo, L: MadeWith<P>, R: Wait, G: Gate> LockDesk<'a, P, L, R, G> {
     }
 
     /// One event, in one hold of the lock, which counts in the share. The desk may sleep before it; and where it is to wait it
-    /// sleeps after it, if it may and the turn is so. Of a reply the desk looks whether it is to the operation that it is in.
+    /// sleeps after it, if it may and the turn is so. Of a reply the desk looks whether it is to the operation that it is in. The gate
+    /// is told the answer, with the lock free.
     #[inline(always)]
-    fn event(&mut self, event: Event, may_sleep: bool) -> (Told, Turn)
+    fn hold(&mut self, event: Event, may_sleep: bool) -> (Told, Turn)
         ensures told { IsToldTo P.bits_of event result.0 }
         ensures sees { SeesEvent (first_items self.old.snapshot) event result.0
             (first_items self.new.snapshot) }
@@ -135,6 +136,8 @@ impl<'a, P: Pseudo, L: MadeWith<P>, R: Wait, G: Gate> LockDesk<'a, P, L, R, G> {
         let LockDesk {
             rt,
             shared,
+            gate,
+            client,
             thread,
             is_asleep,
             is_reply,
@@ -152,6 +155,8 @@ impl<'a, P: Pseudo, L: MadeWith<P>, R: Wait, G: Gate> LockDesk<'a, P, L, R, G> {
         let log = &shared.log;
         let (told, turn) = state.act(event, share, may_sleep, thread, log, snapshot, wakers);
         if goes_on(&told) {
+            drop(state);
+            gate.pause(*client, &told);
             return (told, turn);
         }
         *is_reply = is_done(&told) && state.ends_with(&thread.op);
@@ -162,26 +167,7 @@ impl<'a, P: Pseudo, L: MadeWith<P>, R: Wait, G: Gate> LockDesk<'a, P, L, R, G> {
             wakers.clear();
         }
         *is_asleep = turn == Turn::Sleeps;
-        (told, turn)
-    }
-
-    /// One event, in one hold of the lock. The gate is told its answer, with the lock free.
-    #[inline(always)]
-    fn hold(&mut self, event: Event, may_sleep: bool) -> (Told, Turn)
-        ensures told { IsToldTo P.bits_of event result.0 }
-        ensures sees { SeesEvent (first_items self.old.snapshot) event result.0
-            (first_items self.new.snapshot) }
-        ensures reply { self.new.is_reply ≡ true
-            → EndsWithOp (first_items self.new.snapshot) self.old.thread.op }
-        ensures another { self.new.is_reply ≡ false → IfReply event result.0
-            (EndsWithOp (first_items self.new.snapshot) self.old.thread.op → ⊥) }
-        ensures youngest { result.1 ≡ Turn.Deadlock → IsYoungestOfCycle self.old.thread.tx }
-        ensures one { self.new.share.amount ≡ self.old.share.amount + 1 }
-        ensures thread { self.new.thread ≡ self.old.thread }
-        ensures tries { self.new.tries ≡ self.old.tries }
-    {
-        let (told, turn) = self.event(event, may_sleep);
-        self.gate.pause(self.client, &told);
+        gate.pause(*client, &told);
         (told, turn)
     }
 
@@ -211,7 +197,7 @@ impl<'a, P: Pseudo, L: MadeWith<P>, R: Wait, G: Gate> LockDesk<'a, P, L, R, G> {
     }
 
     /// Where others are blocked in operations that may clash with this one, the desk sleeps behind the last of them before its
-    /// next event. The gate is told so, with the lock free.
+    /// next event. The gate hears of it, with the lock free.
     #[cold]
     #[inline(never)]
     fn queue_behind(&mut self)
@@ -339,8 +325,8 @@ impl<'a, P: Pseudo, L: MadeWith<P>, R: Wait, G: Gate> LockDesk<'a, P, L, R, G> {
         unreachable!()
     }
 
-    /// One step of an abort. Where it is to wait it goes on once it is awake, and spends no try. It answers whether more are to
-    /// come: the last one is told that the transaction was aborted, or that the desk may not act for it.
+    /// One step of an abort. If it has to wait it goes on once it is awake, and uses up no try. It returns whether more are to
+    /// come: the answer to the last one is that the transaction was aborted, or that the desk may not act for it.
     fn undo_step(&mut self) -> bool
         ensures ends { result ≡ false → SeesAnswer P.bits_of (first_items self.old.snapshot)
             (call.Abort self.old.thread.tx) DeskAnswer.Aborted (first_items self.new.snapshot) }

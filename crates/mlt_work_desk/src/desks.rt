@@ -85,8 +85,8 @@ impl Desks {
         self.queue.count()
     }
 
-    /// Locks were given back: who waits for them is awake, and its waker is added. Who is in no operation any more stands in the
-    /// queue no longer, and who waits for its turn behind it is awake too.
+    /// Locks were released: each desk that waits for them is awake, and its waker is added. A desk whose operation has ended leaves
+    /// the queue, and each desk that waits for its turn behind it is awake too.
     #[inline(always)]
     #[tactic(auto, using(crate::proofs::Fewer::fewer_wait, crate::proofs::Fewer::nobody_left))]
     pub(crate) fn give_back(&mut self, given: GivenBack, wakers: &mut Wakers)
@@ -211,7 +211,7 @@ impl Desks {
     /// What a desk does that is to wait for a page.
     ///
     /// The last desk that is awake tries at once, and so does one whose wait would close a cycle. It wakes those that want a page
-    /// too: a pass that is to start anew gives its pages back as well, and is told to go on. Any other desk sleeps, and is counted.
+    /// too: a pass that is to start anew gives its pages back as well, and goes on. Any other desk sleeps, and is counted.
     #[tactic(auto, using(crate::proofs::Fewer::fewer_wait))]
     fn wait_for_page(&mut self, wait: Waiting, wakers: &mut Wakers) -> Turn
         requires few { length wakers.old.items ≤ 128 }

@@ -73,9 +73,10 @@ impl<P: Pseudo, L: MadeWith<P>> LockedState<P, L> {
         }
     }
 
-    /// One event of a desk, which counts in the share. Where it is to wait, and may sleep, it does so as this thread. Whoever waits
-    /// for what it gave back is awake then, and its waker is added. It answers what was told, and what the desk does next. The snapshot is
-    /// one of the history after it then, but where an operation goes on: there nothing that the desk has to look after has changed.
+    /// One event of a desk, which counts in the share. Where it is to wait, and may sleep, it does so as this thread. A desk that
+    /// waits for what it released is awake then, and its waker is added. It returns the answer, and what the desk does next. The
+    /// snapshot is one of the history after it then, but where an operation goes on: there nothing that the desk has to look
+    /// after has changed.
     #[inline(always)]
     pub(crate) fn act(
         &mut self,

@@ -8,7 +8,7 @@ use std::marker::Brand;
 use std::sync::ledger::Ledger;
 
 /// The ledger of the desks over a manager, with which limits and which function from keys to pseudokeys that was made, whether
-/// its history is handed out, and which log has it. No value of it is made: who runs desks picks all of them.
+/// its history is handed out, and which log has it. No value of it is made: the caller that runs desks picks all of them.
 pub trait MadeWith<P>: Ledger {
     /// The limits and the function.
     ghost made_with: { Option (Making P) };

@@ -26,7 +26,7 @@ use std::sync::{Condvar, Mutex, MutexGuard, Wait};
 pub struct Shared<P: Pseudo, L: MadeWith<P>> {
     state: Mutex<LockedState<P, L>>,
     condvars: [Condvar; 256],
-    /// How many were blocked at the end of the last hold, for who is to call an operation.
+    /// How many were blocked at the end of the last hold, for a desk that is to call an operation.
     blocked: AtomicU64,
     /// The log of the manager's history.
     pub(crate) log: HistoryLog,
@@ -127,7 +127,7 @@ impl<P: Pseudo, L: MadeWith<P>> Shared<P, L> {
         self.wake(&wakers);
     }
 
-    /// The statistics of the manager, and who waits for whom. It takes the lock once, and is no event.
+    /// The statistics of the manager, and which transaction waits for which. It takes the lock once, and is no event.
     pub fn statistics<R: Wait>(&self, rt: &R) -> DeskStatistics {
         let state = self.lock(rt);
         state.statistics()

@@ -1,6 +1,6 @@
 //! What may be tuned. Beside each stands the group of `bench/run` that shows what it does.
 
-/// How many times an operation is told Waiting before it takes precedence. No load shows what it is worth: in `readers`, where an
+/// How many times an operation gets Waiting before it takes precedence. No load shows what it is worth: in `readers`, where an
 /// insert doubles the directory beside 14 that never pause, the insert hardly ever waits twice.
 pub(crate) const WAITS_BEFORE_PRECEDENCE: u64 = 8;
 

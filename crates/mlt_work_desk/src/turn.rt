@@ -17,7 +17,7 @@ pub(crate) enum Turn {
     /// It sleeps before its next event, and is counted as one that waits.
     Sleeps,
     /// It gives up: its transaction is the youngest of a cycle of waits for objects that its wait would close, and while that
-    /// stands each try is told the same.
+    /// stands each try gets the same answer.
     Deadlock,
 }
 

@@ -34,7 +34,7 @@ impl Join<LogView> for Prefixes {
     ghost spent = { spent_view };
 }
 
-/// All items that a history has once it has grown. No value of it is made: who adds to the history picks them.
+/// All items that a history has once it has grown. No value of it is made: the caller that adds to the history picks them.
 pub trait Growth {
     ghost items: { List TraceItem };
 }

@@ -32,7 +32,8 @@ pub enum Whose {
 #[derive(Clone, Copy, Debug, Default, PartialEq, Eq)]
 pub struct Waker(pub u8);
 
-/// Those of sleeping threads that are to be woken, in turn: room for all who wait, and for those who wait for one kind of lock once more.
+/// Those of sleeping threads that are to be woken, in turn: room for all that wait, and for those that wait for one kind of lock
+/// once more.
 pub type Wakers = ArrayVec<Waker, 192>;
 
 /// One transaction waits for a lock of another, or for its turn behind it, and is woken by its waker.
@@ -41,7 +42,7 @@ pub struct Waiting {
     pub waiter: TxId,
     pub holder: TxId,
     pub waker: Waker,
-    /// The timestamp of one that waits for a lock: who has a greater one is younger. One that only waits for its turn has none.
+    /// The timestamp of a wait for a lock: a greater one is younger. A wait for a turn has none.
     pub timestamp: Option<u64>,
 }
 

@@ -130,7 +130,7 @@ impl WaitsFor {
         }
     }
 
-    /// Whether there is no room for one more who waits for such locks.
+    /// Whether there is no room for one more wait for such locks.
     fn is_full(&self, awaited: Awaited) -> bool
         ensures full { result ≡ true → length (waits_of awaited self.now) ≡ 64 }
         ensures room { result ≡ false → length (waits_of awaited self.now) < 64 }

@@ -6,8 +6,4 @@ abbrev pub ghosts-serve_with-L-Ledger : goal.ghosts-serve_with-L-Ledger
 ghosts-serve_with-L-Ledger g a = record { name = a.records.blank.name; parts = a.records.blank.parts }
 
 abbrev pub ghosts-serve_with-L-MadeWith : goal.ghosts-serve_with-L-MadeWith
-ghosts-serve_with-L-MadeWith g a = record {
-  made_with = Some (making_by a.options.now.limits a.pseudo);
-  hands_out = true;
-  log_id = id_of a.records.log;
-}
+ghosts-serve_with-L-MadeWith g a = record { made_with = Some (making_by a.options.now.limits a.pseudo); hands_out = true; log_id = id_of a.records.log }

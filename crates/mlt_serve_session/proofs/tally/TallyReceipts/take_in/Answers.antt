@@ -7,7 +7,7 @@ use Rattle.mlt_serve_session.proofs.tally.TallyReceipts.take_in.Goals as goal
 pub invariant_of-self-clause-commits_are : goal.invariant_of-self-clause-commits_are
 invariant_of-self-clause-commits_are c =
     let count = λ (o : Outcome). commits_by o.end in
-    let before = c.args.self.now.told.outcomes in
-    let more = c.args.more.told.outcomes in
-    let whole : sum_by count c.with-self.result.outcomes ≡ sum_by count before + sum_by count more = ap (sum_by count) c.with-self.ensures ∙ sum_by-append count before more in
+    let before = c.args.self.now.told.items in
+    let more = c.args.more.told.items in
+    let whole : sum_by count c.of-self.result.items ≡ sum_by count before + sum_by count more = ap (sum_by count) c.of-self.ensures ∙ sum_by-append count before more in
     rw whole (omega (arith, c.saturating_add-self-2.ensures, c.args.self.now.commits_are, c.args.more.commits_are))

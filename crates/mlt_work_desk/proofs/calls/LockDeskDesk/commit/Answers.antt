@@ -5,13 +5,12 @@ use Rattle.mlt_work_desk.proofs.calls.LockDeskDesk.commit.Goals as goal
 
 pub returns-in-Committed : goal.returns-in-Committed
 returns-in-Committed g c =
-    let bits_of = g.P.Pseudo.bits_of in
     let before = first_items c.args.self.now.snapshot in
     let after = first_items c.hold-told.new.self.snapshot in
     let commits = Event.Commit c.args.tx in
     let held = c.hold-told.ensures in
     record {
-      may = subst (λ said. IsToldTo bits_of commits said) c.in-Committed.is held.told;
-      sees = sees_committed bits_of before c.args.tx c.in-Committed.number after (subst (λ said. SeesEvent before commits said after) c.in-Committed.is held.sees);
+      may = subst (λ said. IsToldTo g.P.Pseudo.bits_of commits said) c.in-Committed.is held.told;
+      sees = sees_committed _ before c.args.tx c.in-Committed.number after (subst (λ said. SeesEvent before commits said after) c.in-Committed.is held.sees);
       spends = held.tries;
     }

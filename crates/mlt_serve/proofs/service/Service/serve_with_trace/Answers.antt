@@ -1,5 +1,5 @@
 use Rattle.std.proofs.Common.{rules}
-use Rattle.mlt_serve.proofs.threads_beside.serve_with_trace.Goals as goal
+use Rattle.mlt_serve.proofs.service.Service.serve_with_trace.Goals as goal
 
 -- that there are threads, and what may go to another thread: P, L, K and T, and L and R by reference
 pub scoped-requires : goal.scoped-requires

@@ -2,8 +2,8 @@ use Rattle.std.proofs.Common.{rules, ◌≡◌, ◌≢◌, false}
 use Rattle.mlt_work_desk.proofs.Names.{first_items, EndsWithOp, is_done}
 use Rattle.mlt_work_desk.proofs.Cycles.{youngest_of_cycle}
 use Rattle.mlt_work_desk.proofs.Replying.{reply_not_done, reply_then}
-use Rattle.mlt_work_desk.proofs.lock_desk.LockDesk.event.Goals as goal
-use Rattle.mlt_work_desk.proofs.lock_desk.LockDesk.event.Goals.{then-is_done, else-is_done}
+use Rattle.mlt_work_desk.proofs.lock_desk.LockDesk.hold.Goals as goal
+use Rattle.mlt_work_desk.proofs.lock_desk.LockDesk.hold.Goals.{then-is_done, else-is_done}
 
 pub returns-clause-another : goal.returns-clause-another
 returns-clause-another g c = λ no_reply.

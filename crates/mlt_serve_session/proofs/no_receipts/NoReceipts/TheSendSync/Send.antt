@@ -1,6 +1,0 @@
--- It owns nothing, so it may go to another thread.
-use denote.Param.Send.{IsSend}
-use Rattle.mlt_serve_session.proofs.Names.{the_row}
-
-pub send : IsSend the_row
-send = record { owned = λ d vs. ((λ vss. (tt, tt)), tt); leaving = λ k f vs. tt }

@@ -1,0 +1,5 @@
+use Rattle.std.proofs.Common.{[], ◌∷◌, ◌++◌}
+use Rattle.mlt_serve_session.proofs.tally.TallyReceipts.put.Given as goal
+
+abbrev pub ghost-of : goal.ghost-of
+ghost-of a = a.first.now.items ++ a.second.now ∷ []
