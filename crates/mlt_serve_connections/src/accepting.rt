@@ -75,7 +75,7 @@ fn does_pause(code: i32) -> bool {
     matches!(code, libc::ENOMEM | libc::EMFILE | ENFILE | ENOBUFS)
 }
 
-/// From now on the listener takes no connection: who waits in an accept of it fails, and clients are refused.
+/// From now on the listener accepts no connection: a thread that waits in an accept of it fails, and clients are refused.
 pub fn refuse_all(listener: &TcpListener) {
     // It fails only where that was done before.
     let _ = libc::net::shutdown(listener.as_raw_fd(), libc::net::SHUT_RDWR);

@@ -26,7 +26,7 @@ pub struct AdmissionQueue {
     left: AtomicU64,
     lock: Mutex<()>,
     condvars: [Condvar; 64],
-    /// How many are at work who have not queued.
+    /// How many sessions are at work that have not queued.
     bypassing: AtomicU64,
 }
 
@@ -51,7 +51,7 @@ impl AdmissionQueue {
         self.queue(rt)
     }
 
-    /// Goes to work once there is room, and all who queued before are admitted or have left.
+    /// Goes to work once there is room, and all sessions that queued before are admitted or have left.
     pub(crate) fn queue<R: Wait>(&self, rt: &R) -> Pass {
         let number = self.come.fetch_add(1, Ordering::SeqCst);
         if !self.is_admitted(number) {

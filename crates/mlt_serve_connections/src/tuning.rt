@@ -6,11 +6,12 @@ pub(crate) const MOST_ADMITTED: u64 = 3;
 /// How many sessions bypass the queue at a time. By `connections`, 64.
 pub(crate) const MOST_BYPASSING: u64 = 1;
 
-/// After how many events a session queues. No group shows it: without turns, who asks line by line beside four that stream did 0.5 to 0.75.
+/// After how many events a session queues. No group shows it: without turns, a client that asks line by line beside four that
+/// stream did 0.5 to 0.75.
 pub(crate) const EVENTS_PER_TURN: u32 = 64;
 
-/// For how many microseconds a session pauses after one transaction that gave up. By `retries`.
-pub(crate) const RESTART_MICROSECONDS: u64 = 12_800;
+/// For how many microseconds a session pauses after one transaction that gave up. By `retries`, 63 clients.
+pub(crate) const RESTART_MICROSECONDS: u64 = 51_200;
 
 /// How often that pause doubles at most, with each further one in a row. By `retries`.
 pub(crate) const MOST_RESTART_DOUBLINGS: u32 = 3;
