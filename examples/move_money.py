@@ -3,7 +3,7 @@
     mltx serve 127.0.0.1:7000 --limit 1
     python3 move_money.py 127.0.0.1 7000
 
-It uses the client of clients/python, which runs a transaction again that the server gives up.
+It uses the client of clients/python, which runs a transaction again if the server answers GaveUp.
 """
 
 from __future__ import annotations
@@ -22,9 +22,9 @@ def open_with(tx: Transaction, account: int, amount: int) -> None:
 
 
 def move(tx: Transaction, source: int, target: int, amount: int) -> bool:
-    """Moves an amount, or nothing where the source is short of it. Answers whether it was moved."""
-    told = tx.ask_all([Operation.withdraw(source, amount), Operation.deposit(target, amount)])
-    if told == [Reply.DONE, Reply.DONE]:
+    """Moves an amount, or nothing if the source is short of it. Returns whether it was moved."""
+    replies = tx.ask_all([Operation.withdraw(source, amount), Operation.deposit(target, amount)])
+    if replies == [Reply.DONE, Reply.DONE]:
         return True
     tx.abort()
     return False
@@ -39,11 +39,11 @@ def main() -> None:
     if len(sys.argv) != 3 or not sys.argv[2].isdecimal():
         sys.exit("move_money.py: it needs a host and a port, as 127.0.0.1 7000")
     with Client(sys.argv[1], int(sys.argv[2])) as client:
-        client.run(lambda tx: open_with(tx, 1, 100))
-        client.run(lambda tx: open_with(tx, 2, 0))
-        print("moved 30:", client.run(lambda tx: move(tx, 1, 2, 30)))
-        print("moved 500:", client.run(lambda tx: move(tx, 1, 2, 500)))
-        print("balances:", *client.run(lambda tx: balances(tx, 1, 2)))
+        client.run(lambda tx: open_with(tx, 101, 100))
+        client.run(lambda tx: open_with(tx, 102, 0))
+        print("moved 30:", client.run(lambda tx: move(tx, 101, 102, 30)))
+        print("moved 500:", client.run(lambda tx: move(tx, 101, 102, 500)))
+        print("balances:", *client.run(lambda tx: balances(tx, 101, 102)))
 
 
 if __name__ == "__main__":

@@ -67,7 +67,7 @@ class MltxError(Exception):
 class Refused(MltxError):
     """The server answered `error N NAME`. The session goes on, and a transaction that is open stays open.
 
-    `number` is N, and `name` is NAME, which is the name of the subclass too."""
+    `number` is N, `name` is NAME, which is the name of the subclass too, and `meaning` says what that means."""
 
     meaning = "the server refused it"
 
@@ -81,55 +81,39 @@ class Refused(MltxError):
 
 
 class OutOfMemory(Refused):
-    """1: the server had no memory for it."""
-
     meaning = "the server had no memory for it"
 
 
 class NoRoom(Refused):
-    """2: the pages of the server have no room for what was to be added."""
-
     meaning = "the pages of the server have no room for it"
 
 
 class NoSuchTx(Refused):
-    """3: no transaction is open."""
-
     meaning = "no transaction is open"
 
 
 class Running(Refused):
-    """5: a transaction is open already."""
-
     meaning = "a transaction is open already"
 
 
 class TooManyOpen(Refused):
-    """7: as many transactions are open as the server may have."""
-
     meaning = "as many transactions are open as may be"
 
 
 class LogFull(Refused):
-    """8: the transaction has as many operations as it may have, which is 1,024."""
-
     meaning = "the transaction has as many operations as it may have"
 
 
 class IdsSpent(Refused):
-    """9: the server has given out all numbers of transactions."""
-
     meaning = "all numbers of transactions were given out"
 
 
 class ScriptFault(Refused):
-    """10: the line is none that a session knows."""
-
     meaning = "the server does not know this line"
 
 
 class GaveUp(Refused):
-    """14: the operation had to wait for other transactions and spent its tries, or was the youngest of a circle of waits.
+    """The operation had to wait for other transactions and used up its tries, or was the youngest of a deadlock.
 
     What helps is to abort, which lets the others go on, and to begin again. `Client.run` does so."""
 
@@ -143,7 +127,7 @@ _REFUSALS = {
 
 
 class ConnectionLost(MltxError):
-    """The connection ended. A transaction that was open is taken back by the server, so it may be run again."""
+    """The connection ended. The server rolls back a transaction that was open, so it may be run again."""
 
 
 class ServerAway(ConnectionLost):
@@ -151,8 +135,8 @@ class ServerAway(ConnectionLost):
 
 
 class TimedOut(ConnectionLost):
-    """No answer came in time. The client has closed the connection, so the server takes the transaction back. Where an
-    operation still waits there, that is once its wait has ended."""
+    """No answer came in time. The client has closed the connection, so the server rolls the transaction back. If an
+    operation still waits there, it does so once the wait has ended."""
 
 
 class SessionsTaken(TimedOut):
@@ -165,7 +149,7 @@ class CommitUnknown(MltxError):
     """The connection ended after a commit was sent and before its answer came: it may have been done or not.
 
     `transaction` is the transaction's number. To run it again could do it twice, so `Client.run` doesn't, and this is
-    no `ConnectionLost`. Who has to know puts a mark into each transaction, as an element of a set, and looks for it."""
+    no `ConnectionLost`. To know, put a mark into each transaction, such as an element of a set, and look for it."""
 
     def __init__(self, transaction: int) -> None:
         super().__init__(transaction)
@@ -191,7 +175,7 @@ class NoSuchClient(MltxError):
 
 
 class Reply(enum.Enum):
-    """What an operation is told: a word, as `Reply("done")`, and what it means where the word does not say it all."""
+    """The reply to an operation: a word, as `Reply("done")`, and what it means where the word does not say it all."""
 
     OPENED = "opened"
     EXISTS = "exists", "the account was there before"
@@ -250,7 +234,7 @@ class Form(Generic[Result]):
     arguments: tuple[Argument, ...]
     asks_for: str
     results: Mapping[Reply, Result]
-    # Whether it can be told `is` and a number, which then is the result.
+    # Whether its reply can be `is` and a number, which then is the result.
     tells_number: bool = False
 
     def of(self, *values: int) -> Operation[Result]:
@@ -270,15 +254,9 @@ def _words(*replies: Reply) -> dict[Reply, Reply]:
 
 
 _OPEN = Form("open", (ACCOUNT,), "a new account with balance 0", _words(Reply.OPENED, Reply.EXISTS))
-_CLOSE = Form(
-    "close", (ACCOUNT,), "the account's end, if its balance is 0", _words(Reply.CLOSED, Reply.NOT_EMPTY, Reply.MISSING)
-)
-_DEPOSIT = Form(
-    "deposit", (ACCOUNT, AMOUNT), "so much more in the account", _words(Reply.DONE, Reply.OVER, Reply.MISSING)
-)
-_WITHDRAW = Form(
-    "withdraw", (ACCOUNT, AMOUNT), "so much less in the account", _words(Reply.DONE, Reply.SHORT, Reply.MISSING)
-)
+_CLOSE = Form("close", (ACCOUNT,), "the account's end, if its balance is 0", _words(Reply.CLOSED, Reply.NOT_EMPTY, Reply.MISSING))
+_DEPOSIT = Form("deposit", (ACCOUNT, AMOUNT), "so much more in the account", _words(Reply.DONE, Reply.OVER, Reply.MISSING))
+_WITHDRAW = Form("withdraw", (ACCOUNT, AMOUNT), "so much less in the account", _words(Reply.DONE, Reply.SHORT, Reply.MISSING))
 _BALANCE: Form[Optional[int]] = Form("balance", (ACCOUNT,), "the balance", {Reply.MISSING: None}, tells_number=True)
 _ADD = Form("add", (SET, ELEMENT), "the element put into the set", _words(Reply.ADDED, Reply.PRESENT))
 _REMOVE = Form("remove", (SET, ELEMENT), "the element taken out of the set", _words(Reply.REMOVED, Reply.ABSENT))
@@ -595,8 +573,8 @@ class Transaction:
         return self.ask(Operation.has(set_number, element))
 
     def size(self, set_number: int) -> int:
-        """How many elements a set has. Of a set into which another transaction puts an element, or from which it takes
-        one out, it is told once that one has ended."""
+        """How many elements a set has. While another transaction adds an element to the set, or removes one, the call
+        waits until that transaction has ended."""
         return self.ask(Operation.size(set_number))
 
     # Counters: each is there, and has a value of 0 to 2^64 - 1, which is 0 at the start.
@@ -622,10 +600,10 @@ class Transaction:
     def ask_all(self, operations: Iterable[Operation[Result]]) -> list[Result]:
         """The results of operations that go out together, in order; so they take one round trip instead of one each.
 
-            taken, given = tx.ask_all([Operation.withdraw(1, 30), Operation.deposit(2, 30)])
+            taken, given = tx.ask_all([Operation.withdraw(101, 30), Operation.deposit(102, 30)])
 
-        Where some are refused the first refusal is raised, but the others were asked all the same. Who goes on after
-        that, and commits, keeps what they did."""
+        If some are refused the first refusal is raised, but the others were executed all the same. If you go on after
+        that, and commit, you keep what they did."""
         self._must_not_be_over()
         asked = list(operations)
         answers = self.session.ask(*(operation.line for operation in asked))
@@ -635,7 +613,7 @@ class Transaction:
     def commit(self) -> int:
         """Commits, and answers the number of the commit, of which the server has given out the ones below before.
 
-        Raises `ConnectionLost` where the connection ended before the commit was sent; then it is taken back. Raises
+        Raises `ConnectionLost` where the connection ended before the commit was sent; then it is rolled back. Raises
         `CommitUnknown` where it ended between that and the answer. Raises `Refused` where the server refused it; then
         it is open still."""
         self._must_not_be_over()
@@ -749,9 +727,7 @@ class Client:
         """The connection: the one that is there, or a new one where that has ended. Raises `ServerAway`."""
         if self._session is None or self._session.has_ended():
             self.close()
-            self._session = Session(
-                self.host, self.port, self.connect_timeout, self.answer_timeout, self.session_timeout
-            )
+            self._session = Session(self.host, self.port, self.connect_timeout, self.answer_timeout, self.session_timeout)
         return self._session
 
     def begin(self) -> Transaction:
@@ -889,7 +865,7 @@ class Operator:
         return told
 
     def waits(self) -> list[Wait]:
-        """Who waits for whom."""
+        """Which transaction waits for which."""
         with self._understood("/waits"):
             return [
                 Wait(it["waiter"], it["client"], it["holder"], it["for"], it["operation"], it["milliseconds"] / 1_000)
@@ -905,11 +881,11 @@ class Operator:
             ]
 
     def end_session(self, client: int) -> None:
-        """Ends the session of a client, whose transaction is taken back. Raises `NoSuchClient`."""
+        """Ends the session of a client, whose transaction is rolled back. Raises `NoSuchClient`."""
         self._told("POST", f"/sessions/{client}/end", NoSuchClient(f"the server serves no client {client}"))
 
     def stop(self) -> None:
-        """Has the server end in order: it takes no more connections, answers what has come, and takes back what is open."""
+        """Has the server end in order: it takes no more connections, answers what has come, and rolls back open transactions."""
         self._told("POST", "/stop")
 
     def _told(self, method: str, path: str, not_found: Optional[MltxError] = None) -> Any:
@@ -947,7 +923,7 @@ class Operator:
 
     @contextmanager
     def _understood(self, path: str) -> Iterator[None]:
-        """What is told has other parts than it should: then it is none of such a server."""
+        """If the answer has other parts than it should, it is none of such a server."""
         try:
             yield
         except (KeyError, TypeError) as fault:

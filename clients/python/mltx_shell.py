@@ -3,11 +3,11 @@
 
     python3 mltx_shell.py HOST:PORT [--admin HOST:PORT]
 
-Each line is one of a session, as `begin`, `deposit 1 50` or `commit`, or a command of the prompt; `help` lists both.
+Each line is one of a session, such as `begin`, `deposit 101 50` or `commit`, or a command of the prompt; `help` lists both.
 Those that begin with a colon ask the server's operator, whose address is that of `--admin`, as the server has it.
 Blank lines and lines that begin with `#` are skipped. The prompt says whether a transaction is open, with its number,
 and else how the last one ended. Without a terminal it reads lines from standard input up to the first that fails, and
-then the status is 1; a transaction that is open at the end is taken back.
+then the status is 1; a transaction that is open at the end is rolled back.
 """
 
 from __future__ import annotations
@@ -162,7 +162,7 @@ class Shell(cmd.Cmd):
 
     def do_abort(self, rest: str) -> None:
         """abort
-        takes back what the open transaction did: `aborted`"""
+        rolls the open transaction back: `aborted`"""
         nothing_behind("abort", rest)
         self.open_transaction().abort()
         self.end("aborted")
@@ -190,10 +190,10 @@ class Shell(cmd.Cmd):
     def show_waits(self) -> None:
         """:waits
         says which transactions wait for others, and on which operation"""
-        self.say("\n".join(map(wait_in_words, self.asked_operator().waits())) or "nobody waits")
+        self.say("\n".join(map(wait_in_words, self.asked_operator().waits())) or "no transaction waits")
 
     def asked_operator(self) -> Operator:
-        """The operator, where the prompt was told its address."""
+        """The operator, if its address was given."""
         if self.operator is None:
             raise LineFailed("the operator's address is not known: give it as `--admin HOST:PORT` behind the server's")
         return self.operator
@@ -217,10 +217,10 @@ class Shell(cmd.Cmd):
 
     def do_quit(self, rest: str) -> bool:
         """quit
-        ends; a transaction that is open is taken back"""
+        ends; a transaction that is open is rolled back"""
         nothing_behind("quit", rest)
         if self.tx:
-            self.say(f"transaction {self.tx.number} is taken back")
+            self.say(f"transaction {self.tx.number} is rolled back")
             self.tx = None
         self.client.close()
         return True
@@ -252,8 +252,8 @@ class Shell(cmd.Cmd):
         if self.tx is None:
             return ""
         number = self.tx.number
-        self.end("taken back")
-        return f"; transaction {number} is taken back"
+        self.end("rolled back")
+        return f"; transaction {number} is rolled back"
 
     def interrupted(self, line: str) -> str:
         """What to say of a line that was interrupted. Where an answer was still to come the connection is closed."""
@@ -263,9 +263,9 @@ class Shell(cmd.Cmd):
         if line.split() == ["commit"]:
             self.end("not known")
             return f"interrupted: {CommitUnknown(number)}"
-        self.end("taken back")
+        self.end("rolled back")
         return (
-            f"interrupted: the connection was closed, and the server takes transaction {number} back as soon as"
+            f"interrupted: the connection was closed, and the server rolls transaction {number} back as soon as"
             " nothing of it waits. `begin` connects again"
         )
 
@@ -343,7 +343,7 @@ def command_help(word: str) -> tuple[str, str]:
 
 
 def wait_in_words(wait: Wait) -> str:
-    """Who waits for whom, how long and why."""
+    """Which transaction waits for which, how long and why."""
     reason = {"object": "", "page": ", at a page", "turn": ", which came before it"}.get(wait.reason, f", {wait.reason}")
     return (
         f"transaction {wait.waiter} of client {wait.client} waits for transaction {wait.holder}{reason}, since"
@@ -386,7 +386,7 @@ def write_history(path: str) -> None:
 def run_input(shell: Shell) -> int:
     """Runs the lines of standard input. Answers the status."""
     if not shell.run_lines("standard input", sys.stdin) and shell.tx:
-        shell.fail(f"transaction {shell.tx.number} was open at the end, and is taken back")
+        shell.fail(f"transaction {shell.tx.number} was open at the end, and is rolled back")
     return 1 if shell.failed else 0
 
 
@@ -404,7 +404,7 @@ def run_shell(shell: Shell) -> int:
 
 
 def leave_output() -> None:
-    """Has what is still to be written go nowhere, once nobody reads it: else Python complains as it ends."""
+    """Has what is still to be written go nowhere, once it has no reader: else Python complains as it ends."""
     nowhere = os.open(os.devnull, os.O_WRONLY)
     for stream in (sys.stdout, sys.stderr):
         os.dup2(nowhere, stream.fileno())

@@ -10,119 +10,120 @@ static HASH_NAMES: [&str; 2] = ["mult", "low"];
 // The names of the conflict tables.
 static TABLE_NAMES: [&str; 3] = ["account", "set", "counter"];
 
-// The names of what a client finds while all sessions are taken.
+// What a new client may find while all sessions are taken.
 static FULL_NAMES: [&str; 2] = ["wait", "refuse"];
 
 const VERSION: &str = "0.1.0";
 
-const ABOUT: &str =
-    "Runs transactions on accounts, sets and counters, and checks traces of what they did.";
+const ABOUT: &str = "Run transactions on accounts, sets and counters, and check traces of them";
 
 const NO_WORDS: &str =
-    "With no words at all it is `solo -`: the scripts are read from standard input.
+    "Without arguments, `mltx` reads scripts from standard input, like `mltx solo -`.
 
 Example: mltx solo scripts.txt";
 
-const HASH_HELP: &str = "The hash function of the pages; without it `mult`";
+const HASH_HELP: &str = "Hash function of the pages [default: mult]";
 
-const TRACE_HELP: &str = "Where to write the trace of what the transactions did";
+const TRACE_HELP: &str = "Write a trace of the transactions to FILE";
 
-const SOLO_ABOUT: &str =
-    "Runs the scripts of FILE one after another, and prints what each was told.";
+const SOLO_ABOUT: &str = "Run the scripts of FILE one after another, and print the replies";
 
 const SOLO_EXAMPLE: &str = "Example: mltx solo scripts.txt
 
-  scripts.txt      standard output
+  scripts.txt        standard output
   begin
-  open 1           opened
-  deposit 1 50     done
-  balance 1        is 50
-  commit           committed 1";
+  open 101           opened
+  deposit 101 500    done
+  balance 101        is 500
+  commit             committed 1";
 
 const STEPS_ABOUT: &str =
-    "Runs the schedule of FILE, step by step, and prints what each event was told, and then the base.";
+    "Replay a schedule of interleaved transactions step by step; print each answer and the committed state";
 
 const STEPS_EXAMPLE: &str = "Example: mltx steps schedule.txt
 
-  schedule.txt             standard output
-  begin                    begun 1
-  whole 1 open 1           done opened
-  whole 1 deposit 1 5      done done
-  commit 1                 committed 1
-  begin                    begun 2
-  begin                    begun 3
-  whole 2 withdraw 1 3     done done
-  whole 3 withdraw 1 4     blocked by 2
-  abort 2                  aborting
-  undo 2                   aborted
-  whole 3 withdraw 1 4     done done
-  commit 3                 committed 2
-                           account 1 1
-                           depth 0
+  schedule.txt               standard output
+  begin                      begun 1
+  whole 1 open 101           done opened
+  whole 1 deposit 101 50     done done
+  commit 1                   committed 1
+  begin                      begun 2
+  begin                      begun 3
+  whole 2 withdraw 101 30    done done
+  whole 3 withdraw 101 40    blocked by 2
+  abort 2                    aborting
+  undo 2                     aborted
+  whole 3 withdraw 101 40    done done
+  commit 3                   committed 2
+                             account 101 10
+                             depth 0
 
-Transaction 3 is blocked while 2 may still abort: the reply would be `short` with its
-withdrawal, and is `done` without it. With `--explain` lines behind it say so.";
+Transaction 3 asks for 40 coins, and is blocked while transaction 2, which has taken 30 of 50,
+may still abort: the reply is `short` if it commits, and `done` if it aborts. With `--explain`
+the program prints this reason too.";
 
 const RUN_ABOUT: &str =
-    "Runs the scripts of FILE side by side, those of a client one after another, and prints what each was told, and then the base.";
+    "Run the scripts of FILE side by side in threads; print the replies and the committed state";
 
 const RUN_EXAMPLE: &str = "Example: mltx run scripts.txt --workers 2 --trace trace.txt
 
   scripts.txt      standard output
-  begin 1          client 1 script 1
-  up 7 5           done
+  begin 4          client 4 script 1
+  up 301 20        done
   commit           committed 1
-  begin 2          client 2 script 1
-  up 7 2           done
+  begin 7          client 7 script 1
+  up 301 30        done
   commit           committed 2
-                   counter 7 7
+                   counter 301 50
 
-The numbers of commits, and which script waits for which, differ from run to run; the base
-of scripts such as these does not. `mltx check trace.txt` shows that the committed scripts,
-run alone in the order of their commits, are told the same.";
+Scripts of one client run in the order of the file. The numbers of the commits, and which script
+waits for which, may differ from run to run; the committed state of scripts like these does not.
+`mltx check trace.txt` runs the committed scripts again, one after another in the order of their
+commits, and compares every reply.";
 
 const SERVE_ABOUT: &str =
-    "Listens on ADDR, and serves connections: each is a session of lines, and each line has its answer.";
+    "Listen on ADDR and serve clients, which send lines and get an answer to each";
 
 const SERVE_EXAMPLE: &str = "Example: mltx serve 127.0.0.1:7000 --limit 2
          nc 127.0.0.1 7000
 
-  line             answer
-  begin            begun 1
-  open 1           opened
-  deposit 1 50     done
-  balance 1        is 50
-  commit           committed 1
-  quit             bye
+  line               answer
+  begin              begun 1
+  open 101           opened
+  deposit 101 500    done
+  balance 101        is 500
+  commit             committed 1
+  quit               bye
 
-As soon as it listens it writes `mltx: listening on 127.0.0.1:7000` on standard error; for port 0
-that line has the port that it got.
+Once clients can connect, the server prints `mltx: listening on 127.0.0.1:7000` to standard
+error. For port 0 this line has the port that the system chose.
 
-An open transaction is taken back as its connection ends. The trace, where one is asked for, is
-written as the server goes. At the end the program writes `served` and how many there were.
+If a connection ends, its open transaction is rolled back. The trace is written continuously.
+When the server exits, it prints `served` and the number of connections.
 
-A server that stays up, shows http://127.0.0.1:7001, and ends by its button or a POST to /stop:
+To keep a server running until you stop it, by the button at http://127.0.0.1:7001 or by a POST
+to /stop:
   mltx serve 127.0.0.1:7000 --endless --sessions 64 --idle 600 --admin 127.0.0.1:7001";
 
 const CHECK_ABOUT: &str =
-    "Checks the trace of FILE: whether its transactions, run alone in the order of their commits, are told the same.";
+    "Check a trace: run its committed transactions again, in commit order, and compare every reply";
 
 const CHECK_EXAMPLE: &str = "Example: mltx check trace.txt
 
-  trace.txt                standard output
-  begin 1
-  begin 2
-  op 2 open 1 opened
-  op 2 deposit 1 7 done
-  commit 2 1               serial 2
-  op 1 balance 1 is 7
-  commit 1 2               serial 1
-                           account 1 7
+  trace.txt                  standard output
+  begin 3
+  begin 4
+  op 4 open 101 opened
+  op 4 deposit 101 70 done
+  commit 4 1                 serial 4
+  op 3 balance 101 is 70
+  commit 3 2                 serial 3
+                             account 101 70
 
-With `over` in place of `done` it is `mltx: 11 TraceFault line 4 Reply` on standard error.";
+If the reply in line 4 were `over`, the program would print `mltx: 11 TraceFault line 4 Reply`
+to standard error.";
 
-const TABLES_ABOUT: &str =
-    "Prints which operations conflict: the conflict tables, and an example of each conflict in both orders.";
+const TABLES_ABOUT: &str = "Print which operations conflict, with an example of each conflict";
 
 const TABLES_EXAMPLE: &str = "Example: mltx tables counter
 
@@ -137,59 +138,59 @@ const TABLES_EXAMPLE: &str = "Example: mltx tables counter
     held read 1 is 0, asked up 1 1 done: counter 1 1
     asked up 1 1 done, held read 1 is 1: counter 1 1
 
-What one transaction holds stands on the left, and what another one asks for at the top. They
-conflict, where `x` stands, since some two such operations are told otherwise, or leave
-something else, in the other order.";
+Rows are operations that a transaction holds, and columns are operations that another one requests.
+An `x` marks a conflict: some two such operations get other replies, or lead to another state, if
+they are executed in the other order.";
 
 const FILE: InputHelp = InputHelp {
     value_name: "FILE",
-    help: "The file to read; `-` is standard input",
+    help: "File to read; `-` is standard input",
 };
 
 const ADDRESS: InputHelp = InputHelp {
     value_name: "ADDR",
-    help: "The IP address and port to listen on, as `127.0.0.1:7000`",
+    help: "IP address and port to listen on, such as `127.0.0.1:7000`",
 };
 
-const TABLE_HELP: &str = "The table that is printed; without it all of them";
+const TABLE_HELP: &str = "Table to print; all of them if it is not given";
 
 const TRIES_HELP: &str =
-    "How often a script, or an operation of a session, may be told to wait, from 1 to 1000000; without it 10000";
+    "Answer GaveUp after N waits for other transactions, 1 to 1000000 [default: 10000]";
 
 const LONG_HELP: &str =
-    "The trace may have any length: it is checked as it is read, and written of as it is checked";
+    "Check a trace of any length: read it piece by piece, and print while reading";
 
-const EXPLAIN_HELP: &str = "Where an event is blocked or waits, lines that begin with `#` say why";
+const EXPLAIN_HELP: &str =
+    "After each event that is blocked or waits, print the reason in lines that begin with `#`";
 
-const WORKERS_HELP: &str = "How many workers run scripts at once, from 1 to 8; without it 4";
+const WORKERS_HELP: &str = "Run the scripts in N threads, 1 to 8 [default: 4]";
 
-const SESSIONS_HELP: &str = "How many sessions are held at once, from 1 to 64; without it 8";
+const SESSIONS_HELP: &str = "Serve up to N connections at a time, 1 to 64 [default: 8]";
 
-const LIMIT_HELP: &str = "How many connections are served in all, from 1 to 1000000; without it 1";
+const LIMIT_HELP: &str = "Exit after N connections, 1 to 1000000 [default: 1]";
 
 const ENDLESS_HELP: &str =
-    "As many connections are served as come, and nothing is kept of what was done; not with --limit";
+    "Accept connections without limit, and keep no history in memory; not with --limit";
 
-const IDLE_HELP: &str =
-    "How many seconds a connection may be idle, from 0, which is for ever, to 86400; without it 0";
+const IDLE_HELP: &str = "Close connections idle for SECONDS, up to 86400; 0 = never [default: 0]";
 
 const WAIT_HELP: &str =
-    "How many seconds an operation may wait before it is told GaveUp, from 0, which is for ever, to 86400; without it 0";
+    "Answer GaveUp to operations that wait for SECONDS, up to 86400; 0 = never [default: 0]";
 
 const OPEN_HELP: &str =
-    "How many seconds a transaction may be open before its session is cut, from 0, which is for ever, to 86400; without it 0";
+    "Close connections whose transaction is open for SECONDS, up to 86400; 0 = never [default: 0]";
 
 const FULL_HELP: &str =
-    "What a client finds while all sessions are taken: it waits for one, or is refused; without it `wait`";
+    "Let new clients wait, or refuse them, while all sessions are taken [default: wait]";
 
 const ADMIN_HELP: &str =
-    "The IP address and port at which an operator connects by HTTP; without it there is none";
+    "Serve the operator's page, JSON and metrics by HTTP at this IP address and port";
 
 const UNTIL_EOF_HELP: &str =
-    "The server ends in order at the end of standard input, which has to be held open";
+    "Shut down when standard input ends; not with `&`, `nohup` or `< /dev/null`";
 
 const VERBOSE_HELP: &str =
-    "At a fault, a second line says which file or address, why, and what was expected";
+    "After an error, print a second line with the file or address, the reason and what was expected";
 
 // How help shows what a subcommand takes, and what it says of it.
 #[derive(Clone, Copy)]
@@ -348,7 +349,7 @@ fn number_option<'a>(
         .value_parser(ValueParser::unsigned(least, most))
 }
 
-// How often a script, or an operation of a session, may be told to wait.
+// How often a script, or an operation of a session, may wait.
 fn tries_option<'a>(alloc: Global) -> Arg<'a> {
     number_option(alloc, "tries", "N", TRIES_HELP, 1, 1_000_000)
 }
@@ -361,38 +362,34 @@ fn work_command<'a>(alloc: Global) -> Result<Command<'a>, AllocError> {
 
 fn serve_command<'a>(alloc: Global) -> Result<Command<'a>, AllocError> {
     let command = run_command(alloc, "serve", ADDRESS, SERVE_ABOUT, SERVE_EXAMPLE)?;
-    let command = command.arg(flag_option(alloc, "endless", ENDLESS_HELP))?;
-    let command = with_counts(alloc, command)?;
-    let command = with_times(alloc, command)?;
-    with_operating(alloc, command)
+    let command = with_connections(alloc, command.next_help_heading("Connections"))?;
+    let command = with_waits(alloc, command.next_help_heading("Waits and timeouts"))?;
+    command
+        .next_help_heading("Operation")
+        .arg(text_option(alloc, "admin", "ADDR", ADMIN_HELP))?
+        .arg(flag_option(alloc, "until-eof", UNTIL_EOF_HELP))
 }
 
-// The subcommand with the options that count: sessions, connections, and tries.
-fn with_counts<'a>(alloc: Global, command: Command<'a>) -> Result<Command<'a>, AllocError> {
+// The subcommand with the options on how many connections are served, and how many at once.
+fn with_connections<'a>(alloc: Global, command: Command<'a>) -> Result<Command<'a>, AllocError> {
+    let fulls = FULL_NAMES.as_slice();
     command
-        .arg(number_option(alloc, "sessions", "N", SESSIONS_HELP, 1, 64))?
+        .arg(flag_option(alloc, "endless", ENDLESS_HELP))?
         .arg(number_option(alloc, "limit", "N", LIMIT_HELP, 1, 1_000_000))?
-        .arg(tries_option(alloc))
+        .arg(number_option(alloc, "sessions", "N", SESSIONS_HELP, 1, 64))?
+        .arg(choice_option(alloc, "full", "FULL", FULL_HELP, fulls))
+}
+
+// The subcommand with the options on how often and for how long a client may wait.
+fn with_waits<'a>(alloc: Global, command: Command<'a>) -> Result<Command<'a>, AllocError> {
+    command
+        .arg(tries_option(alloc))?
+        .arg(seconds_option(alloc, "wait", WAIT_HELP))?
+        .arg(seconds_option(alloc, "open", OPEN_HELP))?
+        .arg(seconds_option(alloc, "idle", IDLE_HELP))
 }
 
 // An option that takes a number of seconds, at most a day.
 fn seconds_option<'a>(alloc: Global, name: &'a str, help: &'a str) -> Arg<'a> {
     number_option(alloc, name, "SECONDS", help, 0, 86_400)
-}
-
-// The subcommand with the options that say for how many seconds.
-fn with_times<'a>(alloc: Global, command: Command<'a>) -> Result<Command<'a>, AllocError> {
-    command
-        .arg(seconds_option(alloc, "idle", IDLE_HELP))?
-        .arg(seconds_option(alloc, "wait", WAIT_HELP))?
-        .arg(seconds_option(alloc, "open", OPEN_HELP))
-}
-
-// The subcommand with the options of who runs the server.
-fn with_operating<'a>(alloc: Global, command: Command<'a>) -> Result<Command<'a>, AllocError> {
-    let fulls = FULL_NAMES.as_slice();
-    command
-        .arg(choice_option(alloc, "full", "FULL", FULL_HELP, fulls))?
-        .arg(text_option(alloc, "admin", "ADDR", ADMIN_HELP))?
-        .arg(flag_option(alloc, "until-eof", UNTIL_EOF_HELP))
 }

@@ -16,13 +16,11 @@ fn line_text(kind: TextKind, line: &[u8]) -> &'static str {
         return "expected: at most 200 bytes";
     }
     if line.starts_with(MARK) {
-        return "a byte order mark stands in front; expected: a text without one";
+        return "the text begins with a byte order mark; expected: a text without one";
     }
     match kind {
-        TextKind::Trace => "expected: tabs and bytes of 0x20 to 0x7e alone",
-        _ => {
-            "expected: tabs and bytes of 0x20 to 0x7e alone, but in comments, which have lines of their own"
-        }
+        TextKind::Trace => "expected: only tabs and bytes from 0x20 to 0x7e",
+        _ => { "expected: only tabs and bytes from 0x20 to 0x7e, except in comment lines" }
     }
 }
 
@@ -60,7 +58,7 @@ fn script_place_text(line: &[u8]) -> &'static str {
         b"begin" => "expected: a `commit` or an `abort` before it",
         b"commit" | b"abort" => "expected: a `begin` before it, and an `end` for each `if`",
         b"else" | b"end" => {
-            "expected: an `if` before it that is open, and that has no `else` where this is one"
+            "expected: an open `if` before it, and before an `else` one that has none yet"
         }
         _ => "expected: a `begin` before it",
     }
@@ -69,13 +67,13 @@ fn script_place_text(line: &[u8]) -> &'static str {
 // Of a line of a trace that may not stand there, by its first word.
 fn trace_place_text(line: &[u8]) -> &'static str {
     match first_word(line) {
-        b"begin" => "expected: a number above those of all transactions before it",
-        b"op" => "expected: a transaction that is open, and has no `back` before it",
-        b"back" => "expected: a transaction that is open, and has an operation left",
+        b"begin" => "expected: a transaction number above all earlier ones",
+        b"op" => "expected: an open transaction without a `back`",
+        b"back" => "expected: an open transaction that has an operation left",
         b"commit" => {
-            "expected: a transaction that is open, and has no `back` before it, and as N one more than the commits before it"
+            "expected: an open transaction without a `back`, and as N the number of earlier commits plus 1"
         }
-        _ => "expected: a transaction that is open, and has no operation left",
+        _ => "expected: an open transaction that has no operation left",
     }
 }
 
@@ -89,9 +87,9 @@ fn script_text(
         ScriptCause::Line => line_text(kind, line),
         ScriptCause::Words => return words_text(alloc, kind, line),
         ScriptCause::Place => script_place_text(line),
-        ScriptCause::Deep => "expected: at most 16 `if` in one another",
+        ScriptCause::Deep => "expected: at most 16 nested `if`",
         ScriptCause::Long => {
-            "expected: at most 256 operations on each path from `begin` up to here"
+            "expected: at most 256 operations on each path from `begin` to here"
         }
         ScriptCause::Unfinished => {
             "the text ends inside a script; expected: a `commit` or an `abort`"
@@ -107,7 +105,7 @@ fn trace_text(alloc: Global, cause: TraceCause, line: &[u8]) -> Result<String, A
         TraceCause::Words => return words_text(alloc, TextKind::Trace, line),
         TraceCause::Place => trace_place_text(line),
         TraceCause::Reply => {
-            "expected: what the operation is told where the transactions run one after another, as they commit"
+            "expected: the reply that the operation gets if the transactions run one after another, in commit order"
         }
     };
     String::from_str(alloc, text)

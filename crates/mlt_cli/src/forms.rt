@@ -4,7 +4,7 @@ use crate::kind::TextKind;
 
 // The first words of the lines of scripts, each with the form of the lines that begin so.
 static SCRIPT_FORMS: &[(&str, &str)] = &[
-    ("begin", "`begin`, or `begin K` with K of 0 to 999"),
+    ("begin", "`begin`, or `begin K` with K from 0 to 999"),
     ("commit", "`commit`"),
     ("abort", "`abort`"),
     ("open", "`open A`, A below 2^32"),
@@ -28,33 +28,39 @@ static SCRIPT_FORMS: &[(&str, &str)] = &[
         "`down C n`, C below 2^32, n below 2^64 or a variable",
     ),
     ("read", "`read C`, C below 2^32"),
-    ("need", "`need OP is REPLY`, as `need withdraw 1 5 is done`"),
+    (
+        "need",
+        "`need OP is REPLY`, such as `need withdraw 101 30 is done`",
+    ),
     (
         "let",
         "`let v = balance A`, `let v = read C` or `let v = size S`",
     ),
-    ("if", "`if OP is REPLY`, as `if withdraw 1 5 is done`"),
+    (
+        "if",
+        "`if OP is REPLY`, such as `if withdraw 101 30 is done`",
+    ),
     ("else", "`else`"),
     ("end", "`end`"),
 ];
 
 static SCHEDULE_FORMS: &[(&str, &str)] = &[
     ("begin", "`begin`"),
-    ("call", "`call T OP`, as `call 1 deposit 1 5`"),
-    ("step", "`step T`, or `step T N` with N of 1 to 1000"),
+    ("call", "`call T OP`, such as `call 3 deposit 101 30`"),
+    ("step", "`step T`, or `step T N` with N from 1 to 1000"),
     ("cancel", "`cancel T`"),
     ("commit", "`commit T`"),
     ("abort", "`abort T`"),
-    ("whole", "`whole T OP`, as `whole 1 deposit 1 5`"),
+    ("whole", "`whole T OP`, such as `whole 3 deposit 101 30`"),
     ("undo", "`undo T`"),
 ];
 
 static TRACE_FORMS: &[(&str, &str)] = &[
-    ("begin", "`begin T`, T from 1 on"),
-    ("op", "`op T OP REPLY`, as `op 1 balance 1 is 7`"),
-    ("back", "`back T`, T from 1 on"),
-    ("commit", "`commit T N`, T and N from 1 on"),
-    ("abort", "`abort T`, T from 1 on"),
+    ("begin", "`begin T`, T at least 1"),
+    ("op", "`op T OP REPLY`, such as `op 3 balance 101 is 70`"),
+    ("back", "`back T`, T at least 1"),
+    ("commit", "`commit T N`, T and N at least 1"),
+    ("abort", "`abort T`, T at least 1"),
 ];
 
 /// The form of the lines that begin with this word, where a text of this kind has such.

@@ -13,11 +13,11 @@ fn is_numeral(word: &[u8]) -> bool {
 fn find_oddity(word: &[u8]) -> Option<&'static str> {
     let (first, rest) = word.split_first()?;
     if *first == b'#' {
-        Some("a comment has a line of its own; ")
+        Some("comments have lines of their own, and traces have none; ")
     } else if (*first == b'-' || *first == b'+') && is_numeral(rest) {
-        Some("a number has no sign; ")
+        Some("numbers have no sign; ")
     } else if is_numeral(word) && read_number(word).is_none() {
-        Some("a number has at most 20 digits, and is below 2^64; ")
+        Some("numbers have at most 20 digits, and are below 2^64; ")
     } else {
         None
     }
@@ -38,9 +38,9 @@ fn other_kind(kind: TextKind, word: &[u8]) -> Option<TextKind> {
 // Who reads a text of this kind.
 fn reader_text(kind: TextKind) -> &'static str {
     match kind {
-        TextKind::Scripts => "a line of scripts begins so, which `solo` and `run` read; ",
-        TextKind::Schedule => "a line of a schedule begins so, which `steps` reads; ",
-        TextKind::Trace => "a line of a trace begins so, which `check` reads; ",
+        TextKind::Scripts => "this is a line of a script for `solo` and `run`; ",
+        TextKind::Schedule => "this is a line of a schedule for `steps`; ",
+        TextKind::Trace => "this is a line of a trace for `check`; ",
     }
 }
 
@@ -48,10 +48,10 @@ fn reader_text(kind: TextKind) -> &'static str {
 fn begin_hint(kind: TextKind, more: bool) -> Option<&'static str> {
     match (kind, more) {
         (TextKind::Schedule, true) => {
-            Some("scripts that `run` reads, or a trace that `check` reads, begin so; ")
+            Some("this begins a script for `run` or a trace for `check`; ")
         }
         (TextKind::Trace, false) => Some(
-            "scripts that `solo` and `run` read, or a schedule that `steps` reads, begin so; ",
+            "this begins a script for `solo` and `run`, or a schedule for `steps`; ",
         ),
         _ => None,
     }

@@ -34,7 +34,7 @@ pub struct Run {
 pub struct Schedule {
     /// What is to be run.
     pub run: Run,
-    /// Whether the reasons are told, where events are blocked or wait.
+    /// Whether the reason of each event that is blocked or waits is printed.
     pub explains: bool,
 }
 
@@ -89,11 +89,11 @@ pub enum Connections {
 /// After how many seconds a server gives up, each from 0 to 86,400. 0 is never, also where none is said.
 #[derive(Clone, Copy, Debug, PartialEq, Eq)]
 pub struct Times {
-    /// After how many seconds a connection is cut that gives and takes nothing.
+    /// After how many seconds an idle connection is closed.
     pub idle: u64,
-    /// After how many seconds an operation that waits is told that it gave up.
+    /// After how many seconds an operation that waits gets `GaveUp`.
     pub wait: u64,
-    /// After how many seconds a transaction that is still open has its session cut.
+    /// After how many seconds the session of an open transaction is closed.
     pub transaction: u64,
 }
 
@@ -102,7 +102,7 @@ pub struct Times {
 pub enum Full {
     /// It waits until a session ends.
     Wait,
-    /// It is told that too many are open, and hears the end.
+    /// It gets `TooManyOpen`, and its connection is closed.
     Refuse,
 }
 
@@ -207,7 +207,7 @@ fn want_of(matches: &ArgMatches<'_>) -> (ErrorKind, &'static str) {
         Some((_, found)) if is_endless_and_limited(found) => {
             (ErrorKind::ArgumentConflict, ENDLESS_AND_LIMITED)
         }
-        _ => (ErrorKind::MissingRequiredArgument, "an input is wanted"),
+        _ => (ErrorKind::MissingRequiredArgument, "no input was given"),
     }
 }
 

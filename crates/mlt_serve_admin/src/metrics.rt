@@ -28,29 +28,29 @@ macro_rules! metrics {
     };
 }
 
-// All numbers, in the order in which they are told.
+// All numbers, in the order in which they are written.
 fn metrics(counts: &Counts) -> [Metric; 20] {
     metrics! {
-        uptime_seconds gauge "Seconds since the server listens." counts.seconds;
-        sessions gauge "Connections that are served." counts.sessions;
+        uptime_seconds gauge "Seconds since the server began to listen." counts.seconds;
+        sessions gauge "Connections that are being served." counts.sessions;
         session_threads gauge "Threads that serve sessions." counts.session_threads;
-        queued_connections gauge "Connections that are accepted and not yet served." counts.queued;
+        queued_connections gauge "Connections that were accepted and are not served yet." counts.queued;
         connections_total counter "Connections that were accepted." counts.connections;
-        connection_limit gauge "How many connections are accepted in all." counts.limit;
+        connection_limit gauge "Connections that the server accepts at most." counts.limit;
         open_transactions gauge "Transactions that are open." counts.open;
         transactions_begun_total counter "Transactions that were begun." counts.begun;
         operations_total counter "Operations that were done." counts.operations;
         commits_total counter "Transactions that committed." counts.commits;
         aborts_total counter "Transactions that aborted." counts.aborts;
-        gave_up_total counter "Operations that were given up." counts.gave_up;
-        deadlocks_total counter "Operations that were given up to end a circle of waits." counts.deadlocks;
-        events_total counter "Events of the manager." counts.events;
-        history_items gauge "Items of the history." counts.items;
-        history_bytes gauge "Bytes that the history and the outcomes take." counts.bytes;
-        pages gauge "Pages that are there." counts.pages;
-        most_pages gauge "How many pages there may be." counts.most_pages;
-        directory_depth gauge "Depth of the directory." counts.depth;
-        stopping gauge "Whether the server was told to end: 1, or 0." u64::from(counts.is_stopping);
+        gave_up_total counter "Operations that were answered GaveUp." counts.gave_up;
+        deadlocks_total counter "Operations that were answered GaveUp to end a deadlock." counts.deadlocks;
+        events_total counter "Events of the transaction manager." counts.events;
+        history_items gauge "Items of the history that are in memory." counts.items;
+        history_bytes gauge "Bytes of the history and the outcomes in memory." counts.bytes;
+        pages gauge "Pages that are in use." counts.pages;
+        most_pages gauge "Pages that there can be at most." counts.most_pages;
+        directory_depth gauge "Depth of the hash directory." counts.depth;
+        stopping gauge "1 if the server is shutting down, else 0." u64::from(counts.is_stopping);
     }
 }
 

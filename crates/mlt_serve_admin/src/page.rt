@@ -5,7 +5,7 @@ pub(crate) fn page() -> &'static str {
     PAGE
 }
 
-// It asks twice a second. It puts what it is told into the page as text alone, never as HTML.
+// It asks twice a second. It puts the answers into the page as text alone, never as HTML.
 const PAGE: &str = r#"<!doctype html>
 <html lang="en">
 <head>
@@ -62,11 +62,11 @@ svg marker path{fill:var(--wait);stroke:none}
 </header>
 <main>
 <dl id="counts"></dl>
-<h2>Who waits for whom</h2>
+<h2>Waiting transactions</h2>
 <div id="graph"><p class="none"></p></div>
 <h2>Sessions</h2>
 <ul id="sessions"></ul>
-<p id="nobody" class="none" hidden>Nobody is connected.</p>
+<p id="nobody" class="none" hidden>No client is connected.</p>
 </main>
 <script>
 "use strict";
@@ -93,7 +93,7 @@ const time = ms => {
   return Math.floor(s / 3600) + " h " + Math.floor(s % 3600 / 60) + " min";
 };
 
-// Nodes stay, and only what changed in them is put anew, lest a click lose its button between two looks.
+// Nodes remain and only changed text is replaced, so that a button does not vanish during a click.
 const put = (node, text) => { if (node.textContent !== text) node.textContent = text; };
 
 const past = [];
@@ -112,18 +112,18 @@ function showCounts(now) {
     "Queued": count(now.queued),
     "Connections": count(now.connections) + " of " + count(now.limit),
     "Open transactions": count(now.open),
-    "Begun": count(now.begun),
+    "Transactions begun": count(now.begun),
     "Committed": count(now.commits),
     "Commits per second": count(Math.round(commitsPerSecond(now.commits))),
     "Aborted": count(now.aborts),
     "Operations": count(now.operations),
-    "Given up": count(now.gave_up),
-    "Of these, deadlocks": count(now.deadlocks),
+    "GaveUp answers": count(now.gave_up),
+    "Of these, by deadlock": count(now.deadlocks),
     "Events": count(now.events),
     "History": count(now.items) + " items",
-    "Memory of it": bytes(now.bytes),
+    "Memory of the history": bytes(now.bytes),
     "Pages": count(now.pages) + " of " + count(now.most_pages),
-    "Depth": count(now.depth),
+    "Directory depth": count(now.depth),
   };
   for (const name in rows) {
     let value = document.getElementById(name);
@@ -137,7 +137,7 @@ function showCounts(now) {
     put(value, rows[name]);
   }
   at("stop").disabled = now.stopping === 1;
-  put(at("state"), (now.stopping ? "stopping, after " : "up for ") + time(now.seconds * 1000));
+  put(at("state"), (now.stopping ? "shutting down, after " : "up for ") + time(now.seconds * 1000));
 }
 
 const shown = new Map();
@@ -183,7 +183,7 @@ function showSessions(sessions) {
   at("nobody").hidden = sessions.length > 0;
 }
 
-// Who waits stands above whom it waits for, but for cycles.
+// A waiting transaction is drawn above the one that it waits for, except in cycles.
 function rowsOf(waits) {
   const rows = new Map();
   for (const wait of waits) for (const tx of [wait.waiter, wait.holder]) rows.set(tx, 0);
@@ -197,11 +197,11 @@ function rowsOf(waits) {
 }
 
 function showWaits(waits, sessions) {
-  if (!waits.length) return at("graph").replaceChildren(make("p", "Nobody waits.", "none"));
+  if (!waits.length) return at("graph").replaceChildren(make("p", "No transaction waits.", "none"));
   const levels = rowsOf(waits), place = new Map(), halfWidth = 74, halfHeight = 22;
   const width = Math.max(...levels.map(level => level.length)) * 164, height = levels.length * 96;
   levels.forEach((level, row) => level.forEach((tx, i) => place.set(tx, [width * (i + .5) / level.length, 48 + row * 96])));
-  const picture = svg("svg", {width, height, role: "img", "aria-label": "Who waits for whom"});
+  const picture = svg("svg", {width, height, role: "img", "aria-label": "Which transaction waits for which"});
   const tip = svg("marker", {id: "tip", refX: 7, refY: 4, markerWidth: 8, markerHeight: 8, orient: "auto"});
   tip.append(svg("path", {d: "M0 0 8 4 0 8z"}));
   picture.append(tip);
@@ -227,7 +227,7 @@ function showWaits(waits, sessions) {
     const wait = waiting.get(tx), corner = {x: x - halfWidth, y: y - halfHeight, rx: 8};
     const size = {width: 2 * halfWidth, height: 2 * halfHeight};
     picture.append(svg("rect", {class: wait ? "waits" : "", ...corner, ...size}));
-    const name = tx + (clients.has(tx) ? " of client " + clients.get(tx) : "");
+    const name = "T" + tx + (clients.has(tx) ? " of client " + clients.get(tx) : "");
     picture.append(svg("text", {x, y: wait ? y - 3 : y + 5}, name));
     if (!wait) continue;
     const text = wait.operation || "no operation";
@@ -243,7 +243,7 @@ async function act(question, path) {
   try {
     const answer = await fetch(path, {method: "POST", headers: {"X-Mltx": "1"}});
     if (!answer.ok) alert(await answer.text());
-  } catch { alert("The server does not answer."); }
+  } catch { alert("The server does not respond."); }
 }
 
 async function look() {
@@ -257,7 +257,7 @@ async function look() {
     showSessions(answers[1].sessions);
     showWaits(answers[2].waits, answers[1].sessions);
   } catch {
-    put(at("state"), "The server does not answer. What is shown is old.");
+    put(at("state"), "The server does not respond. These values are old.");
     at("state").className = "gone";
     document.querySelector("main").className = "gone-all";
     at("stop").disabled = true;
@@ -265,7 +265,7 @@ async function look() {
   setTimeout(look, 500);
 }
 
-at("stop").onclick = () => act("Stop the server? All sessions end.", "/stop");
+at("stop").onclick = () => act("Stop the server? This ends all sessions.", "/stop");
 look();
 </script>
 </body>

@@ -58,7 +58,7 @@ impl<O: Operated> OperatorService<'_, O> {
                     response,
                     StatusCode::NOT_FOUND,
                     Content::Line,
-                    "Nothing is here.\n",
+                    "Not found.\n",
                 )
             }
             Route::MethodNotAllowed(resource) => refuse_method(resource, response),
@@ -66,7 +66,7 @@ impl<O: Operated> OperatorService<'_, O> {
                 response,
                 StatusCode::FORBIDDEN,
                 Content::Line,
-                "This wants the header X-Mltx: 1.\n",
+                "The header X-Mltx: 1 is required.\n",
             ),
         }
     }
@@ -159,7 +159,7 @@ impl<O: Operated> OperatorService<'_, O> {
                 response,
                 StatusCode::NOT_FOUND,
                 Content::Line,
-                "No such client is served.\n",
+                "There is no session of this client.\n",
             )
         }
     }
@@ -185,7 +185,7 @@ fn refuse_method(resource: Resource, response: &mut Response) -> Result<(), Allo
         response,
         StatusCode::METHOD_NOT_ALLOWED,
         Content::Line,
-        "This wants another method.\n",
+        "Method not allowed.\n",
     )?;
     response.add_header(HeaderName::from_static("allow"), allow(resource))
 }

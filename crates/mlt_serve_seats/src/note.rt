@@ -36,7 +36,7 @@ pub enum Cut {
     Stop,
 }
 
-/// What an operator is told.
+/// A log message for an operator.
 #[derive(Clone, Copy, Debug)]
 pub enum Note {
     /// An accept failed, of which the system says this, and is tried again at once.
@@ -65,9 +65,9 @@ impl fmt::Display for ListenerEnd {
     fn fmt<W: fmt::Write>(&self, f: &mut fmt::Formatter<W>) -> fmt::Result {
         match self {
             ListenerEnd::Limit(limit) => write!(f, "the limit of {limit} is reached"),
-            ListenerEnd::Accept(error) => write!(f, "an accept failed: {error}"),
-            ListenerEnd::Memory => write!(f, "memory was refused"),
-            ListenerEnd::Stop => write!(f, "the server is to stop"),
+            ListenerEnd::Accept(error) => write!(f, "could not accept a connection: {error}"),
+            ListenerEnd::Memory => write!(f, "out of memory"),
+            ListenerEnd::Stop => write!(f, "the server is shutting down"),
         }
     }
 }
@@ -75,14 +75,14 @@ impl fmt::Display for ListenerEnd {
 impl fmt::Display for Cut {
     fn fmt<W: fmt::Write>(&self, f: &mut fmt::Formatter<W>) -> fmt::Result {
         match self {
-            Cut::Idle => write!(f, "it was idle for too long"),
-            Cut::Line => write!(f, "a line was too long"),
-            Cut::Bytes => write!(f, "it sent too many bytes"),
-            Cut::Memory => write!(f, "it was refused memory"),
-            Cut::Connection => write!(f, "its connection broke"),
-            Cut::Open => write!(f, "its transaction was open for too long"),
-            Cut::Operator => write!(f, "an operator ended it"),
-            Cut::Stop => write!(f, "the server stops"),
+            Cut::Idle => write!(f, "idle for too long"),
+            Cut::Line => write!(f, "line too long"),
+            Cut::Bytes => write!(f, "too many bytes received"),
+            Cut::Memory => write!(f, "out of memory"),
+            Cut::Connection => write!(f, "connection lost"),
+            Cut::Open => write!(f, "transaction open for too long"),
+            Cut::Operator => write!(f, "ended by the operator"),
+            Cut::Stop => write!(f, "the server is shutting down"),
         }
     }
 }
@@ -90,24 +90,30 @@ impl fmt::Display for Cut {
 impl fmt::Display for Note {
     fn fmt<W: fmt::Write>(&self, f: &mut fmt::Formatter<W>) -> fmt::Result {
         match self {
-            Note::AcceptFailed(error) => write!(f, "an accept failed, and is tried again: {error}"),
+            Note::AcceptFailed(error) => write!(
+                f,
+                "could not accept a connection, trying again: {error}"
+            ),
             Note::AcceptPauses(error) => {
-                write!(f, "connections wait, since an accept failed: {error}")
+                write!(f, "could not accept connections, new clients wait: {error}")
             }
-            Note::AcceptGoesOn => write!(f, "connections are taken again"),
-            Note::AcceptEnded(ended) => write!(f, "no more connections are taken: {ended}"),
-            Note::SessionCut(client, cut) => write!(f, "client {client} is cut: {cut}"),
+            Note::AcceptGoesOn => write!(f, "accepting connections again"),
+            Note::AcceptEnded(ended) => write!(f, "accepting no more connections: {ended}"),
+            Note::SessionCut(client, cut) => write!(f, "client {client} disconnected: {cut}"),
             Note::FewConnectionsLeft(taken, most) => {
-                write!(f, "{taken} of {most} connections are taken")
+                write!(f, "{taken} of {most} connections are used")
             }
             Note::FewNumbersLeft(given, most) => {
-                write!(f, "{given} of {most} numbers of transactions are given out")
+                write!(f, "{given} of {most} transaction numbers are used")
             }
             Note::FewPagesLeft(pages, most) => write!(f, "{pages} of {most} pages are used"),
             Note::FewThreads(running, asked) => {
-                write!(f, "{running} of {asked} session threads run")
+                write!(f, "only {running} of {asked} session threads are running")
             }
-            Note::TraceFailed(error) => write!(f, "the trace is written no further: {error}"),
+            Note::TraceFailed(error) => write!(
+                f,
+                "could not write the trace, which ends here: {error}"
+            ),
         }
     }
 }

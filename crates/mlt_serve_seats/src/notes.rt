@@ -13,15 +13,15 @@ const MOST_ON_THEIR_WAY: usize = 128;
 /// For how many seconds the end waits until all notes are written.
 const LAST_WRITES_SECONDS: u64 = 5;
 
-/// A note that was told.
+/// A note with its time.
 #[derive(Clone, Copy, Debug, Drop)]
 pub(crate) struct TimedNote {
     pub(crate) note: Note,
-    /// How many seconds after the start of 1970 it was told, if a clock could say so.
+    /// How many seconds after the start of 1970 it was sent, if a clock could say so.
     pub(crate) seconds: Option<u64>,
 }
 
-/// Where notes are told. Nobody who tells one waits: where too many are on their way it is lost, and only counted.
+/// The sending end of the notes. A thread that sends one never waits: if too many are on their way it is lost, and only counted.
 #[derive(Drop)]
 pub struct Notes {
     to: Sender<TimedNote, Global>,
@@ -30,7 +30,7 @@ pub struct Notes {
     outlet_is_gone: Receiver<(), Global>,
 }
 
-/// Where notes come out. It needs nothing of who tells them, so a thread that writes them may go on when all others have ended.
+/// The receiving end of the notes. It needs nothing of the senders, so the thread that writes notes may outlive all others.
 #[derive(Drop)]
 pub struct Outlet {
     from: Receiver<TimedNote, Global>,
@@ -39,7 +39,7 @@ pub struct Outlet {
 }
 
 impl Notes {
-    /// Where notes are told, and where they come out.
+    /// Both ends of a queue of notes.
     ///
     /// # Errors
     /// Where a growth is refused.
@@ -60,7 +60,7 @@ impl Notes {
         Ok((notes, outlet))
     }
 
-    /// Tells a note, at once.
+    /// Sends a note, at once.
     pub fn tell<R: Wait + Clock>(&self, rt: &R, note: Note) {
         let seconds = seconds_now(rt);
         if self.to.try_send(rt, TimedNote { note, seconds }).is_err() {
@@ -68,7 +68,7 @@ impl Notes {
         }
     }
 
-    /// No more notes follow. It waits until those that were told are written, but for 5 seconds at most: who reads them may have
+    /// No more notes follow. It waits until those that were sent are written, but for 5 seconds at most: their reader may have
     /// stopped, and a thread in a write can't be called back.
     pub fn end<R: Wait + Clock>(self, rt: &R) {
         let Notes {

@@ -168,7 +168,7 @@ impl Seat {
         }
     }
 
-    /// Cuts the session, whoever its client is, if there is one.
+    /// Cuts the session of any client, if there is one.
     pub fn cut_any<R: Wait + Clock>(&self, rt: &R, cut: Cut) {
         let now = Instant::now(rt).ok();
         let mut record = self.record.lock(rt);

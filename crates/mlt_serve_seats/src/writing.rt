@@ -24,13 +24,13 @@ pub fn write_notes<R: Wait, W: Write>(rt: &R, alloc: Global, outlet: &Outlet, wr
 
 fn write_note<W: Write>(alloc: Global, told: &TimedNote, writer: &mut W) {
     if let Ok(line) = line_of(alloc, told) {
-        // Nobody can be told that a note was lost so.
+        // There is no way left to say that this note was lost.
         let _ = write_text(writer, line.as_bytes());
     }
 }
 
 fn write_lost<W: Write>(alloc: Global, lost: u64, writer: &mut W) {
-    if let Ok(line) = format!(in alloc; "mltx: note {lost} notes were lost\n") {
+    if let Ok(line) = format!(in alloc; "mltx: note {lost} messages were lost\n") {
         let _ = write_text(writer, line.as_bytes());
     }
 }

@@ -104,7 +104,7 @@ pub(crate) fn explain(rt: &HostRuntime, job: &Job, failure: &Failure) -> Result<
         }
         Known::OfInput(error) => say_of_input(rt, job, *error),
         Known::LongInput => {
-            let words = format!(in rt.alloc(); "it has more than {MAX_INPUT} bytes")?;
+            let words = format!(in rt.alloc(); "more than {MAX_INPUT} bytes")?;
             say(rt, subject, words.as_str())
         }
         Known::OfOutput(error) => say_error(rt, "standard output", *error),
@@ -143,7 +143,7 @@ fn say_of_address(rt: &HostRuntime, address: &str, error: io::Error) -> Result<(
         return say_error(rt, address, error);
     }
     let words = format!(in rt.alloc();
-        "{error}; expected: an IP address or the name of a host, a colon, and a port of 0 to 65535, as 127.0.0.1:7000"
+        "{error}; expected: an IP address or host name, a colon, and a port from 0 to 65535, such as 127.0.0.1:7000"
     )?;
     say(rt, address, words.as_str())
 }
