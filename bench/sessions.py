@@ -340,10 +340,7 @@ def doublings(with_readers: bool, bench: Bench, program: Path) -> Sample:
 
 
 def readers_works() -> Iterator[Work]:
-    sides = (
-        Side("mltx", partial(doublings, True), ("load",)),
-        Side("without them", partial(doublings, False), ("load",)),
-    )
+    sides = (Side("mltx", partial(doublings, True), ("load",)), Side("without them", partial(doublings, False), ("load",)))
     yield Work("readers", f"an insert that doubles the directory beside {READERS} readers", "ms", sides)
 
 

@@ -12,7 +12,7 @@ import time
 from contextlib import closing
 from pathlib import Path
 
-from harness import PATIENCE, ROOT, holds, may_break_off, same, test
+from harness import PATIENCE, ROOT, Program, command, holds, match, may_break_off, same, test
 from pictures import Picture
 
 RUN = ROOT / "bench/run"
@@ -26,29 +26,31 @@ INTERRUPTED = (
 NEED_MORE = {"instructions"}
 # Where the load generator looks for a server.
 LOCAL = "127.0.0.1"
+# The cells of each line of a table.
+Rows = list[list[str]]
 
 
-def in_folder(mltx):
+def in_folder(mltx: Program) -> dict[str, str]:
     """The environment in which all that a benchmark makes stands in the folder of the test."""
     return {**os.environ, "TMPDIR": str(mltx.folder)}
 
 
-def groups():
+def groups() -> list[str]:
     """The names that are listed, in their order."""
     listed = subprocess.run([RUN, "--list"], capture_output=True, text=True, check=True).stdout
     return [line.split()[0] for line in listed.splitlines()]
 
 
-def rows(out):
+def rows(out: str) -> Rows:
     """The lines of a table in Markdown, as lists of cells."""
     return [line.strip("| ").split(" | ") for line in out.splitlines() if line.startswith("| ")][2:]
 
 
-def check_plot(plot, rows):
+def check_plot(plot: Picture, rows: Rows) -> None:
     """Each system that was measured with 64 clients has its line with four points, its name and its figure; and so has the limit
     of these: 9 of 10 commit, and each thinks 4 milliseconds."""
     plot.check_places()
-    said = dict(re.fullmatch(r"(.*): ([\d,]+)", it.text).groups() for it in plot.labels if ": " in it.text and it.role != "about")
+    said = dict(it.text.split(": ") for it in plot.labels if ": " in it.text and it.role != "about")
     figures = {"mltx": rows[0][3], **{cells[2]: cells[4] for cells in rows if cells[2] != "-"}}
     same(sorted(said), sorted([*figures, "no lock"]), "the names beside the lines")
     same(said["no lock"], f"{64 * 900 // 4:,}", "the limit")
@@ -58,13 +60,13 @@ def check_plot(plot, rows):
     same(len(list(plot.time.iter("circle"))), 4 * len(figures), "the points")
 
 
-def check_hotspots(rows, left_out):
+def check_hotspots(rows: Rows, left_out: set[str]) -> None:
     """Each work is told with the part that is aborted, which the limit of those that think goes by: a client that thinks 4
     milliseconds in each transaction. Each system that was not left out is told of in each of them."""
     if not shutil.which("cc"):
         return
     works = {cells[0] for cells in rows}
-    aborted = {work: int(re.search(r", (\d+) % aborted$", work)[1]) for work in works}
+    aborted = {work: int(match(r", (\d+) % aborted$", work)[1]) for work in works}
     for cell in ("counter", "account"):
         for think in ("2 ms to think", "no time to think"):
             of_32 = {part for work, part in aborted.items() if f": 32 clients, a hot {cell}, {think}," in work}
@@ -75,12 +77,12 @@ def check_hotspots(rows, left_out):
         for name in ("SQLite", "PostgreSQL", "PostgreSQL SSI", "Redis WATCH"):
             holds((name in systems) != (f"{name} in hotspots" in left_out), f"{name} in {work}: it is told of, or left out")
         if "2 ms" in work:
-            clients = int(re.search(r"(\d+) client", work)[1])
+            clients = int(match(r"(\d+) client", work)[1])
             limit = f"no lock {clients * (100 - aborted[work]) * 10 // 4:,}"
             holds(all(limit in " ".join(cells) for cells in told), f"{work}: {limit} in {told}")
 
 
-def check_csv(folder, rows):
+def check_csv(folder: Path, rows: Rows) -> None:
     """Each group has a file with its lines, which say of what build and of how many rounds they are."""
     files = {file.stem: list(csv.DictReader(file.read_text().splitlines())) for file in folder.iterdir()}
     told = [[f"{group}: {row['workload']}", row["value"]] for group, lines in files.items() for row in lines]
@@ -90,10 +92,10 @@ def check_csv(folder, rows):
 
 
 @test(seconds=20)
-def each_benchmark_runs_through(mltx):
+def each_benchmark_runs_through(mltx: Program) -> None:
     """Each group has lines with a figure, or is told to be left out, which nothing is that needs a C compiler alone."""
     plot = mltx.folder / "plot.svg"
-    words = [RUN, "--quick", "--markdown", "--plot", plot, "--csv", mltx.folder / "results", "--program", mltx.path]
+    words = command([RUN, "--quick", "--markdown", "--plot", plot, "--csv", mltx.folder / "results", "--program", mltx.path])
     ran = subprocess.run(words, capture_output=True, text=True, env=in_folder(mltx), timeout=PATIENCE)
     same((ran.returncode, ran.stderr), (0, ""), f"the status and standard error; standard output was {ran.stdout}")
     measured = {cells[0].partition(":")[0] for cells in rows(ran.stdout)}
@@ -112,14 +114,14 @@ def each_benchmark_runs_through(mltx):
 
 
 @test
-def plot_of_what_is_not_measured(mltx):
+def plot_of_what_is_not_measured(mltx: Program) -> None:
     """It is refused before anything is measured."""
-    words = [RUN, "--plot", mltx.folder / "plot.svg", "--program", mltx.path, "texts"]
+    words = command([RUN, "--plot", mltx.folder / "plot.svg", "--program", mltx.path, "texts"])
     ran = subprocess.run(words, capture_output=True, text=True, timeout=PATIENCE)
     holds(ran.returncode == 2 and not ran.stdout and "--plot" in ran.stderr, f"{ran}")
 
 
-def load(mltx, port, *words):
+def load(mltx: Program, port: int, *words: str) -> dict[str, float]:
     """What the load generator tells of a server, by name."""
     program = mltx.folder / "load"
     if not program.exists():
@@ -130,7 +132,7 @@ def load(mltx, port, *words):
 
 
 @test(seconds=1)
-def load_generator_tells_what_the_server_keeps(mltx):
+def load_generator_tells_what_the_server_keeps(mltx: Program) -> None:
     """Of 200 transactions those that it says were not aborted have added to two counters that differ and to a third one, and it
     has thought in each."""
     if not shutil.which("cc"):
@@ -148,10 +150,10 @@ def load_generator_tells_what_the_server_keeps(mltx):
     holds(told["seconds"] >= 0.1 and told["median"] >= 500, f"it does not think: {told}")
 
 
-def writers(mltx, *words):
+def writers(mltx: Program, *words: str | Path) -> dict[str, float] | None:
     """What the threads that write to a file of SQLite tell, by name; None where there is nothing to build them with."""
     program = mltx.folder / "writers"
-    built = ["cc", "-o", program, ROOT / "bench/writers.c", "-lsqlite3", "-pthread"]
+    built = command(["cc", "-o", program, ROOT / "bench/writers.c", "-lsqlite3", "-pthread"])
     if not shutil.which("cc") or subprocess.run(built, capture_output=True).returncode:
         return None
     ran = subprocess.run([program, *words], capture_output=True, text=True, check=True, timeout=PATIENCE)
@@ -160,7 +162,7 @@ def writers(mltx, *words):
 
 
 @test(seconds=1)
-def writers_tell_what_the_file_keeps(mltx):
+def writers_tell_what_the_file_keeps(mltx: Program) -> None:
     """Of 100 transactions of four threads those that were not aborted have changed both rows, and each has thought twice."""
     file = mltx.folder / "counters"
     setup = "PRAGMA journal_mode = WAL; CREATE TABLE counter (id INTEGER PRIMARY KEY, value INTEGER);"
@@ -185,9 +187,9 @@ def writers_tell_what_the_file_keeps(mltx):
 class GivesUp(socketserver.StreamRequestHandler):
     """A server that answers two tries of each transaction with GaveUp, and keeps what it heard, each with the time."""
 
-    heard = []
+    heard: list[tuple[float, str]] = []
 
-    def handle(self):
+    def handle(self) -> None:
         tries = 0
         with may_break_off():
             for line in self.rfile:
@@ -201,9 +203,9 @@ class GivesUp(socketserver.StreamRequestHandler):
 class Watches(socketserver.BaseRequestHandler):
     """A Redis that does every second EXEC, and none of the others; it keeps the commands of each write."""
 
-    heard = []
+    heard: list[list[str]] = []
 
-    def handle(self):
+    def handle(self) -> None:
         answers = {"GET": "$1\r\n5", "MULTI": "+OK", "INCRBY": "+QUEUED", "WATCH": "+OK"}
         with may_break_off():
             while write := self.request.recv(4096):
@@ -214,7 +216,7 @@ class Watches(socketserver.BaseRequestHandler):
                 self.request.sendall("".join(f"{answers[word]}\r\n" for word in words).encode())
 
 
-def load_on(handler, mltx, *words):
+def load_on(handler: type[socketserver.BaseRequestHandler], mltx: Program, *words: str) -> dict[str, float]:
     """What the load generator tells of a server that answers one connection in this way."""
     with socketserver.TCPServer((LOCAL, 0), handler) as server:
         answering = threading.Thread(target=server.handle_request)
@@ -225,7 +227,7 @@ def load_on(handler, mltx, *words):
 
 
 @test
-def load_generator_runs_again_what_redis_did_not_do(mltx):
+def load_generator_runs_again_what_redis_did_not_do(mltx: Program) -> None:
     """An EXEC that does nothing, as a key that is watched was changed, has the transaction run again; lines go out together that
     say so."""
     if not shutil.which("cc"):
@@ -237,12 +239,12 @@ def load_generator_runs_again_what_redis_did_not_do(mltx):
 
 
 @test
-def load_generator_runs_again_what_gave_up(mltx):
+def load_generator_runs_again_what_gave_up(mltx: Program) -> None:
     """Each transaction is begun three times, with the counters that it had, and each time but the first after a pause."""
     if not shutil.which("cc"):
         return
-    words = ["--transactions", "20", "--seconds", "10", "--counters", "9", "--rest", "2000", "--"]
-    told = load_on(GivesUp, mltx, *words, "begin", "up @1 1", "commit")
+    options = ["--transactions", "20", "--seconds", "10", "--counters", "9", "--rest", "2000", "--"]
+    told = load_on(GivesUp, mltx, *options, "begin", "up @1 1", "commit")
     same((told["transactions"], told["refused"], told["most_tries"]), (20, 40, 3), "what it tells")
     asked = [words for _, words in GivesUp.heard]
     ups = [words for words in asked if words.startswith("up")]
@@ -255,7 +257,7 @@ def load_generator_runs_again_what_gave_up(mltx):
     holds(told["median"] >= 4_000, f"a transaction is not timed from its first try: {told}")
 
 
-def commands_with(text):
+def commands_with(text: str) -> list[str]:
     """The command lines of all processes that have this text."""
     found = []
     for file in Path("/proc").glob("[0-9]*/cmdline"):
@@ -264,16 +266,16 @@ def commands_with(text):
         except OSError:
             # It has just ended.
             continue
-    return [command for command in found if text in command]
+    return [words for words in found if text in words]
 
 
 @test(seconds=8)
-def an_interrupted_benchmark_leaves_nothing_behind(mltx):
+def an_interrupted_benchmark_leaves_nothing_behind(mltx: Program) -> None:
     """While scripts run, and while a server has a load, where there is a compiler."""
     program = mltx.folder / "program"
     shutil.copy(mltx.path, program)
     for number, name, ran in INTERRUPTED:
-        words = [RUN, "--runs", "1000", "--program", program, name]
+        words = command([RUN, "--runs", "1000", "--program", program, name])
         with subprocess.Popen(words, stdout=subprocess.DEVNULL, env=in_folder(mltx)) as process:
             while process.poll() is None and not commands_with(f"{program} {ran}"):
                 time.sleep(0.01)

@@ -2,15 +2,16 @@
 import errno
 import os
 import re
-import select
 import signal
 import subprocess
 import threading
 import time
+from collections.abc import Iterator
 from contextlib import ExitStack, contextmanager, suppress
+from pathlib import Path
 
-from harness import BROKEN, IDLE, PATIENCE, all_threads_are, cut_for, each, expect, free_address, holds, lines, listening
-from harness import of_system, same, state_of, test
+from harness import BROKEN, IDLE, Address, Program, Ran, Server, all_threads_are, comes_to_be, cut_for, each, expect
+from harness import free_address, holds, lines, listening, of_system, readable, same, state_of, takes, test
 
 FAULT = b"mltx: 13 Io\n"
 
@@ -22,12 +23,12 @@ TEXTS = {
 }
 
 
-def write_once(path, text):
+def write_once(path: Path, text: str) -> None:
     with suppress(BrokenPipeError):
         path.write_text(text)
 
 
-def through_fifo(mltx, job, text):
+def through_fifo(mltx: Program, job: str, text: str) -> Ran:
     """What a run comes to whose FILE is a pipe with a name, into which this text is written and no more."""
     path = mltx.folder / "fifo"
     os.mkfifo(path)
@@ -42,7 +43,7 @@ def through_fifo(mltx, job, text):
 
 
 @each({f"{job}-reads-a-fifo": (job, *texts) for job, texts in TEXTS.items()})
-def fifo(mltx, case):
+def fifo(mltx: Program, case: tuple[str, str, str]) -> None:
     """A pipe with a name is read to its end as a file is."""
     job, text, wanted = case
     expect(through_fifo(mltx, job, text), out=wanted)
@@ -58,26 +59,26 @@ CUT = {
 
 
 @each(CUT)
-def cut(mltx, case):
+def cut(mltx: Program, case: tuple[str, str, str]) -> None:
     """A pipe whose writer ends early is a text that ends there."""
     job, text, fault = case
     expect(through_fifo(mltx, job, text), status=1, err=f"mltx: {fault}\n")
 
 
 @each({f"{job}-of-a-file-that-fails-to-be-read": job for job in TEXTS})
-def read_fails(mltx, job):
+def read_fails(mltx: Program, job: str) -> None:
     """FILE opens and its first read fails: that is 13, and nothing is written."""
     expect(mltx.run(job, "/proc/self/mem"), status=1, err=FAULT)
 
 
 @each({f"{job or 'no-words'}-without-standard-input": job for job in (*TEXTS, "")})
-def no_input(mltx, job):
+def no_input(mltx: Program, job: str) -> None:
     """Where standard input is closed its read fails."""
     expect(mltx.run(*([job, "-"] if job else []), redirect="<&-"), status=1, err=FAULT)
 
 
 @each({f"{job}-without-standard-output": (job, *texts) for job, texts in TEXTS.items()})
-def no_output(mltx, case):
+def no_output(mltx: Program, case: tuple[str, str, str]) -> None:
     """Where standard output is closed its write fails, and no trace is made."""
     job, text, _wanted = case
     trace = mltx.folder / "trace"
@@ -86,30 +87,26 @@ def no_output(mltx, case):
     holds(not trace.exists(), f"{job} without standard output has made the file of the trace")
 
 
-@each({"a-fault-without-standard-error": None})
-def no_error(mltx, _case):
+@test
+def a_fault_without_standard_error(mltx: Program) -> None:
     """The status tells of a fault where its line can't be written."""
     expect(mltx.run("solo", mltx.file("text", "begin\n"), redirect="2>&-"), status=1)
 
 
 @each({f"{job}-to-a-reader-that-goes": job for job in TEXTS})
-def reader_goes(mltx, job):
+def reader_goes(mltx: Program, job: str) -> None:
     """The reader of a pipe goes before all is written: that is 13, and a prefix went out."""
     text, wanted = large(job)
-    errors = mltx.folder / "errors"
-    words = [mltx.path, job, mltx.file("text", text)]
-    with errors.open("wb") as told, subprocess.Popen(words, stdout=subprocess.PIPE, stderr=told) as running:
-        patience = threading.Timer(PATIENCE, running.kill)
-        patience.start()
+    with mltx.started(job, mltx.file("text", text)) as running:
         heard = running.stdout.read(1000)
         running.stdout.close()
-        status = running.wait()
-        patience.cancel()
+        ended = running.wait(), running.stderr.read()
     holds(heard and wanted.encode().startswith(heard), f"{job} wrote {heard!r}")
-    same((status, errors.read_bytes()), (1, FAULT), f"{job} to a reader that goes")
+    same(ended, (1, FAULT), f"{job} to a reader that goes")
 
 
-def large(job):
+
+def large(job: str) -> tuple[str, str]:
     """A text whose output is larger than a pipe holds, and the start of that output."""
     if job == "steps":
         return "step 1\n" * 10_000, "refused 3 NoSuchTx\n" * 10_000
@@ -134,7 +131,7 @@ WRITE_FAULTS = {"fails": errno.EIO, "is-interrupted": errno.EINTR, "takes-nothin
 READ_FAULTS = {"fails": errno.EIO, "is-interrupted": errno.EINTR}
 
 
-def one_fails(mltx, job, call, fault, most):
+def one_fails(mltx: Program, job: str, call: str, fault: int, most: int) -> Iterator[tuple[int, Ran, str | None]]:
     """What comes where call 1, 2, 3, .. fails, until a run has none such. The others take or give so many bytes."""
     trace, text = mltx.folder / "trace", mltx.file("text", TEXTS[job][0])
     options = [] if job == "check" else ["--trace", trace]
@@ -149,7 +146,7 @@ def one_fails(mltx, job, call, fault, most):
 
 
 @each({f"each-read-of-{job}-{name}": (job, fault) for job in TEXTS for name, fault in READ_FAULTS.items()}, seconds=0.5)
-def reads_fail(mltx, case):
+def reads_fail(mltx: Program, case: tuple[str, int]) -> None:
     """Whichever read fails, that is 13, nothing is written, and no trace is made."""
     job, fault = case
     reads = 0
@@ -164,7 +161,7 @@ WRITES = {f"each-write-of-{job}-{name}": (job, fault) for job in TEXTS for name,
 
 
 @each(WRITES, seconds=0.5)
-def writes_fail(mltx, case):
+def writes_fail(mltx: Program, case: tuple[str, int]) -> None:
     """Whichever write fails, that is 13, and what went out before is a front of the text, and then of the trace."""
     job, fault = case
     text, trace = TEXTS[job][1], TRACES[job]
@@ -185,9 +182,9 @@ LONG_TRACE = "".join(f"begin {n}\nop {n} {LONGEST} missing\ncommit {n} {n}\n" fo
 
 
 @each({f"each-write-of-a-long-trace-{name}": fault for name, fault in WRITE_FAULTS.items()})
-def long_trace_fails(mltx, fault):
+def long_trace_fails(mltx: Program, fault: int) -> None:
     """A trace of many pieces is whole, and where a write fails that is 13, and what went out before is a front of it."""
-    trace, text, lefts = mltx.folder / "trace", mltx.file("text", LONG_TEXT), []
+    trace, text, lefts = mltx.folder / "trace", mltx.file("text", LONG_TEXT), list[str]()
     expect(mltx.run("solo", "--trace", trace, text), out=LONG_TOLD)
     same(trace.read_text(), LONG_TRACE, "a long trace")
     number = len(LONG_TOLD) // 5_000 + 2
@@ -204,8 +201,8 @@ def long_trace_fails(mltx, fault):
     same(sorted(set(lefts), key=len), lefts, "what is left of a long trace, which grows with each write")
 
 
-@each({"one-byte-writer": None})
-def one_byte_writer(mltx, _case):
+@test
+def one_byte_writer(mltx: Program) -> None:
     """A writer of one byte per write that fails at its sixth."""
     text = mltx.file("text", lines("begin|open 1|deposit 1 50|balance 1|commit"))
     ran = mltx.run("solo", text, env=mltx.shim(FAIL=f"write 6 {errno.EIO} 1"))
@@ -216,25 +213,26 @@ SAID = lines("begin|open 1|deposit 1 5|commit|begin|up 7 1|quit")
 TOLD = lines("begun 1|opened|done|committed 1|begun 2|done|bye")
 
 
-def served(mltx, fail, limit=1, address=None, said=None):
+def served(
+    mltx: Program, fail: str, limit: int = 1, address: Address | None = None, said: str | None = None
+) -> tuple[str, Ran, str]:
     """What the first client hears that sends all of SAID, what the server comes to, without what it first `said`, and its
     trace."""
     trace = mltx.folder / "trace"
-    trace.unlink(missing_ok=True)
     with mltx.serve("--trace", trace, limit=limit, address=address, env=mltx.shim(FAIL=fail)) as server:
         with server.connect() as peer:
             heard = peer.say_all(SAID)
-        return heard.decode(), server.end(said), trace.read_text() if trace.exists() else None
+        return heard.decode(), server.end(said), trace.read_text()
 
 
-def has_ended_all(trace, what):
+def has_ended_all(trace: str, what: str) -> None:
     """Each transaction that began has ended."""
     begun, ended = (len(re.findall(f"(?m)^(?:{words}) ", trace)) for words in ("begin", "commit|abort"))
     same(ended, begun, f"{what}: how many of the transactions have ended in {trace!r}")
 
 
 @test(seconds=2)
-def each_receipt_of_a_session_fails(mltx):
+def each_receipt_of_a_session_fails(mltx: Program) -> None:
     """Whichever byte does not come, the lines before it are answered, and an open transaction is taken back."""
     for number in range(1, len(SAID) + 1):
         what = f"a session whose byte {number} fails to come"
@@ -249,7 +247,7 @@ SEND_FAULTS = {"fails": errno.EIO, "takes-nothing": 0}
 
 
 @each({f"each-sending-of-a-session-{name}": fault for name, fault in SEND_FAULTS.items()}, seconds=2)
-def sendings_fail(mltx, fault):
+def sendings_fail(mltx: Program, fault: int) -> None:
     """Whichever byte of an answer is not taken, those before it went out, and an open transaction is taken back."""
     for number in range(1, len(TOLD) + 1):
         what = f"a session whose answers' byte {number} fails to go by {errno.errorcode.get(fault, 'taking nothing')}"
@@ -261,15 +259,13 @@ def sendings_fail(mltx, fault):
 
 # What a server writes at its end, and then into the trace, once a client has said all of SAID.
 SERVED = "served 1\n"
-SERVED_TRACE = lines(
-    "begin 1|op 1 open 1 opened|op 1 deposit 1 5 done|commit 1 1|begin 2|op 2 up 7 1 done|back 2|abort 2"
-)
+SERVED_TRACE = lines("begin 1|op 1 open 1 opened|op 1 deposit 1 5 done|commit 1 1|begin 2|op 2 up 7 1 done|back 2|abort 2")
 
 INTERRUPTED = {"receipt": ("recv", SAID), "sending": ("send", TOLD)}
 
 
 @each({f"each-{name}-of-a-session-is-interrupted": case for name, case in INTERRUPTED.items()}, seconds=2)
-def calls_of_sockets_are_interrupted(mltx, case):
+def calls_of_sockets_are_interrupted(mltx: Program, case: tuple[str, str]) -> None:
     """Whichever byte's call is interrupted, be it thrice, the call is made again and the client hears all."""
     call, text = case
     for number in range(1, len(text) + 1):
@@ -280,7 +276,7 @@ def calls_of_sockets_are_interrupted(mltx, case):
 
 
 @test(seconds=3)
-def each_write_of_serve_fails(mltx):
+def each_write_of_serve_fails(mltx: Program) -> None:
     """Whichever write of the line at the end of a server fails, that is 13, and what went out is a prefix of it. The sessions are
     not touched."""
     for number in range(1, len(SERVED) + 1):
@@ -291,14 +287,15 @@ def each_write_of_serve_fails(mltx):
 
 
 @each({f"each-write-of-the-trace-of-serve-{name}": fault for name, fault in WRITE_FAULTS.items()}, seconds=3)
-def writes_of_the_trace_of_serve_fail(mltx, fault):
+def writes_of_the_trace_of_serve_fail(mltx: Program, fault: int) -> None:
     """Whichever fails, that is noted, and is 13 at the end. Whole lines of what went out are left. The sessions are not
     touched."""
     for number in range(1, len(SERVED_TRACE) + 1):
         what = f"a server whose write {number} of the trace fails by {errno.errorcode.get(fault, 'taking nothing')}"
         heard, ended, left = served(mltx, f"write-file {number} {fault} 1 1000000")
         same(heard, TOLD, what)
-        holds(len(ended.notes) == 1 and ended.notes[0].startswith("the trace is written no further: "), f"{what}: {ended.notes}")
+        said = [note.partition(": ")[0] for note in ended.notes]
+        same(said, ["could not write the trace, which ends here"], what)
         expect(ended, status=1, out=SERVED, err=FAULT, notes=ended.notes, what=what)
         holds(SERVED_TRACE[: number - 1].startswith(left) and left[-1:] in ("", "\n"), f"{what}: the trace is {left!r}")
         if fault:
@@ -306,7 +303,7 @@ def writes_of_the_trace_of_serve_fail(mltx, fault):
 
 
 @each({f"each-write-of-where-a-server-listens-{name}": fault for name, fault in WRITE_FAULTS.items()}, seconds=1)
-def writes_of_where_a_server_listens_fail(mltx, fault):
+def writes_of_where_a_server_listens_fail(mltx: Program, fault: int) -> None:
     """Whichever byte of that line is not taken, those before it went out, and the server goes on as if all had."""
     address = free_address()
     line = listening(address)
@@ -318,10 +315,10 @@ def writes_of_where_a_server_listens_fail(mltx, fault):
 
 
 @each({f"accept-{number}-fails": number for number in (1, 2)})
-def accepts_fail(mltx, number):
+def accepts_fail(mltx: Program, number: int) -> None:
     """An accept that fails for good ends the server by 13, once the connections that were taken are served."""
     fail = f"accept {number} {errno.EINVAL} 0"
-    notes = [f"no more connections are taken: an accept failed: {of_system(errno.EINVAL)}"]
+    notes = [f"accepting no more connections: could not accept a connection: {of_system(errno.EINVAL)}"]
     if number == 1:
         with mltx.serve(env=mltx.shim(FAIL=fail)) as server:
             expect(server.end(), status=1, err=FAULT, notes=notes, what="a server that accepts nobody")
@@ -335,48 +332,36 @@ GONE = {f"connection-{number}-is-gone-{times}-times": (number, times) for number
 
 
 @each(GONE)
-def connections_gone_before_they_are_accepted(mltx, case):
+def connections_gone_before_they_are_accepted(mltx: Program, case: tuple[int, int]) -> None:
     """An accept whose connection was gone is tried again, and counts for nothing."""
     number, times = case
     with mltx.serve(limit=2, env=mltx.shim(FAIL=f"accept {number} {errno.ECONNABORTED} 0 {times}")) as server:
         same(server.talk("begin\nquit\n"), b"begun 1\nbye\n", "the first client")
         same(server.talk("begin\nquit\n"), b"begun 2\nbye\n", "the second client")
-        note = f"an accept failed, and is tried again: {of_system(errno.ECONNABORTED)}"
+        note = f"could not accept a connection, trying again: {of_system(errno.ECONNABORTED)}"
         expect(server.end(), out="served 2\n", notes=[note])
     same(mltx.counted()[1], 2 + times, "how often the server accepted")
 
 
-def comes_to(process, states):
-    """Waits until a process is in one of these states."""
-    for _ in range(100 * PATIENCE):
-        if state_of(f"/proc/{process.pid}") in states:
-            return
-        time.sleep(0.01)
-    holds(False, f"the process never came to {states}")
-
-
-def stop_and_go_on(process):
+def stop_and_go_on(process: subprocess.Popen[bytes]) -> None:
     """Stops a process that waits for its input, as Ctrl-Z does, and has it go on."""
-    comes_to(process, "S")
-    process.send_signal(signal.SIGSTOP)
-    comes_to(process, "T")
-    process.send_signal(signal.SIGCONT)
-    comes_to(process, "SR")
+    for states, number in (("S", signal.SIGSTOP), ("T", signal.SIGCONT), ("SR", 0)):
+        comes_to_be(lambda: state_of(f"/proc/{process.pid}") in states, f"the process is in one of {states}", 0.01)
+        process.send_signal(number)
 
 
 @test
-def solo_that_was_stopped_goes_on(mltx):
+def solo_that_was_stopped_goes_on(mltx: Program) -> None:
     """A read that a stop would interrupt were a fault: no call on a file or a pipe is interrupted by one."""
-    with subprocess.Popen([mltx.path], stdin=subprocess.PIPE, stdout=subprocess.PIPE) as running:
+    with mltx.started() as running:
         running.stdin.write(b"begin\nopen 1\n")
         running.stdin.flush()
         stop_and_go_on(running)
-        out, _ = running.communicate(b"commit\n", timeout=PATIENCE)
-    same((running.returncode, out), (0, b"opened\ncommitted 1\n"), "solo that was stopped")
+        expect(running.end(b"commit\n"), out="opened\ncommitted 1\n", what="solo that was stopped")
 
 
 @test
-def server_that_was_stopped_goes_on(mltx):
+def server_that_was_stopped_goes_on(mltx: Program) -> None:
     """The same of a read from a connection, and of accepting the next one."""
     with mltx.serve(limit=2) as server:
         with server.connect() as peer:
@@ -391,12 +376,9 @@ def server_that_was_stopped_goes_on(mltx):
 
 
 @contextmanager
-def stopped(server):
+def stopped(server: Server) -> Iterator[None]:
     """The server is stopped while the block lasts, once all of it was asleep."""
-    deadline = time.monotonic() + PATIENCE
-    while not all_threads_are(server.process, "S"):
-        holds(server.process.poll() is None and time.monotonic() < deadline, "the server never slept")
-        time.sleep(0.001)
+    comes_to_be(lambda: all_threads_are(server.process, "S"), "the server sleeps", 0.001)
     server.stop()
     yield
     server.process.send_signal(signal.SIGCONT)
@@ -406,7 +388,7 @@ STOPS, CLIENTS = 5, 6
 
 
 @test
-def server_with_an_idle_time_that_was_stopped_goes_on(mltx):
+def server_with_an_idle_time_that_was_stopped_goes_on(mltx: Program) -> None:
     """Clients in transactions, some of which send a line during each stop and some behind it, hear all."""
     with ExitStack() as all_of_it:
         server = all_of_it.enter_context(mltx.serve("--idle", 600, "--sessions", CLIENTS, limit=CLIENTS))
@@ -426,7 +408,7 @@ def server_with_an_idle_time_that_was_stopped_goes_on(mltx):
 
 
 @test(seconds=3)
-def line_that_comes_during_a_long_stop(mltx):
+def line_that_comes_during_a_long_stop(mltx: Program) -> None:
     """What a client sent while the server was stopped is read, though the stop was longer than the idle time."""
     with mltx.serve("--idle", 2) as server, server.connect() as peer:
         same(peer.ask("begin"), "begun 1", "begin")
@@ -439,11 +421,16 @@ def line_that_comes_during_a_long_stop(mltx):
 
 
 @test(seconds=3)
-def answers_that_wait_while_the_server_is_stopped(mltx):
+def answers_that_wait_while_the_server_is_stopped(mltx: Program) -> None:
     """A client that reads late hears all, though its session was stopped in the middle of a write."""
     count = 600_000
     with mltx.serve("--idle", 600) as server, server.connect() as peer:
-        said = threading.Thread(target=lambda: (peer.send("up 1 1\n" * count), peer.end()))
+
+        def says() -> None:
+            peer.send("up 1 1\n" * count)
+            peer.end()
+
+        said = threading.Thread(target=says)
         said.start()
         for _ in range(3):
             time.sleep(0.3)
@@ -456,16 +443,13 @@ def answers_that_wait_while_the_server_is_stopped(mltx):
 
 
 @test(seconds=3)
-def silent_client_of_a_server_that_is_stopped_again_and_again(mltx):
+def silent_client_of_a_server_that_is_stopped_again_and_again(mltx: Program) -> None:
     """It is cut once its idle time is spent: a stop gives it no more."""
     with mltx.serve("--idle", 1) as server, server.connect() as peer:
-        begun = time.monotonic()
-        same(peer.ask("begin"), "begun 1", "begin")
-        while not select.select([peer.socket], [], [], 0.2)[0]:
-            holds(time.monotonic() < begun + PATIENCE, "the client was never cut")
-            server.stop()
-            server.process.send_signal(signal.SIGCONT)
-        took = time.monotonic() - begun
+        with takes(1, 10, "the client was cut"):
+            same(peer.ask("begin"), "begun 1", "begin")
+            while not readable([peer], 0.2):
+                server.stop()
+                server.process.send_signal(signal.SIGCONT)
         same(peer.rest(), b"", "what it hears")
-        holds(1 <= took < 10, f"the client was cut after {took} seconds")
         expect(server.end(), out="served 1\n", notes=[cut_for(1, IDLE)])

@@ -1,5 +1,7 @@
 """The client in Python: each call and its replies, what it raises, transactions that are run again, connections that
 end anywhere, and pipelines. All that was done stands in the server's trace, which `check` accepts."""
+from __future__ import annotations
+
 import ast
 import contextlib
 import enum
@@ -13,51 +15,33 @@ import subprocess
 import sys
 import threading
 import time
+from collections import defaultdict
+from collections.abc import Callable, Iterable
 from concurrent.futures import ThreadPoolExecutor
+from pathlib import Path
+from typing import Any, TypeVar
 from unittest import mock
 
-from harness import BY_OPERATOR, PATIENCE, ROOT, cut_for, each, expect, free_address, holds, lines, same, test
-from serving import comes_to_be
+from harness import BY_OPERATOR, PATIENCE, ROOT, Program, Server, comes_to_be, cut_for, each, expect, free_address, holds, lines
+from harness import match, same, test
 
 FOLDER = ROOT / "clients/python"
 sys.path.insert(0, str(FOLDER))
 import mltx as client_module  # noqa: E402
-from mltx import (  # noqa: E402
-    FORMS,
-    Client,
-    CommitUnknown,
-    ConnectionLost,
-    GaveUp,
-    LogFull,
-    NoRoom,
-    NoSuchClient,
-    NoSuchTx,
-    OpenTransaction,
-    Operation,
-    Operator,
-    Refused,
-    Reply,
-    Retries,
-    Running,
-    ScriptFault,
-    ServedSession,
-    ServerAway,
-    SessionsTaken,
-    TimedOut,
-    TransactionOver,
-    UnexpectedAnswer,
-    Wait,
-)
+from mltx import FORMS, Client, CommitUnknown, ConnectionLost, GaveUp, LogFull, NoRoom, NoSuchClient, NoSuchTx  # noqa: E402
+from mltx import OpenTransaction, Operation, Operator, Refused, Reply, Retries, Running, ScriptFault, ServedSession  # noqa: E402
+from mltx import ServerAway, SessionsTaken, TimedOut, Transaction, TransactionOver, UnexpectedAnswer, Wait  # noqa: E402
 
 # How long to listen for a line that must not come, in seconds.
 SILENCE = 0.2
+Raised = TypeVar("Raised", bound=Exception)
 # Retries that do not stop before a test does.
 PATIENT = Retries(attempts=10_000, first_pause=0.001, longest_pause=0.05, connects=10_000)
 
 
-def connected(server, **options):
+def connected(server: Server | Relay, retries: Retries = Retries(), answer_timeout: float | None = None) -> Client:
     """A client that has connected, as soon as the server is there."""
-    client, until = Client(*server.address, **options), time.monotonic() + server.timeout
+    client, until = Client(*server.address, retries=retries, answer_timeout=answer_timeout), time.monotonic() + server.timeout
     while True:
         try:
             client.session()
@@ -67,17 +51,17 @@ def connected(server, **options):
             time.sleep(0.01)
 
 
-def raised(kind, call, *arguments):
+def raised(kind: type[Raised], call: Callable[..., object], *arguments: object) -> Raised:
     """What the call raises, which is just of this kind."""
     try:
         answer = call(*arguments)
-    except Exception as error:
+    except kind as error:
         same(type(error), kind, f"what is raised: {error!r}")
         return error
     raise AssertionError(f"{kind.__name__} is not raised, but {answer!r} is answered")
 
 
-def ends_well(mltx, server, trace, *, served, checked):
+def ends_well(mltx: Program, server: Server, trace: Path, *, served: int, checked: str) -> None:
     """Fails where the server ends otherwise, or `check` says anything else of its trace."""
     expect(server.end(), out=f"served {served}\n", what="the server")
     expect(mltx.check(trace), out=lines(checked), what="the check of the trace")
@@ -119,7 +103,7 @@ RESULTS = [
 
 
 @test
-def each_call_has_each_reply(mltx):
+def each_call_has_each_reply(mltx: Program) -> None:
     """Each call one by one, and all in one pipeline after that was taken back: the same results."""
     trace = mltx.folder / "trace"
     with mltx.serve("--trace", trace) as server, connected(server) as client:
@@ -136,19 +120,19 @@ def each_call_has_each_reply(mltx):
         ends_well(mltx, server, trace, served=1, checked=f"serial 2|{base}")
 
 
-def replies_of_language():
+def replies_of_language() -> dict[str, set[str]]:
     """The replies of each operation, as the tables of docs/LANGUAGE.md have them."""
-    text, found = (ROOT / "docs/LANGUAGE.md").read_text(), {}
+    text, found = (ROOT / "docs/LANGUAGE.md").read_text(), defaultdict[str, set[str]](set)
     for title in ("Accounts", "Elements", "Sizes", "Counters"):
         table = text.partition(f"\n## {title}\n")[2].partition("\n## ")[0]
         for words, reply in re.findall(r"(?m)^\| ([a-z, ]+?)(?: n)? / (\w+)", table):
             for word in words.split(", "):
-                found.setdefault(word, set()).add(reply)
+                found[word].add(reply)
     return found
 
 
 @test
-def client_knows_the_replies_of_language(_mltx):
+def client_knows_the_replies_of_language(_mltx: Program) -> None:
     """Each operation has the replies that LANGUAGE lists, and no others; each of them comes in the test above."""
     known = {word: {reply.value for reply in form.results} for word, form in FORMS.items()}
     known = {word: replies | ({"is"} if FORMS[word].tells_number else set()) for word, replies in known.items()}
@@ -160,21 +144,22 @@ def client_knows_the_replies_of_language(_mltx):
     same(tried, wanted | {(word, "is") for word, form in FORMS.items() if form.tells_number}, "what is tried")
 
 
-def installed(folder):
+def installed(folder: Path) -> Path:
     """The folder of what pip installs, from a copy of the sources and without network. Where there is no pip, it is the wheel
     itself, from which Python imports too."""
     source, target = folder / "source", folder / "target"
     shutil.copytree(FOLDER, source, ignore=shutil.ignore_patterns("__pycache__"))
     build = "import build_wheel; print(build_wheel.build_wheel('..'))"
     has_pip = importlib.util.find_spec("pip")
-    words = ["-m", "pip", "install", "--no-index", "--target", target, source] if has_pip else ["-c", build]
+    words: list[str | Path] = ["-m", "pip", "install", "--no-index", "--target", target, source]
+    words = words if has_pip else ["-c", build]
     made = subprocess.run([sys.executable, "-B", *words], cwd=source, capture_output=True, text=True, timeout=PATIENCE)
     same(made.returncode, 0, f"the installation: {made.stderr}")
     return target if has_pip else folder / made.stdout.strip()
 
 
 @test(seconds=4)
-def client_can_be_installed(mltx):
+def client_can_be_installed(mltx: Program) -> None:
     """Both modules are there, away from the sources; the prompt is a command; the version is the program's."""
     target = installed(mltx.folder)
     env = {**os.environ, "PYTHONPATH": str(target), "PYTHONDONTWRITEBYTECODE": "1"}
@@ -182,7 +167,7 @@ def client_can_be_installed(mltx):
     found = subprocess.run([sys.executable, "-c", code], cwd=mltx.folder, capture_output=True, text=True, env=env)
     version = mltx.run("--version").out.decode().split()[1]
     same(found.stdout, f"{target}/mltx.py {version}\n", f"the module and its version: {found.stderr}")
-    command = [target / "bin/mltx-shell"] if target.is_dir() else [sys.executable, "-m", "mltx_shell"]
+    command: list[str | Path] = [target / "bin/mltx-shell"] if target.is_dir() else [sys.executable, "-m", "mltx_shell"]
     with mltx.serve(limit=2) as server:
         connected(server).close()
         words = [*command, "%s:%d" % server.address]
@@ -192,7 +177,7 @@ def client_can_be_installed(mltx):
 
 
 @test
-def client_is_python_3_9(_mltx):
+def client_is_python_3_9(_mltx: Program) -> None:
     for file in ("mltx.py", "mltx_shell.py", "build_wheel.py"):
         ast.parse((FOLDER / file).read_text(), feature_version=(3, 9))
 
@@ -215,7 +200,7 @@ OUT_OF_RANGE = [
 
 
 @test
-def numbers_out_of_range_are_not_sent(mltx):
+def numbers_out_of_range_are_not_sent(mltx: Program) -> None:
     """The transaction goes on as if nothing had been asked, also where they stand in a pipeline."""
     with mltx.serve() as server, connected(server) as client, client.begin() as tx:
         left = tx.session.bytes_left
@@ -233,7 +218,7 @@ def numbers_out_of_range_are_not_sent(mltx):
 
 
 @test
-def addresses_are_parsed(_mltx):
+def addresses_are_parsed(_mltx: Program) -> None:
     good = {"127.0.0.1:7000": ("127.0.0.1", 7000), "localhost:1": ("localhost", 1), "[::1]:65535": ("::1", 65_535)}
     for text, address in good.items():
         same(client_module.parse_address(text), address, text)
@@ -242,13 +227,13 @@ def addresses_are_parsed(_mltx):
 
 
 @test
-def refusals_are_raised(mltx):
+def refusals_are_raised(mltx: Program) -> None:
     """Each has its number and its name, and the transaction goes on."""
     with mltx.serve("--hash", "low") as server, connected(server) as client:
         session = client.session()
         same(session.ask("up 7 1", "commit", "foo"), ["error 3 NoSuchTx"] * 2 + ["error 10 ScriptFault"])
         with client.begin() as tx:
-            error = raised(Running, client.begin)
+            error: Refused = raised(Running, client.begin)
             same((error.number, error.name), (5, "Running"), "begin in a transaction")
             for number in range(8):
                 same(tx.open(number * 65_536), Reply.OPENED)
@@ -269,7 +254,7 @@ def refusals_are_raised(mltx):
 
 
 @test
-def transaction_is_a_block(mltx):
+def transaction_is_a_block(mltx: Program) -> None:
     """It commits at the end of the block, and aborts where an exception leaves it; it may end before."""
     trace = mltx.folder / "trace"
     with mltx.serve("--trace", trace) as server, connected(server) as client:
@@ -283,13 +268,14 @@ def transaction_is_a_block(mltx):
         with client.begin() as tx:
             tx.up(3, 1)
             same(tx.commit(), 2)
-            for call in (tx.commit, tx.abort, lambda: tx.up(3, 1), lambda: tx.ask_all([])):
+            calls: list[Callable[[], object]] = [tx.commit, tx.abort, lambda: tx.up(3, 1), lambda: tx.ask_all([])]
+            for call in calls:
                 raised(TransactionOver, call)
         with client.begin() as tx:
             tx.up(4, 1)
             tx.abort()
             raised(TransactionOver, tx.commit)
-        same(client.run(lambda tx: (tx.up(5, 1), tx.abort(), "answer")[2]), "answer", "a function that aborts")
+        same(client.run(aborts), "answer", "a function that aborts")
         raised(ZeroDivisionError, client.run, lambda tx: (tx.up(6, 1), 1 // 0))
         same(client.run(lambda tx: tx.up(7, 1)), Reply.DONE, "a function that is run")
         client.close()
@@ -297,24 +283,36 @@ def transaction_is_a_block(mltx):
         ends_well(mltx, server, trace, served=1, checked=checked)
 
 
-def transfer(tx, source, target, amount):
+def aborts(tx: Transaction) -> str:
+    tx.up(5, 1)
+    tx.abort()
+    return "answer"
+
+
+def noted(tries: list[int], tx: Transaction) -> Transaction:
+    """The transaction, whose number is noted."""
+    tries.append(tx.number)
+    return tx
+
+
+def transfer(tx: Transaction, source: int, target: int, amount: int) -> None:
     """Moves an amount where the source has it, which is looked at first: two of them may be in a deadlock."""
-    if tx.balance(source) < amount:
+    if (tx.balance(source) or 0) < amount:
         return
     same(tx.ask_all([Operation.withdraw(source, amount), Operation.deposit(target, amount)]), [Reply.DONE] * 2)
 
 
 @test(seconds=3)
-def transfers_of_sixteen_threads(mltx):
+def transfers_of_sixteen_threads(mltx: Program) -> None:
     """The sum of all accounts is kept, while transfers give up and are run again."""
     threads, accounts, trace = 16, range(6), mltx.folder / "trace"
 
-    def work(seed):
+    def work(seed: int) -> None:
         source = random.Random(seed)
         with Client(*server.address, retries=PATIENT) as client:
             for _ in range(20):
-                pair = source.sample(accounts, 2)
-                client.run(lambda tx, pair=pair: transfer(tx, *pair, source.randrange(1, 100)))
+                one, other = source.sample(accounts, 2)
+                client.run(lambda tx: transfer(tx, one, other, source.randrange(1, 100)))
 
     with mltx.serve("--sessions", threads, "--tries", 20, "--trace", trace, limit=threads + 2) as server:
         with connected(server) as client:
@@ -324,27 +322,25 @@ def transfers_of_sixteen_threads(mltx):
             list(pool.map(work, range(threads)))
         with connected(server) as client:
             balances = client.run(lambda tx: tx.ask_all([Operation.balance(account) for account in accounts]))
-        same(sum(balances), 6_000, f"the sum of {balances}")
+        same(sum(it or 0 for it in balances), 6_000, f"the sum of {balances}")
         expect(server.end(), out=f"served {threads + 2}\n")
-    checked = mltx.check(trace)
-    same((checked.status, checked.err), (0, b""), "the check of the trace")
-    base = "".join(f"account {account} {balance}\n" for account, balance in enumerate(balances))
-    same(checked.out.decode().splitlines(keepends=True)[-6:], base.splitlines(keepends=True), "the base")
+    base = [f"account {account} {balance}" for account, balance in enumerate(balances)]
+    same(mltx.accepted(trace).splitlines()[-6:], base, "the base")
 
 
 @test
-def transaction_is_run_again_after_a_deadlock(mltx):
+def transaction_is_run_again_after_a_deadlock(mltx: Program) -> None:
     """Of two that wait for each other one gives up, and both are committed at last."""
     trace, both, tries = mltx.folder / "trace", threading.Barrier(2), {1: 0, 2: 0}
 
-    def cross(tx, own, other):
+    def cross(tx: Transaction, own: int, other: int) -> int:
         tries[own] += 1
         tx.up(own, 1)
         if tries[own] == 1:
             both.wait(PATIENCE)
         return tx.read(other)
 
-    def work(own):
+    def work(own: int) -> int:
         with connected(server, retries=PATIENT) as client:
             return client.run(lambda tx: cross(tx, own, 3 - own))
 
@@ -352,19 +348,18 @@ def transaction_is_run_again_after_a_deadlock(mltx):
         same(sorted(pool.map(work, (1, 2))), [0, 1], "what the first and the second to commit read")
         holds(sum(tries.values()) > 2, f"one was run again: {tries}")
         expect(server.end(), out="served 2\n")
-    checked = mltx.check(trace).out.decode().splitlines()
-    same(checked[2:], ["counter 1 1", "counter 2 1"], "the base")
+    same(mltx.accepted(trace).splitlines()[2:], ["counter 1 1", "counter 2 1"], "the base")
 
 
 @test
-def gives_up_at_last(mltx):
+def gives_up_at_last(mltx: Program) -> None:
     """By one try an operation that waits gives up; it is run as often as is said, and then GaveUp is raised."""
-    trace, tries = mltx.folder / "trace", []
+    trace, tries = mltx.folder / "trace", list[int]()
     with mltx.serve("--tries", 1, "--trace", trace, limit=2) as server:
         with connected(server) as holder, connected(server) as client, holder.begin() as held:
             held.up(7, 1)
             few = Retries(attempts=3, first_pause=0.001, longest_pause=0.002)
-            error = raised(GaveUp, lambda: client.run(lambda tx: (tries.append(tx.number), tx.read(7)), retries=few))
+            error = raised(GaveUp, lambda: client.run(lambda tx: noted(tries, tx).read(7), retries=few))
             same((error.number, error.name, tries), (14, "GaveUp", [2, 3, 4]), "the transactions that gave up")
             with client.begin() as tx:
                 tx.up(8, 1)
@@ -374,7 +369,7 @@ def gives_up_at_last(mltx):
 
 
 @test
-def pauses_are_bounded(_mltx):
+def pauses_are_bounded(_mltx: Program) -> None:
     for attempts in (1, 2, 30):
         pauses = list(Retries(attempts=attempts, first_pause=0.01, longest_pause=0.5).pauses())
         same(len(pauses), attempts - 1, "the pauses between the tries")
@@ -384,17 +379,17 @@ def pauses_are_bounded(_mltx):
 
 
 @test
-def pipelines(mltx):
+def pipelines(mltx: Program) -> None:
     """Results are in the order of the operations, however many these are. Where one is refused the others are asked."""
     trace = mltx.folder / "trace"
     with mltx.serve("--tries", 1, "--trace", trace, limit=2) as server:
         with connected(server) as holder, connected(server) as client:
             with client.begin() as tx:
                 same(tx.ask_all([]), [])
-                counts = [step for number in range(512) for step in (Operation.up(7, number), Operation.read(7))]
-                told = tx.ask_all(counts)
+                counts: list[Operation[Any]] = [Operation.read(7)] * 1_024
+                counts[::2] = [Operation.up(7, number) for number in range(512)]
                 sums = [number * (number + 1) // 2 for number in range(512)]
-                same(told[1::2], sums, "1,024 operations in one pipeline")
+                same(tx.ask_all(counts)[1::2], sums, "1,024 operations in one pipeline")
                 raised(LogFull, tx.ask_all, [Operation.read(7)] * 5_000)
             with holder.begin() as held:
                 held.up(1, 1)
@@ -405,7 +400,7 @@ def pipelines(mltx):
         ends_well(mltx, server, trace, served=2, checked=f"serial 1|serial 2|counter 1 1|counter 7 {511 * 256}")
 
 
-def heard_at_once(connection):
+def heard_at_once(connection: socket.socket) -> int:
     """How many lines come, from the first on, before it is silent."""
     connection.settimeout(PATIENCE)
     heard = connection.recv(65_536)
@@ -417,7 +412,7 @@ def heard_at_once(connection):
 
 
 @test(seconds=1)
-def lines_that_wait_for_their_answers(_mltx):
+def lines_that_wait_for_their_answers(_mltx: Program) -> None:
     """No more go out than are said, so that a server that writes all its answers first does not wait for ever."""
     with socket.create_server(("127.0.0.1", 0)) as listener, ThreadPoolExecutor(1) as pool:
         session = client_module.Session(*listener.getsockname())
@@ -435,21 +430,20 @@ class Relay:
     """Stands between clients and a server, and passes on one line and its answer after the other. In its connection
     number i it breaks off at the line that `cuts[i]` names: `before` it is passed on, or `after` it was answered."""
 
-    def __init__(self, server, cuts):
+    def __init__(self, server: Server, cuts: Iterable[tuple[str, str] | None]) -> None:
         self.server, self.cuts = server, cuts
         self.listener = socket.create_server(("127.0.0.1", 0))
         self.address, self.timeout, self.process = self.listener.getsockname(), server.timeout, server.process
         threading.Thread(target=self.serve, daemon=True).start()
 
-    def serve(self):
+    def serve(self) -> None:
         with self.listener:
             for cut in self.cuts:
                 self.pass_on(self.listener.accept()[0], cut)
 
-    def pass_on(self, client, cut):
+    def pass_on(self, client: socket.socket, cut: tuple[str, str] | None) -> None:
         with client, client.makefile("rb") as asked, self.server.connect() as peer:
-            for line in asked:
-                line = line.decode().rstrip("\n")
+            for line in (it.decode().rstrip("\n") for it in asked):
                 if cut == ("before", line):
                     return
                 answer = peer.ask(line)
@@ -471,16 +465,16 @@ BREAKS = {
 
 
 @each(BREAKS)
-def client_is_cut(mltx, case):
+def client_is_cut(mltx: Program, case: tuple[tuple[str, str], int, bool, int]) -> None:
     """It runs a transaction again of which nothing is left, and never one whose commit may have been done."""
     cut, runs, is_unknown, count = case
-    trace, tries = mltx.folder / "trace", []
+    trace, tries = mltx.folder / "trace", list[int]()
     with mltx.serve("--trace", trace, limit=3 - is_unknown) as server:
         relay = Relay(server, [cut, None])
         with Client(*relay.address, retries=PATIENT) as client:
 
-            def count_up():
-                return client.run(lambda tx: (tries.append(tx.number), tx.up(7, 1)))
+            def count_up() -> Reply:
+                return client.run(lambda tx: noted(tries, tx).up(7, 1))
 
             if is_unknown:
                 same(raised(CommitUnknown, count_up).transaction, tries[-1], "the transaction that is not known of")
@@ -490,11 +484,11 @@ def client_is_cut(mltx, case):
         with connected(server) as client:
             same(client.run(lambda tx: tx.read(7)), count, "the counter")
         expect(server.end(), out=f"served {3 - is_unknown}\n")
-    same(mltx.check(trace).status, 0, "the check of the trace")
+    mltx.accepted(trace)
 
 
 @test
-def server_that_is_not_there(mltx):
+def server_that_is_not_there(mltx: Program) -> None:
     """It is told at once, or after so many tries; a server that comes meanwhile is found."""
     with mltx.serve() as server:
         connected(server).close()
@@ -508,20 +502,21 @@ def server_that_is_not_there(mltx):
 
 
 @test
-def server_that_is_not_there_is_tried_a_few_times(_mltx):
+def server_that_is_not_there_is_tried_a_few_times(_mltx: Program) -> None:
     """So is a host without an address. Each other failure begins a new row of tries."""
     quick, away = Retries(first_pause=0.001), ConnectionRefusedError("nobody listens")
     with socket.create_server(("127.0.0.1", 0)) as listener:
         ended = socket.create_connection(listener.getsockname())
         listener.accept()[0].close()
-    for turns in ([away] * 20, [socket.gaierror("no such host")] * 20, [away, away, ended, away, away, away, away]):
+    rows: list[list[object]] = [[away] * 20, [socket.gaierror("no such host")] * 20, [away, away, ended, *[away] * 4]]
+    for turns in rows:
         with mock.patch.object(socket, "create_connection", side_effect=turns) as tried:
             raised(ServerAway, lambda: Client("127.0.0.1", 9, retries=quick).run(lambda tx: 1 // 0))
         same(tried.call_count, 6 if ended in turns else 3, f"the tries at {turns}")
 
 
 @test(seconds=1)
-def sessions_that_are_all_taken(mltx):
+def sessions_that_are_all_taken(mltx: Program) -> None:
     """A client beyond them is told so in time, also by `run`, and is served once another one has left."""
     with mltx.serve("--sessions", 1, limit=6) as server, connected(server) as holder:
         holder.run(lambda tx: tx.up(7, 1))
@@ -539,7 +534,7 @@ def sessions_that_are_all_taken(mltx):
 
 
 @test(seconds=3)
-def first_answer_alone_has_its_timeout(mltx):
+def first_answer_alone_has_its_timeout(mltx: Program) -> None:
     """An operation that waits behind the first answer waits on, for longer than that one may."""
     with mltx.serve(limit=2) as server, connected(server) as holder, holder.begin() as held:
         held.up(7, 1)
@@ -551,7 +546,7 @@ def first_answer_alone_has_its_timeout(mltx):
 
 
 @test
-def server_that_ends_in_a_transaction(mltx):
+def server_that_ends_in_a_transaction(mltx: Program) -> None:
     """It is killed while the client computes, or while an operation waits. Nothing was committed, and nothing says
     so."""
     with mltx.serve(limit=2) as server, connected(server) as client:
@@ -571,23 +566,23 @@ def server_that_ends_in_a_transaction(mltx):
 
 
 @test
-def server_that_ends_at_the_commit(mltx):
+def server_that_ends_at_the_commit(mltx: Program) -> None:
     """It is stopped before the commit is sent, and killed then. Whether it was done is not known."""
     with mltx.serve() as server, connected(server) as client:
         tx = client.begin()
         tx.up(7, 1)
         server.stop()
         receive = tx.session.receive
-        tx.session.receive = lambda: (server.kill(), receive())[1]
-        same(raised(CommitUnknown, tx.commit).transaction, 1)
+        with mock.patch.object(tx.session, "receive", lambda: (server.kill(), receive())[1]):
+            same(raised(CommitUnknown, tx.commit).transaction, 1)
         raised(TransactionOver, tx.commit)
 
 
 @test
-def connection_that_ended_is_seen_at_the_block(mltx):
+def connection_that_ended_is_seen_at_the_block(mltx: Program) -> None:
     """Where a block goes on behind a lost connection, as if nothing were, its end raises."""
 
-    def swallow():
+    def swallow() -> None:
         with client.begin() as tx:
             tx.up(7, 1)
             server.kill()
@@ -599,7 +594,7 @@ def connection_that_ended_is_seen_at_the_block(mltx):
 
 
 @test(seconds=2)
-def answer_that_does_not_come_in_time(mltx):
+def answer_that_does_not_come_in_time(mltx: Program) -> None:
     """The client closes the connection, and the server takes the transaction back once its operation has ended."""
     trace = mltx.folder / "trace"
     with mltx.serve("--trace", trace, limit=3) as server:
@@ -615,20 +610,19 @@ def answer_that_does_not_come_in_time(mltx):
 
 
 @test
-def session_that_is_used_up(mltx):
+def session_that_is_used_up(mltx: Program) -> None:
     """A transaction begins on a new connection where the last one has sent nearly all that it may; in a transaction it
     is told, and run again on a new one."""
     trace = mltx.folder / "trace"
     with mltx.serve("--trace", trace, limit=3) as server, connected(server) as client:
         client.run(lambda tx: tx.up(7, 1))
         client.session().bytes_left = client_module.TRANSACTION_BYTES - 1
-        tries = []
+        tries: list[int] = []
 
-        def use_up(tx):
-            tries.append(tx.number)
-            if len(tries) == 1:
+        def use_up(tx: Transaction) -> Reply:
+            if len(tries) == 0:
                 tx.session.bytes_left = 6
-            return tx.up(7, 1)
+            return noted(tries, tx).up(7, 1)
 
         same(client.run(use_up), Reply.DONE)
         same(tries, [2, 3], "the transactions")
@@ -637,7 +631,7 @@ def session_that_is_used_up(mltx):
 
 
 @test(seconds=2)
-def session_sends_all_that_it_may(mltx):
+def session_sends_all_that_it_may(mltx: Program) -> None:
     """A server hears the last byte that the client counts, and none behind it."""
     with mltx.serve() as server, connected(server) as client:
         session = client.session()
@@ -652,7 +646,7 @@ def session_sends_all_that_it_may(mltx):
 
 
 @test
-def client_that_is_refused_while_all_sessions_are_taken(mltx):
+def client_that_is_refused_while_all_sessions_are_taken(mltx: Program) -> None:
     """With `--full refuse` it is told at once, closes the connection, and is tried again by `run`."""
     with mltx.serve("--sessions", 1, "--full", "refuse", limit=2) as server, connected(server) as holder:
         held = holder.begin()
@@ -670,18 +664,18 @@ def client_that_is_refused_while_all_sessions_are_taken(mltx):
 # What an operator sees and does.
 
 
-def seen_by(operator):
+def seen_by(operator: Operator) -> tuple[list[tuple[object, ...]], list[tuple[int, object]]]:
     """What an operator sees of waits and sessions, without times, each of which is one."""
     waits, sessions = operator.waits(), operator.sessions()
-    times = [it.seconds for it in (*waits, *sessions, *(row.transaction for row in sessions if row.transaction))]
+    times = [it.seconds for it in waits] + [it.seconds for it in sessions]
+    times += [row.transaction.seconds for row in sessions if row.transaction]
     holds(all(type(it) is float and 0 <= it < PATIENCE for it in times), f"times {times}")
-    waits = [(it.waiter, it.client, it.holder, it.reason, it.operation) for it in waits]
     rows = [(row.client, (it := row.transaction) and (it.number, it.operations, it.did, it.calls)) for row in sessions]
-    return waits, sorted(rows)
+    return [(it.waiter, it.client, it.holder, it.reason, it.operation) for it in waits], sorted(rows, key=lambda row: row[0])
 
 
 @test(seconds=1)
-def operator_sees_and_ends(mltx):
+def operator_sees_and_ends(mltx: Program) -> None:
     """What a server tells is told; a session is ended, of which its client hears; and the server ends."""
     with mltx.serve(limit=9, admin=free_address()) as server, connected(server) as holder, connected(server) as waiter:
         operator = Operator(*server.admin)
@@ -696,19 +690,19 @@ def operator_sees_and_ends(mltx):
             comes_to_be(operator.waits, "somebody waits")
             rows = [(1, (1, 1, ("up 7 5 done",), None)), (2, (2, 1, ("add 4 9 added",), "read 7"))]
             same(seen_by(operator), ([(2, 2, 1, "object", "read 7")], rows), "what is seen")
-            rows = operator.sessions()
-            kinds = {type(it) for it in (*operator.waits(), *rows, *(row.transaction for row in rows))}
+            served = operator.sessions()
+            kinds = {type(it) for it in (*operator.waits(), *served, *(row.transaction for row in served))}
             same(kinds, {Wait, ServedSession, OpenTransaction}, "the kinds of what is seen")
             told = operator.status()
             same({name: told[name] for name in ("sessions", "open", "begun", "operations", "commits", "limit")},
                  {"sessions": 2, "open": 2, "begun": 2, "operations": 2, "commits": 0, "limit": 9}, "the numbers")
             for number in (0, 3, 10**9):
                 raised(NoSuchClient, operator.end_session, number)
-            same(operator.end_session(1), None, "the end of a session")
+            operator.end_session(1)
             same(reading.result(PATIENCE), 0, "what the other one reads")
         raised(ConnectionLost, held.up, 7, 1)
         tx.commit()
-        same(operator.stop(), None, "the stop")
+        operator.stop()
         ended = server.end()
         same((ended.status, ended.out, ended.err), (0, b"served 2\n", b""), "the server")
         holds(cut_for(1, BY_OPERATOR) in ended.notes, f"{ended.notes}")
@@ -716,11 +710,11 @@ def operator_sees_and_ends(mltx):
         raised(ServerAway, operator.stop)
 
 
-def answers_once(told):
+def answers_once(told: bytes | None) -> Operator:
     """An operator of a server that answers one request so: as bytes, or not at all where there are none."""
     listener = socket.create_server(("127.0.0.1", 0))
 
-    def answer():
+    def answer() -> None:
         with listener, listener.accept()[0] as asked:
             asked.recv(65_536)
             if told is None:
@@ -742,7 +736,7 @@ NO_OPERATORS = {
 
 
 @each({f"operator-that-meets-{name}": case for name, case in NO_OPERATORS.items()})
-def operator_of_another_server(_mltx, case):
+def operator_of_another_server(_mltx: Program, case: tuple[bytes | None, type[Exception]]) -> None:
     told, kind = case
     for ask in (Operator.status, Operator.waits, Operator.sessions):
         if told != OK + b'{"waits":[{"a":1}]}' or ask is not Operator.sessions:
@@ -750,49 +744,42 @@ def operator_of_another_server(_mltx, case):
     raised(ValueError, Operator, "127.0.0.1", 0)
 
 
-def shown_in(page, before):
+def shown_in(page: str, before: str) -> str:
     """The indented block that follows these words on a page, without its indents."""
-    block = re.match(r".*?\n\n((?:    [^\n]*\n|\n)+)", page.partition(before)[2], re.DOTALL)
+    block = match(r"(?s)\A.*?\n\n((?:    [^\n]*\n|\n)+)", page.partition(before)[2])
     return re.sub(r"(?m)^    ", "", block[1]).strip("\n") + "\n"
 
 
-@test
-def readme_of_the_client_runs(mltx):
-    """The program on the client's page writes what the page shows."""
-    page = (FOLDER / "README.md").read_text()
-    program = shown_in(page, "## A program").replace('"127.0.0.1", 7000', '"%s", %d')
+def writes(mltx: Program, server: Server, program: str, wanted: str) -> None:
+    """Fails where a program of a page, which is given the server's address, writes anything else."""
+    connected(server).close()
+    path = mltx.file("program.py", program.replace('"127.0.0.1", 7000', '"%s", %d' % server.address))
+    env = {"PYTHONPATH": str(FOLDER), "PYTHONDONTWRITEBYTECODE": "1"}
+    ran = subprocess.run([sys.executable, path], capture_output=True, env=env, timeout=PATIENCE)
+    same((ran.stdout.decode(), ran.stderr), (wanted, b""), "what the program writes")
+
+
+# A page, the words before its program, and those before what that writes.
+PROGRAMS = {
+    "readme-of-the-client-runs": ("clients/python/README.md", "## A program", "it writes"),
+    "program-of-the-tutorial-runs": ("docs/TUTORIAL.md", "`move.py`:", "`python3 move.py` prints"),
+}
+
+
+@each(PROGRAMS)
+def program_of_a_page_runs(mltx: Program, case: tuple[str, str, str]) -> None:
+    """The program on a page writes what the page shows."""
+    page = (ROOT / case[0]).read_text()
     with mltx.serve(limit=2) as server:
-        connected(server).close()
-        path = mltx.file("program.py", program % server.address)
-        env = {"PYTHONPATH": str(FOLDER), "PYTHONDONTWRITEBYTECODE": "1"}
-        ran = subprocess.run([sys.executable, path], capture_output=True, env=env, timeout=PATIENCE)
-        same((ran.stdout.decode(), ran.stderr), (shown_in(page, "it writes"), b""), "what the program writes")
+        writes(mltx, server, shown_in(page, case[1]), shown_in(page, case[2]))
         expect(server.end(), out="served 2\n")
 
 
 @test
-def recipes_of_the_client_run(mltx):
+def recipes_of_the_client_run(mltx: Program) -> None:
     """The recipes on the client's page are one program, which writes what the page shows."""
     page = (FOLDER / "README.md").read_text().partition("## Recipes")[2].partition("\n## ")[0]
     *parts, wanted = [re.sub(r"(?m)^    ", "", part) for part in re.findall(r"(?m)(?:^    .*\n(?:\n(?=    ))?)+", page)]
     holds(len(parts) > 3, "the page has its recipes")
     with mltx.serve("--endless", "--sessions", 64, limit=None) as server:
-        connected(server).close()
-        path = mltx.file("recipes.py", "\n".join(parts).replace('"127.0.0.1", 7000', '"%s", %d' % server.address))
-        env = {"PYTHONPATH": str(FOLDER), "PYTHONDONTWRITEBYTECODE": "1"}
-        ran = subprocess.run([sys.executable, path], capture_output=True, env=env, timeout=PATIENCE)
-        same((ran.stdout.decode(), ran.stderr), (wanted, b""), "what the program writes")
-
-
-@test
-def program_of_the_tutorial_runs(mltx):
-    """The program in the tutorial writes what the tutorial shows."""
-    page = (ROOT / "docs/TUTORIAL.md").read_text()
-    program = shown_in(page, "`move.py`:").replace('"127.0.0.1", 7000', '"%s", %d')
-    with mltx.serve(limit=2) as server:
-        connected(server).close()
-        path = mltx.file("move.py", program % server.address)
-        env = {"PYTHONPATH": str(FOLDER), "PYTHONDONTWRITEBYTECODE": "1"}
-        ran = subprocess.run([sys.executable, path], capture_output=True, env=env, timeout=PATIENCE)
-        same((ran.stdout.decode(), ran.stderr), (shown_in(page, "`python3 move.py` prints"), b""), "what the program writes")
-        expect(server.end(), out="served 2\n")
+        writes(mltx, server, "\n".join(parts), wanted)

@@ -1,5 +1,7 @@
 """Command lines: what is asked by the words, help and the version, and words that are wrong."""
-from harness import VERSION, each, expect, holds, lines, same, test
+from collections.abc import Iterable, Sequence
+
+from harness import VERSION, Program, each, expect, holds, lines, same, test
 
 FIRST_RUN = lines("begin|open 1|deposit 1 50|balance 1|commit")
 TOLD = lines("opened|done|is 50|committed 1")
@@ -57,7 +59,7 @@ OF_STANDARD_INPUT = [
 
 
 @test
-def file_that_is_named_is_read(mltx):
+def file_that_is_named_is_read(mltx: Program) -> None:
     for name, text in FILES.items():
         mltx.file(name, text)
     for words, wanted in OF_FILES:
@@ -68,7 +70,7 @@ def file_that_is_named_is_read(mltx):
 
 
 @test
-def standard_input_is_read(mltx):
+def standard_input_is_read(mltx: Program) -> None:
     """No words at all are `solo -`, and a file whose name is `-` is not what `-` names."""
     mltx.file("-", "no text of any kind\n")
     for words, given, wanted in OF_STANDARD_INPUT:
@@ -77,30 +79,28 @@ def standard_input_is_read(mltx):
 
 # What help says of each argument and option.
 OF_ARGUMENTS = {
-    "<FILE>": "The file to read; `-` is standard input",
-    "<ADDR>": "The IP address and port to listen on, as `127.0.0.1:7000`",
-    "[TABLE]": "The table that is printed; without it all of them [possible values: account, set, counter]",
+    "<FILE>": "File to read; `-` is standard input",
+    "<ADDR>": "IP address and port to listen on, such as `127.0.0.1:7000`",
+    "[TABLE]": "Table to print; all of them if it is not given [possible values: account, set, counter]",
 }
 OF_OPTIONS = {
-    "-v, --verbose": "At a fault, a second line says which file or address, why, and what was expected",
-    "--hash <HASH>": "The hash function of the pages; without it `mult` [possible values: mult, low]",
-    "--trace <FILE>": "Where to write the trace of what the transactions did",
-    "--explain": "Where an event is blocked or waits, lines that begin with `#` say why",
-    "--workers <N>": "How many workers run scripts at once, from 1 to 8; without it 4",
-    "--tries <N>": "How often a script, or an operation of a session, may be told to wait, from 1 to 1000000; without it 10000",
-    "--long": "The trace may have any length: it is checked as it is read, and written of as it is checked",
-    "--endless": "As many connections are served as come, and nothing is kept of what was done; not with --limit",
-    "--sessions <N>": "How many sessions are held at once, from 1 to 64; without it 8",
-    "--limit <N>": "How many connections are served in all, from 1 to 1000000; without it 1",
-    "--idle <SECONDS>": "How many seconds a connection may be idle, from 0, which is for ever, to 86400; without it 0",
-    "--wait <SECONDS>": "How many seconds an operation may wait before it is told GaveUp, from 0, which is for ever, to 86400; "
-    "without it 0",
-    "--open <SECONDS>": "How many seconds a transaction may be open before its session is cut, from 0, which is for ever, "
-    "to 86400; without it 0",
-    "--full <FULL>": "What a client finds while all sessions are taken: it waits for one, or is refused; without it `wait` "
+    "-v, --verbose": "After an error, print a second line with the file or address, the reason and what was expected",
+    "--hash <HASH>": "Hash function of the pages [default: mult] [possible values: mult, low]",
+    "--trace <FILE>": "Write a trace of the transactions to FILE",
+    "--explain": "After each event that is blocked or waits, print the reason in lines that begin with `#`",
+    "--workers <N>": "Run the scripts in N threads, 1 to 8 [default: 4]",
+    "--tries <N>": "Answer GaveUp after N waits for other transactions, 1 to 1000000 [default: 10000]",
+    "--long": "Check a trace of any length: read it piece by piece, and print while reading",
+    "--endless": "Accept connections without limit, and keep no history in memory; not with --limit",
+    "--limit <N>": "Exit after N connections, 1 to 1000000 [default: 1]",
+    "--sessions <N>": "Serve up to N connections at a time, 1 to 64 [default: 8]",
+    "--full <FULL>": "Let new clients wait, or refuse them, while all sessions are taken [default: wait] "
     "[possible values: wait, refuse]",
-    "--admin <ADDR>": "The IP address and port at which an operator connects by HTTP; without it there is none",
-    "--until-eof": "The server ends in order at the end of standard input, which has to be held open",
+    "--wait <SECONDS>": "Answer GaveUp to operations that wait for SECONDS, up to 86400; 0 = never [default: 0]",
+    "--open <SECONDS>": "Close connections whose transaction is open for SECONDS, up to 86400; 0 = never [default: 0]",
+    "--idle <SECONDS>": "Close connections idle for SECONDS, up to 86400; 0 = never [default: 0]",
+    "--admin <ADDR>": "Serve the operator's page, JSON and metrics by HTTP at this IP address and port",
+    "--until-eof": "Shut down when standard input ends; not with `&`, `nohup` or `< /dev/null`",
     "-h, --help": "Print help",
     "-V, --version": "Print version",
 }
@@ -108,35 +108,37 @@ OF_A_RUN = ("-v, --verbose", "--hash <HASH>", "--trace <FILE>")
 # Of each subcommand: what it does, its argument, its options in their order, and words of the example below them.
 HELP = {
     "solo": (
-        "Runs the scripts of FILE one after another, and prints what each was told.",
+        "Run the scripts of FILE one after another, and print the replies",
         *("<FILE>", OF_A_RUN, "solo scripts.txt"),
     ),
     "steps": (
-        "Runs the schedule of FILE, step by step, and prints what each event was told, and then the base.",
+        "Replay a schedule of interleaved transactions step by step; print each answer and the committed state",
         *("<FILE>", (*OF_A_RUN, "--explain"), "steps schedule.txt"),
     ),
     "run": (
-        "Runs the scripts of FILE side by side, those of a client one after another, and prints what each was told, and then "
-        "the base.",
+        "Run the scripts of FILE side by side in threads; print the replies and the committed state",
         *("<FILE>", (*OF_A_RUN, "--workers <N>", "--tries <N>"), "run scripts.txt --workers 2 --trace trace.txt"),
     ),
     "check": (
-        "Checks the trace of FILE: whether its transactions, run alone in the order of their commits, are told the same.",
+        "Check a trace: run its committed transactions again, in commit order, and compare every reply",
         *("<FILE>", ("-v, --verbose", "--long"), "check trace.txt"),
     ),
     "serve": (
-        "Listens on ADDR, and serves connections: each is a session of lines, and each line has its answer.",
-        "<ADDR>",
-        (
-            *(*OF_A_RUN, "--endless", "--sessions <N>", "--limit <N>", "--tries <N>", "--idle <SECONDS>", "--wait <SECONDS>"),
-            *("--open <SECONDS>", "--full <FULL>", "--admin <ADDR>", "--until-eof"),
-        ),
-        "serve 127.0.0.1:7000 --limit 2",
+        "Listen on ADDR and serve clients, which send lines and get an answer to each",
+        *("<ADDR>", OF_A_RUN, "serve 127.0.0.1:7000 --limit 2"),
     ),
     "tables": (
-        "Prints which operations conflict: the conflict tables, and an example of each conflict in both orders.",
+        "Print which operations conflict, with an example of each conflict",
         *("[TABLE]", ("-v, --verbose",), "tables counter"),
     ),
+}
+# The groups of options that follow the others.
+GROUPS = {
+    "serve": {
+        "Connections": ("--endless", "--limit <N>", "--sessions <N>", "--full <FULL>"),
+        "Waits and timeouts": ("--tries <N>", "--wait <SECONDS>", "--open <SECONDS>", "--idle <SECONDS>"),
+        "Operation": ("--admin <ADDR>", "--until-eof"),
+    },
 }
 # What the help has to say below that.
 BELOW = {
@@ -147,18 +149,18 @@ BELOW = {
 }
 
 
-def in_columns(rows):
+def in_columns(rows: Iterable[tuple[str, str]]) -> str:
     """Rows of two columns, below each other. A long option without a short one stands below the others."""
     begun = [(f"    {name}" if name.startswith("--") else name, text) for name, text in rows]
     width = max(len(name) for name, _ in begun)
     return "".join(f"  {name:{width}}  {text}\n" for name, text in begun)
 
 
-def options_text(names):
-    return "Options:\n" + in_columns((name, OF_OPTIONS[name]) for name in names)
+def options_text(names: Iterable[str], heading: str = "Options") -> str:
+    return f"{heading}:\n" + in_columns((name, OF_OPTIONS[name]) for name in names)
 
 
-def is_help(mltx, ways, begin):
+def is_help(mltx: Program, ways: Sequence[tuple[str, ...]], begin: str) -> str:
     """The same text by each way to ask for it, on standard output, and it begins with this one."""
     told = [mltx.run(*words) for words in ways]
     for words, ran in zip(ways, told):
@@ -168,30 +170,31 @@ def is_help(mltx, ways, begin):
 
 
 @each({f"help-{name}": name for name in HELP})
-def help_text(mltx, name):
+def help_text(mltx: Program, name: str) -> None:
     about, argument, options, example = HELP[name]
     begin = f"{about}\n\nUsage: mltx {name} [OPTIONS] {argument}\n\n"
     begin += f"Arguments:\n  {argument}  {OF_ARGUMENTS[argument]}\n\n"
-    begin += options_text((*options, "-h, --help")) + f"\nExample: mltx {example}\n"
+    groups = [options_text((*options, "-h, --help")), *(options_text(row, group) for group, row in GROUPS.get(name, {}).items())]
+    begin += "\n".join(groups) + f"\nExample: mltx {example}\n"
     told = is_help(mltx, [(name, "--help"), (name, "-h"), ("help", name)], begin)
     missing = [text for text in BELOW.get(name, ()) if text not in told]
     holds(not missing, f"the help of {name} does not name {missing}:\n{told}")
 
 
 @test
-def help_of_all(mltx):
+def help_of_all(mltx: Program) -> None:
     help_itself = ("help", "Print this message or the help of the given subcommand(s)")
     commands = in_columns([*((name, about) for name, (about, *_) in HELP.items()), help_itself])
-    begin = "Runs transactions on accounts, sets and counters, and checks traces of what they did.\n\n"
+    begin = "Run transactions on accounts, sets and counters, and check traces of them\n\n"
     begin += f"Usage: mltx [OPTIONS] <COMMAND>\n\nCommands:\n{commands}\n"
     begin += options_text(("-v, --verbose", "-h, --help", "-V, --version"))
-    begin += "\nWith no words at all it is `solo -`: the scripts are read from standard input.\n\n"
+    begin += "\nWithout arguments, `mltx` reads scripts from standard input, like `mltx solo -`.\n\n"
     begin += "Example: mltx solo scripts.txt\n"
     same(is_help(mltx, [("--help",), ("-h",), ("help",)], begin), begin)
 
 
 @test
-def help_is_told_where_words_are_missing(mltx):
+def help_is_told_where_words_are_missing(mltx: Program) -> None:
     """Help counts also where FILE or ADDR is missing, or where an option stands before it."""
     for words in (("solo", "--hash", "low", "--help"), ("run", "--workers", "2", "-h"), ("serve", "--help")):
         ran = mltx.run(*words)
@@ -200,13 +203,13 @@ def help_is_told_where_words_are_missing(mltx):
 
 
 @test
-def version(mltx):
+def version(mltx: Program) -> None:
     for word in ("--version", "-V"):
         expect(mltx.run(word, given=FIRST_RUN), out=f"mltx {VERSION}\n", what=word)
 
 
 @test
-def examples_of_the_help_are_true(mltx):
+def examples_of_the_help_are_true(mltx: Program) -> None:
     """The text on the left of the help's example gives what stands on its right."""
     for subcommand in ("solo", "steps", "run", "check"):
         told = mltx.run(subcommand, "--help").out.decode()
@@ -217,7 +220,7 @@ def examples_of_the_help_are_true(mltx):
         expect(mltx.run(subcommand, *options, file), out=right, what=f"{subcommand} of the help's {left!r}")
 
 
-def columns(example):
+def columns(example: str) -> list[str]:
     """The two columns of an example, below the line that names the second one."""
     head, _, rows = example.partition("standard output\n")
     place = len(head.splitlines()[-1]) if not head.endswith("\n") else 0
@@ -352,7 +355,7 @@ NUMBERS = {
 }
 
 
-def is_wrong(mltx, words, said):
+def is_wrong(mltx: Program, words: Sequence[str], said: str) -> None:
     """Status 2, nothing on standard output, and on standard error what is wrong."""
     mltx.file("a.txt", FIRST_RUN)
     ran = mltx.run(*words, given=FIRST_RUN)
@@ -361,19 +364,19 @@ def is_wrong(mltx, words, said):
 
 
 @each({f"wrong-{name}": case for name, case in WRONG.items()})
-def wrong_words(mltx, case):
+def wrong_words(mltx: Program, case: tuple[tuple[str, ...], str]) -> None:
     is_wrong(mltx, *case)
 
 
 @each({f"told-wholly-{name}": case for name, case in WHOLLY.items()})
-def wrong_words_wholly(mltx, case):
+def wrong_words_wholly(mltx: Program, case: tuple[tuple[str, ...], str]) -> None:
     words, said = case
     mltx.file("a.txt", FIRST_RUN)
     expect(mltx.run(*words), status=2, err=f"error: {said}\n\nFor more information, try '--help'.\n", what=" ".join(words))
 
 
 @each({f"numbers-of-{name}": (name.split("-")[0], *case) for name, case in NUMBERS.items()})
-def numbers_out_of_range(mltx, case):
+def numbers_out_of_range(mltx: Program, case: tuple[str, str, int, int, str]) -> None:
     """One less than the least number, one more than the greatest, and what is no number, are refused."""
     option, subcommand, least, most, rest = case
     for number in (least - 1, most + 1, f"{least - 1:02}", "-1", "two", "1.0", "", 2**64 + 1, "1 "):
@@ -381,7 +384,7 @@ def numbers_out_of_range(mltx, case):
 
 
 @each({f"negative-{name}": (name.split("-")[0], *case) for name, case in NUMBERS.items()})
-def negative_number_behind_an_option(mltx, case):
+def negative_number_behind_an_option(mltx: Program, case: tuple[str, str, int, int, str]) -> None:
     """It is the number that is wrong, and nothing is suggested."""
     option, subcommand, least, most, rest = case
     for words in ((f"--{option}", "-1", rest), (rest, f"--{option}", "-007")):
@@ -390,7 +393,7 @@ def negative_number_behind_an_option(mltx, case):
 
 
 @test
-def greatest_numbers_of_workers_and_tries(mltx):
+def greatest_numbers_of_workers_and_tries(mltx: Program) -> None:
     file = mltx.file("a.txt", FIRST_RUN)
     for workers in range(1, 9):
         for tries in (1, 1_000_000):
@@ -399,7 +402,7 @@ def greatest_numbers_of_workers_and_tries(mltx):
 
 
 @test
-def numbers_of_a_server(mltx):
+def numbers_of_a_server(mltx: Program) -> None:
     """The least and the greatest number of sessions, of tries and of each time, and a limit of a million."""
     most = ("--sessions", 64, "--tries", 1_000_000, "--idle", 86_400, "--wait", 86_400, "--open", 86_400)
     least = ("--sessions=1", "--tries", "007", "--hash", "low", "--idle=0", "--wait=0", "--open=0")
@@ -421,7 +424,7 @@ OF_A_SERVER = {
 
 
 @each(OF_A_SERVER)
-def options_of_a_server(mltx, options):
+def options_of_a_server(mltx: Program, options: tuple[str, ...]) -> None:
     """They are right behind ADDR and before it: there ADDR is found wrong, and they are not."""
     with mltx.serve(*options) as server:
         same(server.talk("begin\nquit\n"), b"begun 1\nbye\n", f"serve {options}")
@@ -433,7 +436,7 @@ def options_of_a_server(mltx, options):
 
 
 @test
-def server_ends_with_its_standard_input(mltx):
+def server_ends_with_its_standard_input(mltx: Program) -> None:
     """With `--until-eof`, before ADDR or behind it, and nothing on standard input, no connection is waited for."""
     for words in (("127.0.0.1:0", "--until-eof"), ("--until-eof", "127.0.0.1:0", "--full=refuse", "--wait", 1)):
         ran = mltx.run("serve", "--limit", 1_000_000, *words)
@@ -441,14 +444,14 @@ def server_ends_with_its_standard_input(mltx):
 
 
 @test
-def one_connection_is_served_without_a_limit(mltx):
+def one_connection_is_served_without_a_limit(mltx: Program) -> None:
     with mltx.serve(limit=None) as server:
         same(server.talk("begin\nquit\n"), b"begun 1\nbye\n")
         expect(server.end(), out="served 1\n")
 
 
 @test
-def wrong_words_come_before_all_else(mltx):
+def wrong_words_come_before_all_else(mltx: Program) -> None:
     """A file that is not there, a faulty text or an address in use is not looked at where words are wrong."""
     faulty = mltx.file("faulty", "opn\n")
     for words in (
@@ -461,7 +464,7 @@ def wrong_words_come_before_all_else(mltx):
 
 
 @test
-def status_is_told_where_nothing_can_be_written(mltx):
+def status_is_told_where_nothing_can_be_written(mltx: Program) -> None:
     """Where standard error is closed or full the status is the same."""
     faulty = mltx.file("faulty", "opn\n")
     for words, status in ((("play",), 2), (("solo", faulty), 1), (("solo", "missing"), 1), (("check", faulty), 1)):

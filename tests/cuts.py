@@ -5,10 +5,11 @@ its line is written. The model reads texts on its own, by docs/LANGUAGE.md and d
 signal, that writes a part before it finds the fault, that names another line or cause, or that drops a cut line, fails here."""
 import itertools
 import random
+from collections.abc import Callable, Iterable
 
 import harness
 import model
-from harness import each, expect, holds, same, test
+from harness import Program, each, expect, holds, same, test
 from random_work import told_in, watched_schedule
 
 # Each form of each text stands in one of these.
@@ -96,26 +97,27 @@ abort 21
 """
 
 
-def cuts_of(text):
+def cuts_of(text: bytes) -> list[bytes]:
     """The text up to each of its bytes."""
     return [text[:end] for end in range(len(text) + 1)]
 
 
-def changed(text):
+def changed(text: bytes) -> list[bytes]:
     """The text with another byte in one place, or one byte more or less, some hundreds of times."""
-    dice, texts = random.Random(f"{harness.SEED} {text}"), []
+    dice, texts = random.Random(f"{harness.SEED} {text!r}"), list[bytes]()
     for _ in range(300 * harness.CASES):
         place, byte = dice.randrange(len(text)), dice.choice(b"0123456789 abis#\t\r\n\0\x7f\xff" + text)
-        texts.append(text[:place] + bytes(dice.choice(([byte], [byte], [], [byte, text[place]]))) + text[place + 1 :])
+        new: list[int] = dice.choice([[byte], [byte], [], [byte, text[place]]])
+        texts.append(text[:place] + bytes(new) + text[place + 1 :])
     return texts
 
 
-def solo(mltx, given):
+def solo(mltx: Program, given: bytes) -> None:
     scripts = model.parse(given)
     expect(mltx.run("solo", "-", given=given), out=model.solo(scripts, model.Base()))
 
 
-def run(mltx, given):
+def run(mltx: Program, given: bytes) -> None:
     """One worker runs the scripts one after another; of several clients any may be the first."""
     scripts = model.parse(given)
     ran = mltx.run("run", "--workers", 1, "-", given=given)
@@ -125,7 +127,7 @@ def run(mltx, given):
     holds(ran.out.decode() in lawful, f"{ran}\nwanted one of {lawful}")
 
 
-def run_of(scripts, clients, order):
+def run_of(scripts: list[model.Script], clients: list[int], order: Iterable[int]) -> str:
     """What `run` writes where the clients run one after another in this order."""
     base, written, commits = model.Base(), {client: "" for client in clients}, 0
     for client in order:
@@ -137,7 +139,7 @@ def run_of(scripts, clients, order):
     return "".join(written.values()) + base.text()
 
 
-def steps(mltx, given):
+def steps(mltx: Program, given: bytes) -> None:
     """The answers are those that the tables and the locks allow, and the base is that of what committed."""
     events = model.read_events(given)
     ran = mltx.run("steps", "--trace", "trace", "-", given=given)
@@ -145,15 +147,17 @@ def steps(mltx, given):
     watched_schedule(mltx, events, ran.out.decode().splitlines(), low=False)
 
 
-def check(mltx, given):
+def check(mltx: Program, given: bytes) -> None:
     said = model.check(given)
     expect(mltx.check(given), out=said)
 
 
-COMMANDS = {"solo": (solo, SCRIPTS), "run": (run, SCRIPTS), "steps": (steps, SCHEDULE), "check": (check, TRACE)}
+Answered = Callable[[Program, bytes], None]
+COMMANDS: dict[str, tuple[Answered, bytes]] = {"solo": (solo, SCRIPTS), "run": (run, SCRIPTS)}
+COMMANDS |= {"steps": (steps, SCHEDULE), "check": (check, TRACE)}
 
 
-def right_or_faulty(mltx, name, answered, texts):
+def right_or_faulty(mltx: Program, name: str, answered: Answered, texts: list[bytes]) -> None:
     """Each text has the answer that the model gives, or the fault that it finds."""
     for number, given in enumerate(texts):
         with told_in(name, number, given):
@@ -165,13 +169,13 @@ def right_or_faulty(mltx, name, answered, texts):
 
 
 @each({f"{name}-of-a-text-cut-after-each-byte": (name, *case) for name, case in COMMANDS.items()}, seconds=3)
-def cut_after_each_byte(mltx, case):
+def cut_after_each_byte(mltx: Program, case: tuple[str, Answered, bytes]) -> None:
     name, answered, whole = case
     right_or_faulty(mltx, name, answered, cuts_of(whole))
 
 
 @each({f"{name}-of-a-text-with-one-byte-changed": (name, *case) for name, case in COMMANDS.items()}, seconds=3)
-def one_byte_changed(mltx, case):
+def one_byte_changed(mltx: Program, case: tuple[str, Answered, bytes]) -> None:
     name, answered, whole = case
     right_or_faulty(mltx, name, answered, changed(whole))
 
@@ -179,10 +183,10 @@ def one_byte_changed(mltx, case):
 class Service:
     """A small model of what sessions one after another are answered."""
 
-    def __init__(self):
+    def __init__(self) -> None:
         self.base, self.begun, self.commits, self.open = model.Base(), 0, 0, False
 
-    def session(self, given):
+    def session(self, given: bytes) -> str:
         """The answers to a session that ends after these bytes."""
         answers = []
         for line in given.split(b"\n")[:-1]:
@@ -194,11 +198,11 @@ class Service:
         self._end(self.base.undo)
         return "".join(answer + "\n" for answer in answers)
 
-    def _end(self, how):
+    def _end(self, how: Callable[[], None]) -> None:
         how()
         self.open = False
 
-    def _answer(self, words):
+    def _answer(self, words: list[str]) -> str:
         op = model.read_op(words)
         if words == ["quit"]:
             return "bye"
@@ -238,7 +242,7 @@ open 2
 
 
 @test(seconds=1)
-def sessions_cut_after_each_byte(mltx):
+def sessions_cut_after_each_byte(mltx: Program) -> None:
     """Each is answered line by line; a line that is cut is none, and what is open then is taken back."""
     service, texts = Service(), cuts_of(SESSION)
     with mltx.serve("--sessions", 1, "--trace", "trace", limit=len(texts)) as server:

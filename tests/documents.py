@@ -10,7 +10,7 @@ from pathlib import Path
 from urllib.parse import unquote
 from urllib.request import urlopen
 
-from harness import ROOT, VERSION, each, free_address, holds, same, test
+from harness import ROOT, VERSION, Program, each, free_address, holds, match, same, test
 
 LINK = re.compile(r"\]\(([^)\s]+)\)")
 # A link to a line of code: the name that is defined there, the file and the line.
@@ -19,32 +19,32 @@ LINE_LINK = re.compile(r"\[`(?:\w+::)?(\w+)`\]\(([^)\s#]+)#L(\d+)\)")
 NAME_LINK = re.compile(r"\[`(\w+)`\]\(\.\./crates/(\w+)/([^)\s#]+)\)")
 
 
-def pages():
+def pages() -> dict[Path, str]:
     """The documents of the repository, with their texts."""
     found = [*ROOT.glob("*.md"), *(ROOT / "docs").glob("*.md"), *(ROOT / "examples").glob("*.md")]
     return {page: page.read_text() for page in [*found, *(ROOT / "clients").glob("*/README.md")]}
 
 
-def anchors(text):
+def anchors(text: str) -> set[str]:
     """The names by which links lead to the headings of a document."""
     headings = re.findall(r"(?m)^#+ (.+)$", re.sub(r"(?ms)^```.*?^```", "", text))
     plain = [re.sub(r"\[([^\]]*)\]\([^)]*\)", r"\1", heading).lower() for heading in headings]
     return {re.sub(r"[^\w\- ]", "", heading).strip().replace(" ", "-") for heading in plain}
 
 
-def output_of(tool, *words):
+def output_of(tool: str, *words: str | Path) -> str:
     """What a tool of the repository prints."""
     return subprocess.run([ROOT / "tools" / tool, *words], capture_output=True, text=True, check=True, cwd=ROOT).stdout
 
 
-def in_text(words):
+def in_text(words: str) -> str:
     """A pattern of these words in a text, wherever its lines are broken."""
     return r"\s+".join(map(re.escape, words.split()))
 
 
-def blocks_of(text):
+def blocks_of(text: str) -> list[tuple[str, str]]:
     """The indented blocks of a document, without their indents, each with the paragraph before it."""
-    found, paragraph, block, is_new = [], "", [], True
+    found, paragraph, block, is_new = list[tuple[str, str]](), "", list[str](), True
     for line in [*text.splitlines(), "the end"]:
         if line.startswith("    ") or block and not line:
             block.append(line[4:])
@@ -57,13 +57,13 @@ def blocks_of(text):
     return found
 
 
-def commands_of(block):
+def commands_of(block: str) -> list[tuple[list[str], str]]:
     """What a block shows of commands, each behind a dollar: its words, and the text that it writes."""
     return [(line.split(), wanted) for line, wanted in re.findall(r"(?m)^\$ (.*)\n((?:(?!\$ ).*\n)*)", block)]
 
 
 @test
-def each_link_leads_to_a_file_and_a_heading(_mltx):
+def each_link_leads_to_a_file_and_a_heading(_mltx: Program) -> None:
     """A file that moved or a heading that was renamed fails."""
     lost, texts = [], pages()
     headings = {page: anchors(text) for page, text in texts.items()}
@@ -80,7 +80,7 @@ def each_link_leads_to_a_file_and_a_heading(_mltx):
 
 
 @test
-def each_link_to_a_line_leads_to_what_it_names(_mltx):
+def each_link_to_a_line_leads_to_what_it_names(_mltx: Program) -> None:
     """A function that moved to another line fails. README links the line of `play`, whose contract is the main theorem."""
     for page, text in pages().items():
         for name, path, number in LINE_LINK.findall(text):
@@ -90,13 +90,13 @@ def each_link_to_a_line_leads_to_what_it_names(_mltx):
     same(linked, [("play", "crates/mlt_manager/src/manager.rt")], "the lines that README links")
 
 
-def defines(text, name):
+def defines(text: str, name: str) -> bool:
     """Whether a file of code or of definitions defines the name."""
-    return re.search(rf"(?m)^\s*(?:(?:pub|unfoldable|abbrev|fn|trait|struct|enum|record|data)\s+)+{name}\b", text)
+    return bool(re.search(rf"(?m)^\s*(?:(?:pub|unfoldable|abbrev|fn|trait|struct|enum|record|data)\s+)+{name}\b", text))
 
 
 @test
-def each_name_of_the_concepts_is_defined(_mltx):
+def each_name_of_the_concepts_is_defined(_mltx: Program) -> None:
     """A name in code is defined in the file that it links. What else is set as code stands so in
     the pages on formats, as a word of a script, a reply, a refusal or a command."""
     text = (ROOT / "docs/CONCEPTS.md").read_text()
@@ -114,43 +114,43 @@ def each_name_of_the_concepts_is_defined(_mltx):
 
 
 @test
-def the_main_theorem_stands_in_three_documents(_mltx):
+def the_main_theorem_stands_in_three_documents(_mltx: Program) -> None:
     """Word for word it stands in README, where it is explained, and above its whole text. Elsewhere it is linked."""
     texts = {page.relative_to(ROOT): " ".join(text.replace("\n> ", "\n").split()).lower() for page, text in pages().items()}
-    theorem = re.search(r"\*\*(after any list of [^*]*)\.\*\*", texts[(ROOT / "README.md").relative_to(ROOT)])[1]
+    theorem = match(r"\*\*(after any list of [^*]*)\.\*\*", texts[(ROOT / "README.md").relative_to(ROOT)])[1]
     found = sorted(str(page) for page, text in texts.items() if theorem in text)
     same(found, ["README.md", "docs/HEADLINE.md", "docs/THEOREM.md"], "where it stands")
 
 
 @test
-def each_group_of_tests_is_told_of(_mltx):
+def each_group_of_tests_is_told_of(_mltx: Program) -> None:
     """A file of tests that docs/DEVELOPING.md has no line for fails."""
     linked = re.findall(r"\]\(\.\./tests/(\w+)\.py\)", (ROOT / "docs/DEVELOPING.md").read_text())
     same(sorted(set(linked)), sorted(file.stem for file in (ROOT / "tests").glob("*.py")), "the files of tests")
 
 
 @test
-def the_map_of_the_crates_is_that_of_their_list(_mltx):
+def the_map_of_the_crates_is_that_of_their_list(_mltx: Program) -> None:
     """The table of crates in ARCHITECTURE is what tools/crate-map makes of crates.txt and the comments of the crates."""
     text, made = (ROOT / "docs/ARCHITECTURE.md").read_text(), output_of("crate-map")
-    table = re.search(r"(?ms)^\| Crate \| What it does .*?\n(?=\n)", text)[0]
+    table = match(r"(?ms)^\| Crate \| What it does .*?\n(?=\n)", text)[0]
     same(table.splitlines(), made.splitlines(), "the table")
     crates = re.findall(r"(?m)^(\w+):", (ROOT / "crates.txt").read_text())
     same(re.findall(r"(?m)^\| \[`(\w+)`\]\(\S+\) \| \S", table), crates, "the crates with a comment")
     same(sorted(crates), sorted(folder.name for folder in (ROOT / "crates").iterdir()), "the folders of crates")
 
 
-def linked_libraries(kit):
+def linked_libraries(kit: Path | None) -> set[str]:
     """The libraries that `mltx` is linked from, without the standard library and what that uses. Without a kit, those alone
     that rows of crates.txt name."""
-    rows = dict(re.findall(r"(?m)^(\w+):(.*)$", (ROOT / "crates.txt").read_text()))
+    rows: dict[str, str] = dict(re.findall(r"(?m)^(\w+):(.*)$", (ROOT / "crates.txt").read_text()))
 
-    def below(name):
+    def below(name: str) -> list[str]:
         if name in rows:
             return rows[name].split()
         return re.findall(r"(?m)^dep (\w+)$", (kit / f"rlibs/{name}.rlib/format").read_text()) if kit else []
 
-    def reached(names):
+    def reached(names: list[str]) -> set[str]:
         found = list(names)
         for name in found:
             found += [it for it in below(name) if it not in found]
@@ -160,7 +160,7 @@ def linked_libraries(kit):
 
 
 @test
-def edits_that_must_fail_are_counted(_mltx):
+def edits_that_must_fail_are_counted(_mltx: Program) -> None:
     """How many edits there are, in all and of the crates of the table of costs, as DEVELOPING says."""
     developing = (ROOT / "docs/DEVELOPING.md").read_text()
     rows = re.findall(r"(?m)^\| `?(\w+)`? \|.*\| (\d+) \|$", developing.partition("### What it costs")[2])
@@ -170,7 +170,7 @@ def edits_that_must_fail_are_counted(_mltx):
 
 
 @test
-def each_library_that_is_trusted_is_named(_mltx):
+def each_library_that_is_trusted_is_named(_mltx: Program) -> None:
     """THEOREM names just the libraries of the kit that the program is linked from: where a row of crates.txt, or such a library,
     takes up another one, it fails. On a machine without the kit only the rows are read."""
     section = (ROOT / "docs/THEOREM.md").read_text().partition("## What one has to trust")[2].partition("\n## ")[0]
@@ -182,9 +182,9 @@ def each_library_that_is_trusted_is_named(_mltx):
 
 
 @test
-def the_rooms_are_those_of_the_list(_mltx):
+def the_rooms_are_those_of_the_list(_mltx: Program) -> None:
     """Each room of crates.txt has its promise in ARCHITECTURE, in the same order, and each crate stands in its own room."""
-    known, room = {}, None
+    known, room = dict[str, list[str]](), ""
     for line in (ROOT / "crates.txt").read_text().splitlines():
         room = found[1] if (found := re.match(r"# (\w+): ", line)) else room
         if crate := re.match(r"\w+(?=:)", line):
@@ -197,19 +197,17 @@ def the_rooms_are_those_of_the_list(_mltx):
 
 
 @test
-def lines_of_the_headline_are_counted(_mltx):
-    """README and THEOREM have the counts of tools/headline-lines."""
-    counted = output_of("headline-lines")
-    *parts, views = re.findall(r"(?m)^ +(\d+) lines$", counted)
-    total = re.search(r"(\d+) lines of definitions in all", counted)[1]
-    same(str(sum(map(int, parts))), total, "the sum of the parts")
+def lines_of_the_headline_are_counted(_mltx: Program) -> None:
+    """README and THEOREM have the counts of tools/headline-lines, those of part one and of part two."""
+    counts = re.findall(r"(?m)^ +(\d+) lines$", output_of("headline-lines"))
+    same(len(counts), 2, "the parts")
     readme, theorem = ((ROOT / page).read_text() for page in ("README.md", "docs/THEOREM.md"))
-    said = re.findall(r"\[(\d+)\s+lines\s+of\s+definitions\s+and\s+(\d+)\s+lines\s+of\s+views\]", readme)
-    same(said, [(total, views)], "the lines in README")
-    same(set(re.findall(r"(\d+)\s+lines", theorem)), {views}, "the lines in THEOREM")
+    said = re.findall(r"\[(\d+)\s+(?:lines\s+of\s+definitions|more)\]\(docs/HEADLINE", readme)
+    same(said, counts, "the lines in README")
+    same(re.findall(r"(\d+)\s+lines", theorem), counts, "the lines in THEOREM")
 
 
-def is_written_by(page, tool, *words):
+def is_written_by(page: Path, tool: str, *words: str) -> None:
     """The document is what the tool prints."""
     written, ran = page.read_text(), subprocess.run([ROOT / "tools" / tool, *words], capture_output=True, text=True)
     holds(not ran.returncode, ran.stderr)
@@ -219,26 +217,26 @@ def is_written_by(page, tool, *words):
 
 
 @test
-def figures_are_those_that_were_measured(_mltx):
+def figures_are_those_that_were_measured(_mltx: Program) -> None:
     """PERFORMANCE has ten rows of bench/results. README, CONCEPTS and the picture have figures of these files."""
     is_written_by(ROOT / "docs/PERFORMANCE.md", "results")
     same(len(re.findall(r"(?m)^\| \w+: .*\|$", (ROOT / "docs/PERFORMANCE.md").read_text())), 10, "the rows")
     known = {group: list(csv.DictReader((ROOT / f"bench/results/{group}.csv").read_text().splitlines()))
              for group in ("hotspots", "serve", "connections", "hot")}
 
-    def commits(clients):
+    def commits(clients: int) -> dict[str, float]:
         workload = f"{clients} clients, a hot counter, 2 ms to think, 10 % aborted"
         rows = [row for row in known["hotspots"] if row["workload"] == workload]
         return {"mltx": float(rows[0]["value"]), **{row["compared with"]: float(row["other value"]) for row in rows}}
 
     readme, concepts = ((ROOT / page).read_text() for page in ("README.md", "docs/CONCEPTS.md"))
-    wanted, gap = commits(32), r"\D+"
-    wanted = [f"{wanted[name]:,.0f}" for name in ("mltx", "PostgreSQL", "Redis WATCH")]
-    same(re.search(rf"`mltx` commits ([\d,]+){gap}PostgreSQL (\d+){gap}(\d+)\.", readme).groups(), tuple(wanted), "README")
-    same(re.search(rf"`mltx` commits ([\d,]+){gap}PostgreSQL (\d+)", concepts).groups(), tuple(wanted[:2]), "CONCEPTS")
+    rates, gap = commits(32), r"\D+"
+    wanted = tuple(f"{rates[name]:,.0f}" for name in ("mltx", "PostgreSQL", "Redis WATCH"))
+    same(match(rf"`mltx` commits ([\d,]+){gap}PostgreSQL (\d+){gap}(\d+)\.", readme).groups(), wanted, "README")
+    same(match(rf"`mltx` commits ([\d,]+){gap}PostgreSQL (\d+)", concepts).groups(), wanted[:2], "CONCEPTS")
     others = [row for group in ("serve", "connections", "hot") for row in known[group]]
     ratios = [float(row["ratio"]) for row in others if row["compared with"] == "Redis"]
-    said = re.search(r"`serve` reached ([\d.]+) to ([\d.]+) times the rate of Redis", " ".join(readme.split()))
+    said = match(r"`serve` reached ([\d.]+) to ([\d.]+) times the rate of Redis", " ".join(readme.split()))
     same(said.groups(), (f"{min(ratios):.2f}", f"{max(ratios):.1f}"), "the range in README")
     drawn = dict(re.findall(r">([\w ]+): ([\d,]+)<", (ROOT / "docs/pictures/hotspots.svg").read_text()))
     same(drawn.pop("no lock"), "14,400", "the limit in the picture")
@@ -246,35 +244,33 @@ def figures_are_those_that_were_measured(_mltx):
 
 
 @test
-def the_text_of_the_headline_is_that_of_its_files(_mltx):
+def the_text_of_the_headline_is_that_of_its_files(_mltx: Program) -> None:
     """HEADLINE is what tools/headline-lines makes of the definitions. One that was changed in its file alone fails."""
     is_written_by(ROOT / "docs/HEADLINE.md", "headline-lines", "--text")
 
 
 @test
-def each_definition_that_counts_is_shown_once(_mltx):
-    """In HEADLINE stand just the names that tools/headline-lines counts, each once in a block of its file, and as many lines:
-    one that is left out, cut off or shown twice fails. Of a Model only the view counts, and not its first line and its end. A
-    call that reads a view is one of the names."""
-    counted = output_of("headline-lines")
-    listed = [(path, name) for path, names in re.findall(r"(?m)^ +\d+ (\S+): (.*)$", counted) for name in names.split()]
-    wanted = [(path, name.removeprefix("fn:")) for path, name in listed]
-    blocks = re.findall(r"(?ms)^\[(\S+)\]\(\.\./crates/\1\)\n\n```\w+\n(.*?)^```$", (ROOT / "docs/HEADLINE.md").read_text())
-    starts = {"rt": r"(?m)^(?:pub(?:\(crate\))? )?(?:enum|struct|type|fn) (\w+)",
+def each_definition_that_counts_is_shown_once(_mltx: Program) -> None:
+    """In each part of HEADLINE stand just the names that tools/headline-lines counts in it, each once in a block of its file, and
+    as many lines: one that is left out, cut off or shown twice fails."""
+    text, counted = (ROOT / "docs/HEADLINE.md").read_text(), output_of("headline-lines")
+    starts = {"rt": r"(?m)^(?:pub )?(?:enum|struct|fn) ([\w:]+)",
               "antt": r"(?m)^(?:abbrev |unfoldable )?pub (?:record |data )?([^\s:]+)"}
-    shown = [(path, name) for path, code in blocks for name in re.findall(starts[path.rpartition(".")[2]], code)]
-    same(sorted(shown), sorted(wanted), "the definitions that are shown")
-    code = [re.sub(r"(?ms)^impl\b[^\n]*\n(.*?)^}$", r"\1", block) for _, block in blocks]
-    lines = [line for block in code for line in block.splitlines() if line.strip()]
-    same(len(lines), sum(map(int, re.findall(r"(?m)^ +(\d+) lines$", counted))), "the lines that are shown")
+    for title, rows, lines in re.findall(r"(?ms)^(Part [^\n]*):\n(.*?)^ +(\d+) lines$", counted):
+        part = text.partition(f"\n## {title}\n")[2].partition("\n## ")[0]
+        wanted = [(path, name) for path, names in re.findall(r"(?m)^ +\d+ (\S+): (.*)$", rows) for name in names.split()]
+        blocks = re.findall(r"(?ms)^\[(\S+)\]\(\.\./crates/\1\)\n\n```\w+\n(.*?)^```$", part)
+        shown = [(path, name) for path, code in blocks for name in re.findall(starts[path.rpartition(".")[2]], code)]
+        same(shown, wanted, f"the definitions of {title}")
+        same(len([line for _, code in blocks for line in code.splitlines() if line]), int(lines), f"the lines of {title}")
 
 
 @test
-def definitions_are_printed_and_linked(mltx):
+def definitions_are_printed_and_linked(mltx: Program) -> None:
     """tools/definitions prints one with its place, its comment and the names that it uses. On its pages each link leads to a
     definition, and each definition of specs/ has its place."""
     path = ROOT / "crates/mlt_manager/specs/Events.antt"
-    code = re.search(r"(?m)(?:^--.*\n)+pub record Plays(?:.+\n)+", path.read_text())[0]
+    code = match(r"(?m)(?:^--.*\n)+pub record Plays(?:.+\n)+", path.read_text())[0]
     printed, line = output_of("definitions", "Plays"), path.read_text().partition("pub record Plays ")[0].count("\n") + 1
     shown, _, used = printed.partition("\n\nuses\n")
     same(shown.replace("\n    ", "\n"), f"{path.relative_to(ROOT)}:{line}\n\n{code.rstrip()}", "what is printed")
@@ -294,7 +290,7 @@ PAGES_WITH_COMMANDS = ("README.md", "docs/TUTORIAL.md", "docs/CLI.md")
 
 
 @each({f"commands-of-{page.rpartition('/')[2].partition('.')[0].lower()}": page for page in PAGES_WITH_COMMANDS})
-def page_shows_what_is_written(mltx, page):
+def page_shows_what_is_written(mltx: Program, page: str) -> None:
     """Each command of `mltx` writes what the page shows, on both outputs, in a folder with the files that the page shows before:
     a block is a file where the paragraph before it ends with its name and a colon. Scripts side by side are run by one worker."""
     for paragraph, block in blocks_of((ROOT / page).read_text()):
@@ -309,22 +305,22 @@ def page_shows_what_is_written(mltx, page):
                 same((ran.out + ran.err).decode(), wanted, " ".join(words))
 
 
-def columns_of(page):
+def columns_of(page: str) -> list[list[str]]:
     """The two columns of the first block of a page: the lines that go in, and those that come out."""
     rows = [re.split(" {2,}", line) for line in blocks_of((ROOT / page).read_text())[0][1].splitlines()]
     return [[row[at] for row in rows if row[at:] and row[at]] for at in (0, 1)]
 
 
 @test
-def schedules_begin_with_a_schedule(mltx):
+def schedules_begin_with_a_schedule(mltx: Program) -> None:
     """SCHEDULES shows a schedule and the answers, and says below what follows them."""
     left, right = columns_of("docs/SCHEDULES.md")
     ran = mltx.run("steps", "-", given="".join(f"{line}\n" for line in left))
-    same(ran.out.decode().splitlines(), [*right, "account 101 7", "depth 0"], "the answers")
+    same(ran.out.decode().splitlines(), [*right, "account 101 70", "depth 0"], "the answers")
 
 
 @test
-def protocol_begins_with_a_session(mltx):
+def protocol_begins_with_a_session(mltx: Program) -> None:
     """Lines and answers, over a connection of a server whose only option is its address."""
     left, right = columns_of("docs/PROTOCOL.md")
     with mltx.serve(limit=None) as server, server.connect() as peer:
@@ -332,7 +328,7 @@ def protocol_begins_with_a_session(mltx):
 
 
 @test
-def numbers_of_an_operator_are_told_of(mltx):
+def numbers_of_an_operator_are_told_of(mltx: Program) -> None:
     """OPERATING names each number of /status and of /metrics, and alerts by no other."""
     page, admin = (ROOT / "docs/OPERATING.md").read_text(), free_address()
     with mltx.serve("--endless", limit=None, admin=admin) as server:
@@ -346,14 +342,14 @@ def numbers_of_an_operator_are_told_of(mltx):
 
 
 @test
-def version_of_the_pages_is_that_of_the_program(_mltx):
+def version_of_the_pages_is_that_of_the_program(_mltx: Program) -> None:
     """Each version that a page shows is that of the client, which other tests compare with the program."""
     for page in ("docs/OPERATING.md", "docs/DEVELOPING.md", "docs/mltx.1"):
         same(set(re.findall(r"\bmltx (\d+\.\d+\.\d+)", (ROOT / page).read_text())), {VERSION}, f"the versions in {page}")
 
 
 @test
-def options_of_the_pages_exist(_mltx):
+def options_of_the_pages_exist(_mltx: Program) -> None:
     """Each option that a page for users names is one of the program, as its help shows, or of a tool that the page calls."""
     known = set(re.findall(r"(?m)^ +(?:-\w, )?(--[\w-]+)", (ROOT / "docs/CLI.md").read_text())) | {"--page", "--pid", "--write"}
     names = ("TUTORIAL", "CONCEPTS", "LANGUAGE", "SCHEDULES", "PROTOCOL", "OPERATING", "CLI")
@@ -363,7 +359,7 @@ def options_of_the_pages_exist(_mltx):
 
 
 @test
-def each_error_is_told_of(_mltx):
+def each_error_is_told_of(_mltx: Program) -> None:
     """The table of errors in PROTOCOL has the names of the refusals, each at its number."""
     code = (ROOT / "crates/mlt_types/src/refusal.rt").read_text()
     wanted = re.findall(r"(?m)^    ([A-Z]\w+)\b", code.partition("pub enum Refusal")[2].partition("\n}")[0])
@@ -372,14 +368,14 @@ def each_error_is_told_of(_mltx):
 
 
 @test
-def pages_of_the_help_are_written(mltx):
+def pages_of_the_help_are_written(mltx: Program) -> None:
     """docs/CLI.md and the man page are what tools/cli-page makes of the help of the program."""
     is_written_by(ROOT / "docs/CLI.md", "cli-page", mltx.path)
     is_written_by(ROOT / "docs/mltx.1", "cli-page", "--man", mltx.path)
 
 
 @test
-def tutorial_shows_two_sessions(mltx):
+def tutorial_shows_two_sessions(mltx: Program) -> None:
     """The lines of two clients of a server, in the order of the table, get the answers of its last column. One that gets none yet
     is answered in a later row."""
     rows = re.findall(r"(?m)^\| (first|second) \| (?:`(.*?)` )?\| (?:`(.*)`)?.*\|$", (ROOT / "docs/TUTORIAL.md").read_text())

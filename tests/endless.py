@@ -4,13 +4,15 @@ import errno
 import subprocess
 import threading
 import time
+from collections.abc import Iterator
 from concurrent.futures import ThreadPoolExecutor
 from contextlib import contextmanager
+from pathlib import Path
 
-from harness import each, expect, free_address, holds, lines, listening, of_system, same, test
+from harness import Program, Server, each, expect, free_address, holds, lines, listening, of_system, same, test
 from live_traces import commits_of, small_disk, under_load
 from operating import asked, posted
-from serving import IO, STOPPING, end_input
+from serving import IO, STOPPING
 
 # How many transactions are in what a client sends at once, and how many of these a connection sends: 2 MB of lines.
 BATCH, BATCHES = 500, 100
@@ -18,20 +20,20 @@ MOST_CONNECTIONS = 2**32 - 1
 
 
 @contextmanager
-def endless(mltx, *options, **more):
+def endless(mltx: Program, *options: object) -> Iterator[Server]:
     """A server without end, which ends with its standard input."""
-    with mltx.serve("--endless", "--until-eof", *options, limit=None, stdin=subprocess.PIPE, **more) as server:
+    with mltx.serve("--endless", "--until-eof", *options, limit=None, stdin=subprocess.PIPE) as server:
         server.limit = MOST_CONNECTIONS
         yield server
 
 
-def ends(server, connections, **more):
+def ends(server: Server, connections: int, *notes: str, status: int = 0, err: str = "") -> None:
     """It ends as its input does, and tells how many it has served."""
-    end_input(server)
-    expect(server.end(), out=f"served {connections}\n", **more)
+    server.end_input()
+    expect(server.end(), status=status, out=f"served {connections}\n", err=err, notes=notes)
 
 
-def works(server, number, batches):
+def works(server: Server, number: int, batches: int) -> None:
     """A client that counts up an object of its own in batches of transactions, and looks at the last answer of each."""
     text = lines(f"begin|up {number} 1|commit") * BATCH
     with server.connect() as peer:
@@ -42,7 +44,7 @@ def works(server, number, batches):
             holds(left == 1 and told.startswith("committed "), f"client {number} was told {told}")
 
 
-def runs(server, transactions, clients=4):
+def runs(server: Server, transactions: int, clients: int = 4) -> int:
     """So many transactions, of some clients at a time. It returns how many connections there were."""
     connections = transactions // (BATCH * BATCHES)
     with ThreadPoolExecutor(clients) as threads:
@@ -51,19 +53,19 @@ def runs(server, transactions, clients=4):
     return connections
 
 
-def resident(server):
+def resident(server: Server) -> int:
     """How many bytes of the server's lie in memory."""
     with open(f"/proc/{server.process.pid}/status") as told:
         return next(int(line.split()[1]) * 1024 for line in told if line.startswith("VmRSS:"))
 
 
-def settled(server):
+def settled(server: Server) -> int:
     """The same, once what was done has been taken out."""
     time.sleep(0.6)
     return resident(server)
 
 
-def stays_flat(server, first, more):
+def stays_flat(server: Server, first: int, more: int) -> int:
     """After so many transactions it holds what it holds after four times as many, but for a twentieth and 2 MB: items and
     outcomes of the others would take 60 MB. It returns how many connections there were."""
     connections = runs(server, first)
@@ -75,11 +77,11 @@ def stays_flat(server, first, more):
 
 
 @each({"memory-stays-flat-without-a-trace": False, "memory-stays-flat-with-a-trace": True}, seconds=12)
-def memory_stays_flat(mltx, has_trace):
+def memory_stays_flat(mltx: Program, has_trace: bool) -> None:
     trace = mltx.folder / "trace"
     with endless(mltx, "--sessions", 4, *(["--trace", trace] if has_trace else [])) as server:
         connections = stays_flat(server, 100_000, 300_000)
-        ends(server, connections, notes=[STOPPING])
+        ends(server, connections, STOPPING)
     if has_trace:
         with open(trace) as text:
             commits = [int(line.split()[2]) for line in text if line.startswith("commit ")]
@@ -88,37 +90,35 @@ def memory_stays_flat(mltx, has_trace):
 
 
 @test(seconds=8)
-def memory_stays_flat_on_a_full_disk(mltx):
+def memory_stays_flat_on_a_full_disk(mltx: Program) -> None:
     """Where a small disk can be had, the trace on it is full soon: all clients are served, that is noted, and nothing is held for
     it. What is there is right."""
     with small_disk(mltx, 262_144) as disk:
-        trace = disk / "trace" if disk else "/dev/full"
+        trace = disk / "trace" if disk else Path("/dev/full")
         with endless(mltx, "--sessions", 4, "--trace", trace) as server:
             connections = stays_flat(server, 100_000, 200_000)
-            note = f"the trace is written no further: {of_system(errno.ENOSPC)}"
-            ends(server, connections, status=1, err=IO, notes=[note, STOPPING])
+            note = f"could not write the trace, which ends here: {of_system(errno.ENOSPC)}"
+            ends(server, connections, note, STOPPING, status=1, err=IO)
         if disk:
-            checked = mltx.check(trace)
-            same((checked.status, checked.err), (0, b""), "the check of the trace")
+            mltx.accepted(trace)
 
 
 @test(seconds=3)
-def trace_has_all_that_was_told(mltx):
+def trace_has_all_that_was_told(mltx: Program) -> None:
     """Under load, where clients commit and abort: the trace is accepted, and has each commit that a client was told."""
     trace = mltx.folder / "trace"
     with endless(mltx, "--sessions", 8, "--trace", trace) as server:
         with under_load(server) as told:
             time.sleep(2)
-        ends(server, 8, notes=[STOPPING])
-    checked = mltx.check(trace)
-    same((checked.status, checked.err), (0, b""), "the check of the trace")
+        ends(server, 8, STOPPING)
+    mltx.accepted(trace)
     found = commits_of(trace.read_text())
     same(found, list(range(1, len(found) + 1)), "the commits of the trace")
     same(sorted(commit for _, commit in told), found, "the commits that clients were told")
 
 
 @test(seconds=2)
-def trace_is_there_while_it_goes(mltx):
+def trace_is_there_while_it_goes(mltx: Program) -> None:
     """What was done stands in the trace some time later, and a transaction that is open at the end is taken back in it."""
     trace = mltx.folder / "trace"
     with endless(mltx, "--trace", trace) as server, server.connect() as peer:
@@ -130,12 +130,12 @@ def trace_is_there_while_it_goes(mltx):
         same(trace.read_text(), first, "the trace while it goes")
         peer.end()
         same(peer.rest(), b"", "what the client hears then")
-        ends(server, 1, notes=[STOPPING])
+        ends(server, 1, STOPPING)
     same(trace.read_text(), first + "back 2\nabort 2\n", "the trace at the end")
 
 
 @test(seconds=2)
-def operator_sees_what_is_kept(mltx):
+def operator_sees_what_is_kept(mltx: Program) -> None:
     """Nothing, some time after it was done, and the limit is that of the numbers of clients. It ends by `/stop`."""
     with mltx.serve("--endless", limit=None, admin=free_address()) as server:
         server.limit = MOST_CONNECTIONS
@@ -152,13 +152,13 @@ def operator_sees_what_is_kept(mltx):
 
 
 @test(seconds=1)
-def server_without_clients_ends(mltx):
+def server_without_clients_ends(mltx: Program) -> None:
     with endless(mltx) as server:
-        ends(server, 0, notes=[STOPPING])
+        ends(server, 0, STOPPING)
 
 
 @test(seconds=2)
-def many_connections_are_served(mltx):
+def many_connections_are_served(mltx: Program) -> None:
     """More than one, which is the limit of a server that is told none, one after another and some at a time."""
     with endless(mltx, "--sessions", 2) as server:
         threads = [threading.Thread(target=server.talk, args=("begin\nup 1 1\ncommit\n",)) for _ in range(50)]
@@ -167,4 +167,4 @@ def many_connections_are_served(mltx):
         for one in threads:
             one.join()
         same(server.talk("begin\nread 1\ncommit\n"), b"begun 51\nis 50\ncommitted 51\n", "the last client")
-        ends(server, 51, notes=[STOPPING])
+        ends(server, 51, STOPPING)

@@ -2,10 +2,11 @@
 import random
 import threading
 import time
+from collections.abc import Iterator
 from concurrent.futures import ThreadPoolExecutor
 from contextlib import contextmanager
 
-from harness import each, expect, holds, same, test
+from harness import Peer, Program, each, expect, holds, same, takes, test
 from sessions import says_nothing
 from waits import AT_ONCE, SOON, number_begun
 
@@ -13,7 +14,7 @@ GAVE_UP = "error 14 GaveUp"
 
 
 @contextmanager
-def sessions(mltx, count, *options):
+def sessions(mltx: Program, count: int, *options: object) -> Iterator[list[Peer]]:
     """So many sessions of one server, which all end."""
     with mltx.serve("--sessions", count, *options, limit=count) as server:
         peers = [server.connect() for _ in range(count)]
@@ -25,23 +26,21 @@ def sessions(mltx, count, *options):
         expect(server.end(), out=f"served {count}\n")
 
 
-def begin(*peers):
+def begin(*peers: Peer) -> list[int]:
     """Each begins a transaction. It answers their numbers."""
     return [number_begun(peer.ask("begin")) for peer in peers]
 
 
-def ask_in_vain(peer, line, why):
+def ask_in_vain(peer: Peer, line: str, why: str) -> None:
     """What is asked so is not answered for now."""
     peer.send(line + "\n")
     says_nothing(peer, why)
 
 
-def soon(peer, answer):
+def soon(peer: Peer, answer: str) -> None:
     """What was asked is answered so at once."""
-    began = time.monotonic()
-    same(peer.line(), answer)
-    took = time.monotonic() - began
-    holds(took < AT_ONCE, f"{answer} was told after {took} seconds")
+    with takes(0, AT_ONCE, f"{answer} was told"):
+        same(peer.line(), answer)
 
 
 # By what it waits for: what the first holds; what is blocked by it, and what others ask that may clash with that; what the two
@@ -54,7 +53,7 @@ BEHIND = {
 
 
 @each({f"{what}-that-is-blocked-is-not-overtaken": row for what, row in BEHIND.items()})
-def blocked_is_not_overtaken(mltx, row):
+def blocked_is_not_overtaken(mltx: Program, row: tuple[str, ...]) -> None:
     """Who comes after one that is blocked, and asks for what may clash with it, is answered after it."""
     before, held, blocked, newcomer, told, told_last = row
     with sessions(mltx, 3) as (holder, waiter, third):
@@ -72,7 +71,7 @@ def blocked_is_not_overtaken(mltx, row):
 
 
 @test
-def two_that_never_clash_do_not_wait_for_each_other(mltx):
+def two_that_never_clash_do_not_wait_for_each_other(mltx: Program) -> None:
     """One that is blocked keeps only those waiting that may clash with it."""
     with sessions(mltx, 4) as (holder, waiter, third, fourth):
         begin(holder, waiter, third, fourth)
@@ -84,7 +83,7 @@ def two_that_never_clash_do_not_wait_for_each_other(mltx):
 
 
 @test
-def one_that_holds_something_there_does_not_wait_for_its_turn(mltx):
+def one_that_holds_something_there_does_not_wait_for_its_turn(mltx: Program) -> None:
     """The blocked one waits for it, so it goes on."""
     with sessions(mltx, 3) as (holder, other, waiter):
         begin(holder, other, waiter)
@@ -95,7 +94,7 @@ def one_that_holds_something_there_does_not_wait_for_its_turn(mltx):
 
 
 @each({f"who-waits-behind-one-that-{end.replace(' ', '-')}-goes-on": end for end in ("gives up", "aborts", "leaves")})
-def queue_is_left(mltx, end):
+def queue_is_left(mltx: Program, end: str) -> None:
     """The one that was blocked stands in the way of nobody once its operation has ended, however that is."""
     with sessions(mltx, 4) as (first, waiter, third, second):
         begin(first, waiter, third, second)
@@ -116,7 +115,7 @@ def queue_is_left(mltx, end):
         soon(third, "missing")
 
 
-def close_circle(peers, last):
+def close_circle(peers: list[Peer], last: int) -> None:
     """Each holds a counter and reads that of the next one; the one at this place does so last."""
     count = len(peers)
     same([peer.ask(f"up {number} 1") for number, peer in enumerate(peers)], ["done"] * count)
@@ -128,7 +127,7 @@ def close_circle(peers, last):
 
 
 @each({f"youngest-of-{count}-gives-way-whoever-closes-the-circle": count for count in (2, 3, 8)})
-def youngest_gives_way(mltx, count):
+def youngest_gives_way(mltx: Program, count: int) -> None:
     """With the most tries. The oldest closes the circle, and waits on; the last that began is told so at once."""
     with sessions(mltx, count, "--tries", 1_000_000) as peers:
         begin(*peers)
@@ -141,7 +140,7 @@ def youngest_gives_way(mltx, count):
 
 
 @test
-def first_try_counts_until_a_commit(mltx):
+def first_try_counts_until_a_commit(mltx: Program) -> None:
     """One that gave up begins anew with the age of its first try: it is older than one that began in between, and not once it
     has committed."""
     with sessions(mltx, 3) as (oldest, peer, other):
@@ -160,7 +159,7 @@ def first_try_counts_until_a_commit(mltx):
 
 
 @test
-def one_that_waits_for_its_turn_alone_gives_way_first(mltx):
+def one_that_waits_for_its_turn_alone_gives_way_first(mltx: Program) -> None:
     """It calls its operation instead, so whoever closed the circle goes on; here that one is blocked by it, and is younger."""
     with sessions(mltx, 3) as (third, waiter, holder):
         begin(third, waiter, holder)
@@ -181,7 +180,7 @@ HELD = {"withdraw 1 1": "balance 1", "read 1": "up 1 1", "size 1": "add 1 {}"}
 HOLD, ANSWERED = 0.02, 2
 
 
-def hold_until(ended, peer, line, number):
+def hold_until(ended: threading.Event, peer: Peer, line: str, number: int) -> None:
     """Holds something in one transaction after the other."""
     for turn in range(1_000_000):
         if ended.is_set():
@@ -193,7 +192,7 @@ def hold_until(ended, peer, line, number):
 
 
 @each({f"{line.replace(' ', '-')}-gets-through-beside-twelve-holders": (line, held) for line, held in HELD.items()}, seconds=2)
-def gets_through_beside_holders(mltx, row):
+def gets_through_beside_holders(mltx: Program, row: tuple[str, str]) -> None:
     """Ten times, each within a bound; without a queue it would hear nothing in ten seconds."""
     (line, held), count = row, 12
     with sessions(mltx, count + 1) as (waiter, *holders):
@@ -216,7 +215,7 @@ def gets_through_beside_holders(mltx, row):
     holds(max(took) < ANSWERED, f"{line} was answered after {took} seconds")
 
 
-def moves(ended, peer, seed, count):
+def moves(ended: float, peer: Peer, seed: int, count: int) -> tuple[int, int]:
     """Transactions of so many moves between six accounts, and at once again after GaveUp. It answers how many committed, and how
     often one was tried at most."""
     source, committed, tries, most = random.Random(seed), 0, 0, 0
@@ -237,7 +236,7 @@ def moves(ended, peer, seed, count):
 
 
 @test(seconds=4)
-def long_transactions_get_through_beside_short_ones(mltx):
+def long_transactions_get_through_beside_short_ones(mltx: Program) -> None:
     """Two clients with four moves a transaction beside six with one, for three seconds. Without ages the two hardly commit."""
     work = [4, 4, 1, 1, 1, 1, 1, 1]
     with sessions(mltx, len(work) + 1) as (opener, *peers):

@@ -2,8 +2,9 @@
 
 A case is a text between bars, as the worked rows have it, with its faulty line and cause. In the tables `RAW_..` it is
 a text as it stands."""
-from harness import each, expect, lines, test
+from harness import Case, Program, Text, each, expect, fault_of, lines, test
 
+Faulty = tuple[Text, int, str]
 # Lines that are faulty wherever they stand, in each of the three forms: too long, or with a byte that is not allowed.
 BAD_LINES = {
     "201-spaces": b" " * 201,
@@ -37,56 +38,49 @@ NO_OPERATIONS = [
     *("open a", "up 7 -1", "up 7 1e3", "add 4 v", "open 1 # made", "deposit v 1", "size v", "up 000000000000000000001 1"),
     *("deposits 1 2", "deposi 1 2", "deposit1 2", "downs 1 2", "removed 1 2", "reads 1", "sizes 1", "up 1 2x", "up 1 2,", "up  "),
 ]
+
+
+def each_of(text: str, line: int, cause: str, table: dict[str, str]) -> dict[str, tuple[str, int, str]]:
+    """Faults of a text that is the same but for some words."""
+    return {name: (text.format(words), line, cause) for name, words in table.items()}
+
+
 SCRIPT = {
     # Words.
-    "words-of-no-statement": ("begin|opn 1|commit", 2, "Words"),
-    "words-missing-amount": ("begin|deposit 1|commit", 2, "Words"),
-    "client-1000": ("begin 1000|commit", 1, "Words"),
-    "client-that-is-a-variable": ("begin v|commit", 1, "Words"),
-    "client-of-21-digits": ("begin 000000000000000000001|commit", 1, "Words"),
-    "begin-of-two-clients": ("begin 1 2|commit", 1, "Words"),
-    "begin-in-capitals": ("Begin|commit", 1, "Words"),
-    "begin-with-a-letter-more": ("begins|commit", 1, "Words"),
-    "client-with-a-letter": ("begin 7x|commit", 1, "Words"),
-    "client-with-a-comment": ("begin 7 # x|commit", 1, "Words"),
+    **each_of("begin|{}|commit", 2, "Words", {
+        "words-of-no-statement": "opn 1", "words-missing-amount": "deposit 1", "need-without-a-reply": "need read 7",
+        "need-with-is-alone": "need read 7 is", "need-with-two-replies": "need open 1 is opened exists",
+        "need-of-is-a-value": "need read 7 is is 1", "need-of-no-reply": "need open 1 is open",
+        "need-of-a-value-out-of-range": "need read 7 is 18446744073709551616", "need-alone": "need",
+        "need-without-is": "need open 1 opened", "need-of-a-need": "need need open 1 is done",
+        "let-of-a-capital": "let V = read 7", "let-of-two-letters": "let vv = read 7",
+        "let-of-an-operation-without-a-value": "let v = open 1", "let-without-its-sign": "let v read 7",
+        "let-of-a-number": "let v = 7", "let-with-a-word-more": "let v = read 7 1", "let-without-spaces": "let v=read 7",
+        "let-with-one-space": "let v= read 7", "let-of-a-set-out-of-range": "let v = size 65536",
+        "let-of-a-digit": "let 1 = read 7", "variable-in-capitals": "deposit 1 V", "variable-of-two-letters": "deposit 1 ab",
+        "a-comment-after-words": "up 7 1 # one more",
+    }),
+    **each_of("{}|commit", 1, "Words", {
+        "client-1000": "begin 1000", "client-that-is-a-variable": "begin v", "client-of-21-digits": "begin 000000000000000000001",
+        "begin-of-two-clients": "begin 1 2", "begin-in-capitals": "Begin", "begin-with-a-letter-more": "begins",
+        "client-with-a-letter": "begin 7x", "client-with-a-comment": "begin 7 # x",
+    }),
     "commit-with-a-letter-more": ("begin|commits", 2, "Words"),
     "commit-with-a-word": ("begin|commit 1", 2, "Words"),
     "abort-with-a-word": ("begin|abort now", 2, "Words"),
-    "need-without-a-reply": ("begin|need read 7|commit", 2, "Words"),
-    "need-with-is-alone": ("begin|need read 7 is|commit", 2, "Words"),
-    "need-with-two-replies": ("begin|need open 1 is opened exists|commit", 2, "Words"),
-    "need-of-is-a-value": ("begin|need read 7 is is 1|commit", 2, "Words"),
-    "need-of-no-reply": ("begin|need open 1 is open|commit", 2, "Words"),
-    "need-of-a-value-out-of-range": ("begin|need read 7 is 18446744073709551616|commit", 2, "Words"),
-    "need-alone": ("begin|need|commit", 2, "Words"),
-    "need-without-is": ("begin|need open 1 opened|commit", 2, "Words"),
-    "need-of-a-need": ("begin|need need open 1 is done|commit", 2, "Words"),
-    "let-of-a-capital": ("begin|let V = read 7|commit", 2, "Words"),
-    "let-of-two-letters": ("begin|let vv = read 7|commit", 2, "Words"),
-    "let-of-an-operation-without-a-value": ("begin|let v = open 1|commit", 2, "Words"),
-    "let-without-its-sign": ("begin|let v read 7|commit", 2, "Words"),
-    "let-of-a-number": ("begin|let v = 7|commit", 2, "Words"),
-    "let-with-a-word-more": ("begin|let v = read 7 1|commit", 2, "Words"),
-    "let-without-spaces": ("begin|let v=read 7|commit", 2, "Words"),
-    "let-with-one-space": ("begin|let v= read 7|commit", 2, "Words"),
-    "let-of-a-set-out-of-range": ("begin|let v = size 65536|commit", 2, "Words"),
-    "let-of-a-digit": ("begin|let 1 = read 7|commit", 2, "Words"),
     "variable-as-an-account": ("begin|let v = read 7|balance v|commit", 3, "Words"),
-    "variable-in-capitals": ("begin|deposit 1 V|commit", 2, "Words"),
-    "variable-of-two-letters": ("begin|deposit 1 ab|commit", 2, "Words"),
     "if-without-a-reply": ("begin|if has 4 9|end|commit", 2, "Words"),
     "if-with-then": ("begin|if has 4 9 is yes then|end|commit", 2, "Words"),
     "else-with-a-word": ("begin|if has 4 9 is yes|else if|end|commit", 3, "Words"),
     "end-with-a-word": ("begin|if has 4 9 is yes|end if|commit", 3, "Words"),
-    "a-comment-after-words": ("begin|up 7 1 # one more|commit", 2, "Words"),
     # Place.
     "operation-outside-a-script": ("open 1", 1, "Place"),
     "need-outside-a-script": ("need open 1 is opened|begin|commit", 1, "Place"),
-    "let-outside-a-script": ("begin|commit|let v = read 7", 3, "Place"),
-    "if-outside-a-script": ("begin|commit|if has 4 9 is yes", 3, "Place"),
-    "else-outside-a-script": ("begin|commit|else", 3, "Place"),
+    **each_of("begin|commit|{}", 3, "Place", {
+        "let-outside-a-script": "let v = read 7", "if-outside-a-script": "if has 4 9 is yes", "else-outside-a-script": "else",
+        "commit-outside-a-script": "commit",
+    }),
     "end-outside-a-script": ("end", 1, "Place"),
-    "commit-outside-a-script": ("begin|commit|commit", 3, "Place"),
     "abort-outside-a-script": ("abort", 1, "Place"),
     "operation-after-an-abort": ("begin|abort|up 7 1", 3, "Place"),
     "begin-inside-a-script": ("begin|open 1|begin 2|commit", 3, "Place"),
@@ -98,9 +92,7 @@ SCRIPT = {
     "end-after-the-end": ("begin|if open 1 is opened|end|end|commit", 4, "Place"),
     "else-after-the-end": ("begin|if open 1 is opened|end|else|commit", 4, "Place"),
     "second-else": ("begin|if open 1 is opened|else|else|end|commit", 4, "Place"),
-    "second-else-of-an-outer-if": (
-        "begin|if open 1 is opened|else|if open 2 is opened|else|end|else|end|commit", 7, "Place",
-    ),
+    "second-else-of-an-outer-if": ("begin|if open 1 is opened|else|if open 2 is opened|else|end|else|end|commit", 7, "Place"),
     # Unfinished: blank lines and comments count, and an LF at the end opens no further line.
     "unfinished-begin": ("begin", 1, "Unfinished"),
     "unfinished-if": ("begin|if has 4 9 is yes", 2, "Unfinished"),
@@ -149,13 +141,11 @@ DEEP_AND_LONG = {
     "words-before-long": (f"{MOST_OPERATIONS}|up 7", 258, "Words"),
     "begin-after-256-operations": (f"{MOST_OPERATIONS}|begin", 258, "Place"),
     "long-before-unfinished": (f"{MOST_OPERATIONS}|up 7 1", 258, "Long"),
-    "deep-before-long": (
-        "begin|" + "up 7 1|" * 240 + "if has 4 9 is yes|" * 17 + "end|" * 17 + "commit", 258, "Deep",
-    ),
+    "deep-before-long": ("begin|" + "up 7 1|" * 240 + "if has 4 9 is yes|" * 17 + "end|" * 17 + "commit", 258, "Deep"),
     "first-line-before-a-deep-one": (f"{SIXTEEN}end|end 1|" + "if has 4 9 is yes|" * 3, 19, "Words"),
 }
 # Texts as they stand.
-RAW_SCRIPTS = {
+RAW_SCRIPTS: dict[str, Faulty] = {
     "195-spaces-in-the-last-line": (b"begin" + b" " * 195 + b"\n", 1, "Unfinished"),
     "196-spaces-in-the-last-line": (b"begin" + b" " * 196 + b"\n", 1, "Line"),
     "unfinished-without-a-last-lf": (b"begin\n\nup 7 1", 3, "Unfinished"),
@@ -171,39 +161,23 @@ RAW_SCRIPTS = {
 }
 
 
-def fault(subcommand, line, cause):
-    name = "11 TraceFault" if subcommand == "check" else "10 ScriptFault"
-    return f"mltx: {name} line {line} {cause}\n"
-
-
-def refused_input(mltx, subcommand, text, line, cause):
+def refused_input(mltx: Program, subcommand: str, text: Text, line: int, cause: str) -> None:
     """From standard input: the fault's line is written and nothing else."""
     ran = mltx.run(subcommand, "-", given=text)
-    expect(ran, status=1, err=fault(subcommand, line, cause), what=f"{subcommand} - of {text[-300:]!r}")
+    expect(ran, status=1, err=fault_of(subcommand, line, cause), what=f"{subcommand} - of {text[-300:]!r}")
 
 
-def refused(mltx, subcommands, text, line, cause):
+def refused(mltx: Program, subcommands: tuple[str, ...], text: Text, line: int, cause: str) -> None:
     """The same from a file and from standard input, by each subcommand."""
     file = mltx.file("faulty", text)
     for subcommand in subcommands:
         refused_input(mltx, subcommand, text, line, cause)
         ran = mltx.run(subcommand, file)
-        expect(ran, status=1, err=fault(subcommand, line, cause), what=f"{subcommand} FILE of {text[-300:]!r}")
+        expect(ran, status=1, err=fault_of(subcommand, line, cause), what=f"{subcommand} FILE of {text[-300:]!r}")
 
 
-def cases(prefix, table):
+def cases(prefix: str, table: dict[str, Case]) -> dict[str, Case]:
     return {f"{prefix}-{name}": case for name, case in table.items()}
-
-
-@each(cases("script", SCRIPT | DEEP_AND_LONG))
-def script(mltx, case):
-    text, line, cause = case
-    refused(mltx, ("solo", "run"), lines(text), line, cause)
-
-
-@each(cases("script", RAW_SCRIPTS))
-def raw_script(mltx, case):
-    refused(mltx, ("solo", "run"), *case)
 
 
 # Texts in whose second line an operation is to stand.
@@ -216,7 +190,7 @@ OPERATIONS_STAND_IN = {
 
 
 @each({f"words-of-no-operation-in-{name}": case for name, case in OPERATIONS_STAND_IN.items()}, seconds=1)
-def words_of_no_operation(mltx, case):
+def words_of_no_operation(mltx: Program, case: tuple[str, ...]) -> None:
     subcommand, *texts = case
     for words in NO_OPERATIONS:
         for text in texts:
@@ -224,7 +198,7 @@ def words_of_no_operation(mltx, case):
 
 
 @each(cases("line", BAD_LINES))
-def bad_line(mltx, bad):
+def bad_line(mltx: Program, bad: bytes) -> None:
     """The line is refused between others and as the last one, with its LF and without, before any other cause."""
     for subcommands, begin in ((("solo", "run", "steps"), b"begin\n"), (("check",), b"begin 1\n")):
         for end in (b"", b"\n", b"\ncommit\n"):
@@ -232,7 +206,7 @@ def bad_line(mltx, bad):
 
 
 @each({f"each-byte-of-a-line-of-{name}": name for name in ("solo", "run", "steps", "check")}, seconds=1)
-def each_byte(mltx, subcommand):
+def each_byte(mltx: Program, subcommand: str) -> None:
     """A byte before an `x`: one that is not allowed is a fault of the line, and else of the words, but in
     a comment."""
     begin = b"begin 1\n" if subcommand == "check" else b"begin\n"
@@ -244,59 +218,32 @@ def each_byte(mltx, subcommand):
 
 
 EVENTS = {
-    "begin-in-capitals": ("BEGIN", 1, "Words"),
-    "begin-with-a-letter-more": ("begins", 1, "Words"),
-    "number-alone": ("1", 1, "Words"),
-    "step-of-66537": ("begin|step 1 66537", 2, "Words"),
-    "undo-with-an-operation": ("begin|undo 1 open 1", 2, "Words"),
-    "whole-with-a-comment": ("begin|whole 1 open 1 # made", 2, "Words"),
-    "begin-of-a-number": ("begin 1", 1, "Words"),
-    "step-of-0": ("begin|step 1 0", 2, "Words"),
-    "step-of-1001": ("begin|step 1 1001", 2, "Words"),
-    "step-without-a-number": ("begin|step", 2, "Words"),
-    "step-of-a-word": ("begin|step 1 all", 2, "Words"),
-    "step-of-three-numbers": ("begin|step 1 2 3", 2, "Words"),
-    "step-below-0": ("begin|step 1 -1", 2, "Words"),
-    "step-past-64-bits": ("begin|step 18446744073709551616", 2, "Words"),
-    "step-of-21-digits": ("begin|step 1 000000000000000000001", 2, "Words"),
-    "call-without-an-operation": ("begin|call 1", 2, "Words"),
-    "call-without-a-number": ("begin|call up 7 1", 2, "Words"),
-    "call-past-64-bits": ("begin|call 18446744073709551616 up 7 1", 2, "Words"),
-    "call-of-a-variable": ("begin|call 1 up 7 v", 2, "Words"),
-    "whole-of-a-variable": ("begin|whole 1 deposit 1 v", 2, "Words"),
-    "whole-without-an-operation": ("begin|whole 1", 2, "Words"),
-    "whole-with-a-reply": ("begin|whole 1 open 1 is opened", 2, "Words"),
-    "need-is-no-event": ("begin|need open 1 is opened", 2, "Words"),
-    "operation-is-no-event": ("begin|open 1", 2, "Words"),
-    "cancel-without-a-number": ("begin|cancel", 2, "Words"),
-    "cancel-of-two": ("begin|cancel 1 2", 2, "Words"),
-    "commit-without-a-number": ("begin|commit", 2, "Words"),
-    "commit-with-its-number-of-a-trace": ("begin|commit 1 1", 2, "Words"),
-    "abort-without-a-number": ("begin|abort", 2, "Words"),
-    "abort-of-two": ("begin|abort 1 2", 2, "Words"),
-    "undo-without-a-number": ("begin|undo", 2, "Words"),
-    "undo-of-a-word": ("begin|undo one", 2, "Words"),
-    "end-is-no-event": ("begin|end", 2, "Words"),
+    **each_of("{}", 1, "Words", {
+        "begin-in-capitals": "BEGIN", "begin-with-a-letter-more": "begins", "number-alone": "1", "begin-of-a-number": "begin 1",
+    }),
+    **each_of("begin|{}", 2, "Words", {
+        "step-of-66537": "step 1 66537", "undo-with-an-operation": "undo 1 open 1",
+        "whole-with-a-comment": "whole 1 open 1 # made", "step-of-0": "step 1 0", "step-of-1001": "step 1 1001",
+        "step-without-a-number": "step", "step-of-a-word": "step 1 all", "step-of-three-numbers": "step 1 2 3",
+        "step-below-0": "step 1 -1", "step-past-64-bits": "step 18446744073709551616",
+        "step-of-21-digits": "step 1 000000000000000000001", "call-without-an-operation": "call 1",
+        "call-without-a-number": "call up 7 1", "call-past-64-bits": "call 18446744073709551616 up 7 1",
+        "call-of-a-variable": "call 1 up 7 v", "whole-of-a-variable": "whole 1 deposit 1 v",
+        "whole-without-an-operation": "whole 1", "whole-with-a-reply": "whole 1 open 1 is opened",
+        "need-is-no-event": "need open 1 is opened", "operation-is-no-event": "open 1", "cancel-without-a-number": "cancel",
+        "cancel-of-two": "cancel 1 2", "commit-without-a-number": "commit", "commit-with-its-number-of-a-trace": "commit 1 1",
+        "abort-without-a-number": "abort", "abort-of-two": "abort 1 2", "undo-without-a-number": "undo",
+        "undo-of-a-word": "undo one", "end-is-no-event": "end",
+    }),
     "first-line-before-a-long-one": ("begin|stop 1|" + " " * 201, 2, "Words"),
     "blank-lines-and-comments-are-counted": ("|# one| # two|begin||step 1 0", 6, "Words"),
 }
-RAW_EVENTS = {
+RAW_EVENTS: dict[str, Faulty] = {
     "line-before-words": (b"begin\nstop \x7f\n", 2, "Line"),
     "last-line-that-ends-in-a-cr": (b"begin\nstep 1\r", 2, "Line"),
     "byte-0xff-after-step": (b"begin\n#\xff\nstep \xff\n", 3, "Line"),
     "196-spaces": (b"begin" + b" " * 196 + b"\n", 1, "Line"),
 }
-
-
-@each(cases("events", EVENTS))
-def events(mltx, case):
-    text, line, cause = case
-    refused(mltx, ("steps",), lines(text), line, cause)
-
-
-@each(cases("events", RAW_EVENTS))
-def raw_events(mltx, case):
-    refused(mltx, ("steps",), *case)
 
 
 # A transaction that opened account 1, and one that put 5 into it.
@@ -307,63 +254,48 @@ TRACES = {
     "blank-line": ("begin 1||commit 1 1", 2, "Words"),
     "line-of-spaces": ("begin 1|  |commit 1 1", 2, "Words"),
     "comment": ("# a trace|begin 1", 1, "Words"),
-    "begin-alone": ("begin", 1, "Words"),
-    "begin-of-0": ("begin 0", 1, "Words"),
-    "begin-of-two": ("begin 1 2", 1, "Words"),
-    "begin-past-64-bits": ("begin 18446744073709551616", 1, "Words"),
-    "begin-of-21-digits": ("begin 000000000000000000001", 1, "Words"),
-    "begin-in-capitals": ("Begin 1", 1, "Words"),
-    "begin-without-a-space": ("begin1", 1, "Words"),
-    "begin-with-a-comment": ("begin 1 # one", 1, "Words"),
-    "op-of-0": ("begin 1|op 0 open 1 opened", 2, "Words"),
-    "op-without-a-number": ("begin 1|op open 1 opened", 2, "Words"),
-    "op-without-an-operation": ("begin 1|op 1", 2, "Words"),
-    "op-of-an-operation-without-its-cell": ("begin 1|op 1 open opened", 2, "Words"),
-    "op-of-a-reply-in-capitals": ("begin 1|op 1 open 1 Opened", 2, "Words"),
-    "op-of-two-values": ("begin 1|op 1 read 1 is 0 0", 2, "Words"),
-    "op-without-a-reply": ("begin 1|op 1 open 1", 2, "Words"),
-    "op-with-two-replies": ("begin 1|op 1 open 1 opened opened", 2, "Words"),
-    "op-of-no-reply": ("begin 1|op 1 open 1 open", 2, "Words"),
-    "op-with-is-alone": ("begin 1|op 1 balance 1 is", 2, "Words"),
-    "op-with-a-value-without-is": ("begin 1|op 1 balance 1 7", 2, "Words"),
-    "op-with-is-and-a-word": ("begin 1|op 1 balance 1 is seven", 2, "Words"),
-    "op-with-a-value-past-64-bits": ("begin 1|op 1 balance 1 is 18446744073709551616", 2, "Words"),
-    "op-of-a-variable": ("begin 1|op 1 deposit 1 v done", 2, "Words"),
-    "op-in-capitals": ("begin 1|OP 1 open 1 opened", 2, "Words"),
-    "back-alone": ("begin 1|back", 2, "Words"),
-    "back-of-0": ("begin 1|back 0", 2, "Words"),
+    **each_of("{}", 1, "Words", {
+        "begin-alone": "begin", "begin-of-0": "begin 0", "begin-of-two": "begin 1 2",
+        "begin-past-64-bits": "begin 18446744073709551616", "begin-of-21-digits": "begin 000000000000000000001",
+        "begin-in-capitals": "Begin 1", "begin-without-a-space": "begin1", "begin-with-a-comment": "begin 1 # one",
+    }),
+    **each_of("begin 1|{}", 2, "Words", {
+        "op-of-0": "op 0 open 1 opened", "op-without-a-number": "op open 1 opened", "op-without-an-operation": "op 1",
+        "op-of-an-operation-without-its-cell": "op 1 open opened", "op-of-a-reply-in-capitals": "op 1 open 1 Opened",
+        "op-of-two-values": "op 1 read 1 is 0 0", "op-without-a-reply": "op 1 open 1",
+        "op-with-two-replies": "op 1 open 1 opened opened", "op-of-no-reply": "op 1 open 1 open",
+        "op-with-is-alone": "op 1 balance 1 is", "op-with-a-value-without-is": "op 1 balance 1 7",
+        "op-with-is-and-a-word": "op 1 balance 1 is seven",
+        "op-with-a-value-past-64-bits": "op 1 balance 1 is 18446744073709551616", "op-of-a-variable": "op 1 deposit 1 v done",
+        "op-in-capitals": "OP 1 open 1 opened", "back-alone": "back", "back-of-0": "back 0",
+        "commit-without-its-number": "commit 1", "commit-of-number-0": "commit 1 0", "commit-of-0": "commit 0 1",
+        "commit-of-three-numbers": "commit 1 1 1", "abort-alone": "abort", "abort-of-0": "abort 0", "abort-of-two": "abort 1 1",
+        "line-of-steps": "step 1",
+    }),
     "back-with-a-word": (f"{OPENED}|back 1 1", 3, "Words"),
-    "commit-without-its-number": ("begin 1|commit 1", 2, "Words"),
-    "commit-of-number-0": ("begin 1|commit 1 0", 2, "Words"),
-    "commit-of-0": ("begin 1|commit 0 1", 2, "Words"),
-    "commit-of-three-numbers": ("begin 1|commit 1 1 1", 2, "Words"),
-    "abort-alone": ("begin 1|abort", 2, "Words"),
-    "abort-of-0": ("begin 1|abort 0", 2, "Words"),
-    "abort-of-two": ("begin 1|abort 1 1", 2, "Words"),
-    "line-of-steps": ("begin 1|step 1", 2, "Words"),
     # Place.
-    "begin-again": ("begin 1|begin 1", 2, "Place"),
-    "begin-again-after-a-commit": ("begin 1|commit 1 1|begin 1", 3, "Place"),
+    **each_of("begin 1|{}", 2, "Place", {
+        "begin-again": "begin 1", "op-before-its-begin": "op 2 open 1 opened", "commit-of-number-2-at-first": "commit 1 2",
+        "back-before-its-begin": "back 2", "back-of-nothing": "back 1",
+    }),
+    **each_of("begin 1|commit 1 1|{}", 3, "Place", {
+        "begin-again-after-a-commit": "begin 1", "op-after-a-commit": "op 1 open 1 opened", "commit-again": "commit 1 2",
+        "abort-after-a-commit": "abort 1",
+    }),
     "begin-below-another": ("begin 5|begin 4", 2, "Place"),
     "begin-below-one-that-is-closed": ("begin 5|abort 5|begin 4", 3, "Place"),
     "begin-below-the-greatest": ("begin 5|begin 18446744073709551615|begin 6", 3, "Place"),
-    "op-before-its-begin": ("begin 1|op 2 open 1 opened", 2, "Place"),
     "op-of-a-number-that-was-passed-over": ("begin 2|op 1 open 1 opened", 2, "Place"),
-    "op-after-a-commit": ("begin 1|commit 1 1|op 1 open 1 opened", 3, "Place"),
     "op-after-an-abort": ("begin 1|abort 1|op 1 open 1 opened", 3, "Place"),
     "op-after-a-back": (f"{TAKEN_BACK}|op 1 balance 1 is 0", 5, "Place"),
     "commit-before-its-begin": ("commit 1 1", 1, "Place"),
-    "commit-again": ("begin 1|commit 1 1|commit 1 2", 3, "Place"),
     "commit-after-an-abort": ("begin 1|abort 1|commit 1 1", 3, "Place"),
     "commit-after-a-back": (f"{TAKEN_BACK}|commit 1 1", 5, "Place"),
     "commit-after-all-was-taken-back": (f"{OPENED}|back 1|commit 1 1", 4, "Place"),
-    "commit-of-number-2-at-first": ("begin 1|commit 1 2", 2, "Place"),
     "commit-of-a-number-again": ("begin 1|begin 2|commit 2 1|commit 1 1", 4, "Place"),
     "commit-that-leaves-a-number-out": ("begin 1|begin 2|commit 2 1|commit 1 3", 4, "Place"),
     "commit-that-counts-an-abort": ("begin 1|abort 1|begin 2|commit 2 2", 4, "Place"),
     "commit-after-one-of-two-was-taken-back": (f"{OPENED}|op 1 open 2 opened|back 1|commit 1 1", 5, "Place"),
-    "back-before-its-begin": ("begin 1|back 2", 2, "Place"),
-    "back-of-nothing": ("begin 1|back 1", 2, "Place"),
     "back-once-more-than-there-were": (f"{OPENED}|back 1|back 1", 4, "Place"),
     "back-after-a-commit": (f"{OPENED}|commit 1 1|back 1", 4, "Place"),
     "back-after-an-abort": (f"{OPENED}|back 1|abort 1|back 1", 5, "Place"),
@@ -372,7 +304,6 @@ TRACES = {
     "abort-with-an-operation-left": (f"{OPENED}|abort 1", 3, "Place"),
     "abort-with-one-of-two-left": (f"{TAKEN_BACK}|abort 1", 5, "Place"),
     "abort-again": ("begin 1|abort 1|abort 1", 3, "Place"),
-    "abort-after-a-commit": ("begin 1|commit 1 1|abort 1", 3, "Place"),
     # Reply: told at the commit, of the first line that is not legal.
     "reply-over": (
         "begin 1|begin 2|op 2 open 1 opened|op 2 deposit 1 7 over|commit 2 1|op 1 balance 1 is 7|commit 1 2",
@@ -405,9 +336,7 @@ TRACES = {
         "Reply",
     ),
     "reply-from-what-did-not-commit": (f"{OPENED}|begin 2|op 2 balance 1 is 0|commit 2 1", 4, "Reply"),
-    "reply-from-what-was-taken-back": (
-        f"{TAKEN_BACK}|back 1|abort 1|begin 2|op 2 deposit 1 5 done|commit 2 1", 8, "Reply",
-    ),
+    "reply-from-what-was-taken-back": (f"{TAKEN_BACK}|back 1|abort 1|begin 2|op 2 deposit 1 5 done|commit 2 1", 8, "Reply"),
     # Of the lines the first faulty one decides; a false reply is found at its commit.
     "place-in-a-line-before-the-commit": ("begin 1|op 1 open 1 exists|back 2|commit 1 1", 3, "Place"),
     "words-in-a-line-before-the-commit": ("begin 1|op 1 open 1 exists|back|commit 1 1", 3, "Words"),
@@ -421,7 +350,7 @@ NO_LINES = [
     *("op 1 opens 1 opened", "op 1 open 1 openedx", "op 1 open 1 opene", "ops 1 open 1 opened"),
     *("op 1 read 1 is 0x", "op 1 read 1 isn 0"),
 ]
-RAW_TRACES = {
+RAW_TRACES: dict[str, Faulty] = {
     "cut-in-a-reply": (
         lines("begin 1|begin 2|op 2 open 1 opened|op 2 deposit 1 7 done|commit 2 1") + "op 1 balance 1 is", 6, "Cut",
     ),
@@ -444,21 +373,28 @@ RAW_TRACES = {
 }
 
 
-@each(cases("trace", TRACES))
-def trace(mltx, case):
-    text, line, cause = case
-    refused(mltx, ("check",), lines(text), line, cause)
-
-
 @test
-def words_of_no_line_of_a_trace(mltx):
+def words_of_no_line_of_a_trace(mltx: Program) -> None:
     for words in NO_LINES:
         refused_input(mltx, "check", lines(f"begin 1|{words}"), 2, "Words")
 
 
-@each(cases("trace", RAW_TRACES))
-def raw_trace(mltx, case):
-    refused(mltx, ("check",), *case)
+def by_lines(table: dict[str, tuple[str, int, str]]) -> dict[str, Faulty]:
+    """The table, with its texts as they stand."""
+    return {name: (lines(text), line, cause) for name, (text, line, cause) in table.items()}
+
+
+# By the begin of their names, the subcommands that refuse faulty texts, and these.
+FAULTY = {
+    "script": (("solo", "run"), by_lines(SCRIPT | DEEP_AND_LONG) | RAW_SCRIPTS),
+    "events": (("steps",), by_lines(EVENTS) | RAW_EVENTS),
+    "trace": (("check",), by_lines(TRACES) | RAW_TRACES),
+}
+
+
+@each({f"{begin}-{name}": (by, *case) for begin, (by, table) in FAULTY.items() for name, case in table.items()})
+def faulty(mltx: Program, case: tuple[tuple[str, ...], Text, int, str]) -> None:
+    refused(mltx, *case)
 
 
 # Texts that just meet the rules, with what is written of them.
@@ -474,19 +410,11 @@ LAWFUL = {
         "begin|if has 4 9 is yes" + "|up 7 1" * 255 + "|else" + "|read 7" * 255 + "|end|commit",
         "no" + "|is 0" * 255 + "|committed 1",
     ),
-    "a-line-of-200-bytes": (
-        "solo", "begin" + " " * 195 + "|#" + "x" * 199 + "|" + " " * 200 + "|commit", "committed 1",
-    ),
+    "a-line-of-200-bytes": ("solo", "begin" + " " * 195 + "|#" + "x" * 199 + "|" + " " * 200 + "|commit", "committed 1"),
     "a-line-of-199-bytes-and-a-cr": ("solo", "begin" + " " * 194 + "\r|commit" + " " * 193 + "\r", "committed 1"),
-    "else-without-statements": (
-        "solo", "begin|if has 4 9 is yes|else|end|if read 7 is 0|end|commit", "no|is 0|committed 1",
-    ),
-    "ifs-in-ifs-with-both-parts": (
-        "solo", f"{SIXTEEN}up 7 1|" + "else|read 7|end|" * 16 + "commit", "no|is 0|committed 1",
-    ),
-    "256-ifs-one-after-another": (
-        "solo", "begin" + "|if has 4 9 is yes|else|end" * 256 + "|commit", "no|" * 256 + "committed 1",
-    ),
+    "else-without-statements": ("solo", "begin|if has 4 9 is yes|else|end|if read 7 is 0|end|commit", "no|is 0|committed 1"),
+    "ifs-in-ifs-with-both-parts": ("solo", f"{SIXTEEN}up 7 1|" + "else|read 7|end|" * 16 + "commit", "no|is 0|committed 1"),
+    "256-ifs-one-after-another": ("solo", "begin" + "|if has 4 9 is yes|else|end" * 256 + "|commit", "no|" * 256 + "committed 1"),
     "greatest-numbers-of-statements": (
         "solo",
         "begin|let z = read 4294967295|need read 7 is z|need balance 4294967295 is 18446744073709551615|commit",
@@ -511,13 +439,11 @@ LAWFUL = {
         "#\u00b5| begin\t\r||whole\t1  up 007 01 |commit 1",
         "begun 1|done done|committed 1|counter 7 1|depth 0",
     ),
-    "numbers-of-transactions-from-0": (
-        "steps", "step 0|undo 18446744073709551615", "refused 3 NoSuchTx|" * 2 + "depth 0",
-    ),
+    "numbers-of-transactions-from-0": ("steps", "step 0|undo 18446744073709551615", "refused 3 NoSuchTx|" * 2 + "depth 0"),
 }
 
 
 @each(cases("lawful", LAWFUL))
-def lawful(mltx, case):
+def lawful(mltx: Program, case: tuple[str, str, str]) -> None:
     subcommand, text, wanted = case
     expect(mltx.run(subcommand, "-", given=lines(text)), out=lines(wanted), what=f"{subcommand} of {text[-300:]!r}")

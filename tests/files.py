@@ -2,11 +2,10 @@
 import errno
 import os
 import socket
-import subprocess
-import threading
+from collections.abc import Iterator, Mapping
 from contextlib import contextmanager
 
-from harness import PATIENCE, each, expect, holds, lines, of_system, same, test
+from harness import Program, each, expect, holds, lines, of_system, same, test
 
 IO = "mltx: 13 Io\n"
 SCRIPTS = lines("begin|open 1|deposit 1 50|commit")
@@ -32,12 +31,12 @@ SESSION = lines("begin|open 1|deposit 1 50|commit")
 SESSION_TOLD = lines("begun 1|opened|done|committed 1").encode()
 
 
-def named(prefix, table):
+def named(prefix: str, table: Mapping[str, tuple[str, ...]]) -> dict[str, tuple[str, ...]]:
     return {f"{prefix}-{name}": (name, *case) for name, case in table.items()}
 
 
 @contextmanager
-def closed_pipe():
+def closed_pipe() -> Iterator[int]:
     """The end to write to of a pipe that nobody reads."""
     reader, writer = os.pipe()
     os.close(reader)
@@ -47,24 +46,13 @@ def closed_pipe():
         os.close(writer)
 
 
-@contextmanager
-def ends_in_time(process):
-    """Kills the process where the block takes too long."""
-    timer = threading.Timer(PATIENCE, process.kill)
-    timer.start()
-    try:
-        yield
-    finally:
-        timer.cancel()
-
-
-def bad_traces(mltx):
+def bad_traces(mltx: Program) -> list[str]:
     """Names under which no trace can be written."""
     return ["missing/some.trace", str(mltx.folder), mltx.file("plain", "") + "/some.trace", "", "/dev/full"]
 
 
 @each(named("trace-is-made-anew", RUNS))
-def trace_is_made_anew(mltx, case):
+def trace_is_made_anew(mltx: Program, case: tuple[str, ...]) -> None:
     """What stood in the file is gone, and what stands in it is the whole trace."""
     subcommand, text, told = case
     trace = mltx.file("some.trace", "x" * 100_000)
@@ -76,7 +64,7 @@ def trace_is_made_anew(mltx, case):
 
 
 @each(named("trace-that-cannot-be-written", RUNS))
-def trace_that_cannot_be_written(mltx, case):
+def trace_that_cannot_be_written(mltx: Program, case: tuple[str, ...]) -> None:
     """All goes to standard output, and then the fault is told."""
     subcommand, text, told = case
     for trace in bad_traces(mltx):
@@ -85,7 +73,7 @@ def trace_that_cannot_be_written(mltx, case):
 
 
 @test
-def trace_of_a_server_that_cannot_be_written(mltx):
+def trace_of_a_server_that_cannot_be_written(mltx: Program) -> None:
     """A file that can't be made is told before it listens; one that can't be written to is noted, and told at the end."""
     for trace in bad_traces(mltx):
         with mltx.serve("--trace", trace) as server:
@@ -93,12 +81,12 @@ def trace_of_a_server_that_cannot_be_written(mltx):
                 expect(server.end(said=""), status=1, err=IO, what=f"serve --trace {trace!r}")
                 continue
             same(server.talk(SESSION), SESSION_TOLD, f"serve --trace {trace!r}")
-            note = f"the trace is written no further: {of_system(errno.ENOSPC)}"
+            note = f"could not write the trace, which ends here: {of_system(errno.ENOSPC)}"
             expect(server.end(), status=1, out="served 1\n", err=IO, notes=[note], what=f"serve --trace {trace!r}")
 
 
 @test
-def trace_of_a_server_is_made_anew(mltx):
+def trace_of_a_server_is_made_anew(mltx: Program) -> None:
     trace = mltx.file("some.trace", "x" * 100_000)
     with mltx.serve("--trace", trace) as server:
         same(server.talk(SESSION), SESSION_TOLD)
@@ -108,7 +96,7 @@ def trace_of_a_server_is_made_anew(mltx):
 
 
 @each(named("output-that-cannot-be-written", SUBCOMMANDS))
-def output_that_cannot_be_written(mltx, case):
+def output_that_cannot_be_written(mltx: Program, case: tuple[str, ...]) -> None:
     """A full device and a pipe that nobody reads are faults, and no signal ends the program."""
     subcommand, text, _ = case
     file = mltx.file("text", text)
@@ -118,7 +106,7 @@ def output_that_cannot_be_written(mltx, case):
 
 
 @test
-def help_that_cannot_be_written(mltx):
+def help_that_cannot_be_written(mltx: Program) -> None:
     for words in (("--help",), ("--version",), ("help",), ("help", "run"), ("solo", "--help"), ("serve", "-h")):
         expect(mltx.run(*words, redirect=">/dev/full"), status=1, err=IO, what=f"{words} >/dev/full")
         with closed_pipe() as pipe:
@@ -126,29 +114,27 @@ def help_that_cannot_be_written(mltx):
 
 
 @test
-def served_that_cannot_be_written(mltx):
+def served_that_cannot_be_written(mltx: Program) -> None:
     with mltx.serve(redirect=">/dev/full") as server:
         same(server.talk(SESSION), SESSION_TOLD)
         expect(server.end(), status=1, err=IO, what="serve >/dev/full")
 
 
 @test
-def output_that_breaks_off(mltx):
+def output_that_breaks_off(mltx: Program) -> None:
     """A reader that stops in the middle has got the first bytes of the text."""
     scripts = lines("begin 1|up 7 1|read 7|commit") * 20_000
     told = "".join(f"done\nis {number}\ncommitted {number}\n" for number in range(1, 20_001))
-    words, errors = [mltx.path, "solo", mltx.file("scripts.txt", scripts)], mltx.folder / "errors"
-    with open(errors, "wb") as error, subprocess.Popen(words, stdout=subprocess.PIPE, stderr=error) as process:
-        with ends_in_time(process):
-            heard = process.stdout.read(10_000)
-            process.stdout.close()
-            status = process.wait()
-    same((status, errors.read_bytes()), (1, IO.encode()), "solo into a pipe that is closed after 10,000 bytes")
+    with mltx.started("solo", mltx.file("scripts.txt", scripts)) as process:
+        heard = process.stdout.read(10_000)
+        process.stdout.close()
+        ended = process.wait(), process.stderr.read()
+    same(ended, (1, IO.encode()), "solo into a pipe that is closed after 10,000 bytes")
     same(heard, told.encode()[:10_000], "what was read before")
 
 
 @each(named("file-that-cannot-be-read", SUBCOMMANDS))
-def file_that_cannot_be_read(mltx, case):
+def file_that_cannot_be_read(mltx: Program, case: tuple[str, ...]) -> None:
     """One that is not there, a folder, a name without letters; nothing is written, and no trace is made."""
     subcommand, text, _ = case
     plain, trace = mltx.file("plain", text), mltx.folder / "some.trace"
@@ -161,18 +147,18 @@ def file_that_cannot_be_read(mltx, case):
 
 
 @each(named("standard-input-that-cannot-be-read", SUBCOMMANDS))
-def standard_input_that_cannot_be_read(mltx, case):
+def standard_input_that_cannot_be_read(mltx: Program, case: tuple[str, ...]) -> None:
     subcommand = case[0]
     expect(mltx.run(subcommand, "-", redirect="<."), status=1, err=IO, what=f"{subcommand} - <.")
 
 
 @test
-def standard_input_without_words_that_cannot_be_read(mltx):
+def standard_input_without_words_that_cannot_be_read(mltx: Program) -> None:
     expect(mltx.run(redirect="<."), status=1, err=IO, what="no words <.")
 
 
 @each(named("file-and-not-standard-input", SUBCOMMANDS))
-def file_and_not_standard_input(mltx, case):
+def file_and_not_standard_input(mltx: Program, case: tuple[str, ...]) -> None:
     """FILE is read and standard input is not; with `-` it is the other way round, also where a file has that name."""
     subcommand, text, told = case
     faulty, fault = FAULTY[subcommand]
@@ -187,7 +173,7 @@ EMPTY = {"solo": ("",), "steps": ("depth 0\n",), "run": ("",), "check": ("",)}
 
 
 @each(named("empty-input-of", EMPTY))
-def empty_input(mltx, case):
+def empty_input(mltx: Program, case: tuple[str, ...]) -> None:
     subcommand, told = case
     file, trace = mltx.file("empty", ""), mltx.folder / "some.trace"
     for words in ((subcommand, file), (subcommand, "-"), (subcommand, "/dev/null")):
@@ -201,7 +187,7 @@ NO_ADDRESSES = ["no address", "", "-", "127.0.0.1", "127.0.0.1:", "127.0.0.1:655
 
 
 @test
-def address_that_cannot_be_listened_on(mltx):
+def address_that_cannot_be_listened_on(mltx: Program) -> None:
     """What is no address, and one in use; no trace is made."""
     trace = mltx.folder / "some.trace"
     with socket.socket() as used:
@@ -215,7 +201,7 @@ def address_that_cannot_be_listened_on(mltx):
 
 
 @each(named("fault-of-the-text-first", FAULTY))
-def fault_of_the_text_first(mltx, case):
+def fault_of_the_text_first(mltx: Program, case: tuple[str, ...]) -> None:
     """The text's fault comes before those of standard output and of the trace, and the trace is left as it was."""
     subcommand, text, fault = case
     file, trace = mltx.file("faulty", text), mltx.file("some.trace", "as it was")
@@ -230,7 +216,7 @@ def fault_of_the_text_first(mltx, case):
 
 
 @each(named("one-fault-is-told", RUNS))
-def one_fault_is_told(mltx, case):
+def one_fault_is_told(mltx: Program, case: tuple[str, ...]) -> None:
     """Where standard output and the trace both can't be written, and where the input can't be read besides."""
     subcommand, text, _ = case
     for file in (mltx.file("text", text), "missing"):
@@ -240,7 +226,7 @@ def one_fault_is_told(mltx, case):
 
 
 @test
-def refused_script_is_no_fault(mltx):
+def refused_script_is_no_fault(mltx: Program) -> None:
     """A script that finds no room is told so, and the status is 0, as for one that aborts."""
     opens = "".join(f"open {number * 65536}\n" for number in range(9))
     text = f"begin\n{opens}commit\nbegin\nbalance 0\nabort\n"

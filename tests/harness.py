@@ -11,15 +11,18 @@ import difflib
 import errno
 import os
 import re
+import select
 import shutil
 import signal
 import socket
 import subprocess
 import tempfile
+import threading
 import time
 from collections.abc import Callable, Iterable, Iterator, Mapping
 from contextlib import contextmanager
 from pathlib import Path
+from subprocess import PIPE
 from typing import IO, TypeVar, cast, overload
 
 ROOT = Path(__file__).resolve().parent.parent
@@ -33,7 +36,7 @@ PATIENCE = 120
 # A line by which a server notes what happens, and how it writes the time of that.
 NOTE = re.compile(r"mltx: note ([^:]*:[^:]*:[^:]*): (.*)\n")
 # What stands in the place of notes that nobody read in time.
-LOST = re.compile(r"mltx: note ([1-9]\d* notes were lost)\n")
+LOST = re.compile(r"mltx: note ([1-9]\d* messages were lost)\n")
 DATE = "%a, %d %b %Y %H:%M:%S GMT"
 
 # What a client is told of a connection that the server has broken off.
@@ -42,6 +45,8 @@ BROKEN_OFF = (errno.ECONNRESET, errno.EPIPE, errno.ENOTCONN)
 # What is given and compared: a text stands for its bytes.
 Text = str | bytes
 Address = tuple[str, int]
+# Where an operator connects that a server does not have.
+NOWHERE: Address = ("", 0)
 Case = TypeVar("Case")
 # A function that is listed as a test and stays as it is, and one that is so for each case of a table.
 Listed = TypeVar("Listed", bound=Callable[..., object])
@@ -132,6 +137,11 @@ def as_bytes(text: Text) -> bytes:
     return text.encode() if isinstance(text, str) else text
 
 
+def fault_of(command: str, line: int, cause: str) -> str:
+    """The line by which a command tells the fault of a text."""
+    return f"mltx: {'11 TraceFault' if command == 'check' else '10 ScriptFault'} line {line} {cause}\n"
+
+
 def lines(row: str) -> str:
     """The text of a worked row: its lines stand between bars, and each ends in a line feed."""
     return "".join(line + "\n" for line in row.split("|")) if row else ""
@@ -148,13 +158,13 @@ def expect(
 
 def cut_for(client: int, why: str) -> str:
     """The note on a client whose session the server has ended."""
-    return f"client {client} is cut: {why}"
+    return f"client {client} disconnected: {why}"
 
 
 # Why a session is ended by the server.
-IDLE, LONG_LINE, MANY_BYTES = "it was idle for too long", "a line was too long", "it sent too many bytes"
-NO_MEMORY, BROKEN, OPEN_LONG = "it was refused memory", "its connection broke", "its transaction was open for too long"
-BY_OPERATOR, STOPS = "an operator ended it", "the server stops"
+IDLE, LONG_LINE, MANY_BYTES = "idle for too long", "line too long", "too many bytes received"
+NO_MEMORY, BROKEN, OPEN_LONG = "out of memory", "connection lost", "transaction open for too long"
+BY_OPERATOR, STOPS = "ended by the operator", "the server is shutting down"
 
 
 def in_any_order(ran: Ran) -> Ran:
@@ -177,6 +187,36 @@ def holds(is_so: object, what: str) -> None:
     """Fails where something is not so."""
     if not is_so:
         raise Failed(what)
+
+
+def comes_to_be(is_so: Callable[[], object], what: str, pause: float = 0.02) -> None:
+    """Waits until something is so, and looks again after each pause, in seconds."""
+    deadline = time.monotonic() + PATIENCE
+    while not is_so():
+        holds(time.monotonic() < deadline, f"it never came that {what}")
+        time.sleep(pause)
+
+
+@contextmanager
+def takes(least: float, most: float, what: str) -> Iterator[None]:
+    """Fails where what stands here takes less or more than so many seconds."""
+    began = time.monotonic()
+    yield
+    took = time.monotonic() - began
+    holds(least <= took <= most, f"{what} after {took} seconds")
+
+
+def readable(those: Iterable[Case], seconds: float = 0) -> list[Case]:
+    """Those of peers and of streams from which something can be read, waited for so many seconds."""
+    return select.select(those, [], [], seconds)[0]
+
+
+def match(pattern: str | re.Pattern[str], text: str) -> re.Match[str]:
+    """Where a pattern stands first in a text. Fails where it stands nowhere."""
+    found = re.search(pattern, text)
+    if found is None:
+        raise Failed(f"{pattern} does not stand in {_short(text)}")
+    return found
 
 
 def _difference(wanted: bytes, found: bytes, most: int = 20) -> str:
@@ -216,6 +256,19 @@ def all_threads_are(process: subprocess.Popen[bytes], state: str) -> bool:
         return False
 
 
+class Piped(subprocess.Popen[bytes]):
+    """A process whose streams are pipes, but for the input of a server that is given none."""
+
+    stdin: IO[bytes]
+    stdout: IO[bytes]
+    stderr: IO[bytes]
+
+    def end(self, given: bytes = b"") -> Ran:
+        """What it comes to, once it is given this and the end of its input."""
+        out, err = self.communicate(given)
+        return Ran(self.returncode, out, err)
+
+
 class Program:
     """The program under test, run in a folder of its own that is removed afterwards."""
 
@@ -233,7 +286,7 @@ class Program:
         *words: object,
         given: Text = b"",
         env: Mapping[str, str] | None = None,
-        stdout: int | IO[bytes] = subprocess.PIPE,
+        stdout: int | IO[bytes] = PIPE,
         redirect: str = "",
         timeout: float = PATIENCE,
     ) -> Ran:
@@ -244,7 +297,7 @@ class Program:
                 command([self.path, *words], redirect),
                 input=as_bytes(given),
                 stdout=stdout,
-                stderr=subprocess.PIPE,
+                stderr=PIPE,
                 cwd=self.folder,
                 env={**os.environ, **(env or {})},
                 timeout=timeout,
@@ -252,6 +305,18 @@ class Program:
         except subprocess.TimeoutExpired:
             raise Failed(f"{' '.join(map(str, words))} had not ended after {timeout} seconds") from None
         return Ran(ran.returncode, ran.stdout or b"", ran.stderr)
+
+    @contextmanager
+    def started(self, *words: object, bufsize: int = -1) -> Iterator[Piped]:
+        """The program, started with pipes. It is killed where it takes too long."""
+        with Piped(command([self.path, *words]), bufsize, None, PIPE, PIPE, PIPE, cwd=self.folder) as process:
+            timer = threading.Timer(PATIENCE, process.kill)
+            timer.start()
+            try:
+                yield process
+            finally:
+                timer.cancel()
+                process.kill()
 
     def shim(self, **told: str) -> dict[str, str]:
         """The environment in which tests/shim.c is loaded into the program, and told these things."""
@@ -273,6 +338,12 @@ class Program:
             return self.run("check", trace)
         return self.run("check", "-", given=trace)
 
+    def accepted(self, trace: Path | Text) -> str:
+        """What `check` says of a trace, which it accepts."""
+        ran = self.check(trace)
+        same((ran.status, ran.err), (0, b""), f"the check of the trace, {ran}")
+        return ran.out.decode()
+
     @contextmanager
     def serve(
         self,
@@ -291,7 +362,7 @@ class Program:
         words = [*options, *(["--limit", limit] if limit is not None else [])]
         words += ["--admin", "%s:%d" % admin] if admin else []
         server = Server(self, address or free_address(), words, env, redirect, stdin, timeout)
-        server.limit, server.admin = limit or 1, admin
+        server.limit, server.admin = limit or 1, admin or NOWHERE
         try:
             yield server
         finally:
@@ -313,16 +384,13 @@ class Server:
     ) -> None:
         self.address, self.redirect, self.timeout = address, redirect, timeout
         # How many connections it takes in all, and where its operator connects.
-        self.limit, self.admin = 1, cast("Address | None", None)
+        self.limit, self.admin = 1, NOWHERE
         self.began = time.time()
         # What `next_note` has read.
         self.noted: list[str] = []
-        self.process = subprocess.Popen(
+        self.process = Piped(
             command([mltx.path, "serve", "%s:%d" % address, *options], redirect),
-            bufsize=0,
-            stdin=stdin,
-            stdout=subprocess.PIPE,
-            stderr=subprocess.PIPE,
+            *(0, None, stdin, PIPE, PIPE),
             cwd=mltx.folder,
             env={**os.environ, **(env or {})},
         )
@@ -346,7 +414,6 @@ class Server:
 
     def first_line(self) -> str:
         """The next line that it writes on standard error, which `end` then leaves out."""
-        assert self.process.stderr
         return self.process.stderr.readline().decode()
 
     def end(self, said: str | None = None, is_all_noted: bool = True) -> Ran:
@@ -356,7 +423,7 @@ class Server:
             out, err = self.process.communicate(timeout=self.timeout)
         except subprocess.TimeoutExpired:
             raise Failed(f"the server had not ended after {self.timeout} seconds") from None
-        where = listening(self.address) + (f"mltx: admin on {self.admin[0]}:{self.admin[1]}\n" if self.admin else "")
+        where = listening(self.address) + ("mltx: admin on %s:%d\n" % self.admin if self.admin != NOWHERE else "")
         rest, notes = notes_apart(err.removeprefix((where if said is None else said).encode()), self.began)
         notes = self.noted + notes
         has_served_all = is_all_noted and out == b"served %d\n" % self.limit
@@ -365,8 +432,8 @@ class Server:
     def _but_limit(self, notes: list[str], has_served_all: bool) -> tuple[str, ...]:
         """The notes without those on the limit, which come once each and in this order, where the limit is reached."""
         most = self.limit - self.limit // 10
-        nearly = [f"{most} of {self.limit} connections are taken"] if self.limit >= 10 else []
-        wanted = [*nearly, f"no more connections are taken: the limit of {self.limit} is reached"]
+        nearly = [f"{most} of {self.limit} connections are used"] if self.limit >= 10 else []
+        wanted = [*nearly, f"accepting no more connections: the limit of {self.limit} is reached"]
         found = [note for note in notes if note in wanted]
         if has_served_all and "2>" not in self.redirect:
             same(found, wanted, f"the notes on the limit among {notes}")
@@ -381,18 +448,21 @@ class Server:
         self.noted += notes
         return notes[0]
 
+    def end_input(self) -> None:
+        """Closes its standard input, which is a pipe."""
+        self.process.stdin.close()
+        self.process.stdin = cast(IO[bytes], None)
+
     def stop(self) -> None:
         """Stops it, and returns once each of its threads has stopped: a signal reaches them one after another."""
         self.process.send_signal(signal.SIGSTOP)
-        deadline = time.monotonic() + PATIENCE
-        while not all_threads_are(self.process, "T"):
-            if time.monotonic() > deadline:
-                raise Failed("the server did not stop")
-            time.sleep(0.001)
+        comes_to_be(lambda: all_threads_are(self.process, "T"), "the server stops", 0.001)
 
-    def kill(self) -> None:
+    def kill(self) -> int:
+        """Kills it, and returns its status."""
         self.process.kill()
         self.process.communicate()
+        return self.process.returncode
 
 
 class Peer:
@@ -407,6 +477,9 @@ class Peer:
 
     def __exit__(self, *_: object) -> None:
         self.socket.close()
+
+    def fileno(self) -> int:
+        return self.socket.fileno()
 
     def send(self, text: Text) -> None:
         self.socket.sendall(as_bytes(text))
@@ -435,10 +508,14 @@ class Peer:
         with may_break_off():
             self.send(text)
             self.end()
+        self.hear()
+        return self.heard
+
+    def hear(self) -> None:
+        """Reads what is answered, until the connection ends or the server breaks it off."""
         with may_break_off():
             for piece in iter(lambda: self.socket.recv(65_536), b""):
                 self.heard += piece
-        return self.heard
 
     def rest(self) -> bytes:
         """All that is answered to the end of the connection."""

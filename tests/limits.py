@@ -5,32 +5,43 @@ contract can say that memory really ran out, and only a test sees it."""
 import fcntl
 import os
 import random
-import subprocess
 import termios
-import threading
 import time
-from contextlib import contextmanager, suppress
+from collections.abc import Callable, Sequence
+from contextlib import suppress
+from typing import IO
 
 import harness
 import model
-from harness import MANY_BYTES, MOST_BYTES, Ran, cut_for, each, expect, holds, same, test
+from harness import MANY_BYTES, MOST_BYTES, Piped, Program, Ran, cut_for, each, expect, fault_of, holds, same, test
 from random_work import FEW, random_script
 
 PSEUDOKEYS = 2**16
 # The greatest balance, and the greatest amount.
 MOST, LAST = 10**18, 2**64 - 1
 
+# A line, or a list of parts.
+Part = str | Sequence["Part"]
 
-def text(*parts):
-    """The text of these lines. A part is a line, or a list of parts."""
+
+def text(*parts: Part) -> str:
+    """The text of these lines."""
     return "".join(part + "\n" if isinstance(part, str) else text(*part) for part in parts)
+
+
+def comes_to(ran: Ran, told: Part | None, fault: str, what: str = "") -> None:
+    """Fails where a run comes to anything but these lines, or where there are none to this fault."""
+    if told is None:
+        expect(ran, status=1, err=fault, what=what)
+    else:
+        expect(ran, out=text(told), what=what)
 
 
 # Transactions that are open at once.
 
 
 @test
-def sixty_four_are_open_and_the_next_is_refused(mltx):
+def sixty_four_are_open_and_the_next_is_refused(mltx: Program) -> None:
     """A program that refuses the seventeenth, the 64th or none fails; so does one in which an end makes no room."""
     numbers = range(1, 65)
     work = [f"whole {t} up 1 {t}" for t in numbers]
@@ -44,7 +55,7 @@ def sixty_four_are_open_and_the_next_is_refused(mltx):
 
 
 @test
-def sixty_three_operations_wait_for_one(mltx):
+def sixty_three_operations_wait_for_one(mltx: Program) -> None:
     """Each keeps its reservation while it waits, and is done once the one that all wait for has committed. A program
     that refuses the seventeenth reservation fails, or the 63rd."""
     others = range(2, 65)
@@ -57,7 +68,7 @@ def sixty_three_operations_wait_for_one(mltx):
 
 
 @test(seconds=1)
-def sixty_four_sessions_at_once_and_the_next_waits(mltx):
+def sixty_four_sessions_at_once_and_the_next_waits(mltx: Program) -> None:
     """The 65th connection is served once a session ends. Served earlier, its `begin` would be refused."""
     with mltx.serve("--sessions", 64, limit=65) as server:
         peers = [server.connect() for _ in range(64)]
@@ -77,7 +88,7 @@ def sixty_four_sessions_at_once_and_the_next_waits(mltx):
 
 
 @test
-def connections_that_wait_are_served_later(mltx):
+def connections_that_wait_are_served_later(mltx: Program) -> None:
     """Six connections, two sessions: each is served, whatever its place."""
     with mltx.serve("--sessions", 2, limit=6) as server:
         peers = [server.connect() for _ in range(6)]
@@ -92,7 +103,7 @@ def connections_that_wait_are_served_later(mltx):
 # Pages.
 
 
-def every_bucket():
+def every_bucket() -> list[range]:
     """Lists of 1,024 accounts each, in all five of each pseudokey of `low`. Account a has the pseudokey a mod 2^16.
 
     With five of each all 65,536 buckets are made, and with four they need not be. A bucket has eight slots, so one of
@@ -107,7 +118,7 @@ MORE, NINTH = [77 + place * PSEUDOKEYS for place in (5, 6, 7)], 77 + 8 * PSEUDOK
 
 
 @test(seconds=4)
-def all_pages_that_can_be_made_are_made_by_steps(mltx):
+def all_pages_that_can_be_made_are_made_by_steps(mltx: Program) -> None:
     """327,680 accounts are opened, none of which is refused; then three of one pseudokey; and the ninth has no room."""
     given, told = [], []
     for t, accounts in enumerate(every_bucket(), 1):
@@ -120,7 +131,7 @@ def all_pages_that_can_be_made_are_made_by_steps(mltx):
 
 
 @test(seconds=3)
-def all_pages_that_can_be_made_are_made_by_scripts(mltx):
+def all_pages_that_can_be_made_are_made_by_scripts(mltx: Program) -> None:
     """The same by `solo`: the script that opens the ninth account of a pseudokey is refused and aborted."""
     scripts = [accounts[place : place + 256] for accounts in every_bucket() for place in range(0, 1_024, 256)] + [MORE]
     given = [line for part in scripts for line in ("begin", *(f"open {account}" for account in part), "commit")]
@@ -142,16 +153,16 @@ OPERATIONS = {
 
 
 @each(OPERATIONS, seconds=0.5)
-def operations_of_a_transaction(mltx, ops):
+def operations_of_a_transaction(mltx: Program, ops: list[str]) -> None:
     """1,024 operations, and no more. Taken back they leave the base as before; done again and committed they stay."""
-    base = model.Base()
+    base, read = model.Base(), [model.read_op(op.split()) for op in ops]
     given = ["begin", "whole 1 up 2 40", "whole 1 add 4 9", "commit 1"]
     told = ["begun 1", *(f"done {base.ask(op)}" for op in (("up", 2, 40), ("add", 4, 9))), "committed 1"]
     endings = {2: (["abort 2", "undo 2"], ["aborting", "aborted"]), 3: (["commit 3"], ["committed 2"])}
     for t, (ends, told_at_end) in endings.items():
         base.keep()
         given += ["begin", *(f"whole {t} {op}" for op in ops), f"whole {t} up 2 1", f"call {t} read 2", *ends]
-        told += [f"begun {t}", *(f"done {base.ask(model.read_op(op.split()))}" for op in ops)]
+        told += [f"begun {t}", *(f"done {base.ask(op)}" for op in read if op)]
         told += [*["refused 8 LogFull"] * 2, *told_at_end]
         if t == 2:
             base.undo()
@@ -159,20 +170,20 @@ def operations_of_a_transaction(mltx, ops):
 
 
 @test(seconds=1)
-def sixty_four_transactions_have_1024_operations_each(mltx):
+def sixty_four_transactions_have_1024_operations_each(mltx: Program) -> None:
     """65,536 operations are done and may still be taken back, so the history has as many lines reserved. None of them
     waits; each second transaction is taken back, and the others stay."""
     everybody = range(1, 65)
     ups = [f"whole {t} up 2 1" for _ in range(MOST_OPERATIONS) for t in everybody]
     ends = [line for t in everybody for line in ([f"abort {t}", f"undo {t}"] if t % 2 else [f"commit {t}"])]
-    told = [[f"begun {t}" for t in everybody], ["done done"] * len(ups)]
+    told = [*(f"begun {t}" for t in everybody), *["done done"] * len(ups)]
     told += [line for n in range(1, 33) for line in ("aborting", "aborted", f"committed {n}")]
     given = text(["begin"] * 64, ups, ends)
     expect(mltx.run("steps", "-", given=given), out=text(told, f"counter 2 {32 * MOST_OPERATIONS}", "depth 0"))
 
 
 @test
-def taking_back_1024_operations_takes_four_steps_each(mltx):
+def taking_back_1024_operations_takes_four_steps_each(mltx: Program) -> None:
     """A program that takes back other than all of them, one by one, or in other steps, fails."""
     ups = [f"whole 1 up 2 {n}" for n in range(1, 1_025)]
     given = text("begin", ups, "whole 1 up 2 1", "abort 1", ["step 1 1000"] * 4, "step 1 96", "step 1")
@@ -183,7 +194,7 @@ def taking_back_1024_operations_takes_four_steps_each(mltx):
 
 
 @test
-def a_session_has_1024_operations_in_a_transaction(mltx):
+def a_session_has_1024_operations_in_a_transaction(mltx: Program) -> None:
     """The 1,025th is `error 8 LogFull`, and the session goes on. What committed stays, and what was aborted doesn't."""
     ups = ["up 7 1"] * 1_024
     given = text("begin", ups, "up 7 1", "read 7", "commit", "begin", ups, "up 7 1", "abort", "begin", "read 7", "quit")
@@ -197,17 +208,17 @@ def a_session_has_1024_operations_in_a_transaction(mltx):
 # Scripts.
 
 
-def script_of(*statements):
+def script_of(*statements: Part) -> str:
     return text("begin", *statements, "commit")
 
 
-def longest_path(else_part):
+def longest_path(else_part: int) -> list[Part]:
     """Statements whose longest path has 256 operations with an `else` of 253: one before, the `if`, and one after."""
     first_part = ["up 1 1"] * 20
     return ["up 1 1", "if up 1 1 is done", first_part, "else", ["up 1 1"] * else_part, "end", "up 1 1"]
 
 
-def nested(depth):
+def nested(depth: int) -> tuple[list[str], str, list[str]]:
     return ["if read 1 is 0"] * depth, "up 1 1", ["end"] * depth
 
 
@@ -216,7 +227,7 @@ LETS = [f"let {v} = read {n}" for n, v in enumerate(LETTERS)]
 UPS = ["up 1 1"] * 256
 LONG_ELSE = ["if up 1 1 is over", "else", ["up 1 1"] * 255, "end"]
 # By name a script, and what `solo` writes of it; or the line and the cause of its fault.
-SCRIPTS = {
+SCRIPTS: dict[str, tuple[str, str | tuple[int, str]]] = {
     "a-path-of-256-operations": (script_of(UPS), text(["done"] * 256, "committed 1")),
     "a-path-of-257-operations": (script_of(UPS, "up 1 1"), (258, "Long")),
     "a-path-of-256-operations-through-an-if": (script_of(longest_path(253)), text(["done"] * 23, "committed 1")),
@@ -236,10 +247,7 @@ SCRIPTS = {
     "sixteen-ifs-in-each-other": (script_of(nested(16)), text(["is 0"] * 16, "done", "committed 1")),
     "seventeen-ifs-in-each-other": (script_of(nested(17)), (18, "Deep")),
     "the-seventeenth-if-is-the-257th-operation": (script_of(UPS[:240], nested(17)), (258, "Deep")),
-    "seventeen-ifs-one-after-another": (
-        script_of(["if read 1 is 0", "end"] * 17),
-        text(["is 0"] * 17, "committed 1"),
-    ),
+    "seventeen-ifs-one-after-another": (script_of(["if read 1 is 0", "end"] * 17), text(["is 0"] * 17, "committed 1")),
     "twenty-six-variables": (
         script_of([f"up {n} {n + 100}" for n in range(26)], LETS)
         + script_of("open 1", [f"deposit 1 {v}" for v in LETTERS], "balance 1")
@@ -266,43 +274,42 @@ SCRIPTS = {
 
 
 @each(SCRIPTS)
-def limits_of_scripts(mltx, case):
+def limits_of_scripts(mltx: Program, case: tuple[str, str | tuple[int, str]]) -> None:
     """What `solo` says of a script at a limit or one past it; `run` says the same of a faulty one."""
     script, wanted = case
     if isinstance(wanted, str):
         expect(mltx.run("solo", "-", given=script), out=wanted)
         return
-    fault = "mltx: 10 ScriptFault line %d %s\n" % wanted
     for command in ("solo", "run"):
-        expect(mltx.run(command, "-", given=script), status=1, err=fault, what=command)
+        comes_to(mltx.run(command, "-", given=script), None, fault_of(command, *wanted), command)
 
 
 # Numbers and lines, in each kind of text.
 
 
-def in_each_text(mltx, line_of, reply, base, cause="Words", told_in_session="error 10 ScriptFault"):
+def in_each_text(
+    mltx: Program, line_of: Callable[[str, str], str], reply: str | None, base: list[str], cause: str, told_in_session: str
+) -> None:
     """Puts an operation into a script, a schedule, a trace and a session. `line_of` makes its line of the words before
     it, as `op 1`, and of its reply where that stands there. Where `reply` is None the line is faulty."""
-    lawful = reply is not None
-    script, schedule = ["begin", line_of(""), "commit"], ["begin", line_of("whole 1 "), "commit 1"]
+    script, schedule = ["begin", line_of("", ""), "commit"], ["begin", line_of("whole 1 ", ""), "commit 1"]
     trace = ["begin 1", line_of("op 1 ", f" {reply or 'done'}"), "commit 1 1"]
     told = {
-        "solo": (script, [reply, "committed 1"]),
-        "run": (script, ["client 0 script 1", reply, "committed 1", *base]),
+        "solo": (script, [reply or "", "committed 1"]),
+        "run": (script, ["client 0 script 1", reply or "", "committed 1", *base]),
         "steps": (schedule, ["begun 1", f"done {reply}", "committed 1", *base, "depth 0"]),
         "check": (trace, ["serial 1", *base]),
     }
     for command, (given, wanted) in told.items():
-        fault = f"mltx: {'11 TraceFault' if command == 'check' else '10 ScriptFault'} line 2 {cause}\n"
-        wanted = {"out": text(wanted)} if lawful else {"status": 1, "err": fault}
-        expect(mltx.run(command, "-", given=text(given)), **wanted, what=f"{command} of {given}")
+        ran = mltx.run(command, "-", given=text(given))
+        comes_to(ran, wanted if reply else None, fault_of(command, 2, cause), f"{command} of {given}")
     with mltx.serve() as server:
-        heard = server.talk(text("begin", line_of(""))).decode()
-        same(heard, text("begun 1", reply if lawful else told_in_session), f"a session of {line_of('')!r}")
+        heard = server.talk(text("begin", line_of("", ""))).decode()
+        same(heard, text("begun 1", reply or told_in_session), f"a session of {line_of('', '')!r}")
 
 
 # By name an operation, its reply, and the base that it leaves. Where there is no reply the operation is faulty.
-NUMBERS = {
+NUMBERS: dict[str, tuple[str, str | None, list[str]]] = {
     "the-last-account": ("open 4294967295", "opened", ["account 4294967295 0"]),
     "an-account-too-many": ("open 4294967296", None, []),
     "the-last-set": ("add 65535 0", "added", ["element 65535 0"]),
@@ -326,10 +333,10 @@ NUMBERS = {
 
 
 @each(NUMBERS, seconds=0.2)
-def limits_of_numbers(mltx, case):
+def limits_of_numbers(mltx: Program, case: tuple[str, str | None, list[str]]) -> None:
     """A number at its limit is read as it stands, and one past it is a fault, in each kind of text."""
     op, reply, base = case
-    in_each_text(mltx, lambda before, after="": before + op + after, reply, base)
+    in_each_text(mltx, lambda before, after: before + op + after, reply, base, "Words", "error 10 ScriptFault")
 
 
 # By name how long a line is with its CR, whether it has one, and whether it is too long.
@@ -343,15 +350,14 @@ LINES = {
 
 
 @each(LINES, seconds=0.2)
-def limits_of_lines(mltx, case):
+def limits_of_lines(mltx: Program, case: tuple[int, str, bool]) -> None:
     """A session whose line is too long ends, and its transaction is taken back."""
     length, ending, lawful = case
 
-    def line_of(before, after=""):
-        return (before + "up 7 1" + after).ljust(length - len(ending)) + ending
+    def line_of(before: str, after: str) -> str:
+        return f"{before}up 7 1{after}".ljust(length - len(ending)) + ending
 
-    reply, base = ("done", ["counter 7 1"]) if lawful else (None, [])
-    in_each_text(mltx, line_of, reply, base, cause="Line", told_in_session="error 12 LineTooLong")
+    in_each_text(mltx, line_of, "done" if lawful else None, ["counter 7 1"], "Line", "error 12 LineTooLong")
 
 
 # By name a comment or a blank line, and whether it is lawful.
@@ -365,7 +371,7 @@ SKIPPED = {
 
 
 @each(SKIPPED)
-def limits_of_lines_that_are_skipped(mltx, case):
+def limits_of_lines_that_are_skipped(mltx: Program, case: tuple[str, bool]) -> None:
     """The rule of 200 bytes holds for comments and blank lines too."""
     line, lawful = case
     told = ["begun 1", "done done", "committed 1", "counter 1 1", "depth 0"]
@@ -374,8 +380,7 @@ def limits_of_lines_that_are_skipped(mltx, case):
         "steps": (["begin", "whole 1 up 1 1", "commit 1", line], told),
     }
     for command, (given, told) in texts.items():
-        wanted = {"out": text(told)} if lawful else {"status": 1, "err": "mltx: 10 ScriptFault line 4 Line\n"}
-        expect(mltx.run(command, "-", given=text(given)), **wanted, what=command)
+        comes_to(mltx.run(command, "-", given=text(given)), told if lawful else None, fault_of(command, 4, "Line"), command)
 
 
 # By name an event, and what it is told after one `begin`, or None where it is faulty.
@@ -390,16 +395,15 @@ EVENTS = {
 
 
 @each(EVENTS)
-def limits_of_events(mltx, case):
+def limits_of_events(mltx: Program, case: tuple[str, list[str] | None]) -> None:
     """What `steps` says of an event at a limit or one past it."""
     event, told = case
-    faulty = {"status": 1, "err": "mltx: 10 ScriptFault line 2 Words\n"}
-    wanted = faulty if told is None else {"out": text("begun 1", told, "depth 0")}
-    expect(mltx.run("steps", "-", given=text("begin", event)), **wanted)
+    wanted = None if told is None else ["begun 1", told, "depth 0"]
+    comes_to(mltx.run("steps", "-", given=text("begin", event)), wanted, fault_of("steps", 2, "Words"))
 
 
 # By name a trace, and what `check` says of it: lines, or the line and the cause of its fault.
-TRACES = {
+TRACES: dict[str, tuple[list[str], list[str] | tuple[int, str]]] = {
     "the-last-transaction-of-a-trace": (
         [f"begin {LAST}", f"op {LAST} up 1 1 done", f"commit {LAST} 1"],
         [f"serial {LAST}", "counter 1 1"],
@@ -419,18 +423,17 @@ TRACES = {
 
 
 @each(TRACES)
-def limits_of_traces(mltx, case):
+def limits_of_traces(mltx: Program, case: tuple[list[str], list[str] | tuple[int, str]]) -> None:
     """What `check` says of a trace at a limit or one past it; for what is open and how much it does, it has none."""
     trace, said = case
-    faulty = isinstance(said, tuple)
-    wanted = {"status": 1, "err": "mltx: 11 TraceFault line %d %s\n" % said} if faulty else {"out": text(said)}
-    expect(mltx.check(text(trace)), **wanted)
+    told, fault = (None, said) if isinstance(said, tuple) else (said, (0, ""))
+    comes_to(mltx.check(text(trace)), told, fault_of("check", *fault))
 
 
 # Inputs of 16,777,216 bytes.
 
 
-def of_all_bytes(head, filler, tail=""):
+def of_all_bytes(head: str, filler: str, tail: str = "") -> str:
     """A text of 16,777,216 bytes: its head, a line over and over, the last one cut, and its tail."""
     room = MOST_BYTES - len(head) - len(tail)
     lines = filler * (room // len(filler))
@@ -440,7 +443,7 @@ def of_all_bytes(head, filler, tail=""):
 COMMENT = "#" + "x" * 198 + "\n"
 
 
-def trace_of_all_bytes():
+def trace_of_all_bytes() -> str:
     """A trace has no comments, so its lines begin transactions, with blanks up to 200 bytes. The last one commits."""
     lines = "".join(f"begin {t}".ljust(199) + "\n" for t in range(1, MOST_BYTES // 200))
     last = text("begin 90000", "op 90000 up 1 1 done", "commit 90000 1")
@@ -463,22 +466,21 @@ WHOLE = {
 
 
 @each({f"{command}-reads-16777216-bytes": (command, *case) for command, case in WHOLE.items()}, seconds=2)
-def greatest_input(mltx, case):
+def greatest_input(mltx: Program, case: tuple[str, Callable[[], str], list[str]]) -> None:
     """It is read whole, from a file and from standard input, and its last line counts. One byte more is a fault."""
     command, made, told = case
     given = made()
     same(len(given), MOST_BYTES, "the length of the input that the test made")
     expect(mltx.run(command, "-", given=given), out=text(told), what="all bytes from standard input")
     expect(mltx.run(command, mltx.file("whole", given)), out=text(told), what="all bytes from a file")
-    refused = {"status": 1, "err": "mltx: 13 Io\n"}
-    expect(mltx.run(command, "-", given=given + "\n"), **refused, what="one more from standard input")
-    expect(mltx.run(command, mltx.file("more", given + "\n")), **refused, what="one more from a file")
-    expect(mltx.run(command, "-", given=given * 2), **refused, what="twice as many")
+    comes_to(mltx.run(command, "-", given=given + "\n"), None, "mltx: 13 Io\n", "one more from standard input")
+    comes_to(mltx.run(command, mltx.file("more", given + "\n")), None, "mltx: 13 Io\n", "one more from a file")
+    comes_to(mltx.run(command, "-", given=given * 2), None, "mltx: 13 Io\n", "twice as many")
 
 
 BLANKS = " " * 199 + "\n"
 # By name the end of all bytes that a session is given, what comes after them, and what is told at the end.
-SESSIONS = {
+SESSIONS: dict[str, tuple[str, str, list[str]]] = {
     "a-session-reads-16777216-bytes": ("commit\n", "", ["committed 1"]),
     "a-session-ends-after-one-byte-more": ("commit\n", "\n", ["committed 1"]),
     "a-session-reads-no-line-that-ends-too-late": ("commit", "\n", []),
@@ -487,7 +489,7 @@ SESSIONS = {
 
 
 @each(SESSIONS, seconds=2)
-def greatest_session(mltx, case):
+def greatest_session(mltx: Program, case: tuple[str, str, list[str]]) -> None:
     """What was complete is answered. Of one byte more the session ends by itself, and what is open is taken back."""
     tail, more, told = case
     with mltx.serve("--sessions", 1, limit=2) as server:
@@ -503,31 +505,17 @@ def greatest_session(mltx, case):
 # Large texts, and texts that come and go slowly.
 
 
-def large_scripts():
+def large_scripts() -> str:
     """More than 1.5 MB of random scripts: some hundreds, over and over, which find another base each time."""
     dice = random.Random(harness.SEED)
     once = "".join(random_script(dice, FEW, 1) for _ in range(500))
     return once * (1_500_000 // len(once) + 1)
 
 
-@contextmanager
-def started(mltx, words):
-    """The program, started with pipes. It is killed where it takes too long."""
-    how = {"stdin": subprocess.PIPE, "stdout": subprocess.PIPE, "stderr": subprocess.PIPE, "bufsize": 0}
-    with subprocess.Popen([mltx.path, *words], cwd=mltx.folder, **how) as process:
-        timer = threading.Timer(harness.PATIENCE, process.kill)
-        timer.start()
-        try:
-            yield process
-        finally:
-            timer.cancel()
-            process.kill()
-
-
-def read_slowly(mltx, words, most):
+def read_slowly(mltx: Program, *words: str, most: int) -> Ran:
     """Runs the program, and takes its output in small pieces, the first of them after a moment each."""
-    with started(mltx, words) as process:
-        pieces = []
+    with mltx.started(*words) as process:
+        pieces: list[bytes] = []
         while piece := os.read(process.stdout.fileno(), most):
             pieces.append(piece)
             if len(pieces) <= 20:
@@ -536,12 +524,12 @@ def read_slowly(mltx, words, most):
 
 
 @test(seconds=3)
-def scripts_of_more_than_a_megabyte(mltx):
+def scripts_of_more_than_a_megabyte(mltx: Program) -> None:
     """Their report is compared whole, read slowly and at once, and so is the check of their trace of over 1 MB."""
     given, base = large_scripts(), model.Base()
     told = model.solo(model.parse(given.encode()), base)
     file = mltx.file("scripts", given)
-    expect(read_slowly(mltx, ["solo", file], 1_000), out=told, what="read slowly")
+    expect(read_slowly(mltx, "solo", file, most=1_000), out=told, what="read slowly")
     expect(mltx.run("solo", "--trace", "trace", file), out=told)
     size = (mltx.folder / "trace").stat().st_size
     holds(size > 1_000_000 and len(told) > 65_536, f"the trace has {size} bytes, and the report {len(told)}")
@@ -551,7 +539,7 @@ def scripts_of_more_than_a_megabyte(mltx):
 
 
 @test(seconds=1)
-def reports_and_traces_around_65536_bytes(mltx):
+def reports_and_traces_around_65536_bytes(mltx: Program) -> None:
     """A script of 250 operations more at a time: reports and traces grow past 65,536 bytes."""
     for count in range(40, 60):
         given = script_of(["up 1 1"] * 250) * count
@@ -561,7 +549,7 @@ def reports_and_traces_around_65536_bytes(mltx):
         expect(mltx.check(mltx.folder / "trace"), out=counted, what="the check of the trace")
 
 
-def write_in_pieces(process, given, size):
+def write_in_pieces(process: Piped, given: bytes, size: int) -> None:
     """Writes pieces into the program, each once the one before was read, so that each comes by a read of its own. It
     ends where the program does."""
     with suppress(BrokenPipeError):
@@ -571,14 +559,14 @@ def write_in_pieces(process, given, size):
                 os.sched_yield()
 
 
-def is_unread(pipe):
+def is_unread(pipe: IO[bytes]) -> bool:
     return any(fcntl.ioctl(pipe, termios.FIONREAD, bytes(4)))
 
 
 COUNTED = 250
-COMMITTED = [["done"] * COUNTED, "committed 1"]
+COMMITTED: list[Part] = [["done"] * COUNTED, "committed 1"]
 # By name a command, what it is given, what it writes of it, and the size of the pieces.
-PIECES = {
+PIECES: dict[str, tuple[str, str, list[Part], int]] = {
     "solo-reads-pieces-of-7-bytes": (
         "solo",
         script_of(["up 1 1"] * COUNTED) * 8,
@@ -608,17 +596,16 @@ PIECES = {
 
 
 @each(PIECES, seconds=0.5)
-def input_in_small_pieces(mltx, case):
+def input_in_small_pieces(mltx: Program, case: tuple[str, str, list[Part], int]) -> None:
     """More than 1,000 reads, each of which gives little."""
     command, given, told, size = case
-    with started(mltx, [command, "-"]) as process:
+    with mltx.started(command, "-", bufsize=0) as process:
         write_in_pieces(process, given.encode(), size)
-        out, err = process.communicate()
-        expect(Ran(process.returncode, out, err), out=text(told), what=f"{len(given) // size} pieces")
+        expect(process.end(), out=text(told), what=f"{len(given) // size} pieces")
 
 
 @test(seconds=1)
-def a_session_of_five_thousand_lines_one_at_a_time(mltx):
+def a_session_of_five_thousand_lines_one_at_a_time(mltx: Program) -> None:
     """Each line is sent once the one before was answered, so that the session reads so many times."""
     with mltx.serve() as server, server.connect() as peer:
         same(peer.ask("begin"), "begun 1", "begin")
@@ -631,7 +618,7 @@ def a_session_of_five_thousand_lines_one_at_a_time(mltx):
 
 
 @test(seconds=1)
-def three_thousand_transactions_of_sessions(mltx):
+def three_thousand_transactions_of_sessions(mltx: Program) -> None:
     """Each transaction has its outcome: thousands in one session, and hundreds in one session after the other."""
     many, sessions, trace = 3000, 200, mltx.folder / "trace"
     said = "begin\nup 7 1\ncommit\n"
@@ -649,7 +636,7 @@ def three_thousand_transactions_of_sessions(mltx):
 
 
 @test(seconds=8)
-def a_million_items_of_history(mltx):
+def a_million_items_of_history(mltx: Program) -> None:
     """A million operations of one manager, each with a lock and an item of history; its trace is compared whole."""
     scripts, ops = 3_900, 255
     ups = ["up 1 1"] * ops
@@ -662,7 +649,7 @@ def a_million_items_of_history(mltx):
 
 
 @test(seconds=4)
-def three_hundred_thousand_transactions(mltx):
+def three_hundred_thousand_transactions(mltx: Program) -> None:
     """As many begin and end, most with nothing done, and the last one works as the first did."""
     count = 300_000
     given = text("begin", "abort") * (count - 1) + script_of("up 1 1")

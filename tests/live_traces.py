@@ -7,15 +7,18 @@ import signal
 import subprocess
 import threading
 import time
+from collections.abc import Iterator
 from concurrent.futures import ThreadPoolExecutor
 from contextlib import contextmanager
+from pathlib import Path
 
-from harness import PATIENCE, Failed, each, expect, holds, lines, listening, may_break_off, of_system, same, test
-from serving import IO, comes_to_be, says
+from harness import PATIENCE, Failed, Program, Server, comes_to_be, each, expect, holds, lines, listening, may_break_off
+from harness import of_system, same, test
+from serving import IO, says
 
 
 @test
-def trace_is_there_before_clients_are(mltx):
+def trace_is_there_before_clients_are(mltx: Program) -> None:
     """Its file is made, and empty, as soon as the server says that it listens."""
     for _ in range(5):
         trace = mltx.folder / "trace"
@@ -27,7 +30,7 @@ def trace_is_there_before_clients_are(mltx):
             expect(server.end(), out="served 1\n")
 
 
-def counts_up(server, ended, seed, told):
+def counts_up(server: Server, ended: threading.Event, seed: int, told: list[tuple[float, int]]) -> None:
     """Transactions of some operations over few objects, until the server is gone. It adds each commit's number, and when it was
     told of it."""
     source = random.Random(seed)
@@ -44,9 +47,9 @@ def counts_up(server, ended, seed, told):
 
 
 @contextmanager
-def under_load(server, clients=8):
+def under_load(server: Server, clients: int = 8) -> Iterator[list[tuple[float, int]]]:
     """Clients that work as long as the block lasts. It yields what they were told of commits."""
-    ended, told = threading.Event(), []
+    ended, told = threading.Event(), list[tuple[float, int]]()
     with ThreadPoolExecutor(clients) as threads:
         working = [threads.submit(counts_up, server, ended, seed, told) for seed in range(clients)]
         try:
@@ -57,13 +60,13 @@ def under_load(server, clients=8):
             one.result()
 
 
-def commits_of(text):
+def commits_of(text: str) -> list[int]:
     """The numbers of the commits in a trace, in order."""
     return [int(line.split()[2]) for line in text.splitlines() if line.startswith("commit ")]
 
 
 @each({f"trace-of-a-server-that-is-killed-{number}": number for number in range(10)}, seconds=3)
-def trace_of_a_server_that_is_killed(mltx, number):
+def trace_of_a_server_that_is_killed(mltx: Program, number: int) -> None:
     """At any moment under load: what stands in it is right, and has all that a client was told a second before."""
     trace, after = mltx.folder / "trace", random.Random(number).uniform(1.9, 2.9)
     with mltx.serve("--trace", trace, "--sessions", 8, limit=9) as server, under_load(server) as told:
@@ -73,8 +76,7 @@ def trace_of_a_server_that_is_killed(mltx, number):
         server.process.wait()
     text = trace.read_text()
     holds(text.endswith("\n"), f"the trace of {len(text)} bytes ends in {text[-40:]!r}")
-    checked = mltx.check(trace)
-    same((checked.status, checked.err), (0, b""), "the check of the trace")
+    mltx.accepted(trace)
     found = commits_of(text)
     same(found, list(range(1, len(found) + 1)), "the commits of the trace")
     early = [commit for at, commit in told if at < killed - 1.5]
@@ -82,7 +84,7 @@ def trace_of_a_server_that_is_killed(mltx, number):
 
 
 @test(seconds=2)
-def trace_has_whole_lines_at_each_moment(mltx):
+def trace_has_whole_lines_at_each_moment(mltx: Program) -> None:
     """Read again and again under load: each time it is a front of what it is at the end, of whole lines, and it grows."""
     trace, seen = mltx.folder / "trace", []
     with mltx.serve("--trace", trace, "--sessions", 4, limit=4) as server:
@@ -102,7 +104,7 @@ BLOCK = 4_096
 
 
 @test(seconds=2)
-def lines_of_a_trace_end_with_their_blocks(mltx):
+def lines_of_a_trace_end_with_their_blocks(mltx: Program) -> None:
     """Under load: no line goes over the end of a block, where a write of a killed process may be cut. Spaces stand before such an
     end alone, and the trace is right."""
     trace = mltx.folder / "trace"
@@ -116,17 +118,16 @@ def lines_of_a_trace_end_with_their_blocks(mltx):
     same(over, [], "the ends of blocks at which no line ends")
     inside = [found.end() for found in re.finditer(rb" \n", text) if found.end() % BLOCK != 0]
     same(inside, [], "the ends of lines with spaces inside of blocks")
-    checked = mltx.check(trace)
-    same((checked.status, checked.err), (0, b""), "the check of the trace")
+    mltx.accepted(trace)
 
 
 @test(seconds=2)
-def trace_into_a_full_device(mltx):
+def trace_into_a_full_device(mltx: Program) -> None:
     """It is noted while clients are served, who go on, and is a fault at the end."""
     with mltx.serve("--trace", "/dev/full", limit=3) as server:
         same(server.first_line(), listening(server.address))
         same(server.talk(lines("begin|up 7 1|commit")), lines("begun 1|done|committed 1").encode(), "the first client")
-        note = f"the trace is written no further: {of_system(errno.ENOSPC)}"
+        note = f"could not write the trace, which ends here: {of_system(errno.ENOSPC)}"
         same(server.next_note(), note)
         for number in (2, 3):
             told = lines(f"begun {number}|is 1|committed {number}").encode()
@@ -135,7 +136,7 @@ def trace_into_a_full_device(mltx):
 
 
 @each({f"trace-that-fails-{number}-bytes-after-a-while": number for number in (0, 1, 9, 10, 500)}, seconds=2)
-def trace_that_fails(mltx, number):
+def trace_that_fails(mltx: Program, number: int) -> None:
     """What was written before stays, and of what fails at this byte at most whole lines. What clients are told is not changed."""
     trace = mltx.folder / "trace"
     items = [f"begin {tx}\nop {tx} up 7 1 done\ncommit {tx} {tx}\n" for tx in range(1, 61)]
@@ -149,7 +150,7 @@ def trace_that_fails(mltx, number):
             if begin == 1:
                 comes_to_be(lambda: trace.read_text() == first, "the trace of thirty transactions is written")
         says(peer, "quit", "bye")
-        note = f"the trace is written no further: {of_system(errno.ENOSPC)}"
+        note = f"could not write the trace, which ends here: {of_system(errno.ENOSPC)}"
         expect(server.end(), status=1, out="served 1\n", err=IO, notes=[note])
     left = trace.read_text()
     is_front = left.startswith(first) and (first + second[:number]).startswith(left)
@@ -158,7 +159,7 @@ def trace_that_fails(mltx, number):
 
 
 @contextmanager
-def small_disk(mltx, size):
+def small_disk(mltx: Program, size: int) -> Iterator[Path | None]:
     """A folder on a disk of so many bytes, or None where none can be had."""
     place = mltx.folder / "disk"
     place.mkdir()
@@ -175,7 +176,7 @@ def small_disk(mltx, size):
 
 
 @test(seconds=3)
-def trace_on_a_disk_that_is_full(mltx):
+def trace_on_a_disk_that_is_full(mltx: Program) -> None:
     """Where a small disk can be had: the file has whole lines, which are right, and all clients are served."""
     with small_disk(mltx, 65_536) as disk:
         if disk is None:
@@ -189,19 +190,18 @@ def trace_on_a_disk_that_is_full(mltx):
             time.sleep(1.2)
             told = lines(f"begun {count + 1}|is {count}|committed {count + 1}").encode()
             same(server.talk(lines("begin|read 7|commit")), told, "a later client")
-            note = f"the trace is written no further: {of_system(errno.ENOSPC)}"
+            note = f"could not write the trace, which ends here: {of_system(errno.ENOSPC)}"
             expect(server.end(), status=1, out="served 2\n", err=IO, notes=[note])
         text = trace.read_text()
         holds(40_000 < len(text) <= 65_536 and text.endswith("\n"), f"{len(text)} bytes, which end in {text[-40:]!r}")
-        checked = mltx.check(trace)
-        same((checked.status, checked.err), (0, b""), "the check of the trace")
+        mltx.accepted(trace)
 
 
 CLOSED = ["<&-", ">&-", "2>&-", "<&- >&-", "<&- 2>&-", ">&- 2>&-", "<&- >&- 2>&-"]
 
 
 @each({f"closed-streams-{'-'.join(str('<>2'.index(one[0])) for one in streams.split())}": streams for streams in CLOSED})
-def closed_streams(mltx, streams):
+def closed_streams(mltx: Program, streams: str) -> None:
     """Whichever standard streams are closed at the start, with a trace and without: clients hear their answers and nothing else,
     and the trace has its items and nothing else."""
     trace, count, short = mltx.folder / "trace", 9, b"error 12 LineTooLong\n"

@@ -2,12 +2,12 @@
 
 The texts are cut at each place between two writes into a pipe, and given a byte at a time. A program that loses a line that
 two reads share, takes it twice, takes its part for a line, or keeps what was written back until the end, fails here."""
-import os
-import subprocess
 import time
+from collections.abc import Iterable, Iterator
+from contextlib import suppress
 
 import model
-from harness import each, expect, holds, lines, same, test
+from harness import Program, Ran, each, expect, holds, lines, same, test
 
 # A trace in which each form stands, with a CR before an LF, and its lines in another order of commits.
 ALL_FORMS = lines(
@@ -30,30 +30,25 @@ FAULTY = {
 }
 
 
-def fed(mltx, parts, pause=0.0):
+def fed(mltx: Program, parts: Iterable[bytes], pause: float) -> Ran:
     """What `check --long -` comes to, where each part is a write of its own into a pipe."""
-    process = subprocess.Popen(
-        [mltx.path, "check", "--long", "-"], stdin=subprocess.PIPE, stdout=subprocess.PIPE, stderr=subprocess.PIPE, bufsize=0
-    )
-    try:
-        for part in parts:
-            process.stdin.write(part)
-            time.sleep(pause)
-    except BrokenPipeError:
-        pass
-    out, err = process.communicate(timeout=60)
-    return process.returncode, out, err
+    with mltx.started("check", "--long", "-", bufsize=0) as process:
+        with suppress(BrokenPipeError):
+            for part in parts:
+                process.stdin.write(part)
+                time.sleep(pause)
+        return process.end()
 
 
 @test
-def long_and_short_say_the_same(mltx):
+def long_and_short_say_the_same(mltx: Program) -> None:
     for trace in (b"", ALL_FORMS, lines("begin 1|op 1 up 7 2 done|commit 1 1").encode()):
         expect(mltx.run("check", "--long", "-", given=trace), out=model.check(trace), what="check --long")
         same(mltx.run("check", "--long", mltx.file("a.trace", trace)), mltx.run("check", "-", given=trace), "both")
 
 
 @each(FAULTY)
-def faults_of_long_traces(mltx, case):
+def faults_of_long_traces(mltx: Program, case: tuple[bytes, str, str]) -> None:
     """The fault is that of `check`; the commits before it were written."""
     trace, fault, said = case
     err = f"mltx: 11 TraceFault {fault}\n"
@@ -62,34 +57,33 @@ def faults_of_long_traces(mltx, case):
 
 
 @test(seconds=4)
-def long_traces_that_are_cut_at_each_place(mltx):
+def long_traces_that_are_cut_at_each_place(mltx: Program) -> None:
     """Two writes, of which the first ends anywhere."""
-    wanted = (0, model.check(ALL_FORMS).encode(), b"")
     for at in range(len(ALL_FORMS) + 1):
-        same(fed(mltx, [ALL_FORMS[:at], ALL_FORMS[at:]], pause=0.005), wanted, f"cut behind {at} bytes")
+        ran = fed(mltx, [ALL_FORMS[:at], ALL_FORMS[at:]], pause=0.005)
+        expect(ran, out=model.check(ALL_FORMS), what=f"cut behind {at} bytes")
 
 
 @test(seconds=2)
-def long_traces_byte_by_byte(mltx):
-    same(fed(mltx, [bytes([byte]) for byte in ALL_FORMS], pause=0.001), (0, model.check(ALL_FORMS).encode(), b""))
+def long_traces_byte_by_byte(mltx: Program) -> None:
+    expect(fed(mltx, [bytes([byte]) for byte in ALL_FORMS], pause=0.001), out=model.check(ALL_FORMS))
     trace, fault, said = FAULTY["a-false-reply"]
-    told = fed(mltx, [bytes([byte]) for byte in trace], pause=0.001)
-    same(told, (1, lines(said).encode(), f"mltx: 11 TraceFault {fault}\n".encode()))
+    ran = fed(mltx, [bytes([byte]) for byte in trace], pause=0.001)
+    expect(ran, status=1, out=lines(said), err=f"mltx: 11 TraceFault {fault}\n")
 
 
 @test
-def commits_are_told_while_the_trace_goes_on(mltx):
+def commits_are_told_while_the_trace_goes_on(mltx: Program) -> None:
     """The line of a commit comes before the input ends."""
-    process = subprocess.Popen([mltx.path, "check", "--long", "-"], stdin=subprocess.PIPE, stdout=subprocess.PIPE, bufsize=0)
-    process.stdin.write(b"begin 3\ncommit 3 1\nbegi")
-    same(os.read(process.stdout.fileno(), 100), b"serial 3\n")
-    process.stdin.write(b"n 4\nop 4 up 7 2 done\ncommit 4 2\n")
-    same(os.read(process.stdout.fileno(), 100), b"serial 4\n")
-    process.stdin.close()
-    same((process.stdout.read(), process.wait(60)), (b"counter 7 2\n", 0))
+    with mltx.started("check", "--long", "-", bufsize=0) as process:
+        process.stdin.write(b"begin 3\ncommit 3 1\nbegi")
+        same(process.stdout.read(100), b"serial 3\n")
+        process.stdin.write(b"n 4\nop 4 up 7 2 done\ncommit 4 2\n")
+        same(process.stdout.read(100), b"serial 4\n")
+        expect(process.end(), out="counter 7 2\n")
 
 
-def long_trace(count):
+def long_trace(count: int) -> Iterator[bytes]:
     """A trace of so many transactions on a few objects, in order."""
     yield b"begin 1\nop 1 open 1 opened\ncommit 1 1\n"
     for t in range(2, count + 1):
@@ -97,7 +91,7 @@ def long_trace(count):
 
 
 @test(seconds=8)
-def traces_above_the_limit(mltx):
+def traces_above_the_limit(mltx: Program) -> None:
     """Refused without `--long`, with no text, and accepted with it; a fault behind the limit has its line."""
     count = 260_000
     trace = b"".join(long_trace(count))

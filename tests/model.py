@@ -15,6 +15,8 @@ from typing import Any, NamedTuple
 # operation may be a letter.
 Op = tuple[Any, ...]
 Cell = tuple[Any, ...]
+# An operation and its reply.
+Done = tuple[Op, str]
 # A kind and what a statement of it has, as `Script` lists them; and a name and what an event of it has.
 Statement = tuple[Any, ...]
 Event = tuple[Any, ...]

@@ -18,20 +18,20 @@ VOID = ("meta", "br")
 # Objects by their names, with what committed transactions leave and what the pages have.
 Objects = dict[str, tuple[str, str]]
 
-# examples/block-by-reply.txt. Account 1 is opened, has 5, and transaction 1 commits it. Transaction 2 takes 3 and is
-# taken back; transaction 3 takes 1 and, after that, 4.
-ACCOUNT = "account 1"
+# examples/block-by-reply.txt. Account 101 is opened, has 50 coins, and transaction 1 commits. Transaction 2 withdraws 30 and
+# aborts; transaction 3 withdraws 10 and, after that, 40.
+ACCOUNT = "account 101"
 BLOCK_OBJECTS: list[Objects] = [
-    {}, {}, {ACCOUNT: ("–", "0")}, {ACCOUNT: ("–", "5")}, *[{ACCOUNT: ("5", "5")}] * 2, *[{ACCOUNT: ("5", "2")}] * 8,
-    *[{ACCOUNT: ("5", "1")}] * 2, *[{ACCOUNT: ("5", "4")}] * 5, {ACCOUNT: ("5", "0")}, {ACCOUNT: ("0", "0")},
+    {}, {}, {ACCOUNT: ("–", "0")}, {ACCOUNT: ("–", "50")}, *[{ACCOUNT: ("50", "50")}] * 2, *[{ACCOUNT: ("50", "20")}] * 8,
+    *[{ACCOUNT: ("50", "10")}] * 2, *[{ACCOUNT: ("50", "40")}] * 5, {ACCOUNT: ("50", "0")}, {ACCOUNT: ("0", "0")},
 ]
-BLOCKED = "3 is blocked by 2: withdraw 1 4 is asked, and on the same object 2 holds withdraw 1 3 done"
-# examples/wait-for-a-page.txt. Transactions 2 and 3 put 5 and 7 into account 1, which has 0. The third commits first.
+BLOCKED = "3 is blocked by 2: withdraw 101 40 is asked, and on the same object 2 holds withdraw 101 30 done"
+# examples/wait-for-a-page.txt. Transactions 2 and 3 deposit 50 and 70 coins into account 101, which has 0. 3 commits first.
 PAGE_OBJECTS: list[Objects] = [
-    {}, {}, {ACCOUNT: ("–", "0")}, *[{ACCOUNT: ("0", "0")}] * 11, {ACCOUNT: ("0", "5")}, {ACCOUNT: ("0", "5")},
-    {ACCOUNT: ("0", "12")}, {ACCOUNT: ("7", "12")}, {ACCOUNT: ("12", "12")},
+    {}, {}, {ACCOUNT: ("–", "0")}, *[{ACCOUNT: ("0", "0")}] * 11, {ACCOUNT: ("0", "50")}, {ACCOUNT: ("0", "50")},
+    {ACCOUNT: ("0", "120")}, {ACCOUNT: ("70", "120")}, {ACCOUNT: ("120", "120")},
 ]
-WAITS = "3 waits for 2: deposit 1 7 asks for a page that is locked by what 2 runs, deposit 1 5"
+WAITS = "3 waits for 2: deposit 101 70 asks for a page that is locked by what 2 runs, deposit 101 50"
 # Two transactions that wait for each other. The third one, of which the operation is dropped, waits for one of them.
 CIRCLE = lines(
     "begin|begin|whole 1 up 1 2|whole 2 up 2 3|call 1 read 2|step 1 4|call 2 read 1|step 2 4|begin|whole 3 read 1|abort 2"
@@ -161,11 +161,11 @@ def page_of_a_block(mltx: Program) -> None:
     same(by_step(made, "waits"), {12: [BLOCKED]}, "who waits for whom")
     section = made.sections[12]
     same(section.heading, "12. step 3 blocked by 2", "the heading")
-    holds(section.of("note")[0].startswith("Transaction 3 wants 4 and would get short."), f"{section.of('note')}")
-    running = "transaction 3 holds nothing; runs withdraw 1 4, 3 steps so far"
-    same(section.items("open"), ["transaction 2 holds withdraw 1 3 done", running], "what is open")
-    takes_back = "transaction 2 holds withdraw 1 3 done; takes back withdraw 1 3"
-    same(made.sections[15].items("open"), [takes_back, "transaction 3 holds withdraw 1 1 done"], "in the abort")
+    holds(section.of("note")[0].startswith("Transaction 3 wants 40 and would get short."), f"{section.of('note')}")
+    running = "transaction 3 holds nothing; runs withdraw 101 40, 3 steps so far"
+    same(section.items("open"), ["transaction 2 holds withdraw 101 30 done", running], "what is open")
+    takes_back = "transaction 2 holds withdraw 101 30 done; takes back withdraw 101 30"
+    same(made.sections[15].items("open"), [takes_back, "transaction 3 holds withdraw 101 10 done"], "in the abort")
     same(made.sections[22].items("open"), [], "what is open at the end")
     same({it.of("depth")[0] for it in made.sections}, {"Depth of the directory: 0"}, "the depth")
 
@@ -175,7 +175,7 @@ def page_of_a_wait(mltx: Program) -> None:
     """Each step of examples/wait-for-a-page.txt. As the deposit of 2 is done, 3 may go on."""
     made = example(mltx, "wait-for-a-page.txt")
     same([it.objects() for it in made.sections], PAGE_OBJECTS, "the objects")
-    gone = "3 waited for 2, whose operation has ended: a next step may go on (deposit 1 7)"
+    gone = "3 waited for 2, whose operation has ended: a next step may go on (deposit 101 70)"
     same(by_step(made, "waits"), {13: [WAITS], 14: [gone]}, "who waits for whom")
 
 
@@ -227,7 +227,7 @@ def page_with_reasons(mltx: Program) -> None:
     circles = {step: said.partition("a circle: ")[2] for step, said in reasons.items()}
     same(circles, {9: "", 14: "2 waits for 1, 1 waits for 2", 16: ""}, "the circles")
     waits = example(mltx, "wait-for-a-page.txt")
-    locked = "page 0 is locked by transaction 2, which is in deposit 1 5"
+    locked = "page 0 is locked by transaction 2, which is in deposit 101 50"
     same({it.step: it.of("reason") for it in waits.sections if it.of("reason")}, {13: [locked]}, "the wait")
 
 
@@ -304,13 +304,13 @@ def page_of_sets(mltx: Program) -> None:
 
 @test
 def page_of_a_trace(mltx: Program) -> None:
-    """Each step of examples/abort-under-deposit.trace: 5 and 7 are put into an account, and the 5 taken back."""
+    """Each step of examples/abort-under-deposit.trace: 50 and 70 coins are deposited, and the 50 undone."""
     made = page("--trace", "--program", mltx.path, ROOT / "examples/abort-under-deposit.trace")
     objects = [it.objects() for it in made.sections]
-    pages = [{}, {}, {ACCOUNT: ("–", "0")}, *[{ACCOUNT: ("0", it)} for it in ("0", "0", "0", "5", "12", "7", "7")]]
-    same(objects, [*pages, {ACCOUNT: ("7", "7")}], "the objects")
-    same(made.sections[6].heading, "6. op 2 deposit 1 5 done", "a heading")
-    same(made.sections[8].items("open")[0], "transaction 2 holds deposit 1 5 done (taken back)", "what is taken back")
+    pages = [{}, {}, {ACCOUNT: ("–", "0")}, *[{ACCOUNT: ("0", it)} for it in ("0", "0", "0", "50", "120", "70", "70")]]
+    same(objects, [*pages, {ACCOUNT: ("70", "70")}], "the objects")
+    same(made.sections[6].heading, "6. op 4 deposit 101 50 done", "a heading")
+    same(made.sections[8].items("open")[0], "transaction 4 holds deposit 101 50 done (taken back)", "what is taken back")
 
 
 @test

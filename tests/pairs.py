@@ -6,8 +6,8 @@ conflicts says. Then they end in each order. A program with one pair more or les
 conflicts that has one pair more or less than the operations want."""
 from itertools import product
 
-from harness import each, expect, holds, same, test
-from model import CONFLICTS, Base, locks
+from harness import Program, each, expect, holds, same, test
+from model import CONFLICTS, Base, Cell, Event, Op, locks
 from random_work import show, watched_schedule
 
 MOST = 10**18
@@ -15,11 +15,8 @@ ACCOUNT = [("open",), ("close",), ("balance",), *(("deposit", n) for n in (0, 1,
 ACCOUNT += [("withdraw", n) for n in (0, 1, 5, MOST)]
 # By name the operations that bring an account, a set or a counter into each state, and the operations of the pairs,
 # without its number.
-KINDS = {
-    "all-pairs-on-an-account": (
-        [[], [("open",)], *([("open",), ("deposit", n)] for n in (1, 5, MOST - 1, MOST))],
-        ACCOUNT,
-    ),
+KINDS: dict[str, tuple[list[list[Op]], list[Op]]] = {
+    "all-pairs-on-an-account": ([[], [("open",)], *([("open",), ("deposit", n)] for n in (1, 5, MOST - 1, MOST))], ACCOUNT),
     "all-pairs-on-a-set": (
         [[], [("add", 1)], [("add", 2)], [("add", 1), ("add", 2)]],
         [*((name, element) for element in (1, 2) for name in ("add", "remove", "has")), ("size",)],
@@ -38,11 +35,11 @@ ENDS = [
 ]
 
 
-def pair(first, place, state, held, requested, end):
+def pair(first: int, place: int, state: list[Op], held: Op, requested: Op, end: list[tuple[str, int]]) -> list[Event]:
     """The events of a pair on an account, a set or a counter of this number. `first` is the transaction that brings it
     into its state."""
 
-    def on(form):
+    def on(form: Op) -> Op:
         return (form[0], place, *form[1:])
 
     made = [("begin",), *(("whole", first, on(form)) for form in state), ("commit", first)]
@@ -51,7 +48,7 @@ def pair(first, place, state, held, requested, end):
 
 
 @each(KINDS, seconds=1)
-def all_pairs(mltx, case):
+def all_pairs(mltx: Program, case: tuple[list[list[Op]], list[Op]]) -> None:
     """Each reply is the one that the tables give, and who is blocked is blocked by the right one."""
     states, forms = case
     cases = [(state, held, requested, end) for state in states for held in forms for requested in forms for end in ENDS]
@@ -62,7 +59,7 @@ def all_pairs(mltx, case):
     holds(watch.sure and not watch.open, "a whole operation waited, or a transaction is open at the end")
 
 
-def told_in_turn(state, operations):
+def told_in_turn(state: list[Op], operations: list[Op]) -> tuple[list[str], dict[Cell, int]]:
     """What these are told one after another, and all that is held then."""
     base = Base()
     for operation in state:
@@ -71,7 +68,7 @@ def told_in_turn(state, operations):
 
 
 @test
-def conflicts_are_what_operations_want(_mltx):
+def conflicts_are_what_operations_want(_mltx: Program) -> None:
     """The model marks a pair of classes exactly where in some small state the two, told the other way round, are told something
     else or leave something else. So of a new operation that has its class and no mark yet, this prints the marks it wants."""
     wanted = {held: "" for held in CONFLICTS}
@@ -82,7 +79,7 @@ def conflicts_are_what_operations_want(_mltx):
             if told_in_turn(state, [requested, held]) == ([later, reply], left):
                 continue
             first, second = locks(held, reply), locks(requested, later)
-            shared = min(first.keys() & second.keys(), default=None)
+            shared = min(first.keys() & second.keys(), default=())
             holds(shared, f"{held} and {requested} have no cell in common, but an order")
             wanted[first[shared]] = wanted.get(first[shared], "") + second[shared]
     for held, marks in wanted.items():

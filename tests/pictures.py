@@ -5,10 +5,12 @@ import re
 import shlex
 import subprocess
 from collections import defaultdict
+from collections.abc import Iterator
 from itertools import combinations
 from xml.etree import ElementTree
+from xml.etree.ElementTree import Element
 
-from harness import ROOT, Ran, each, expect, holds, lines, same, test
+from harness import ROOT, Program, Ran, Text, each, expect, holds, lines, match, same, test
 from pages import Standing, nothing, page
 from rows import EXAMPLES, OUTPUTS
 from schedules import ROWS
@@ -18,7 +20,7 @@ TOOL = ROOT / "tools/picture"
 STORED = {
     "block-by-reply": "A withdrawal is blocked as long as its reply is not certain",
     "wait-for-a-page": "Of two deposits one waits for a page, and not for a transaction",
-    "abort-under-later-deposit": "A deposit is taken back under a later one, which stays",
+    "abort-under-later-deposit": "A deposit is undone under a later one, which stays",
     "size-of-a-set": "A size conflicts with an addition, and not with another read",
     "split-beside-a-reader": "A bucket is split while another transaction reads",
 }
@@ -26,66 +28,61 @@ STORED = {
 MEASURED = ["hotspots"]
 SCHEDULES = {name: words[1:] for name, words in EXAMPLES.items() if words[0] == "steps"}
 # What stands at the points of their arrows.
-HELD = {"block-by-reply.txt": ["holds withdraw 1 3"], "wait-for-a-page.txt": ["holds the page"]}
-HELD["size-of-a-set.txt"] = ["holds size 4", "holds add 4 12"]
+HELD = {"block-by-reply.txt": ["holds withdraw 101 30"], "wait-for-a-page.txt": ["holds the page"]}
+HELD["size-of-a-set.txt"] = ["holds size 201", "holds add 201 22"]
 # The most pixels of a picture's width, the least size of a font, and the part of it that a character takes at least.
 MOST_WIDTH, LEAST_SIZE, NARROW = 1000, 12, 0.5
 # The most lines of the output of a row of which a page is made.
 MOST_LINES = 40
+# An event, and what it is told.
+Told = tuple[str, str]
 ENDS_A_WHOLE = ("refused 1 OutOfMemory", "refused 2 NoRoom")
 
 
-def run(*words, given=b""):
+def run(*words: object, given: bytes = b"") -> Ran:
     """What a run of the tool came to."""
     ran = subprocess.run([TOOL, *map(str, words)], input=given, capture_output=True)
     return Ran(ran.returncode, ran.stdout, ran.stderr)
 
 
-def picture(*words):
-    """The picture that the tool draws."""
-    ran = run(*words)
-    expect(Ran(ran.status, b"", ran.err), what=f"tools/picture {' '.join(map(str, words))}")
-    return Picture(ran.out)
-
-
 class Label:
     """A text of a picture, and the box that it takes at least."""
 
-    def __init__(self, element, sizes):
-        self.role, self.text = element.get("class"), "".join(element.itertext())
-        self.x, self.y, size = float(element.get("x")), float(element.get("y")), sizes.get(self.role, sizes[""])
+    def __init__(self, element: Element, sizes: dict[str, int]) -> None:
+        self.role, self.text = element.get("class", ""), "".join(element.itertext())
+        self.x, self.y, size = float(element.get("x", "")), float(element.get("y", "")), sizes.get(self.role, sizes[""])
         wide = len(self.text) * size * NARROW
         before = {"start": 0, "middle": wide / 2, "end": wide}[element.get("text-anchor", "start")]
         self.left, self.right = self.x - before, self.x - before + wide
         self.top, self.bottom = self.y - 0.8 * size, self.y + 0.2 * size
 
-    def meets(self, left, top, right, bottom):
+    def meets(self, left: float, top: float, right: float, bottom: float) -> bool:
         return self.left < right and left < self.right and self.top < bottom and top < self.bottom
 
 
 class Picture:
     """A drawn picture, read as XML."""
 
-    def __init__(self, svg):
+    def __init__(self, svg: Text) -> None:
         root = ElementTree.fromstring(svg)
         for element in root.iter():
             element.tag = element.tag.rpartition("}")[2]
-        style = root.find("style").text
-        self.sizes = {"": int(re.search(r"\btext \{[^}]*font-size: (\d+)px", style)[1])}
+        style = root.findtext("style", "")
+        self.sizes = {"": int(match(r"\btext \{[^}]*font-size: (\d+)px", style)[1])}
         for roles, size in re.findall(r"(\.[^{}]*) \{[^}]*font-size: (\d+)px", style):
             self.sizes.update(dict.fromkeys(re.findall(r"\w+", roles), int(size)))
-        self.wide, self.high = float(root.get("width")), float(root.get("height"))
-        self.back = root.find("rect").attrib
+        self.wide, self.high = float(root.get("width", "")), float(root.get("height", ""))
+        self.back = root.findall("rect")[0].attrib
         self.labels = [Label(element, self.sizes) for element in root.iter("text")]
-        self.time = root.find("g")
+        self.time = root.findall("g")[0]
         self.names = [label for label in self.labels if label.role == "lane"]
         self.arrows = [line for line in self.time.iter("line") if line.get("class") in ("waiting", "blocked", "stands")]
 
-    def lane(self, y):
+    def lane(self, y: float) -> str:
         """The name of the lane at this height."""
         return min(self.names, key=lambda name: abs(name.y - y)).text
 
-    def in_lanes(self, role):
+    def in_lanes(self, role: str) -> dict[str, list[str]]:
         """The labels of a role in each lane, from left to right and row by row."""
         found = defaultdict(list)
         for label in sorted(self.labels, key=lambda label: (label.y, label.x)):
@@ -93,14 +90,14 @@ class Picture:
                 found[self.lane(label.y)].append(label.text)
         return dict(found)
 
-    def said(self, role):
+    def said(self, role: str) -> list[str]:
         return [label.text for label in self.labels if label.role == role]
 
-    def count(self, name, role):
+    def count(self, name: str, role: str) -> int:
         """How many shapes of a kind there are beside those of the legend."""
         return sum(shape.get("class") == role for shape in self.time.iter(name))
 
-    def check_places(self):
+    def check_places(self) -> None:
         """Nothing lies outside, and no label on another or on an arrow."""
         holds(self.wide <= MOST_WIDTH, f"{self.wide} pixels wide")
         holds(min(self.sizes.values()) >= LEAST_SIZE, "a font is too small")
@@ -113,20 +110,27 @@ class Picture:
             lie_apart = not one.meets(other.left, other.top, other.right, other.bottom)
             holds(lie_apart, f"`{one.text}` and `{other.text}` lie on one another")
         for arrow in self.arrows:
-            x, ends = float(arrow.get("x1")), sorted((float(arrow.get("y1")), float(arrow.get("y2"))))
+            x, *ends = (float(arrow.get(end, "")) for end in ("x1", "y1", "y2"))
             for label in self.labels:
-                holds(not label.meets(x - 1, ends[0], x + 1, ends[1]), f"an arrow goes through `{label.text}`")
+                holds(not label.meets(x - 1, min(ends), x + 1, max(ends)), f"an arrow goes through `{label.text}`")
+
+
+def picture(*words: object) -> Picture:
+    """The picture that the tool draws."""
+    ran = run(*words)
+    expect(Ran(ran.status, b"", ran.err), what=f"tools/picture {' '.join(map(str, words))}")
+    return Picture(ran.out)
 
 
 class Wanted:
     """What has to be seen of events and what they were told."""
 
-    def __init__(self):
-        self.titles, self.replies, self.commits = defaultdict(list), defaultdict(list), defaultdict(list)
-        self.lanes, self.aborted, self.arrows, self.steps = set(), [], [], 0
-        self.asked, self.standing = {}, defaultdict(list)
+    def __init__(self) -> None:
+        self.titles, self.replies, self.commits, self.standing = (defaultdict[str, list[str]](list) for _ in range(4))
+        self.lanes, self.aborted, self.arrows, self.steps = set[str](), list[str](), list[tuple[str, str, str]](), 0
+        self.asked: dict[str, str] = {}
 
-    def tell(self, event, answer):
+    def tell(self, event: str, answer: str) -> None:
         kind, number, operation = [*event.split(" ", 2), "", ""][:3]
         word, _, rest = answer.partition(" ")
         lane = f"transaction {rest if word == 'begun' else int(number)}"
@@ -155,7 +159,7 @@ class Wanted:
             self.replies[lane].append(rest if word == "done" else answer)
 
 
-def told_of(text, output):
+def told_of(text: str, output: str) -> tuple[list[Told], list[str]]:
     """Each event of a schedule with what it is told, and the lines behind."""
     answers = iter(output.splitlines())
     told = []
@@ -167,7 +171,7 @@ def told_of(text, output):
     return told, list(answers)
 
 
-def check(seen, told):
+def check(seen: Picture, told: list[Told]) -> None:
     """A picture shows what these events were told."""
     wanted = Wanted()
     for event, answer in told:
@@ -179,7 +183,7 @@ def check(seen, told):
     same(seen.in_lanes("reply"), dict(wanted.replies), "the replies in each lane")
     same(seen.in_lanes("committed"), dict(wanted.commits), "the commits in each lane")
     same(sorted(seen.in_lanes("aborted")), sorted(wanted.aborted), "the aborted transactions")
-    ends = [[seen.lane(float(arrow.get(end))) for end in ("y1", "y2")] for arrow in seen.arrows]
+    ends = [[seen.lane(float(arrow.get(end, ""))) for end in ("y1", "y2")] for arrow in seen.arrows]
     arrows = [(arrow.get("class"), *pair) for arrow, pair in zip(seen.arrows, ends)]
     same(arrows, wanted.arrows, "the arrows, from lane to lane")
     same(seen.count("line", "tick"), wanted.steps, "the steps")
@@ -187,7 +191,7 @@ def check(seen, told):
     seen.check_places()
 
 
-def left_by(end):
+def left_by(end: list[str]) -> str:
     """The line of what is left at the end."""
     words = {"account": "account {} has {}", "element": "set {} has {}", "counter": "counter {} is {}"}
     cells = [words[kind].format(*numbers) for kind, *numbers in map(str.split, end[:-1])]
@@ -196,7 +200,7 @@ def left_by(end):
 
 
 @each({f"picture-of-{name.split('.')[0]}": name for name in SCHEDULES})
-def picture_of_an_example(mltx, name):
+def picture_of_an_example(mltx: Program, name: str) -> None:
     """The program's answers are drawn as the page of examples shows them, and the comments stand below."""
     file = ROOT / "examples" / name
     told, end = told_of(file.read_text(), lines(OUTPUTS[name]))
@@ -209,7 +213,7 @@ def picture_of_an_example(mltx, name):
 
 
 @test(seconds=6)
-def pictures_of_all_schedules(mltx):
+def pictures_of_all_schedules(mltx: Program) -> None:
     """Each worked row, by the answers that it gives."""
     for name, row in ROWS.items():
         schedule, answers = mltx.file(f"{name}.txt", row.events()), mltx.file(f"{name}.out", row.output())
@@ -220,7 +224,7 @@ def pictures_of_all_schedules(mltx):
 
 
 @test(seconds=10)
-def pages_of_schedules(mltx):
+def pages_of_schedules(mltx: Program) -> None:
     """Each step of a page of each worked row, but for the longest ones, has the objects that the model has."""
     for name, row in ((name, row) for name, row in ROWS.items() if row.output().count("\n") <= MOST_LINES):
         made = page(*row.options[0], "--program", mltx.path, mltx.file(f"{name}.txt", row.events()))
@@ -237,7 +241,7 @@ def pages_of_schedules(mltx):
         same(list(sections), [], f"{name}: more steps")
 
 
-def items(trace):
+def items(trace: str) -> Iterator[Told]:
     """The lines of a trace as events that are told something."""
     for line in trace.splitlines():
         kind, number, *rest = line.split()
@@ -250,7 +254,7 @@ def items(trace):
 
 
 @test(seconds=6)
-def pictures_of_traces(mltx):
+def pictures_of_traces(mltx: Program) -> None:
     """The traces of the examples, and those that the worked rows leave."""
     traces = {file.stem: file.read_text() for file in (ROOT / "examples").glob("*.trace")}
     traces.update((name, row.trace()) for name, row in ROWS.items())
@@ -261,7 +265,7 @@ def pictures_of_traces(mltx):
 
 
 @test(seconds=1)
-def stored_pictures_are_drawn_anew(mltx):
+def stored_pictures_are_drawn_anew(mltx: Program) -> None:
     """docs/pictures has what the tool draws of the examples."""
     stored = {file.stem for file in (ROOT / "docs/pictures").iterdir()}
     same(sorted(stored.difference(MEASURED)), sorted([*STORED, "rooms"]), "the stored pictures")
@@ -269,14 +273,14 @@ def stored_pictures_are_drawn_anew(mltx):
         Picture((ROOT / f"docs/pictures/{name}.svg").read_text()).check_places()
     for name, title in STORED.items():
         words = ["--title", title, *SCHEDULES[f"{name}.txt"], ROOT / f"examples/{name}.txt"]
-        ran, stored = run("--program", mltx.path, *words), ROOT / f"docs/pictures/{name}.svg"
+        ran, file = run("--program", mltx.path, *words), ROOT / f"docs/pictures/{name}.svg"
         expect(Ran(ran.status, b"", ran.err), what=name)
         made = shlex.join(["tools/picture", "-o", f"docs/pictures/{name}.svg", *map(str, words)])
-        holds(ran.out == stored.read_bytes(), f"{stored.name} is not what is drawn; this draws it anew: {made}")
+        holds(ran.out == file.read_bytes(), f"{file.name} is not what is drawn; this draws it anew: {made}")
 
 
 @test
-def picture_of_the_rooms(_mltx):
+def picture_of_the_rooms(_mltx: Program) -> None:
     """docs/pictures has what the tool draws of crates.txt: each room with its crates, and an arrow to each below it."""
     made = subprocess.run([ROOT / "tools/crate-map", "--picture"], capture_output=True, check=True).stdout
     holds(made == (ROOT / "docs/pictures/rooms.svg").read_bytes(), "rooms.svg is not what is drawn: tools/crate-map --write")
@@ -288,7 +292,7 @@ def picture_of_the_rooms(_mltx):
 
 
 @test
-def any_comment_is_drawn(mltx):
+def any_comment_is_drawn(mltx: Program) -> None:
     """Bytes and signs that XML does not take as they are, comments without words, and a title of any length."""
     schedule = b"#\n# a < b & \x00\xff\"c\"\x1f\n  #\td\nbegin\n#e\n\n"
     title = "<all> & " + "the words of a long title " * 9
@@ -300,7 +304,7 @@ def any_comment_is_drawn(mltx):
 
 
 @test
-def picture_of_little(mltx):
+def picture_of_little(mltx: Program) -> None:
     """A schedule without events, an empty trace, and a schedule whose first event is refused."""
     file, none = mltx.file("little.txt", "begin\n"), mltx.file("none.out", "depth 0\n")
     seen = picture(file, mltx.file("little.out", "refused 7 TooManyOpen\ndepth 0\n"))
@@ -313,18 +317,14 @@ def picture_of_little(mltx):
         seen.check_places()
 
 
-FAULTS = {
+FAULTS: dict[str, tuple[Text, str | None, str]] = {
     "picture-of-no-event": ("begin\ndepositt 1 5\n", None, "S line 2: `depositt 1 5` is no event"),
     "picture-of-a-number-out-of-range": ("# all\n\nstep 1 1001\n", None, "S line 3: `step 1 1001` is no event"),
     "picture-of-an-operation-short-of-a-number": ("call 1 add 4\n", None, "S line 1: `call 1 add 4` is no event"),
     "picture-of-a-byte": (b"begin\xff\n", None, "S line 1: a byte that is not allowed"),
     "picture-of-a-long-line": (f"#{'x' * 200}\n", None, "S line 1: more than 200 bytes"),
-    "picture-without-an-answer": (
-        "begin\nstep 1 2\n", "begun 1\ngoing\n", "A line 3: no answer to `step` of line 2 of S"
-    ),
-    "picture-of-another-answer": (
-        "begin\n", "called\ndepth 0\n", "A line 1: `called` is no answer to `begin` of line 1 of S"
-    ),
+    "picture-without-an-answer": ("begin\nstep 1 2\n", "begun 1\ngoing\n", "A line 3: no answer to `step` of line 2 of S"),
+    "picture-of-another-answer": ("begin\n", "called\ndepth 0\n", "A line 1: `called` is no answer to `begin` of line 1 of S"),
     "picture-of-a-block-by-nothing": (
         "begin\nwhole 1 up 7 1\nbegin\nwhole 2 read 6\n", "begun 1\ndone done\nbegun 2\nblocked by 1\ndepth 0\n",
         "A line 4: `blocked by 1`: transaction 1 has done nothing to what `read 6` is on",
@@ -356,22 +356,20 @@ TRACE_FAULTS = {
     "picture-of-a-blank-line": ("begin 1\n\n", "T line 2: `` is no line of a trace"),
     "picture-of-a-cut-trace": ("begin 1", "T line 1: the input ends inside the line"),
     "picture-of-a-line-too-many": ("begin 1\nback 1\n", "T line 2: `undone`: transaction 1 has no operation left"),
-    "picture-of-a-second-number": (
-        "begin 2\nbegin 1\n", "T line 2: `begun 1`: the number is not above 2, which has begun"
-    ),
+    "picture-of-a-second-number": ("begin 2\nbegin 1\n", "T line 2: `begun 1`: the number is not above 2, which has begun"),
     "picture-of-a-commit-out-of-turn": (
         "begin 1\ncommit 1 2\n", "T line 2: `committed 2`: transaction 1 can't commit, or not under this number"
     ),
 }
 
 
-def in_words(fault, **files):
+def in_words(fault: str, **files: str) -> str:
     """The line of a fault, with the paths of the files for their letters."""
-    return "tools/picture: " + re.sub(r"\b[SAT]\b", lambda found: files[found[0]], fault) + "\n"
+    return "tools/picture: " + "".join(files.get(word, word) for word in re.split(r"\b([SAT])\b", fault)) + "\n"
 
 
 @each(FAULTS)
-def faulty_schedule_or_answers(mltx, case):
+def faulty_schedule_or_answers(mltx: Program, case: tuple[Text, str | None, str]) -> None:
     schedule, answers, fault = case
     files = {"S": mltx.file("schedule.txt", schedule), "A": mltx.file("answers.txt", answers or "depth 0\n")}
     expect(run(files["S"], files["A"]), status=1, err=in_words(fault, **files))
@@ -380,30 +378,30 @@ def faulty_schedule_or_answers(mltx, case):
 
 
 @each(TRACE_FAULTS)
-def faulty_trace(mltx, case):
+def faulty_trace(mltx: Program, case: tuple[str, str]) -> None:
     trace, fault = case
     file = mltx.file("any.trace", trace)
     expect(run("--trace", file), status=1, err=in_words(fault, T=file))
 
 
 @test
-def picture_without_its_files(mltx):
+def picture_without_its_files(mltx: Program) -> None:
     """A program or a file that is not there, and command lines that are none."""
-    schedule, away = mltx.file("schedule.txt", "begin\n"), mltx.folder / "away"
+    schedule, away = mltx.file("schedule.txt", "begin\n"), f"{mltx.folder}/away"
     fault = f"tools/picture: there is no program {away}: ./mltx builds it, or give ANSWERS\n"
     expect(run("--program", away, schedule), status=1, err=fault)
     answers = mltx.file("answers.txt", "begun 1\ndepth 0\n")
-    for words in ([away], [schedule, away], ["--trace", away], ["-o", away / "x.svg", schedule, answers]):
+    for words in ([away], [schedule, away], ["--trace", away], ["-o", f"{away}/x.svg", schedule, answers]):
         ran = run(*words)
-        holds(ran.status == 1 and not ran.out and str(away).encode() in ran.err, f"{words}: {ran}")
-    wrong = ["--trace", schedule, schedule], ["--hash", "none", schedule], ["--hash", "low", schedule, schedule]
-    for words in ([], *wrong):
+        holds(ran.status == 1 and not ran.out and away.encode() in ran.err, f"{words}: {ran}")
+    wrong: list[list[str]] = [[], ["--trace", schedule, schedule], ["--hash", "none", schedule]]
+    for words in [*wrong, ["--hash", "low", schedule, schedule]]:
         ran = run(*words)
         holds(ran.status == 2 and not ran.out and b"usage: picture" in ran.err, f"{words}: {ran}")
 
 
 @test
-def picture_to_a_file_and_from_standard_input(mltx):
+def picture_to_a_file_and_from_standard_input(mltx: Program) -> None:
     """Wherever the texts come from and the picture goes, it is the same."""
     schedule, answers = mltx.file("two-steps.txt", "begin\n"), mltx.file("answers.txt", "begun 1\ndepth 0\n")
     shown = run(schedule, answers)

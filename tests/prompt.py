@@ -5,15 +5,17 @@ import io
 import os
 import pty
 import re
-import select
 import signal
 import subprocess
 import sys
 import time
+from collections.abc import Iterator
 from contextlib import contextmanager
+from pathlib import Path
 
 from client import FOLDER, SILENCE, Relay, connected, shown_in
-from harness import PATIENCE, Failed, Ran, each, expect, free_address, holds, lines, same, test
+from harness import PATIENCE, Address, Failed, Program, Ran, Server, each, expect, free_address, holds, lines, match, readable
+from harness import same, test
 
 import mltx_shell
 from mltx import Client
@@ -23,7 +25,7 @@ QUIET = 0.1
 SHELL = [sys.executable, "-B", str(FOLDER / "mltx_shell.py")]
 
 
-def typed(address, given, *options, cwd=None):
+def typed(address: Address, given: str, *options: str, cwd: Path | None = None) -> Ran:
     """What the prompt comes to where its lines are given by a pipe."""
     words = [*SHELL, "%s:%d" % address, *options]
     ran = subprocess.run(words, input=given.encode("utf-8", "surrogateescape"), capture_output=True, cwd=cwd, timeout=PATIENCE)
@@ -52,25 +54,25 @@ PIPED = {
     "prompt-of-no-lines": ("", "", ""),
     "prompt-of-a-quit-in-a-transaction": (
         "begin|status|quit|up 7 1",
-        "begun 1|connected; transaction 1 is open|transaction 1 is taken back",
+        "begun 1|connected; transaction 1 is open|transaction 1 is rolled back",
         "",
     ),
     "prompt-of-an-input-that-ends-in-a-transaction": (
         "begin|up 7 1",
         "begun 1|done",
-        "transaction 1 was open at the end, and is taken back",
+        "transaction 1 was open at the end, and is rolled back",
     ),
     "prompt-ends-at-an-unknown-line": (
         "begin|up 7 1|upp 7 1|commit",
         "begun 1|done",
         "upp: there is no such line; `help` lists all|standard input, line 3: upp 7 1"
-        "|transaction 1 was open at the end, and is taken back",
+        "|transaction 1 was open at the end, and is rolled back",
     ),
     "prompt-ends-at-an-error": (
         "begin|begin|commit",
         "begun 1",
         "error 5 Running: a transaction is open already|standard input, line 2: begin"
-        "|transaction 1 was open at the end, and is taken back",
+        "|transaction 1 was open at the end, and is rolled back",
     ),
 }
 
@@ -110,7 +112,7 @@ PIPED |= {
 
 
 @each(PIPED)
-def piped(mltx, case):
+def piped(mltx: Program, case: tuple[str, str, str]) -> None:
     given, out, err = case
     with mltx.serve(limit=2) as server:
         connected(server).close()
@@ -119,7 +121,7 @@ def piped(mltx, case):
 
 
 @test
-def help_of_the_prompt(mltx):
+def help_of_the_prompt(mltx: Program) -> None:
     """Each operation is listed, and its help has its numbers and its replies."""
     with mltx.serve(limit=2) as server:
         connected(server).close()
@@ -140,7 +142,7 @@ def help_of_the_prompt(mltx):
 
 
 @test
-def files_of_lines(mltx):
+def files_of_lines(mltx: Program) -> None:
     """A file runs up to the first line that fails, which is told; it may run others; what it began stays open."""
     mltx.file("inner.txt", "# counts\nup 7 1\nup 7 2\n")
     mltx.file("outer.txt", "begin\nsource inner.txt\n\nread 7\n")
@@ -153,7 +155,7 @@ def files_of_lines(mltx):
             "source outer.txt|source wrong.txt|commit",
             "begun 2|done|done|is 6|done",
             "foo: there is no such line; `help` lists all|wrong.txt, line 2: foo"
-            "|standard input, line 2: source wrong.txt|transaction 2 was open at the end, and is taken back",
+            "|standard input, line 2: source wrong.txt|transaction 2 was open at the end, and is rolled back",
         ),
         ("source quits.txt|begin", "", ""),
     ]
@@ -168,8 +170,8 @@ def files_of_lines(mltx):
 
 
 @test
-def servers_that_go_away_from_a_prompt(mltx):
-    """It says whether the transaction is taken back, or whether that is not known."""
+def servers_that_go_away_from_a_prompt(mltx: Program) -> None:
+    """It says whether the transaction is rolled back, or whether that is not known."""
     ran = typed(free_address(), "begin\n")
     same((ran.status, ran.out), (1, b""), "a server that is not there")
     said = rb"no server answers at 127[.\d]+:\d+ \(.*refused\)\nstandard input, line 1: begin\n"
@@ -179,7 +181,7 @@ def servers_that_go_away_from_a_prompt(mltx):
             ("before", "up 7 1"),
             "begun 1",
             "the server ended the connection: it was stopped, or the connection was idle or its transaction open for too long, or"
-            " an operator ended it; transaction 1 is taken back"
+            " an operator ended it; transaction 1 is rolled back"
             "|standard input, line 2: up 7 1",
         ),
         (
@@ -198,7 +200,7 @@ def servers_that_go_away_from_a_prompt(mltx):
 
 
 @test(seconds=1)
-def prompt_beyond_the_sessions(mltx):
+def prompt_beyond_the_sessions(mltx: Program) -> None:
     """`status` and `begin` say that all sessions are taken, and go on once one is free."""
     with mltx.serve("--sessions", 1, limit=4) as server, connected(server) as holder:
         holder.run(lambda tx: tx.up(7, 1))
@@ -213,34 +215,33 @@ def prompt_beyond_the_sessions(mltx):
         with contextlib.redirect_stdout(io.StringIO()) as said:
             for line in ("status", "begin", "read 7", "status", "quit"):
                 shell.onecmd(line)
-        told = "connected; no transaction is open|begun 3|is 1|connected; transaction 3 is open|transaction 3 is taken back"
+        told = "connected; no transaction is open|begun 3|is 1|connected; transaction 3 is open|transaction 3 is rolled back"
         same(said.getvalue(), lines(told), "what it says once a session is free")
         expect(server.end(), out="served 4\n")
 
 
 @test(seconds=1)
-def prompt_that_asks_the_operator(mltx):
-    """It says who waits for whom, and the numbers, line by line; and where no operator is, that."""
+def prompt_that_asks_the_operator(mltx: Program) -> None:
+    """It says which transaction waits for which, and the numbers, line by line; and where no operator is, that."""
     with mltx.serve(limit=4, admin=free_address()) as server, connected(server) as holder:
         admin = ("--admin", "%s:%d" % server.admin)
         with holder.begin() as held, server.connect() as waiter:
             held.up(7, 5)
             ran = typed(server.address, ":waits\n", *admin)
-            expect(ran, out="nobody waits\n", what=":waits")
+            expect(ran, out="no transaction waits\n", what=":waits")
             same(waiter.ask("begin"), "begun 2")
             waiter.send("read 7\n")
             waits = rb"transaction 2 of client 2 waits for transaction 1, since \d+\.\d seconds: read 7\n"
-            until, ran = time.monotonic() + PATIENCE, None
-            while ran is None or ran.out == b"nobody waits\n":
-                holds(time.monotonic() < until, "nobody waits")
-                ran = typed(server.address, ":waits\n", *admin)
+            until = time.monotonic() + PATIENCE
+            while (ran := typed(server.address, ":waits\n", *admin)).out == b"no transaction waits\n":
+                holds(time.monotonic() < until, "no transaction waits")
             same((ran.status, ran.err), (0, b""), ":waits")
-            holds(re.fullmatch(waits, ran.out), f":waits says {ran.out}")
+            holds(re.fullmatch(waits, ran.out), f":waits says {ran.out!r}")
             ran = typed(server.address, ":status\n", *admin)
             same((ran.status, ran.err), (0, b""), ":status")
             told = dict(line.split() for line in ran.out.decode().splitlines())
             same({name: told.get(name) for name in ("sessions", "open", "commits", "limit")},
-                 {"sessions": "2", "open": "2", "commits": "0", "limit": "4"}, f"{ran.out}")
+                 {"sessions": "2", "open": "2", "commits": "0", "limit": "4"}, f"{ran}")
         ran = typed(server.address, ":status\n", "--admin", "%s:%d" % free_address())
         same((ran.status, ran.out), (1, b""), "an operator that is not there")
         said = rb"no server answers an operator at 127[.\d]+:\d+ \(.*refused\)\nstandard input, line 1: :status\n"
@@ -248,7 +249,7 @@ def prompt_that_asks_the_operator(mltx):
 
 
 @test
-def prompt_that_nobody_reads(mltx):
+def prompt_that_nobody_reads(mltx: Program) -> None:
     """Its output is a pipe whose other end is closed, as behind `| head`: it ends without a word, and commits nothing more."""
     trace = mltx.folder / "trace"
     # Without a buffer nothing would be left to be written at its end.
@@ -257,8 +258,8 @@ def prompt_that_nobody_reads(mltx):
         connected(server).close()
         read, write = os.pipe()
         os.close(read)
-        how = {"stdout": write, "stderr": subprocess.PIPE, "env": env, "timeout": PATIENCE}
-        ran = subprocess.run([*SHELL, "%s:%d" % server.address], input=b"begin\nup 7 1\ncommit\n", **how)
+        words, given = [*SHELL, "%s:%d" % server.address], b"begin\nup 7 1\ncommit\n"
+        ran = subprocess.run(words, input=given, stdout=write, stderr=subprocess.PIPE, env=env, timeout=PATIENCE)
         os.close(write)
         same((ran.returncode, ran.stderr), (1, b""), "the status, and what is said")
         expect(server.end(), out="served 2\n")
@@ -266,24 +267,24 @@ def prompt_that_nobody_reads(mltx):
 
 
 @test
-def words_of_the_prompt(_mltx):
+def words_of_the_prompt(_mltx: Program) -> None:
     """A wrong command line has status 2."""
     good, admin = "127.0.0.1:7000", "--admin"
-    wrong = [], ["nowhere"], ["127.0.0.1:0"], [good, "more"], ["--what", good]
+    wrong: list[list[str]] = [[], ["nowhere"], ["127.0.0.1:0"], [good, "more"], ["--what", good]]
     for words in (*wrong, [good, admin], [good, admin, "nowhere"], [good, admin, "127.0.0.1:0"]):
         ran = subprocess.run([*SHELL, *words], stdin=subprocess.DEVNULL, capture_output=True, timeout=PATIENCE)
         same((ran.returncode, ran.stdout), (2, b""), f"{words}")
-        holds(ran.stderr.startswith(b"usage: "), f"{words}: {ran.stderr}")
+        holds(ran.stderr.startswith(b"usage: "), f"{words}: {ran.stderr!r}")
 
 
-def used_by(process):
+def used_by(process: int) -> tuple[str, ...]:
     """The state of a process, `S` where it sleeps, and the time of the processors that it has used."""
     with open(f"/proc/{process}/stat") as file:
         words = file.read().rpartition(")")[2].split()
     return words[0], *words[11:13]
 
 
-def heed_interrupts():
+def heed_interrupts() -> None:
     """A shell has what it runs in the background ignore interrupts, and the prompt would inherit that."""
     signal.signal(signal.SIGINT, signal.SIG_DFL)
 
@@ -291,20 +292,19 @@ def heed_interrupts():
 class Terminal:
     """The prompt at a terminal."""
 
-    def __init__(self, address, folder):
+    def __init__(self, address: Address, folder: Path) -> None:
         self.end, other = pty.openpty()
         env = {**os.environ, "TERM": "dumb", "INPUTRC": "/dev/null", "MLTX_HISTORY": str(folder / "history")}
-        how = {"stdin": other, "stdout": other, "stderr": other, "env": env, "cwd": folder}
-        how |= {"start_new_session": True, "preexec_fn": heed_interrupts}
-        self.process = subprocess.Popen([*SHELL, "%s:%d" % address], **how)
+        how = (-1, None, other, other, other, heed_interrupts)
+        self.process = subprocess.Popen([*SHELL, "%s:%d" % address], *how, cwd=folder, env=env, start_new_session=True)
         os.close(other)
         self.shown = ""
 
-    def until(self, wanted):
+    def until(self, wanted: str) -> str:
         """What is shown up to these words, with them."""
         until = time.monotonic() + PATIENCE
         while wanted not in self.shown:
-            if not select.select([self.end], [], [], max(0, until - time.monotonic()))[0]:
+            if not readable([self.end], max(0, until - time.monotonic())):
                 raise Failed(f"{wanted!r} is not shown, but {self.shown!r}")
             try:
                 self.shown += os.read(self.end, 65_536).decode().replace("\r\n", "\n")
@@ -313,15 +313,15 @@ class Terminal:
         before, _, self.shown = self.shown.partition(wanted)
         return before + wanted
 
-    def type(self, text):
+    def type(self, text: str) -> None:
         os.write(self.end, text.encode())
 
-    def ask(self, line, wanted):
+    def ask(self, line: str, wanted: str) -> str:
         """Types a line and waits for what follows it."""
         self.type(line + "\n")
         return self.until(wanted)
 
-    def interrupt(self):
+    def interrupt(self) -> None:
         """Interrupts it as Ctrl-C does, once it waits for something."""
         seen = None
         while seen != (seen := used_by(self.process.pid)) or seen[0] != "S":
@@ -330,7 +330,7 @@ class Terminal:
 
 
 @contextmanager
-def terminal(server, folder):
+def terminal(server: Server, folder: Path) -> Iterator[Terminal]:
     """The prompt at a terminal, as long as the block lasts."""
     it = Terminal(server.address, folder)
     try:
@@ -342,7 +342,7 @@ def terminal(server, folder):
 
 
 @test(seconds=1)
-def prompt_at_a_terminal(mltx):
+def prompt_at_a_terminal(mltx: Program) -> None:
     """It shows the transaction that is open, and how the last one ended; words are completed; lines are kept."""
     trace = mltx.folder / "trace"
     with mltx.serve("--trace", trace, limit=2) as server:
@@ -366,7 +366,7 @@ def prompt_at_a_terminal(mltx):
             it.type("\x10\x10\x10\x10\n")
             it.until("begun 3\nmltx [3]> ")
             it.type("\x04")
-            it.until("transaction 3 is taken back")
+            it.until("transaction 3 is rolled back")
             same(it.process.wait(PATIENCE), 0, "the status")
         expect(server.end(), out="served 2\n")
     expect(mltx.check(trace), out=lines("serial 1|counter 7 1"), what="the check of the trace")
@@ -375,7 +375,7 @@ def prompt_at_a_terminal(mltx):
 
 
 @test(seconds=1)
-def interrupted_while_an_operation_waits(mltx):
+def interrupted_while_an_operation_waits(mltx: Program) -> None:
     """The connection is closed and the transaction taken back; the prompt goes on, and connects again."""
     trace = mltx.folder / "trace"
     with mltx.serve("--trace", trace, limit=3) as server, connected(server) as holder:
@@ -386,8 +386,8 @@ def interrupted_while_an_operation_waits(mltx):
             it.ask("up 8 1", "done\nmltx [2]> ")
             it.ask("read 7", "read 7\n")
             it.interrupt()
-            it.until("the server takes transaction 2 back")
-            it.until("mltx (taken back)> ")
+            it.until("the server rolls transaction 2 back")
+            it.until("mltx (rolled back)> ")
             held.commit()
             holder.close()
             it.ask("begin", "begun 3\nmltx [3]> ")
@@ -401,7 +401,7 @@ def interrupted_while_an_operation_waits(mltx):
 
 
 @test(seconds=1)
-def server_goes_away_at_a_terminal(mltx):
+def server_goes_away_at_a_terminal(mltx: Program) -> None:
     """The prompt stays, and says so."""
     with mltx.serve(limit=2) as server:
         connected(server).close()
@@ -409,19 +409,19 @@ def server_goes_away_at_a_terminal(mltx):
             it.until("mltx> ")
             it.ask("begin", "mltx [1]> ")
             server.kill()
-            it.ask("up 7 1", "transaction 1 is taken back\nmltx (taken back)> ")
+            it.ask("up 7 1", "transaction 1 is rolled back\nmltx (rolled back)> ")
             it.ask("begin", "no server answers at ")
-            it.until("mltx (taken back)> ")
+            it.until("mltx (rolled back)> ")
             it.ask("quit", "\n")
             same(it.process.wait(PATIENCE), 0, "the status")
 
 
 @test
-def readme_of_the_prompt_runs(mltx):
+def readme_of_the_prompt_runs(mltx: Program) -> None:
     """The lines on the client's page are answered as the page shows."""
     page = (FOLDER / "README.md").read_text()
     with mltx.serve(limit=2) as server:
         connected(server).close()
         shown = shown_in(page, "## A prompt")
-        script = re.search(r"printf '(.*)' \| python3 mltx_shell.py 127.0.0.1:7000", shown)[1].replace("\\n", "\n")
+        script = match(r"printf '(.*)' \| python3 mltx_shell.py 127.0.0.1:7000", shown)[1].replace("\\n", "\n")
         expect(typed(server.address, script), out=shown_in(page.partition("## A prompt")[2], "writes"))

@@ -6,48 +6,53 @@ were told, and lead to the base that is printed. `tests/run --seed N NAME` repea
 the text."""
 import random
 import re
+from collections.abc import Iterable, Iterator
 from concurrent.futures import ThreadPoolExecutor
 from contextlib import contextmanager
 from dataclasses import dataclass, field
+from random import Random
 
 import harness
 import model
-from harness import Failed, each, expect, holds, same
+from harness import Failed, Peer, Program, Server, Text, each, expect, holds, same
+from model import Base, Cell, Done, Event, Op
 
 # Cells: accounts, elements, whose sets are asked for their sizes, and counters. ONE of each, and FEW, are fought for.
 # Of WIDE buckets split, now and then thirteen times, but no pseudokey of `low` has nine. CROWD are eleven accounts, two
 # elements and the size of their set, all of one pseudokey, for which a bucket has eight slots.
-ONE = ((1,), ((4, 9),), (7,))
-FEW = ((1, 2, 3), ((4, 9), (4, 10)), (7, 8))
-WIDE = ((*range(0, 65_536, 4_096), *range(9), 65_536), ((1, 0), (2, 0), (2, 20_000)), (0, 1, 50_000))
-CROWD = (tuple(65_536 * place for place in range(11)), ((0, 0), (0, 65_536), (4, 1)), (2,))
+Cells = tuple[tuple[int, ...], tuple[tuple[int, int], ...], tuple[int, ...]]
+ONE: Cells = ((1,), ((4, 9),), (7,))
+FEW: Cells = ((1, 2, 3), ((4, 9), (4, 10)), (7, 8))
+WIDE: Cells = ((*range(0, 65_536, 4_096), *range(9), 65_536), ((1, 0), (2, 0), (2, 20_000)), (0, 1, 50_000))
+CROWD: Cells = (tuple(65_536 * place for place in range(11)), ((0, 0), (0, 65_536), (4, 1)), (2,))
 # SETS are three sets, of which each has elements with the low pseudokeys of its size or of another's.
-SETS = ((1, 2), tuple((s, e) for s in (0, 4, 32_768) for e in (0, 1, 4, 20_000, 32_768, 40_000, 65_536)), (7,))
+SETS: Cells = ((1, 2), tuple((s, e) for s in (0, 4, 32_768) for e in (0, 1, 4, 20_000, 32_768, 40_000, 65_536)), (7,))
 AMOUNTS = (0, 0, 1, 1, 2, 3, 5, 10**18 - 3, 10**18, 2**64 - 1)
 
 
-def dice_of(name, case):
+def dice_of(name: str, case: int) -> Random:
     """The dice of a case. They fall alike for the same seed."""
     return random.Random(f"{harness.SEED} {name} {case}")
 
 
 @contextmanager
-def told_in(name, case, text):
+def told_in(name: str, case: int, text: Text) -> Iterator[None]:
     """Adds to what failed how it is repeated: the seed, the case and its text."""
     try:
         yield
     except Failed as failure:
-        shown = text if len(text) < 6_000 else text[:6_000] + ".."
+        shown = text if isinstance(text, str) else repr(text)
+        shown = shown if len(shown) < 6_000 else shown[:6_000] + ".."
         raise Failed(f"seed {harness.SEED}, case {case} of {name}: {failure}\nthe text was\n{shown}") from None
 
 
-def random_op(dice, cells, amount=None):
+def random_op(dice: Random, cells: Cells, amount: int | str | None = None) -> Op:
     """An operation on one of the cells. An account is often opened first."""
     accounts, elements, counters = cells
     kind = dice.choice(("account", "account", "account", "element", "element", "counter"))
     if kind == "account":
         names = "open open close close close deposit deposit deposit withdraw withdraw withdraw balance"
-        op = (dice.choice(names.split()), dice.choice(accounts))
+        op: Op = (dice.choice(names.split()), dice.choice(accounts))
     elif kind == "element":
         op = (dice.choice(("add", "add", "remove", "has", "size")), *dice.choice(elements))
         op = op[:2] if op[0] == "size" else op
@@ -58,7 +63,7 @@ def random_op(dice, cells, amount=None):
     return op
 
 
-def likely_reply(dice, op):
+def likely_reply(dice: Random, op: Op) -> str:
     """A reply that the operation may have, the more usual ones more often, and rarely one that it can't have."""
     usual = {"open": "opened exists", "close": "closed notempty missing", "deposit": "done done over missing"}
     usual |= {"withdraw": "done done short missing", "add": "added present", "remove": "removed absent"}
@@ -69,7 +74,7 @@ def likely_reply(dice, op):
     return dice.choice(usual[op[0]].split())
 
 
-def random_statements(dice, cells, most, nesting=0):
+def random_statements(dice: Random, cells: Cells, most: int, nesting: int = 0) -> list[str]:
     """The lines of some statements."""
     lines = []
     for _ in range(dice.randint(0 if nesting else 1, most)):
@@ -78,8 +83,8 @@ def random_statements(dice, cells, most, nesting=0):
         if form == "op":
             lines.append(model.text_of(op))
         elif form == "let":
-            account, (set_number, _), counter = map(dice.choice, cells)
-            asked = dice.choice((("balance", account), ("size", set_number), ("read", counter)))
+            account, (set_number, _), counter = dice.choice(cells[0]), dice.choice(cells[1]), dice.choice(cells[2])
+            asked: Op = dice.choice((("balance", account), ("size", set_number), ("read", counter)))
             lines.append(f"let {dice.choice('abc')} = {model.text_of(asked)}")
         else:
             lines.append(f"{form} {model.text_of(op)} is {likely_reply(dice, op)}")
@@ -91,7 +96,7 @@ def random_statements(dice, cells, most, nesting=0):
     return lines
 
 
-def dressed(dice, line):
+def dressed(dice: Random, line: str) -> str:
     """A line in another lawful dress: more blanks, zeros that lead, a CR, a comment or a blank line before it."""
     roll = dice.random()
     if roll < 0.03:
@@ -105,7 +110,7 @@ def dressed(dice, line):
     return line + "\n"
 
 
-def random_script(dice, cells, clients):
+def random_script(dice: Random, cells: Cells, clients: int) -> str:
     """The text of a script of one of so many clients."""
     client = dice.randrange(clients)
     begin = f"begin {client}" if client or dice.random() < 0.1 else "begin"
@@ -113,7 +118,7 @@ def random_script(dice, cells, clients):
     return "".join(dressed(dice, line) for line in (begin, *random_statements(dice, cells, 6), ending))
 
 
-def random_scripts(dice, cells, clients):
+def random_scripts(dice: Random, cells: Cells, clients: int) -> list[str]:
     """The texts of up to sixty scripts."""
     return [random_script(dice, cells, clients) for _ in range(dice.randint(1, 60))]
 
@@ -126,7 +131,7 @@ SCRIPTS = {
 
 
 @each(SCRIPTS, seconds=4)
-def random_scripts_one_after_another(mltx, case):
+def random_scripts_one_after_another(mltx: Program, case: tuple[str, Cells]) -> None:
     """All replies, commit numbers and aborts of `solo` are those of the model."""
     hash_name, cells = case
     for number in range(20 * harness.CASES):
@@ -139,7 +144,7 @@ def random_scripts_one_after_another(mltx, case):
             checked_trace(mltx, base, written.count("committed "))
 
 
-def checked_trace(mltx, base, commits):
+def checked_trace(mltx: Program, base: Base, commits: int) -> list[int]:
     """Fails where the file `trace` isn't accepted with so many commits and this base. Returns the order it has."""
     ran = mltx.run("check", "trace")
     printed = ran.out.decode().splitlines(keepends=True)
@@ -155,12 +160,12 @@ class Transaction:
     undone, whether it may have taken back more than is known, what it did and did not take back, and all that it did,
     for which it holds locks."""
 
-    pending: tuple = None
+    pending: Op | None = None
     inside: bool = False
     undoing: bool = False
     vague: bool = False
-    done: list = field(default_factory=list)
-    held: list = field(default_factory=list)
+    done: list[Done] = field(default_factory=list)
+    held: list[Done] = field(default_factory=list)
 
 
 class Watch:
@@ -169,12 +174,13 @@ class Watch:
     `base` is what the pages mean: the operations of open transactions are in it. Replies are predicted as long as it is
     sure: an `undo` that waits doesn't say how much it took back."""
 
-    def __init__(self, low):
-        self.base, self.open, self.begun, self.committed = model.Base(), {}, 0, []
-        self.low, self.ghosts, self.records = low, set(), set()
-        self.sure, self.trace = True, []
+    def __init__(self, low: bool) -> None:
+        self.base, self.begun, self.committed = model.Base(), 0, list[tuple[int, list[Done]]]()
+        self.open: dict[int, Transaction] = {}
+        self.low, self.ghosts, self.records = low, set[tuple[Cell, int]](), set[Cell]()
+        self.sure, self.trace = True, list[str]()
 
-    def tell(self, event, told):
+    def tell(self, event: Event, told: str) -> None:
         """Takes one event and the line that it was told."""
         name, t = event[0], event[1] if len(event) > 1 else None
         refusal = self.refusal(name, t)
@@ -183,7 +189,7 @@ class Watch:
         else:
             getattr(self, "_" + name)(told, *event[1:])
 
-    def refusal(self, name, t):
+    def refusal(self, name: str, t: int) -> str | None:
         """The refusal that this event meets before anything else, or None."""
         if name == "begin":
             return "7 TooManyOpen" if len(self.open) == 64 else None
@@ -197,27 +203,27 @@ class Watch:
         idle = {"step": not it.pending and not it.undoing, "cancel": not it.pending, "undo": not it.undoing}
         return "6 NotRunning" if idle.get(name) else None
 
-    def _begin(self, told):
+    def _begin(self, told: str) -> None:
         self.begun += 1
         same(told, f"begun {self.begun}", "told to begin")
         self.open[self.begun] = Transaction()
         self.trace.append(f"begin {self.begun}")
 
-    def _call(self, told, t, op):
+    def _call(self, told: str, t: int, op: Op) -> None:
         same(told, "called", f"told to call {t} {op}")
         self.open[t].pending = op
 
-    def _cancel(self, told, t):
+    def _cancel(self, told: str, t: int) -> None:
         same(told, "cancelled", f"told to cancel {t}")
         self._idle(t)
 
-    def _commit(self, told, t):
+    def _commit(self, told: str, t: int) -> None:
         same(told, f"committed {len(self.committed) + 1}", f"told to commit {t}")
         self.committed.append((t, self.open[t].done))
         self.trace.append(f"commit {t} {len(self.committed)}")
         self._close(t)
 
-    def _abort(self, told, t):
+    def _abort(self, told: str, t: int) -> None:
         if self.open[t].done:
             same(told, "aborting", f"told to abort {t}, which did something")
             self.open[t].undoing = True
@@ -225,7 +231,7 @@ class Watch:
             same(told, "aborted", f"told to abort {t}, which did nothing")
             self._closed_by_abort(t)
 
-    def _step(self, told, t, _):
+    def _step(self, told: str, t: int, _: int) -> None:
         it = self.open[t]
         if told == "going":
             it.inside = True
@@ -236,13 +242,13 @@ class Watch:
         else:
             self._step_back(told, t)
 
-    def _whole(self, told, t, op):
+    def _whole(self, told: str, t: int, op: Op) -> None:
         if told.startswith("waiting by "):
             self._waits(told, t)
         else:
             self._ended(told, t, op)
 
-    def _undo(self, told, t):
+    def _undo(self, told: str, t: int) -> None:
         if told.startswith("waiting by "):
             self._waits(told, t)
             self.open[t].inside, self.open[t].vague, self.sure = True, True, False
@@ -250,7 +256,7 @@ class Watch:
         same(told, "aborted", f"told to undo {t}")
         self._all_taken_back(t)
 
-    def _step_back(self, told, t):
+    def _step_back(self, told: str, t: int) -> None:
         """A pass of an inverse came to its end."""
         it = self.open[t]
         last = len(it.done) == 1
@@ -261,16 +267,16 @@ class Watch:
         else:
             self._taken_back(t)
 
-    def _all_taken_back(self, t):
+    def _all_taken_back(self, t: int) -> None:
         while t in self.open:
             self._taken_back(t)
 
-    def _waits(self, told, t):
+    def _waits(self, told: str, t: int) -> None:
         by = int(told.split()[2])
         inside = by in self.open and self.open[by].inside
         holds(by != t and inside, f"{t} was told {told!r}, but {by} has no page lock")
 
-    def _ended(self, told, t, op):
+    def _ended(self, told: str, t: int, op: Op) -> None:
         """A pass of an operation came to its end, which is Done, Blocked or Refused."""
         if self.sure:
             wanted = self._end_of(t, op)
@@ -284,7 +290,7 @@ class Watch:
         if told.startswith("done "):
             self._done(t, op, told.removeprefix("done "))
 
-    def _end_of(self, t, op):
+    def _end_of(self, t: int, op: Op) -> str:
         """What the tables say is the end of a pass that ends now."""
         reply, _ = model.apply(self.base.held(op), op)
         if not self._has_room(self._wants_room(t, op, reply)):
@@ -293,21 +299,21 @@ class Watch:
         blocks = [by for by, held in held_by_others if model.clash(held, (op, reply))]
         return f"blocked by {min(blocks)}" if blocks else f"done {reply}"
 
-    def _wants_room(self, t, op, reply):
+    def _wants_room(self, t: int, op: Op, reply: str) -> list[Cell]:
         """The cells whose records are added: not one that revives a ghost of its own, and of counters and of sizes
         those that have none. A set's size has its record from the first element on that was ever put into it."""
         cells = [model.cell_of(op)] if reply in ("opened", "added") or op[0] in ("up", "down") else []
         cells += [("size", op[1])] if reply == "added" else []
         return [cell for cell in cells if cell not in self.records and (cell, t) not in self.ghosts]
 
-    def _has_room(self, cells):
+    def _has_room(self, cells: list[Cell]) -> bool:
         """Whether these cells can be added. At the greatest depth `low` has a bucket for each pseudokey, and it has
         eight slots: for live records, and for ghosts whose owners are open."""
         there = {*(it for it in self.base.cells if it[0] != "counter"), *self.records}
         taken = [*there, *(ghost for ghost, _ in self.ghosts), *cells]
         return not self.low or all(sum(it[-1] % 2**16 == cell[-1] % 2**16 for it in taken) <= 8 for cell in cells)
 
-    def _done(self, t, op, reply):
+    def _done(self, t: int, op: Op, reply: str) -> None:
         it, cell = self.open[t], model.cell_of(op)
         it.done.append((op, reply))
         it.held.append((op, reply))
@@ -322,7 +328,7 @@ class Watch:
         elif reply in ("closed", "removed"):
             self.ghosts.add((cell, t))
 
-    def _taken_back(self, t):
+    def _taken_back(self, t: int) -> None:
         """The last operation of a transaction is taken back; after the last of all it is closed."""
         op, reply = self.open[t].done.pop()
         self.open[t].inside = False
@@ -335,26 +341,26 @@ class Watch:
         if not self.open[t].done:
             self._closed_by_abort(t)
 
-    def _idle(self, t):
+    def _idle(self, t: int) -> None:
         self.open[t].pending, self.open[t].inside = None, False
 
-    def _closed_by_abort(self, t):
+    def _closed_by_abort(self, t: int) -> None:
         self.trace.append(f"abort {t}")
         self._close(t)
 
-    def _close(self, t):
+    def _close(self, t: int) -> None:
         del self.open[t]
         self.ghosts = {ghost for ghost in self.ghosts if ghost[1] != t}
 
 
-def show(event):
+def show(event: Event) -> str:
     """The line of an event."""
     name, *rest = event
     words = [model.text_of(word) if isinstance(word, tuple) else str(word) for word in rest]
     return " ".join([name, *words]) if name != "step" or rest[1] > 1 else f"step {rest[0]}"
 
 
-def random_schedule(dice, cells, calls, length):
+def random_schedule(dice: Random, cells: Cells, calls: int, length: int) -> list[Event]:
     """Events over up to six open transactions; `calls` of 75 operations are by single steps. It goes by guesses of how
     far each transaction is, so that some events are wrong. The first one makes some accounts. At the end all are
     closed: what is pending is cancelled, and who is open is taken back."""
@@ -362,7 +368,7 @@ def random_schedule(dice, cells, calls, length):
     events = [("begin",), *(("whole", 1, ("open", a)) for a in accounts)]
     rich = [account for account in accounts if dice.random() < 0.5]
     events += [*(("whole", 1, ("deposit", a, dice.choice(AMOUNTS))) for a in rich), ("commit", 1)]
-    guesses, begun = {}, 1
+    guesses, begun = dict[int, str](), 1
     for _ in range(length):
         if not guesses or len(guesses) < 6 and dice.random() < 0.15:
             begun += 1
@@ -379,7 +385,7 @@ def random_schedule(dice, cells, calls, length):
     return events + [(closing, t) for closing in ("cancel", "abort", "undo", "undo") for t in range(1, begun + 1)]
 
 
-def random_event(dice, cells, t):
+def random_event(dice: Random, cells: Cells, t: int) -> Event:
     """Any event of a transaction, which may be wrong."""
     name = dice.choice("call step cancel commit abort whole undo".split())
     if name in ("call", "whole"):
@@ -387,7 +393,7 @@ def random_event(dice, cells, t):
     return (name, t, dice.randint(1, 4)) if name == "step" else (name, t)
 
 
-def next_events(dice, cells, calls, t, guess):
+def next_events(dice: Random, cells: Cells, calls: int, t: int, guess: str) -> tuple[list[Event], str]:
     """What a transaction does next, and how far it is then, as far as can be guessed."""
     times = dice.choice((1, 1, 2, 2, 3, 4, 4, 9))
     if guess == "pending":
@@ -405,7 +411,8 @@ def next_events(dice, cells, calls, t, guess):
         return [(what, t, random_op(dice, cells))], "pending" if what == "call" else "idle"
     if what == "abort":
         return [("abort", t)], "undoing"
-    return [*dice.choice(([], [("step", t, 9)], [("cancel", t)])), ("commit", t)], "ended"
+    before: list[list[Event]] = [[], [("step", t, 9)], [("cancel", t)]]
+    return [*dice.choice(before), ("commit", t)], "ended"
 
 
 # The hash function, the cells, how many of 75 operations are by single steps, and how many schedules.
@@ -420,7 +427,7 @@ SCHEDULES = {
 
 
 @each(SCHEDULES, seconds=6)
-def random_schedules(mltx, case):
+def random_schedules(mltx: Program, case: tuple[str, Cells, int, int]) -> None:
     """Each event is told what the tables and the locks allow, and what committed is serial in commit order."""
     hash_name, cells, calls, many = case
     for number in range(many * harness.CASES):
@@ -434,7 +441,7 @@ def random_schedules(mltx, case):
             holds(not watch.open, f"still open at the end: {list(watch.open)}")
 
 
-def watched_schedule(mltx, events, told, low):
+def watched_schedule(mltx: Program, events: list[Event], told: list[str], low: bool) -> Watch:
     """Watches what the events of a schedule were told, and what is printed after it, and checks its trace."""
     watch = Watch(low)
     singles = [event for event in events for _ in range(event[2] if event[0] == "step" else 1)]
@@ -452,7 +459,7 @@ def watched_schedule(mltx, events, told, low):
     return watch
 
 
-def serial_base(transcripts):
+def serial_base(transcripts: Iterable[list[Done]]) -> Base:
     """The base to which transcripts lead, one after another. Fails where one was told what the tables don't give."""
     base = model.Base()
     for number, done in enumerate(transcripts, 1):
@@ -461,14 +468,11 @@ def serial_base(transcripts):
     return base
 
 
-SIDE_BY_SIDE = {
-    f"random-scripts-of-{workers}-workers": (workers, *rest)
-    for workers, *rest in ((1, "mult", FEW), (2, "low", WIDE), (4, "mult", FEW), (8, "low", FEW))
-}
+SIDE_BY_SIDE = ((1, "mult", FEW), (2, "low", WIDE), (4, "mult", FEW), (8, "low", FEW))
 
 
-@each(SIDE_BY_SIDE, seconds=4)
-def random_scripts_side_by_side(mltx, case):
+@each({f"random-scripts-of-{case[0]}-workers": case for case in SIDE_BY_SIDE}, seconds=4)
+def random_scripts_side_by_side(mltx: Program, case: tuple[int, str, Cells]) -> None:
     """Scripts of several clients: what committed is what `solo` says of these scripts in the order of their commits. Naps take no
     time, so that workers meet."""
     workers, hash_name, cells = case
@@ -490,21 +494,21 @@ class Outcome:
     text: str
     client: int
     number: int
-    replies: list
+    replies: list[str]
     end: str
 
-    def commit(self):
-        """The number of its commit, or None."""
-        return int(self.end.split()[1]) if self.end.startswith("committed ") else None
+    def commit(self) -> int:
+        """The number of its commit, or 0."""
+        return int(self.end.split()[1]) if self.end.startswith("committed ") else 0
 
-    def __str__(self):
+    def __str__(self) -> str:
         return f"client {self.client} script {self.number}"
 
 
-def outcomes_of(printed, scripts):
+def outcomes_of(printed: str, scripts: list[str]) -> tuple[list[Outcome], str]:
     """The outcome of each script, clients by rising number, and the text of the base that follows them."""
-    lines, found = printed.splitlines(), []
-    by_client = {}
+    lines, found = printed.splitlines(), list[Outcome]()
+    by_client: dict[int, list[str]] = {}
     for text in scripts:
         by_client.setdefault(model.parse(text.encode())[0].client, []).append(text)
     for client in sorted(by_client):
@@ -518,7 +522,7 @@ def outcomes_of(printed, scripts):
     return found, "".join(line + "\n" for line in lines)
 
 
-def compared_with_solo(mltx, scripts, printed):
+def compared_with_solo(mltx: Program, scripts: list[str], printed: str) -> None:
     """What `run` printed of scripts beside `solo` and the model, which run the committed ones by commit number."""
     outcomes, base_text = outcomes_of(printed, scripts)
     committed = sorted((it for it in outcomes if it.commit()), key=Outcome.commit)
@@ -535,7 +539,7 @@ def compared_with_solo(mltx, scripts, printed):
     checked_trace(mltx, base, len(committed))
 
 
-def checked_outcomes(outcomes):
+def checked_outcomes(outcomes: list[Outcome]) -> None:
     """A script that asks for its abort never commits, and one that was refused gave up: there is room for all."""
     for it in outcomes:
         asks_to_commit = model.parse(it.text.encode())[0].commits
@@ -544,14 +548,11 @@ def checked_outcomes(outcomes):
         holds(refused in ([], ["refused 14 GaveUp"]), f"{it} was told {refused}")
 
 
-SESSIONS = {
-    f"random-sessions-{sessions}-at-once": (sessions, *rest)
-    for sessions, *rest in ((2, "low", FEW), (5, "mult", FEW), (8, "low", WIDE))
-}
+SESSIONS = ((2, "low", FEW), (5, "mult", FEW), (8, "low", WIDE))
 
 
-@each(SESSIONS, seconds=4)
-def random_sessions_at_once(mltx, case):
+@each({f"random-sessions-{case[0]}-at-once": case for case in SESSIONS}, seconds=4)
+def random_sessions_at_once(mltx: Program, case: tuple[int, str, Cells]) -> None:
     """Clients at once over sockets: what each was told of what it committed is serial in the order of the commits."""
     sessions, hash_name, cells = case
     for number in range(8 * harness.CASES):
@@ -567,7 +568,7 @@ def random_sessions_at_once(mltx, case):
             checked_trace(mltx, base, len(committed))
 
 
-def random_session(server, dice, cells):
+def random_session(server: Server, dice: Random, cells: Cells) -> list[tuple[int, list[Done]]]:
     """Talks to the server for some transactions. For each that committed its number and what it was told."""
     committed = []
     with server.connect() as peer:
@@ -583,7 +584,7 @@ def random_session(server, dice, cells):
     return committed
 
 
-def random_transaction(dice, cells, peer):
+def random_transaction(dice: Random, cells: Cells, peer: Peer) -> list[Done] | None:
     """Asks some operations and returns them with their replies; None once one gave up."""
     done = []
     for _ in range(dice.randint(0, 5)):

@@ -4,17 +4,20 @@ A run is given up as a whole, or the event, script or line is refused in its pla
 stand. What that gives comes from a run with ample memory over the text without it. The C compiler `cc` is needed."""
 import dataclasses
 import re
+from collections.abc import Callable, Iterable, Iterator, Sequence
+from typing import TypeVar
 
-from harness import NO_MEMORY, Failed, Ran, cut_for, each, holds, lines, same, test
+from harness import NO_MEMORY, Failed, Program, Ran, cut_for, each, holds, lines, match, same, test
 
 WANT = b"mltx: 1 OutOfMemory\n"
 REFUSED = "refused 1 OutOfMemory"
 ERROR = "error 1 OutOfMemory"
 # What a server may note of it.
-NOTES = {cut_for(1, NO_MEMORY), "no more connections are taken: memory was refused", "1 notes were lost", "2 notes were lost"}
+NOTES = {cut_for(1, NO_MEMORY), "accepting no more connections: out of memory", "1 messages were lost", "2 messages were lost"}
 # A number above that of each request.
 LAST = 1 << 40
 
+Outcome = TypeVar("Outcome")
 HASHES = ("mult", "low")
 EIGHT = [f"whole 1 open {n}" for n in range(8)]
 # Each kind of event. A split has to wait for a reader's page, a withdrawal is blocked, and aborts are made by steps and
@@ -69,9 +72,7 @@ SESSION = (
     "begin|open 1|deposit 1 100|up 7 1|commit|begin|withdraw 1 30|add 3 4|abort"
     "|begin|read 7|balance 1|remove 3 4|commit|quit"
 )
-SESSION_TELLS = (
-    "begun 1|opened|done|done|committed 1|begun 2|done|added|aborted|begun 3|is 1|is 100|absent|committed 2|bye"
-)
+SESSION_TELLS = ("begun 1|opened|done|done|committed 1|begun 2|done|added|aborted|begun 3|is 1|is 100|absent|committed 2|bye")
 SESSION_LINES = "begin|open 1|foo|deposit 1 5|commit|begin|balance 1"
 SESSION_LINES_TELLS = "begun 1|opened|error 10 ScriptFault|done|committed 1|begun 2|is 5"
 
@@ -90,37 +91,37 @@ class Came:
 class Runs:
     """Runs of one subcommand, with requests for memory refused."""
 
-    def __init__(self, mltx, job, *options, traced=True):
+    def __init__(self, mltx: Program, job: str, *options: str, traced: bool = True) -> None:
         self.mltx, self.job, self.options, self.traced = mltx, job, options, traced
-        self.trace, self.kept = mltx.folder / "trace", {}
+        self.trace, self.kept = mltx.folder / "trace", dict[str, Came]()
 
-    def refusing(self, first=0, last=None, least=0, threads=False):
+    def refusing(self, first: int = 0, last: int | None = None, least: int = 0, threads: int = 0) -> dict[str, str]:
         """The environment in which these requests are refused, and all threads: without arguments nothing is."""
         self.trace.unlink(missing_ok=True)
         refuse = f"{first} {first if last is None else last} {least}"
         return self.mltx.shim(REFUSE=refuse, **({"REFUSE_THREADS": "1"} if threads else {}))
 
-    def asked(self):
+    def asked(self) -> int:
         """How many requests for memory the last run made."""
         return self.mltx.counted()[0]
 
-    def run(self, text, **refused):
+    def run(self, text: str, **refused: int) -> Came:
         env = self.refusing(**refused)
         options = [*self.options, *(["--trace", self.trace] if self.traced else [])]
         ran = self.mltx.run(self.job, *options, self.mltx.file("text", text), env=env)
         return Came(ran.status, ran.out.decode(), ran.err.decode(), self.traced_text())
 
-    def traced_text(self):
+    def traced_text(self) -> str | None:
         return self.trace.read_text() if self.trace.exists() else None
 
-    def ample(self, text):
+    def ample(self, text: str) -> Came:
         """What comes where no memory is refused."""
         if text not in self.kept:
             self.kept[text] = came = self.run(text)
             holds((came.status, came.err) == (0, ""), f"{self.job} of {text!r} with ample memory: {came}")
         return self.kept[text]
 
-    def one_refused(self, run, step=1):
+    def one_refused(self, run: Callable[[int], Outcome], step: int = 1) -> Iterator[tuple[str, Outcome]]:
         """What comes with request 1, 2, 3, .. refused, or each so many, until a run makes no such request."""
         number = 1
         while True:
@@ -130,29 +131,28 @@ class Runs:
             yield f"{self.job} {' '.join(self.options)} with request {number} refused", came
             number += step
 
-    def serial(self, trace):
+    def serial(self, trace: str | None) -> tuple[int, str]:
         """How many commits `check` finds in a trace, and its base."""
-        ran = self.mltx.run("check", self.mltx.file("checked", trace))
-        holds(ran.status == 0, f"check refuses the trace {trace!r}: {ran}")
-        base = re.sub("(?m)^serial .*\n", "", ran.out.decode())
-        return ran.out.count(b"serial "), base
+        assert trace is not None, "no trace was made"
+        told = self.mltx.accepted(self.mltx.folder / self.mltx.file("checked", trace))
+        return told.count("serial "), re.sub("(?m)^serial .*\n", "", told)
 
 
-def is_given_up(came):
+def is_given_up(came: Came) -> bool:
     """All of the run is refused, and that is told. Nothing is written then, and no trace made."""
     return came == Came(1, "", WANT.decode())
 
 
-def parts(text, start):
+def parts(text: str, start: str) -> list[str]:
     """The parts of a text, each of which begins with a line of this start."""
     return re.split(f"(?m)^(?={start})", text)[1:]
 
 
-def as_text(events):
+def as_text(events: Iterable[str]) -> str:
     return "".join(event + "\n" for event in events)
 
 
-def with_refusal(runs, events, place, what):
+def with_refusal(runs: Runs, events: list[str], place: int, what: str) -> Came:
     """What comes where this event is refused: all others are told what they are told where it does not stand. A refused
     step takes its operation with it, as a cancel does."""
     kind, *words = events[place].split()
@@ -178,7 +178,7 @@ STEPS = {
 
 
 @each(STEPS, seconds=3)
-def steps(mltx, case):
+def steps(mltx: Program, case: tuple[str, list[str], str | None]) -> None:
     """One event is refused and no other is told anything else; or the run is given up."""
     hashing, events, tells = case
     runs = Runs(mltx, "steps", "--hash", hashing)
@@ -215,7 +215,7 @@ IN_SPLIT = {
 
 
 @each(IN_SPLIT, seconds=2)
-def in_split(mltx, case):
+def in_split(mltx: Program, case: tuple[list[str], str]) -> None:
     """Each growth of the split is refused: the pages and the base are as before, and the call repeated splits."""
     events, tells = case
     runs = Runs(mltx, "steps", "--hash", "low")
@@ -230,15 +230,12 @@ def in_split(mltx, case):
 SOLOS = {
     f"refused-growths-of-{name}-{hashing}": (hashing, text, tells)
     for hashing in HASHES
-    for name, text, tells in [
-        ("solo", SCRIPTS, None),
-        ("first-run", FIRST_RUN, lines("opened|done|is 50|committed 1")),
-    ]
+    for name, text, tells in [("solo", SCRIPTS, None), ("first-run", FIRST_RUN, lines("opened|done|is 50|committed 1"))]
 }
 
 
 @each(SOLOS, seconds=2)
-def solo(mltx, case):
+def solo(mltx: Program, case: tuple[str, str, str | None]) -> None:
     """One script is refused and leaves nothing, and all others are as if it did not stand; or the run is given up."""
     hashing, text, tells = case
     runs = Runs(mltx, "solo", "--hash", hashing)
@@ -265,11 +262,10 @@ def solo(mltx, case):
     holds(ways >= {"given up", "told"}, f"only this came: {ways}")
 
 
-def committed(written):
+def committed(written: str) -> tuple[list[tuple[int, str, str]], str]:
     """Of what `run` wrote of SCRIPTS: the committed scripts in their order, with what they were told, and the base."""
     outcomes = parts(written, "client ")
-    ended = re.fullmatch(r"(?s)(.*?\n(?:committed \d+|aborted)\n)(.*)", outcomes.pop() if outcomes else "")
-    holds(ended, f"this is no report: {written!r}")
+    ended = match(r"(?s)\A(.*?\n(?:committed \d+|aborted)\n)(.*)\Z", outcomes.pop() if outcomes else "")
     found = []
     for script, outcome in zip(parts(SCRIPTS, "begin "), [*outcomes, ended[1]], strict=True):
         number = re.search(r"(?m)^committed (\d+)$", outcome)
@@ -278,7 +274,7 @@ def committed(written):
     return sorted(found), ended[2]
 
 
-def is_serial(runs, came, what):
+def is_serial(runs: Runs, came: Came, what: str) -> None:
     """The committed scripts, run by one client in the order of commits, are told the same and leave this base. So says
     the trace."""
     found, base = committed(came.out)
@@ -293,7 +289,7 @@ RUNS = {
 
 
 @each(RUNS, seconds=4)
-def run(mltx, case):
+def run(mltx: Program, case: tuple[str, str]) -> None:
     """What committed is a serial run with this base, and at most one script is refused; or the run is given up."""
     hashing, workers = case
     runs = Runs(mltx, "run", "--hash", hashing, "--workers", workers)
@@ -312,7 +308,7 @@ def run(mltx, case):
 
 
 @each({f"refused-growths-of-later-script-{workers}": workers for workers in ("1", "2")}, seconds=2)
-def later_script(mltx, workers):
+def later_script(mltx: Program, workers: str) -> None:
     """The later script sees the commit of the one before, where there is one."""
     runs = Runs(mltx, "run", "--workers", workers)
     first, second = "client 0 script 1|", "client 0 script 2|"
@@ -330,11 +326,11 @@ def later_script(mltx, workers):
 
 
 @test(seconds=2)
-def refused_growths_of_tables(mltx):
+def refused_growths_of_tables(mltx: Program) -> None:
     """The run is given up, and nothing is written."""
     runs, ample, met = Runs(mltx, "tables", traced=False), mltx.run("tables").out.decode(), 0
 
-    def run(number):
+    def run(number: int) -> Came:
         ran = mltx.run("tables", env=runs.refusing(first=number))
         return Came(ran.status, ran.out.decode(), ran.err.decode())
 
@@ -353,7 +349,7 @@ CHECKS = {
 
 
 @each(CHECKS, seconds=1)
-def check(mltx, case):
+def check(mltx: Program, case: tuple[str, tuple[int, str, str]]) -> None:
     """The trace is told of as with ample memory, or 1 is told and nothing else."""
     text, (status, out, err) = case
     runs = Runs(mltx, "check", traced=False)
@@ -368,7 +364,7 @@ def check(mltx, case):
     holds(given_up > 0, "no run was given up")
 
 
-def talk(runs, said, **refused):
+def talk(runs: Runs, said: list[str], **refused: int) -> tuple[Came, list[str]]:
     """What a server of one connection answers to these lines, and what it comes to."""
     env = runs.refusing(**refused)
     with runs.mltx.serve(*runs.options, "--trace", runs.trace, env=env) as server:
@@ -384,7 +380,7 @@ def talk(runs, said, **refused):
     return Came(ended.status, ended.out.decode(), ended.err.decode(), runs.traced_text(), notes), heard.decode().splitlines()
 
 
-FOR_GOOD = {
+FOR_GOOD: dict[str, tuple[str, list[str], str]] = {
     "out-of-memory-for-good-in-steps": ("steps", ["--hash", "low"], as_text(SPLIT_STAYS)),
     "out-of-memory-for-good-in-solo": ("solo", [], SCRIPTS),
     "out-of-memory-for-good-in-run": ("run", ["--workers", "1"], SCRIPTS),
@@ -393,7 +389,7 @@ FOR_GOOD = {
 
 
 @each(FOR_GOOD, seconds=2)
-def for_good(mltx, case):
+def for_good(mltx: Program, case: tuple[str, list[str], str]) -> None:
     """Where all requests from one on are refused, the run is given up."""
     job, options, text = case
     runs = Runs(mltx, job, *options, traced=job != "check")
@@ -404,13 +400,13 @@ def for_good(mltx, case):
 
 LARGE = {
     f"large-requests-refused-in-{job}-{least}": (job, options, text, least)
-    for job, options, text in [("steps", ["--hash", "low"], as_text(ALL_KINDS)), ("solo", [], SCRIPTS)]
+    for job, options, text in [("steps", ["--hash", "low"], as_text(ALL_KINDS)), ("solo", list[str](), SCRIPTS)]
     for least in (100, 1_000, 10_000, 1_000_000)
 }
 
 
 @each(LARGE)
-def large(mltx, case):
+def large(mltx: Program, case: tuple[str, list[str], str, int]) -> None:
     """Where requests from a size on are refused, the run is given up, or what comes is right up to the first that is
     told refused. The trace says which base is left."""
     job, options, text, least = case
@@ -428,13 +424,13 @@ def large(mltx, case):
         holds(re.search(f"(?m)^{base}depth", came.out), f"{what}, and the base of the trace is {base!r}")
 
 
-@each({"cells-of-cancelled-calls-take-no-room": None}, seconds=2)
-def cancelled_calls(mltx, _case):
+@test(seconds=2)
+def cells_of_cancelled_calls_take_no_room(mltx: Program) -> None:
     """Calls that are cancelled leave nothing that grows: on ever other cells they ask for memory in pieces of 1,024 bytes or
     more as often as on one cell. Up to the first step a call has made nothing but its reservation."""
     runs = Runs(mltx, "steps", traced=False)
 
-    def asked(cells):
+    def asked(cells: Sequence[int]) -> int:
         came = runs.run(as_text(["begin", *(line for cell in cells for line in (f"call 1 up {cell} 1", "cancel 1"))]), least=1024)
         holds((came.status, came.err) == (0, ""), f"steps of {len(cells)} cancelled calls: {came.err}")
         same(came.out.count("cancelled\n"), len(cells), "calls that were cancelled")
@@ -445,7 +441,7 @@ def cancelled_calls(mltx, _case):
 
 
 @each({f"threads-refused-in-run-{workers}": workers for workers in ("1", "2", "8")})
-def threads(mltx, workers):
+def threads(mltx: Program, workers: str) -> None:
     """A run that gets no thread does all by itself, or is given up."""
     runs = Runs(mltx, "run", "--workers", workers)
     came = runs.run(SCRIPTS, threads=True)
@@ -455,8 +451,8 @@ def threads(mltx, workers):
         is_serial(Runs(mltx, "run", "--workers", "1", traced=False), came, what)
 
 
-@each({"threads-refused-in-serve": None})
-def no_thread_accepts(mltx, _case):
+@test
+def threads_refused_in_serve(mltx: Program) -> None:
     """A server that gets no thread ends, and says why."""
     runs = Runs(mltx, "serve")
     with mltx.serve(env=runs.refusing(threads=True)) as server:
@@ -471,13 +467,13 @@ SERVES = {
 
 
 @each(SERVES, seconds=6)
-def serve(mltx, case):
+def serve(mltx: Program, case: tuple[str, str, str]) -> None:
     """One line is answered by the refusal and all others as if it did not stand; or the session is cut, which is noted; or it and
     the server end."""
     hashing, said, tells = case[0], case[1].split("|"), case[2].split("|")
     runs = Runs(mltx, "serve", "--hash", hashing)
-    kept = {None: talk(runs, said)}
-    same(kept[None][1], tells, "serve with ample memory")
+    kept = {-1: talk(runs, said)}
+    same(kept[-1][1], tells, "serve with ample memory")
     ways = set()
     for what, (ended, heard) in runs.one_refused(lambda number: talk(runs, said, first=number)):
         if (ended.status, ended.err) == (1, WANT.decode()):
@@ -488,12 +484,12 @@ def serve(mltx, case):
             holds(heard == tells[: len(heard)], f"{what}: {heard}, which is no front of {tells}")
             same((ended.status, ended.out, ended.err), (0, "served 1\n", ""), f"{what}: a session is cut")
             continue
-        place = heard.index(ERROR) if ERROR in heard else None
-        ways.add("told" if place is not None else "not seen")
+        place = heard.index(ERROR) if ERROR in heard else -1
+        ways.add("told" if place >= 0 else "not seen")
         if place not in kept:
             kept[place] = talk(runs, said[:place] + said[place + 1 :])
         wanted = list(kept[place][1])
-        if place is not None:
+        if place >= 0:
             wanted.insert(place, ERROR)
             holds(said[place] not in ("commit", "abort", "quit"), f"{what}: `{said[place]}` is refused memory")
         same(heard, wanted, what)
@@ -501,8 +497,8 @@ def serve(mltx, case):
     holds(ways >= {"given up", "told"}, f"only this came: {ways}")
 
 
-@each({"out-of-memory-for-good-in-serve": None}, seconds=5)
-def serve_for_good(mltx, _case):
+@test(seconds=5)
+def out_of_memory_for_good_in_serve(mltx: Program) -> None:
     """Where all requests from one on are refused, the server ends. What the client was told before that is right."""
     said, tells = SESSION_LINES.split("|"), SESSION_LINES_TELLS.split("|")
     runs = Runs(mltx, "serve")

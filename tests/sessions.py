@@ -1,16 +1,16 @@
 """Sessions over TCP: the worked rows, the table of lines and their answers, and sessions side by side."""
 import dataclasses
-import re
-import select
 import socket
 import struct
 import subprocess
 import sys
 import threading
 import time
+from collections.abc import Iterable
 
-from harness import BROKEN, IDLE, LONG_LINE, MANY_BYTES, MOST_BYTES, PATIENCE, ROOT, as_bytes, cut_for, each, expect, holds
-from harness import in_any_order, lines, listening, may_break_off, same, test
+from harness import BROKEN, IDLE, LONG_LINE, MANY_BYTES, MOST_BYTES, PATIENCE, ROOT, Peer, Program, Text, as_bytes, command
+from harness import cut_for, each, expect, holds, in_any_order, lines, listening, match, may_break_off, readable, same, takes
+from harness import test
 
 # How long to listen for an answer that must not come, in seconds.
 SILENCE = 0.2
@@ -23,7 +23,7 @@ APART = (*range(0, 8 * 65536, 65536), 1)
 class Talk:
     """What one client sends, up to the end of its input, all that it is answered, the trace, and what `check` says."""
 
-    sent: object
+    sent: str
     answers: str
     trace: str
     checked: str = ""
@@ -33,14 +33,10 @@ ROWS = {
     "session-lines": Talk(
         lines("begin|open 1|foo|deposit 1 5|commit|begin|balance 1"),
         lines("begun 1|opened|error 10 ScriptFault|done|committed 1|begun 2|is 5"),
-        lines(
-            "begin 1|op 1 open 1 opened|op 1 deposit 1 5 done|commit 1 1|begin 2|op 2 balance 1 is 5|back 2|abort 2"
-        ),
+        lines("begin 1|op 1 open 1 opened|op 1 deposit 1 5 done|commit 1 1|begin 2|op 2 balance 1 is 5|back 2|abort 2"),
         lines("serial 1|account 1 5"),
     ),
-    "session-cut-line": Talk(
-        "begin\nup 7 1\ncomm", lines("begun 1|done"), lines("begin 1|op 1 up 7 1 done|back 1|abort 1")
-    ),
+    "session-cut-line": Talk("begin\nup 7 1\ncomm", lines("begun 1|done"), lines("begin 1|op 1 up 7 1 done|back 1|abort 1")),
     "session-line-of-200-spaces": Talk(" " * 200 + "\nbegin\nquit\n", lines("begun 1|bye"), lines("begin 1|abort 1")),
     "session-without-a-transaction": Talk(
         lines("open 1|begin|begin|quit"),
@@ -108,7 +104,7 @@ ROWS = {
 }
 
 
-def served_alone(mltx, row, *options, pieces=None):
+def served_alone(mltx: Program, row: Talk, *options: object, pieces: Iterable[Text] | None = None) -> None:
     """The row's answers, however its bytes were cut into pieces, what the server comes to, and its trace."""
     trace = mltx.folder / "serve.trace"
     with mltx.serve("--trace", trace, *options) as server, server.connect() as peer:
@@ -122,7 +118,7 @@ def served_alone(mltx, row, *options, pieces=None):
 
 
 @each(ROWS)
-def session(mltx, row):
+def session(mltx: Program, row: Talk) -> None:
     for options in ((), ("--hash", "mult"), ("--hash", "low")):
         served_alone(mltx, row, *options)
     served_alone(mltx, row, pieces=list(row.sent))
@@ -141,14 +137,14 @@ FAULTY = [
 
 
 @test
-def faulty_lines_of_a_session(mltx):
+def faulty_lines_of_a_session(mltx: Program) -> None:
     """Each is answered `error 10 ScriptFault`, and changes nothing."""
     faulty = "".join(f"{line}\n" for line in FAULTY)
     sent = f"{faulty}begin\nup 7 1\n{faulty}up 7 1\ncommit\n{faulty}"
     errors = "error 10 ScriptFault\n" * len(FAULTY)
     answers = f"{errors}begun 1\ndone\n{errors}done\ncommitted 1\n{errors}"
     trace = lines("begin 1|op 1 up 7 1 done|op 1 up 7 1 done|commit 1 1")
-    served_alone(mltx, Talk(sent.encode("latin-1"), answers, trace, lines("serial 1|counter 7 2")))
+    served_alone(mltx, Talk(sent, answers, trace, lines("serial 1|counter 7 2")), pieces=[sent.encode("latin-1")])
 
 
 # A line with its answers: where no transaction is open, and where one is.
@@ -166,7 +162,7 @@ TABLE = {
 
 
 @test
-def table_of_session_lines(mltx):
+def table_of_session_lines(mltx: Program) -> None:
     """Each line is answered without the end of the input, and `quit` alone ends the session."""
     for line, (without, within) in TABLE.items():
         for begin, wanted in (((), without), (("begin",), within)):
@@ -182,7 +178,7 @@ def table_of_session_lines(mltx):
 
 
 @test
-def session_line_too_long(mltx):
+def session_line_too_long(mltx: Program) -> None:
     """As soon as a line has 201 bytes the session ends, and what its transaction did is taken back."""
     for long in (" " * 201, "x" * 201, "#" + "y" * 200, "up 7 1" + " " * 195, " " * 200 + "\r"):
         trace = mltx.folder / "serve.trace"
@@ -199,7 +195,7 @@ def session_line_too_long(mltx):
 
 
 @test
-def session_line_too_long_with_a_cr(mltx):
+def session_line_too_long_with_a_cr(mltx: Program) -> None:
     """A CR before the LF counts: 200 bytes, CR and LF are too long, and 199 are not."""
     with mltx.serve(limit=2) as server:
         same(server.talk("begin" + " " * 194 + "\r\n"), b"begun 1\n", "199 bytes, CR and LF")
@@ -210,7 +206,7 @@ def session_line_too_long_with_a_cr(mltx):
 
 
 @test
-def cut_transaction_is_taken_back(mltx):
+def cut_transaction_is_taken_back(mltx: Program) -> None:
     """The end of the input, also in a line, and a connection that breaks: the next client sees nothing of it."""
     with mltx.serve(limit=4) as server:
         same(server.talk("begin\nup 7 1\n"), b"begun 1\ndone\n", "a session that ends")
@@ -223,7 +219,7 @@ def cut_transaction_is_taken_back(mltx):
 
 
 @test
-def server_says_where_it_listens(mltx):
+def server_says_where_it_listens(mltx: Program) -> None:
     """It is the first line on standard error, it comes before a client does, and nothing follows it."""
     with mltx.serve() as server:
         same(server.first_line(), listening(server.address))
@@ -232,19 +228,18 @@ def server_says_where_it_listens(mltx):
 
 
 @test
-def server_says_which_port_it_got(mltx):
+def server_says_which_port_it_got(mltx: Program) -> None:
     """With port 0 the line has the port at which clients are served."""
     with mltx.serve(address=("127.0.0.1", 0)) as server:
         said = server.first_line()
-        port = re.fullmatch(r"mltx: listening on 127\.0\.0\.1:([1-9][0-9]*)\n", said)
-        holds(port, f"{said!r} names no port")
+        port = match(r"\Amltx: listening on 127\.0\.0\.1:([1-9][0-9]*)\n\Z", said)
         server.address = ("127.0.0.1", int(port[1]))
         same(server.talk("begin\nquit\n"), b"begun 1\nbye\n", f"a client at {server.address}")
         expect(server.end(), out="served 1\n")
 
 
 @each({"server-without-standard-error": "2>&-", "server-with-a-full-standard-error": "2>/dev/full"})
-def server_that_cannot_say_where_it_listens(mltx, redirect):
+def server_that_cannot_say_where_it_listens(mltx: Program, redirect: str) -> None:
     """It serves all the same, and its status is 0."""
     with mltx.serve(redirect=redirect, limit=2) as server:
         for number in (1, 2):
@@ -252,14 +247,14 @@ def server_that_cannot_say_where_it_listens(mltx, redirect):
         expect(server.end(), out="served 2\n", what=redirect)
 
 
-def break_off(peer):
+def break_off(peer: Peer) -> None:
     """Resets the connection."""
     peer.socket.setsockopt(socket.SOL_SOCKET, socket.SO_LINGER, struct.pack("ii", 1, 0))
     peer.socket.close()
 
 
 @test
-def numbers_are_those_of_the_server(mltx):
+def numbers_are_those_of_the_server(mltx: Program) -> None:
     """Transactions and commits are counted over all sessions, and what one commits the next one sees."""
     trace = mltx.folder / "serve.trace"
     with mltx.serve("--trace", trace, limit=3) as server:
@@ -277,7 +272,7 @@ def numbers_are_those_of_the_server(mltx):
     expect(mltx.check(trace), out=lines("serial 1|serial 3|account 1 5"))
 
 
-def says_nothing(peer, why):
+def says_nothing(peer: Peer, why: str) -> None:
     """Fails where an answer comes that must not come yet."""
     patience = peer.socket.gettimeout()
     peer.socket.settimeout(SILENCE)
@@ -290,7 +285,7 @@ def says_nothing(peer, why):
 
 
 @test
-def two_sessions_at_once(mltx):
+def two_sessions_at_once(mltx: Program) -> None:
     """The first has a transaction open while the second begins, works on the same counter and commits."""
     trace = mltx.folder / "serve.trace"
     with mltx.serve("--trace", trace, limit=2) as server:
@@ -305,7 +300,7 @@ def two_sessions_at_once(mltx):
 
 
 @test
-def deposits_of_two_sessions_do_not_wait(mltx):
+def deposits_of_two_sessions_do_not_wait(mltx: Program) -> None:
     """Both are done while both transactions are open, and the one that is taken back takes nothing from the other."""
     trace = mltx.folder / "serve.trace"
     with mltx.serve("--trace", trace, limit=3) as server:
@@ -319,7 +314,7 @@ def deposits_of_two_sessions_do_not_wait(mltx):
 
 
 @test
-def session_waits_for_a_transaction(mltx):
+def session_waits_for_a_transaction(mltx: Program) -> None:
     """A balance is not told while another session may take its deposit back: it comes once that transaction ended."""
     endings = (("commit", "committed 2", "is 5"), ("abort", "aborted", "is 0"), ("quit", "bye", "is 0"))
     for ending, answer, balance in endings:
@@ -336,7 +331,7 @@ def session_waits_for_a_transaction(mltx):
 
 
 @test
-def tries_spent_in_a_session(mltx):
+def tries_spent_in_a_session(mltx: Program) -> None:
     """With one try an operation that is told to wait is answered `error 14 GaveUp`, and its transaction can commit."""
     trace = mltx.folder / "serve.trace"
     with mltx.serve("--tries", 1, "--trace", trace, limit=3) as server:
@@ -351,7 +346,7 @@ def tries_spent_in_a_session(mltx):
 
 
 @test
-def sessions_never_wait_in_a_circle(mltx):
+def sessions_never_wait_in_a_circle(mltx: Program) -> None:
     """Of two sessions that wait for each other one gives up, and the other goes on once that one has ended."""
     with mltx.serve(limit=2) as server, server.connect() as first, server.connect() as second:
         same([first.ask("begin"), second.ask("begin")], ["begun 1", "begun 2"])
@@ -368,15 +363,15 @@ def sessions_never_wait_in_a_circle(mltx):
         expect(server.end(), out="served 2\n")
 
 
-def answers_first(*peers):
+def answers_first(*peers: Peer) -> Peer:
     """The peer that has an answer first."""
-    readable, _, _ = select.select([peer.socket for peer in peers], [], [], PATIENCE)
-    holds(readable, "no session has an answer")
-    return next(peer for peer in peers if peer.socket in readable)
+    first = readable(peers, PATIENCE)
+    holds(first, "no session has an answer")
+    return first[0]
 
 
 @test
-def no_room_in_a_session(mltx):
+def no_room_in_a_session(mltx: Program) -> None:
     """Nine accounts with one low pseudokey have no room by `low`; the transaction goes on. By `mult` they have it."""
     opens = [f"open {number * 65536}" for number in range(9)]
     for options, ninth in ((("--hash", "low"), "error 2 NoRoom"), ((), "opened"), (("--hash", "mult"), "opened")):
@@ -388,7 +383,7 @@ def no_room_in_a_session(mltx):
 
 
 @test
-def so_many_sessions_at_once(mltx):
+def so_many_sessions_at_once(mltx: Program) -> None:
     """Eight sessions are held where no number is given; the ninth client is served once one of them has ended."""
     for options, most in (((), 8), (("--sessions", 1), 1), (("--sessions", 3), 3)):
         with mltx.serve(*options, limit=most + 1) as server:
@@ -405,7 +400,7 @@ def so_many_sessions_at_once(mltx):
 
 
 @test
-def sixty_four_sessions_at_once(mltx):
+def sixty_four_sessions_at_once(mltx: Program) -> None:
     with mltx.serve("--sessions", 64, limit=64) as server:
         peers = [server.connect() for _ in range(64)]
         same([peer.ask("begin") for peer in peers], [f"begun {number}" for number in range(1, 65)])
@@ -425,7 +420,7 @@ MORE = {
 
 
 @each(MORE)
-def last_answers_are_heard(mltx, case):
+def last_answers_are_heard(mltx: Program, case: tuple[str, bytes, str | None]) -> None:
     """A client that sends more than its session reads hears the last answers and then the end, each of twenty times."""
     sent, told, why = case
     with mltx.serve(limit=20) as server:
@@ -437,7 +432,7 @@ def last_answers_are_heard(mltx, case):
 
 
 @test(seconds=1)
-def end_is_heard_behind_too_many_bytes(mltx):
+def end_is_heard_behind_too_many_bytes(mltx: Program) -> None:
     """The byte behind 16,777,216 ends a session. A million more are read away, and the client hears the end."""
     blank = " " * 199 + "\n"
     with mltx.serve() as server, server.connect() as peer:
@@ -448,7 +443,7 @@ def end_is_heard_behind_too_many_bytes(mltx):
 
 
 @test(seconds=3)
-def client_that_hears_late_hears_all(mltx):
+def client_that_hears_late_hears_all(mltx: Program) -> None:
     """A client that sends many lines at once and reads nothing for half a second hears every answer: the server waits for it."""
     count = 600_000
     with mltx.serve() as server, server.connect() as peer:
@@ -460,7 +455,7 @@ def client_that_hears_late_hears_all(mltx):
         expect(server.end(), out="served 1\n")
 
 
-def send_for_ever(peer, text, pause):
+def send_for_ever(peer: Peer, text: str, pause: float) -> None:
     """Sends a text again and again, until the server breaks the connection off."""
     with may_break_off():
         while True:
@@ -475,7 +470,7 @@ FOR_EVER = {
 
 
 @each(FOR_EVER, seconds=1)
-def client_that_sends_for_ever_is_left(mltx, case):
+def client_that_sends_for_ever_is_left(mltx: Program, case: tuple[str, float]) -> None:
     """After a second at the latest, or 16,777,216 bytes more, the thread of a session serves the next client."""
     with mltx.serve("--sessions", 1, limit=2) as server, server.connect() as peer:
         same(peer.ask("quit"), "bye", "quit")
@@ -487,28 +482,23 @@ def client_that_sends_for_ever_is_left(mltx, case):
 
 
 @test(seconds=1)
-def silent_client_is_cut(mltx):
+def silent_client_is_cut(mltx: Program) -> None:
     """With `--idle 1` a client that says nothing for a second is cut, also one that never said a word. Its transaction is
     taken back, and who waits for it goes on."""
     trace = mltx.folder / "serve.trace"
     with mltx.serve("--idle", 1, "--trace", trace, limit=3) as server:
         with server.connect() as mute, server.connect() as silent, server.connect() as other:
             same([silent.ask("begin"), silent.ask("up 7 1")], ["begun 1", "done"])
-            begun = time.monotonic()
-            same([other.ask("begin"), other.ask("read 7")], ["begun 2", "is 0"], "once the silent client is cut")
-            waited = time.monotonic() - begun
-            holds(0.9 < waited < PATIENCE / 4, f"the silent client was cut after {waited} seconds")
+            with takes(0.9, PATIENCE / 4, "the silent client was cut"):
+                same([other.ask("begin"), other.ask("read 7")], ["begun 2", "is 0"], "once the silent client is cut")
             same([silent.rest(), mute.rest()], [b"", b""], "what the silent clients hear")
             same([other.ask("commit"), other.ask("quit")], ["committed 1", "bye"], "the other client")
         expect(in_any_order(server.end()), out="served 3\n", notes=[cut_for(1, IDLE), cut_for(2, IDLE)])
-    same(
-        trace.read_text(),
-        lines("begin 1|op 1 up 7 1 done|begin 2|back 1|abort 1|op 2 read 7 is 0|commit 2 1"),
-    )
+    same(trace.read_text(), lines("begin 1|op 1 up 7 1 done|begin 2|back 1|abort 1|op 2 read 7 is 0|commit 2 1"))
 
 
 @test(seconds=3)
-def client_that_takes_nothing_is_cut(mltx):
+def client_that_takes_nothing_is_cut(mltx: Program) -> None:
     """With `--idle 1` a client that sends many lines and never reads is cut as well, and its transaction taken back."""
     with mltx.serve("--idle", 1, limit=2) as server, server.connect() as deaf:
         same([deaf.ask("begin"), deaf.ask("up 7 1")], ["begun 1", "done"])
@@ -522,14 +512,14 @@ def client_that_takes_nothing_is_cut(mltx):
         expect(server.end(), out="served 2\n", notes=[cut_for(1, IDLE)])
 
 
-def send_and_hear_nothing(peer, text):
+def send_and_hear_nothing(peer: Peer, text: str) -> None:
     """Sends a text, as much of it as the server takes."""
     with may_break_off():
         peer.send(text)
 
 
 @test(seconds=3)
-def session_that_waits_is_not_idle(mltx):
+def session_that_waits_is_not_idle(mltx: Program) -> None:
     """With `--idle 1` an operation waits for two seconds and more, and its session goes on."""
     with mltx.serve("--idle", 1, limit=2) as server, server.connect() as first, server.connect() as second:
         same([first.ask("begin"), second.ask("begin"), first.ask("up 7 1")], ["begun 1", "begun 2", "done"])
@@ -545,7 +535,7 @@ def session_that_waits_is_not_idle(mltx):
 
 
 @test(seconds=4)
-def slow_client_is_not_cut(mltx):
+def slow_client_is_not_cut(mltx: Program) -> None:
     """With `--idle 1` a client that sends a byte every half second is heard."""
     with mltx.serve("--idle", 1) as server, server.connect() as slow:
         for byte in "begin\n":
@@ -556,7 +546,7 @@ def slow_client_is_not_cut(mltx):
 
 
 @each({"silence-without-an-idle-time": (), "silence-with-an-idle-time-of-0": ("--idle", 0)}, seconds=2)
-def silence_without_an_idle_time(mltx, options):
+def silence_without_an_idle_time(mltx: Program, options: tuple[object, ...]) -> None:
     """Where no idle time is set a client may say nothing for as long as it likes."""
     with mltx.serve(*options) as server, server.connect() as peer:
         same(peer.ask("begin"), "begun 1", "begin")
@@ -566,11 +556,11 @@ def silence_without_an_idle_time(mltx, options):
 
 
 @test
-def example_move_money(mltx):
+def example_move_money(mltx: Program) -> None:
     """The client that is an example moves what there is, and nothing more."""
     with mltx.serve(limit=2) as server:
         server.talk("")  # The server is there.
-        words = [sys.executable, "-B", ROOT / "examples" / "move_money.py", *map(str, server.address)]
+        words = command([sys.executable, "-B", ROOT / "examples" / "move_money.py", *server.address])
         ran = subprocess.run(words, capture_output=True, timeout=PATIENCE)
-        same(ran.stdout, b"moved 30: True\nmoved 500: False\nbalances: 70 30\n", f"{ran.stderr}")
+        same(ran.stdout, b"moved 30: True\nmoved 500: False\nbalances: 70 30\n", f"{ran.stderr!r}")
         expect(server.end(), out="served 2\n")

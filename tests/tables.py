@@ -5,23 +5,25 @@ import errno
 import re
 from itertools import product
 
-from harness import ROOT, each, expect, holds, same, test
-from model import apply, cell_of, clash
+from harness import ROOT, Program, each, expect, holds, match, same, test
+from model import Done, Op, apply, cell_of, clash
 
 TABLES = {"tables-of-accounts": "account", "tables-of-sets": "set", "tables-of-counters": "counter"}
+# The classes of an example, what is there before, and its two orders, each with what it leaves.
+Example = tuple[tuple[str, str], str, list[tuple[Done, Done, str]]]
 # The kind of each table, as LANGUAGE has it, and the classes of the sizes of sets, under their own names there.
 KINDS = {"account": "account", "set": "element", "counter": "counter"}
 
 
-def rows_of_language(head):
+def rows_of_language(head: str) -> list[list[str]]:
     """The cells of each row of the table in LANGUAGE that has this head."""
     text = (ROOT / "docs/LANGUAGE.md").read_text().partition(head + "\n")[2].partition("\n\n")[0]
     return [[cell.strip() for cell in row.strip("|").split("|")] for row in text.splitlines()[1:]]
 
 
-def classes_of(kind):
+def classes_of(kind: str) -> list[str]:
     """The classes of a kind in LANGUAGE, in their order, each with its operations and replies."""
-    found, at = {}, None
+    found, at = dict[str, str](), ""
     for name, classes, operations in rows_of_language("| Kind | Class | Operation / reply |"):
         at = name or at
         if at == kind:
@@ -29,23 +31,23 @@ def classes_of(kind):
     return list(found)
 
 
-def pairs_of_language():
+def pairs_of_language() -> set[tuple[str, ...]]:
     """The pairs of classes that LANGUAGE lists as conflicts."""
     rows = rows_of_language("| Held | Requested later |")
     return {pair for held, asked in rows for pair in product(held.split(", "), asked.split(", "))}
 
 
-def parts_of(mltx, name):
+def parts_of(mltx: Program, name: str) -> list[list[str]]:
     """The matrices and the lists of examples of a table, as it is printed."""
     ran = mltx.run("tables", name)
     expect(ran, out=ran.out)
     return [part.splitlines() for part in ran.out.decode().split("\n\n")]
 
 
-def cells_of(matrix):
+def cells_of(matrix: list[str]) -> tuple[str, dict[tuple[str, str], str]]:
     """The title of a matrix, and the mark of each of its pairs. A mark stands below the last letter of its column's word."""
     title, words = matrix[0].split()[0], [(word.group(), word.end()) for word in re.finditer(r"\S+", matrix[0])][1:]
-    marks = {}
+    marks: dict[tuple[str, str], str] = {}
     for row in matrix[1:]:
         same(len(row.split()), len(words) + 1, row)
         marks |= {(row.split()[0], word): row[end - 1] for word, end in words}
@@ -53,7 +55,7 @@ def cells_of(matrix):
 
 
 @each(TABLES)
-def table_is_that_of_language(mltx, name):
+def table_is_that_of_language(mltx: Program, name: str) -> None:
     """Each cell is marked where LANGUAGE lists its pair, and no other is; rows and columns are the classes in their order."""
     classes, pairs = classes_of(KINDS[name]), pairs_of_language()
     title, marks = cells_of(parts_of(mltx, name)[0])
@@ -63,7 +65,7 @@ def table_is_that_of_language(mltx, name):
 
 
 @test
-def sizes_are_those_of_language(mltx):
+def sizes_are_those_of_language(mltx: Program) -> None:
     """What LANGUAGE has under Counted, on the size of a set, is marked in the row of the size."""
     counted = next(row[2] for row in rows_of_language("| Kind | Class | Operation / reply |") if row[0] == "size of a set")
     replies = re.findall(r"/ (\w+)", counted)
@@ -144,12 +146,12 @@ size, then Removed, from element 1 1:
 
 
 @test
-def table_of_sets_is_written_so(mltx):
+def table_of_sets_is_written_so(mltx: Program) -> None:
     expect(mltx.run("tables", "set"), out=TABLE_OF_SETS)
 
 
 @test
-def table_of_accounts_is_written_so(mltx):
+def table_of_accounts_is_written_so(mltx: Program) -> None:
     """The matrix byte for byte, one blank line, and the examples, line by line in the form that `example_of` reads."""
     ran = mltx.run("tables", "account")
     matrix, examples = ran.out.decode().split("\n\n")
@@ -160,7 +162,7 @@ def table_of_accounts_is_written_so(mltx):
         example_of(rows[at : at + 3])
 
 
-def held_at(value):
+def held_at(value: str) -> int | None:
     """What a cell holds, of its text: None where it is absent."""
     words = value.split()
     if words[0] == "no":
@@ -168,14 +170,14 @@ def held_at(value):
     return 0 if words[0] == "element" else int(words[2])
 
 
-def done_of(text):
+def done_of(text: str) -> Done:
     """An operation and its reply, of their text."""
     words = text.split()
     at = len(words) - (2 if words[-2] == "is" else 1)
     return (words[0], *map(int, words[1:at])), " ".join(words[at:])
 
 
-def play(before, operations):
+def play(before: str, operations: list[Op]) -> tuple[list[str], str]:
     """What each operation is told on the cell of the text, one after another, and the text of what they leave. The set
     of the example has no other element."""
     cell, held = before.removeprefix("no ").split()[0], held_at(before)
@@ -190,22 +192,22 @@ def play(before, operations):
     return told, f"no {' '.join(shown.split()[: 3 if cell == 'element' else 2])}" if held is None and cell != "counter" else shown
 
 
-ORDER = re.compile(r"  (held|asked) ([a-z0-9 ]+), (held|asked) ([a-z0-9 ]+): ([a-z0-9 ]+)")
+ORDER = re.compile(r"^  (held|asked) ([a-z0-9 ]+), (held|asked) ([a-z0-9 ]+): ([a-z0-9 ]+)$")
 
 
-def example_of(lines):
+def example_of(lines: list[str]) -> Example:
     """The classes of an example, what is there before, and its two orders."""
-    held, asked, before = re.fullmatch(r"(\w+), then (\w+), from ([a-z0-9 ]+):", lines[0]).groups()
+    held, asked, before = match(r"^(\w+), then (\w+), from ([a-z0-9 ]+):$", lines[0]).groups()
     orders = []
     for line, roles in zip(lines[1:], (("held", "asked"), ("asked", "held")), strict=True):
-        first_role, first, second_role, second, after = ORDER.fullmatch(line).groups()
+        first_role, first, second_role, second, after = match(ORDER, line).groups()
         same((first_role, second_role), roles, line)
         orders.append((done_of(first), done_of(second), after))
     return (held, asked), before, orders
 
 
 @each({f"examples-in-{name}": table for name, table in TABLES.items()})
-def each_mark_has_its_example(mltx, name):
+def each_mark_has_its_example(mltx: Program, name: str) -> None:
     """There is one for each mark, row by row. Both orders are as the model plays them, and differ; its operations clash,
     with the replies of the first order, and are of the classes that the words say."""
     parts = parts_of(mltx, name)
@@ -226,7 +228,7 @@ def each_mark_has_its_example(mltx, name):
             same([word_of(held), word_of(asked)], list(pair))
 
 
-def word_of(done):
+def word_of(done: Done) -> str:
     """The word of the class of an operation with its reply, by the list of classes in LANGUAGE."""
     op, reply = done
     if op[0] == "size":
@@ -243,33 +245,30 @@ def word_of(done):
     raise AssertionError(f"{done} has no class")
 
 
-def is_of(op, reply, part):
+def is_of(op: Op, reply: str, part: str) -> bool:
     """Whether an operation with its reply is what LANGUAGE writes so, as `deposit n / done`, or `close` in a list of those
     that share a reply."""
     names, _, told = part.partition(" / ")
-    return names.split()[0] == op[0] and (not told or told.split()[0] == reply.split()[0]) and (
-        bool(told) or reply == "missing"
-    )
+    return names.split()[0] == op[0] and (not told or told.split()[0] == reply.split()[0]) and (bool(told) or reply == "missing")
 
 
 @test
-def tables_are_all_three(mltx):
+def tables_are_all_three(mltx: Program) -> None:
     """With no name all tables are printed in their order, with a blank line between; standard input is not read."""
     each_table = [mltx.run("tables", name).out for name in ("account", "set", "counter")]
     expect(mltx.run("tables", given="no text of any kind\n"), out=b"\n".join(each_table))
 
 
 @test
-def examples_of_the_help_of_tables_are_true(mltx):
+def examples_of_the_help_of_tables_are_true(mltx: Program) -> None:
     """It shows the table of counters, and its examples, behind an indent."""
     wanted = mltx.run("tables", "counter").out.decode()
-    shown = re.search(r"(?m)^  counter    Counted Read\n(?:(?:  .*)?\n)+", mltx.run("tables", "--help").out.decode())
-    assert shown, "no table of counters"
+    shown = match(r"(?m)^  counter    Counted Read\n(?:(?:  .*)?\n)+", mltx.run("tables", "--help").out.decode())
     same(re.sub("(?m)^  ", "", shown[0]).rstrip("\n") + "\n", wanted)
 
 
 @each({"each-write-of-a-table-fails": errno.EIO, "each-write-of-a-table-is-interrupted": errno.EINTR}, seconds=0.5)
-def writes_of_a_table_fail(mltx, fault):
+def writes_of_a_table_fail(mltx: Program, fault: int) -> None:
     """Whichever write fails, that is 13, and what went out before is a front of the text."""
     for number in range(1, len(TABLE_OF_SETS) // 20 + 2):
         ran = mltx.run("tables", "set", env=mltx.shim(FAIL=f"write-out {number} {fault} 20"))
@@ -277,7 +276,7 @@ def writes_of_a_table_fail(mltx, fault):
 
 
 @test
-def table_of_no_such_name(mltx):
+def table_of_no_such_name(mltx: Program) -> None:
     for words in (("element",), ("Account",), ("",), ("account", "set"), ("--trace", "a", "set")):
         ran = mltx.run("tables", *words)
         same((ran.status, ran.out), (2, b""), " ".join(words))

@@ -4,7 +4,7 @@ import socket
 from collections.abc import Mapping, Sequence
 from pathlib import Path
 
-from harness import MOST_BYTES, Program, each, expect, lines, of_system, same, test
+from harness import MOST_BYTES, Program, each, expect, fault_of, lines, of_system, same, test
 
 IO = "mltx: 13 Io\n"
 SCRIPTS = lines("begin|open 1|commit")
@@ -12,7 +12,7 @@ EVENTS = lines("begin|whole 1 open 1|commit 1")
 TRACE = lines("begin 1|op 1 open 1 opened|commit 1 1")
 TEXTS = {"solo": SCRIPTS, "run": SCRIPTS, "steps": EVENTS, "check": TRACE}
 # Where ADDR is none, what stands behind the words of the system.
-ADDRESS = "; expected: an IP address or the name of a host, a colon, and a port of 0 to 65535, as 127.0.0.1:7000"
+ADDRESS = "; expected: an IP address or host name, a colon, and a port from 0 to 65535, such as 127.0.0.1:7000"
 
 
 def is_said(mltx: Program, words: Sequence[object], fault: str, second: str, out: str = "", given: str = "") -> None:
@@ -37,7 +37,7 @@ def second_line_of_a_long_file(mltx: Program) -> None:
     long = mltx.file("long.txt", b"\n" * (MOST_BYTES + 1))
     for command in TEXTS:
         ran = mltx.run(command, "-v", long)
-        expect(ran, status=1, err=f"{IO}mltx: {long}: it has more than {MOST_BYTES} bytes\n", what=command)
+        expect(ran, status=1, err=f"{IO}mltx: {long}: more than {MOST_BYTES} bytes\n", what=command)
 
 
 @test
@@ -105,21 +105,20 @@ BEGINNINGS = {
 }
 WITHDRAW = "`withdraw A n`, A below 2^32, n below 2^64 or a variable"
 DEPOSIT = "`deposit A n`, A below 2^32, n below 2^64 or a variable"
-OF_SCRIPTS = "a line of scripts begins so, which `solo` and `run` read; "
-OF_A_SCHEDULE = "a line of a schedule begins so, which `steps` reads; "
-OF_A_TRACE = "a line of a trace begins so, which `check` reads; "
-WITH_A_NUMBER = "scripts that `run` reads, or a trace that `check` reads, begin so; "
-PRINTED = "expected: tabs and bytes of 0x20 to 0x7e alone"
-IN_COMMENTS = ", but in comments, which have lines of their own"
-OPEN_TX = "expected: a transaction that is open, and has "
+OF_SCRIPTS = "this is a line of a script for `solo` and `run`; "
+OF_A_SCHEDULE = "this is a line of a schedule for `steps`; "
+OF_A_TRACE = "this is a line of a trace for `check`; "
+WITH_A_NUMBER = "this begins a script for `run` or a trace for `check`; "
+PRINTED = "expected: only tabs and bytes from 0x20 to 0x7e"
+IN_COMMENTS = ", except in comment lines"
+ALL_ENDED = "expected: a `begin` before it, and an `end` for each `if`"
+OPEN_IF = "expected: an open `if` before it, and before an `else` one that has none yet"
+UNFINISHED = "the text ends inside a script; expected: a `commit` or an `abort`"
+OPEN_TX = "expected: an open transaction "
 # A subcommand, its text, the line and the cause of the fault, the line as it is shown, and what is said of it.
 FAULTY: Mapping[str, tuple[str, str | bytes, int, str, str, str]] = {
-    "schedule-given-to-solo": (
-        "solo", EVENTS, 2, "Words", "whole 1 open 1", f"{OF_A_SCHEDULE}expected: {BEGINNINGS['solo']}"
-    ),
-    "trace-given-to-solo": (
-        "solo", TRACE, 2, "Words", "op 1 open 1 opened", f"{OF_A_TRACE}expected: {BEGINNINGS['solo']}"
-    ),
+    "schedule-given-to-solo": ("solo", EVENTS, 2, "Words", "whole 1 open 1", f"{OF_A_SCHEDULE}expected: {BEGINNINGS['solo']}"),
+    "trace-given-to-solo": ("solo", TRACE, 2, "Words", "op 1 open 1 opened", f"{OF_A_TRACE}expected: {BEGINNINGS['solo']}"),
     "script-given-to-steps": ("steps", SCRIPTS, 2, "Words", "open 1", f"{OF_SCRIPTS}expected: {BEGINNINGS['steps']}"),
     "scripts-of-clients-given-to-steps": (
         "steps", "begin 1\nup 1 1\ncommit\n", 1, "Words", "begin 1",
@@ -127,48 +126,49 @@ FAULTY: Mapping[str, tuple[str, str | bytes, int, str, str, str]] = {
     ),
     "script-given-to-check": (
         "check", SCRIPTS, 1, "Words", "begin",
-        "scripts that `solo` and `run` read, or a schedule that `steps` reads, begin so; expected: `begin T`, T from 1 on",
+        "this begins a script for `solo` and `run`, or a schedule for `steps`; expected: `begin T`, T at least 1",
     ),
     "scripts-of-clients-given-to-check": (
         "check", "begin 1\nup 1 1\ncommit\n", 2, "Words", "up 1 1", f"{OF_SCRIPTS}expected: {BEGINNINGS['check']}"
     ),
     "byte-order-mark": (
         "solo", b"\xef\xbb\xbf" + SCRIPTS.encode(), 1, "Line", "\\xef\\xbb\\xbfbegin",
-        "a byte order mark stands in front; expected: a text without one",
+        "the text begins with a byte order mark; expected: a text without one",
     ),
     "number-too-large": (
         "solo", "begin\nopen 1\ndeposit 1 12345678901234567890123\ncommit\n", 3, "Words", "deposit 1 12345678901234567890123",
-        f"a number has at most 20 digits, and is below 2^64; expected: {DEPOSIT}",
+        f"numbers have at most 20 digits, and are below 2^64; expected: {DEPOSIT}",
     ),
     "number-of-2-to-64": (
         "steps", "begin\nwhole 1 deposit 1 18446744073709551616\n", 2, "Words", "whole 1 deposit 1 18446744073709551616",
-        "a number has at most 20 digits, and is below 2^64; expected: `whole T OP`, as `whole 1 deposit 1 5`",
+        "numbers have at most 20 digits, and are below 2^64; expected: `whole T OP`, such as `whole 3 deposit 101 30`",
     ),
     "negative-number": (
-        "solo", "begin\nwithdraw 1 -5\ncommit\n", 2, "Words", "withdraw 1 -5", f"a number has no sign; expected: {WITHDRAW}"
+        "solo", "begin\nwithdraw 1 -5\ncommit\n", 2, "Words", "withdraw 1 -5", f"numbers have no sign; expected: {WITHDRAW}"
     ),
     "number-with-a-plus": (
-        "check", "begin +1\n", 1, "Words", "begin +1", "a number has no sign; expected: `begin T`, T from 1 on"
+        "check", "begin +1\n", 1, "Words", "begin +1", "numbers have no sign; expected: `begin T`, T at least 1"
     ),
     "comment-behind-a-statement": (
         "solo", "begin\nopen 1 # c\ncommit\n", 2, "Words", "open 1 # c",
-        "a comment has a line of its own; expected: `open A`, A below 2^32",
+        "comments have lines of their own, and traces have none; expected: `open A`, A below 2^32",
     ),
     "unknown-keyword": ("solo", "begin\nopn 1\ncommit\n", 2, "Words", "opn 1", f"expected: {BEGINNINGS['solo']}"),
     "keyword-in-capitals": ("steps", "Begin\n", 1, "Words", "Begin", f"expected: {BEGINNINGS['steps']}"),
     "unknown-keyword-of-a-trace": ("check", "start 1\n", 1, "Words", "start 1", f"expected: {BEGINNINGS['check']}"),
     "missing-argument": ("solo", "begin\r\ndeposit 1\r\ncommit\r\n", 2, "Words", "deposit 1", f"expected: {DEPOSIT}"),
-    "missing-operation": ("steps", "begin\ncall 1\n", 2, "Words", "call 1", "expected: `call T OP`, as `call 1 deposit 1 5`"),
+    "missing-operation": (
+        "steps", "begin\ncall 1\n", 2, "Words", "call 1", "expected: `call T OP`, such as `call 3 deposit 101 30`"
+    ),
     "missing-reply": (
-        "check", "begin 1\nop 1 balance 1\n", 2, "Words", "op 1 balance 1", "expected: `op T OP REPLY`, as `op 1 balance 1 is 7`"
+        "check", "begin 1\nop 1 balance 1\n", 2, "Words", "op 1 balance 1",
+        "expected: `op T OP REPLY`, such as `op 3 balance 101 is 70`",
     ),
     "client-out-of-range": (
-        "run", "begin 1000\n", 1, "Words", "begin 1000", "expected: `begin`, or `begin K` with K of 0 to 999"
+        "run", "begin 1000\n", 1, "Words", "begin 1000", "expected: `begin`, or `begin K` with K from 0 to 999"
     ),
     "line-of-201-bytes": ("solo", "begin\n" + "x" * 201 + "\n", 2, "Line", "x" * 60 + "..", "expected: at most 200 bytes"),
-    "line-of-200-bytes": (
-        "solo", "begin\n" + "x" * 200 + "\n", 2, "Words", "x" * 60 + "..", f"expected: {BEGINNINGS['solo']}"
-    ),
+    "line-of-200-bytes": ("solo", "begin\n" + "x" * 200 + "\n", 2, "Words", "x" * 60 + "..", f"expected: {BEGINNINGS['solo']}"),
     "line-of-60-bytes": ("solo", "begin\n" + "x" * 60, 2, "Words", "x" * 60, f"expected: {BEGINNINGS['solo']}"),
     "bytes-that-are-not-printed": (
         "solo", b"begin\nopen\t1\x1b[2J\xe9\r\n", 2, "Line", "open\\t1\\x1b[2J\\xe9\\x0d", PRINTED + IN_COMMENTS
@@ -177,63 +177,45 @@ FAULTY: Mapping[str, tuple[str, str | bytes, int, str, str, str]] = {
     "byte-of-a-schedule": ("steps", b"begin\n\x7f\n", 2, "Line", "\\x7f", PRINTED + IN_COMMENTS),
     "byte-order-mark-of-a-trace": (
         "check", b"\xef\xbb\xbf" + TRACE.encode(), 1, "Line", "\\xef\\xbb\\xbfbegin 1",
-        "a byte order mark stands in front; expected: a text without one",
+        "the text begins with a byte order mark; expected: a text without one",
     ),
     "byte-of-a-trace": ("check", b"begin 1\n# \xc3\xa4\n", 2, "Line", "# \\xc3\\xa4", PRINTED),
     "statement-outside-a-script": ("solo", "open 1\n", 1, "Place", "open 1", "expected: a `begin` before it"),
-    "begin-inside-a-script": (
-        "solo", "begin\nbegin\n", 2, "Place", "begin", "expected: a `commit` or an `abort` before it"
-    ),
-    "commit-inside-an-if": (
-        "solo", "begin\nif has 1 1 is yes\ncommit\n", 3, "Place", "commit",
-        "expected: a `begin` before it, and an `end` for each `if`",
-    ),
-    "abort-inside-an-if": (
-        "run", "begin\nif has 1 1 is yes\nabort\n", 3, "Place", "abort",
-        "expected: a `begin` before it, and an `end` for each `if`",
-    ),
-    "else-without-an-if": (
-        "solo", "begin\nelse\n", 2, "Place", "else",
-        "expected: an `if` before it that is open, and that has no `else` where this is one",
-    ),
-    "end-without-an-if": (
-        "solo", "begin\nend\n", 2, "Place", "end",
-        "expected: an `if` before it that is open, and that has no `else` where this is one",
-    ),
+    "begin-inside-a-script": ("solo", "begin\nbegin\n", 2, "Place", "begin", "expected: a `commit` or an `abort` before it"),
+    "commit-inside-an-if": ("solo", "begin\nif has 1 1 is yes\ncommit\n", 3, "Place", "commit", ALL_ENDED),
+    "abort-inside-an-if": ("run", "begin\nif has 1 1 is yes\nabort\n", 3, "Place", "abort", ALL_ENDED),
+    "else-without-an-if": ("solo", "begin\nelse\n", 2, "Place", "else", OPEN_IF),
+    "end-without-an-if": ("solo", "begin\nend\n", 2, "Place", "end", OPEN_IF),
     "ifs-in-one-another": (
         "solo", "begin\n" + "if has 1 1 is yes\n" * 17, 18, "Deep", "if has 1 1 is yes",
-        "expected: at most 16 `if` in one another",
+        "expected: at most 16 nested `if`",
     ),
     "path-of-257-operations": (
         "solo", "begin\n" + "up 1 1\n" * 257 + "commit\n", 258, "Long", "up 1 1",
-        "expected: at most 256 operations on each path from `begin` up to here",
+        "expected: at most 256 operations on each path from `begin` to here",
     ),
-    "script-that-does-not-end": (
-        "run", "begin\nopen 1\n", 2, "Unfinished", "open 1", "the text ends inside a script; expected: a `commit` or an `abort`"
-    ),
-    "script-that-ends-in-a-blank-line": (
-        "run", "begin\n\n", 2, "Unfinished", "", "the text ends inside a script; expected: a `commit` or an `abort`"
-    ),
+    "script-that-does-not-end": ("run", "begin\nopen 1\n", 2, "Unfinished", "open 1", UNFINISHED),
+    "script-that-ends-in-a-blank-line": ("run", "begin\n\n", 2, "Unfinished", "", UNFINISHED),
     "trace-that-is-cut": (
         "check", "begin 1\ncommit 1 1", 2, "Cut", "commit 1 1", "the text ends inside this line; expected: a line feed at its end"
     ),
     "begin-of-a-lower-number": (
-        "check", "begin 2\nbegin 1\n", 2, "Place", "begin 1", "expected: a number above those of all transactions before it"
+        "check", "begin 2\nbegin 1\n", 2, "Place", "begin 1", "expected: a transaction number above all earlier ones"
     ),
     "operation-of-no-transaction": (
-        "check", "op 1 open 1 opened\n", 1, "Place", "op 1 open 1 opened", f"{OPEN_TX}no `back` before it"
+        "check", "op 1 open 1 opened\n", 1, "Place", "op 1 open 1 opened", f"{OPEN_TX}without a `back`"
     ),
-    "nothing-to-take-back": ("check", "begin 1\nback 1\n", 2, "Place", "back 1", f"{OPEN_TX}an operation left"),
+    "nothing-to-take-back": ("check", "begin 1\nback 1\n", 2, "Place", "back 1", f"{OPEN_TX}that has an operation left"),
     "commit-under-a-wrong-number": (
         "check", "begin 1\ncommit 1 2\n", 2, "Place", "commit 1 2",
-        f"{OPEN_TX}no `back` before it, and as N one more than the commits before it",
+        f"{OPEN_TX}without a `back`, and as N the number of earlier commits plus 1",
     ),
     "abort-with-an-operation-left": (
-        "check", "begin 1\nop 1 open 1 opened\nabort 1\n", 3, "Place", "abort 1", f"{OPEN_TX}no operation left"
+        "check", "begin 1\nop 1 open 1 opened\nabort 1\n", 3, "Place", "abort 1", f"{OPEN_TX}that has no operation left"
     ),
     "reply-that-is-not-right": (
         "check", "begin 1\nop 1 open 1 exists\ncommit 1 1\n", 2, "Reply", "op 1 open 1 exists",
-        "expected: what the operation is told where the transactions run one after another, as they commit",
+        "expected: the reply that the operation gets if the transactions run one after another, in commit order",
     ),
 }
 
@@ -243,7 +225,7 @@ AMOUNT = "n below 2^64 or a variable"
 # Of each kind of text a line for each word that begins one, which has too few words or too many, and the form that is told.
 FORMS: Mapping[str, Sequence[tuple[str, str]]] = {
     "solo": (
-        ("begin 1 2", "`begin`, or `begin K` with K of 0 to 999"),
+        ("begin 1 2", "`begin`, or `begin K` with K from 0 to 999"),
         ("commit 1", "`commit`"),
         ("abort 1", "`abort`"),
         ("open", f"`open A`, {ACCOUNT}"),
@@ -258,28 +240,28 @@ FORMS: Mapping[str, Sequence[tuple[str, str]]] = {
         ("up 1", f"`up C n`, {COUNTER}, {AMOUNT}"),
         ("down 1", f"`down C n`, {COUNTER}, {AMOUNT}"),
         ("read a", f"`read C`, {COUNTER}"),
-        ("need withdraw 1 5", "`need OP is REPLY`, as `need withdraw 1 5 is done`"),
+        ("need withdraw 1 5", "`need OP is REPLY`, such as `need withdraw 101 30 is done`"),
         ("let v = has 1 1", "`let v = balance A`, `let v = read C` or `let v = size S`"),
-        ("if withdraw 1 5", "`if OP is REPLY`, as `if withdraw 1 5 is done`"),
+        ("if withdraw 1 5", "`if OP is REPLY`, such as `if withdraw 101 30 is done`"),
         ("else 1", "`else`"),
         ("end if", "`end`"),
     ),
     "steps": (
         ("begin x", "`begin`"),
-        ("call 1", "`call T OP`, as `call 1 deposit 1 5`"),
-        ("step 1 0", "`step T`, or `step T N` with N of 1 to 1000"),
+        ("call 1", "`call T OP`, such as `call 3 deposit 101 30`"),
+        ("step 1 0", "`step T`, or `step T N` with N from 1 to 1000"),
         ("cancel", "`cancel T`"),
         ("commit", "`commit T`"),
         ("abort 1 1", "`abort T`"),
-        ("whole 1", "`whole T OP`, as `whole 1 deposit 1 5`"),
+        ("whole 1", "`whole T OP`, such as `whole 3 deposit 101 30`"),
         ("undo", "`undo T`"),
     ),
     "check": (
-        ("begin x", "`begin T`, T from 1 on"),
-        ("op 1 balance 1", "`op T OP REPLY`, as `op 1 balance 1 is 7`"),
-        ("back 0", "`back T`, T from 1 on"),
-        ("commit 1", "`commit T N`, T and N from 1 on"),
-        ("abort", "`abort T`, T from 1 on"),
+        ("begin x", "`begin T`, T at least 1"),
+        ("op 1 balance 1", "`op T OP REPLY`, such as `op 3 balance 101 is 70`"),
+        ("back 0", "`back T`, T at least 1"),
+        ("commit 1", "`commit T N`, T and N at least 1"),
+        ("abort", "`abort T`, T at least 1"),
     ),
 }
 
@@ -288,9 +270,9 @@ FORMS: Mapping[str, Sequence[tuple[str, str]]] = {
 def form_of_a_line(mltx: Program, case: tuple[str, str, str]) -> None:
     command, line, form = case
     noticed = WITH_A_NUMBER if (command, line) == ("steps", "begin x") else ""
-    fault = f"mltx: {'11 TraceFault' if command == 'check' else '10 ScriptFault'} line 1 Words\n"
     file = mltx.file("text", f"{line}\n")
-    expect(mltx.run(command, "-v", file), status=1, err=f"{fault}mltx: {file}, line 1: `{line}`: {noticed}expected: {form}\n")
+    second = f"mltx: {file}, line 1: `{line}`: {noticed}expected: {form}\n"
+    expect(mltx.run(command, "-v", file), status=1, err=fault_of(command, 1, "Words") + second)
 
 
 @test
@@ -305,8 +287,7 @@ def each_word_that_begins_a_line_has_its_form(mltx: Program) -> None:
 def faulty_text(mltx: Program, case: tuple[str, str | bytes, int, str, str, str]) -> None:
     """Of a file, and of standard input."""
     command, text, line, cause, shown, said = case
-    fault = f"mltx: {'11 TraceFault' if command == 'check' else '10 ScriptFault'} line {line} {cause}\n"
-    file = mltx.file("text", text)
+    fault, file = fault_of(command, line, cause), mltx.file("text", text)
     is_said(mltx, (command, file), fault, f"mltx: {file}, line {line}: `{shown}`: {said}\n")
     ran = mltx.run(command, "-", "-v", redirect=f"<{file}")
     expect(ran, status=1, err=f"{fault}mltx: standard input, line {line}: `{shown}`: {said}\n", what=f"{command} -")

@@ -1,7 +1,7 @@
 """`run` by many workers: how many clients run side by side, and scripts that spend their tries."""
 import random
 
-from harness import each, holds, lines, same, test
+from harness import Program, each, holds, lines, same, test
 
 # How often a run is tried until something is seen that a schedule need not show.
 ATTEMPTS = 20
@@ -10,9 +10,9 @@ CLIENTS, SCRIPTS = 12, 12_000
 ENOUGH = 6
 
 
-def outcomes(out):
+def outcomes(out: bytes) -> list[tuple[str, list[str]]]:
     """For each script its client, and the lines that it was told."""
-    told = []
+    told: list[tuple[str, list[str]]] = []
     for line in out.decode().splitlines():
         if line.startswith("client "):
             told.append((line.split()[1], []))
@@ -21,9 +21,9 @@ def outcomes(out):
     return told
 
 
-def most_side_by_side(out):
+def most_side_by_side(out: bytes) -> int:
     """The greatest number of clients that had a commit and had another one to come, at any commit."""
-    commits = {}
+    commits: dict[str, list[int]] = {}
     for client, told in outcomes(out):
         commits.setdefault(client, []).append(int(told[-1].removeprefix("committed ")))
     begins = [(numbers[0], 1) for numbers in commits.values()]
@@ -39,11 +39,11 @@ WORKERS = {f"clients-side-by-side-by-{workers or 'the-usual'}-workers": workers 
 
 
 @each(WORKERS, seconds=2)
-def clients_side_by_side(mltx, workers):
+def clients_side_by_side(mltx: Program, workers: int | None) -> None:
     """So many clients run side by side as there are workers, which are 4 where no number is given, six of eight at least, and
     never more."""
     text = "".join(lines(f"begin {client}|up 7 1|commit") * SCRIPTS for client in range(CLIENTS))
-    file, seen, most = mltx.file("scripts.txt", text), [], workers or 4
+    file, seen, most = mltx.file("scripts.txt", text), list[int](), workers or 4
     while len(seen) < ATTEMPTS and max(seen, default=0) < min(most, ENOUGH):
         ran = mltx.run("run", *(["--workers", workers] if workers else []), file)
         same((ran.status, ran.err), (0, b""), f"{workers} workers")
@@ -52,7 +52,7 @@ def clients_side_by_side(mltx, workers):
     holds(min(most, ENOUGH) <= max(seen) <= most, f"so many clients were side by side in {len(seen)} runs: {seen}")
 
 
-def gave_up(mltx, *options):
+def gave_up(mltx: Program, *options: object) -> int:
     """How many scripts of a reader and a writer gave up; the base is what the others leave. The naps of a worker that waits take
     no time here, so that it often begins beside the other one."""
     ups = lines("begin 1|up 7 1" + "|up 8 1" * 20 + "|commit") * 2_000
@@ -72,10 +72,10 @@ def gave_up(mltx, *options):
 
 
 @test(seconds=1)
-def scripts_give_up_with_their_tries_spent(mltx):
+def scripts_give_up_with_their_tries_spent(mltx: Program) -> None:
     """With one try some do, once they are told to wait; with the usual tries, and with the most, none does. No circle
     of waits comes about here, since the reader holds nothing while it waits."""
-    counts = []
+    counts: list[int] = []
     while len(counts) < ATTEMPTS and not any(counts):
         counts.append(gave_up(mltx, "--tries", 1))
     holds(any(counts), f"no script gave up in {ATTEMPTS} runs with one try")
@@ -84,7 +84,7 @@ def scripts_give_up_with_their_tries_spent(mltx):
 
 
 @test
-def whoever_ends_lets_the_next_one_begin(mltx):
+def whoever_ends_lets_the_next_one_begin(mltx: Program) -> None:
     """900 scripts end at once: aborted with nothing done, aborted with an operation, or committed. Were one kind of end
     not seen, each later begin would wait for a tenth part of a second in vain, and all for more than a minute."""
     given = lines("begin|abort|begin|up 7 1|abort|begin|up 7 1|commit") * 300
@@ -94,7 +94,7 @@ def whoever_ends_lets_the_next_one_begin(mltx):
 
 
 @test(seconds=1)
-def transfers_over_four_accounts_seldom_give_up(mltx):
+def transfers_over_four_accounts_seldom_give_up(mltx: Program) -> None:
     """Eight clients by eight workers, each with transfers that look at both accounts first: at most one gives up for one that
     commits, and no money is lost."""
     source, clients, scripts = random.Random(1), range(1, 9), 500
