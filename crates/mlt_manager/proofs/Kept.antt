@@ -1,5 +1,5 @@
 -- What each event answers keeps what is always true of a manager
-use Rattle.std.proofs.Common.{◌≡◌, ◌≤◌, ℕ, ◌^◌, Bool, true, false, Result, Ok, Err, IfOk, sym, ap, subst, ◌∙◌, arith, nat_cmp}
+use Rattle.std.proofs.Common.{◌≡◌, ◌<◌, ◌≤◌, ℕ, ◌^◌, Bool, true, false, Result, Ok, Err, IfOk, sym, ap, subst, ◌∙◌, arith, nat_cmp}
 use Rattle.std.specs.FinMap as map
 use Rattle.std.specs.FinSet as set
 use Rattle.mlt_manager.proofs.Names.{Limits, Refusal, empty_base, ObjOp, commit_count, GivesPseudokeys, Answer, IsSound, Transaction, IsTraced, AnswersAbort, AnswersBegin, AnswersCall, AnswersCancel, AnswersCommit, AnswersStep, LeavesBase, IsManager, ManagerFields, state_of, IsNew, AnswersWholeUndo, GoesOnBack, StopsBack, AnswersWhole}
@@ -93,7 +93,7 @@ module _ {P : Type 0} (bits_of : P → ℕ → ℕ) (m : ManagerFields P) (limit
       open_in_set = ap set.len new.active ∙ set.len-empty nat_cmp ∙ sym none_open;
       set_holds = subst (λ (n : ℕ). n ≤ 64) (sym new.made.open_at_most) limits.in_range.open_most;
       few_ids = omega (arith, new.begun);
-      ids_fit = subst (λ (n : ℕ). n ≤ 2 ^ 32) (sym new.made.ids) limits.in_range.ids_most;
+      ids_fit = subst (λ (n : ℕ). n < 2 ^ 63) (sym new.made.ids) limits.in_range.ids_most;
       ops_fit = subst (λ (n : ℕ). n ≤ 1024) (sym new.made.ops) limits.in_range.ops_most;
       ended = omega (arith, none_open, new.commits);
       counted = new.commits ∙ sym (ap commit_count new.items);

@@ -1,5 +1,5 @@
 -- What a contract sees of a manager, and what is always true of it
-use Rattle.std.specs.Prelude.{ℕ, ◌≡◌, ◌≤◌, ◌+◌, ◌^◌, refl}
+use Rattle.std.specs.Prelude.{ℕ, ◌≡◌, ◌<◌, ◌≤◌, ◌+◌, ◌^◌, refl}
 use Rattle.std.specs.Coded.{Coded, code_by, coded×, coded_ℕ}
 use Rattle.std.specs.Ordering.{nat_cmp}
 use Rattle.std.specs.FinMap as map
@@ -59,7 +59,7 @@ pub record IsWithinLimits {P : Type 0} (m : ManagerFields P) : Type 0 where
   pub open_in_set : set.len m.active ≡ map.len m.txs
   pub set_holds : m.max_open ≤ 64
   pub few_ids : m.begun ≤ m.max_ids
-  pub ids_fit : m.max_ids ≤ 2 ^ 32
+  pub ids_fit : m.max_ids < 2 ^ 63
   pub ops_fit : m.max_ops ≤ 1024
   pub ended : m.commits + map.len m.txs ≤ m.begun
   pub counted : m.commits ≡ commit_count m.shared.history.items

@@ -1,6 +1,6 @@
 //! How much a manager may hold.
 
-ghost use Rattle.std.specs.Prelude.{◌≡◌, ◌≢◌, ◌↔◌, IsOk, IfOk, IsOkUnless, ◌≤◌, ◌^◌};
+ghost use Rattle.std.specs.Prelude.{◌≡◌, ◌≢◌, ◌↔◌, IsOk, IfOk, IsOkUnless, ◌≤◌, ◌-◌, ◌^◌};
 ghost use Rattle.mlt_types.specs.Limits.{AreInRange};
 
 use crate::refusal::Refusal;
@@ -10,7 +10,7 @@ use crate::refusal::Refusal;
 pub struct Limits {
     /// How many transactions may be open at once, 1 to 64.
     pub max_open: u32,
-    /// How many numbers of transactions are given out in all, 1 to 2^32.
+    /// How many numbers of transactions are given out in all, 1 to 2^63 - 1.
     pub max_ids: u64,
     /// How many pages there may be, with the header and directory pages, 3 to 70,000.
     pub max_pages: u32,
@@ -22,7 +22,7 @@ pub struct Limits {
 }
 
 impl Limits {
-    /// The limits, where each is in its range.
+    /// The limits, where each is in its range and there are at most 2^32 numbers of transactions.
     ///
     /// # Errors
     /// `BadLimits` exactly where one is out of its range.
@@ -33,7 +33,8 @@ impl Limits {
         max_depth: u32,
         max_ops: u32,
     ) -> Result<Limits, Refusal>
-        ensures in_range { IsOk result ↔ AreInRange max_open max_ids max_pages max_depth max_ops }
+        ensures in_range { IsOk result
+            ↔ AreInRange max_open max_ids max_pages max_depth max_ops × (max_ids ≤ 2 ^ 32) }
         ensures fields { IfOk result
             (λ limits. (limits.max_open ≡ max_open) × (limits.max_ids ≡ max_ids)
             × (limits.max_pages ≡ max_pages) × (limits.max_depth ≡ max_depth)
@@ -69,6 +70,24 @@ impl Limits {
         Limits {
             max_open: 64,
             max_ids: 1 << 32,
+            max_pages: 70_000,
+            max_depth: 16,
+            max_ops: 1_024,
+        }
+    }
+
+    /// The limits of a server without an end: those of [`Limits::program`], but for the numbers of transactions, which no
+    /// server uses up. At a million a second they last for 292,000 years.
+    pub fn endless() -> Limits
+        ensures open { result.max_open ≡ 64 }
+        ensures ids { result.max_ids ≡ 2 ^ 63 - 1 }
+        ensures pages { result.max_pages ≡ 70000 }
+        ensures depth { result.max_depth ≡ 16 }
+        ensures ops { result.max_ops ≡ 1024 }
+    {
+        Limits {
+            max_open: 64,
+            max_ids: (1 << 63) - 1,
             max_pages: 70_000,
             max_depth: 16,
             max_ops: 1_024,
