@@ -1,5 +1,5 @@
 -- Lines of a trace, with spaces before their ends, that keep to the blocks of a file
-use Rattle.std.specs.Prelude.{ℕ, ◌≡◌, ◌≤◌, ◌⊎◌, ◌+◌, ◌-◌, ◌%◌, List, [], ◌∷◌, ◌++◌, length, replicate}
+use Rattle.std.specs.Prelude.{ℕ, ◌≡◌, ◌<◌, ◌≤◌, ◌⊎◌, ◌+◌, ◌-◌, ◌%◌, List, [], ◌∷◌, ◌++◌, length, replicate}
 use Rattle.std.specs.Io.KnownBytes.{Appends}
 use Rattle.std.specs.declared.option.Option.{Option}
 use Rattle.mlt_trace.specs.declared.item.TraceItem.{TraceItem}
@@ -9,11 +9,11 @@ use Rattle.mlt_trace.specs.Items.{item_text}
 abbrev pub spaced_line : TraceItem → ℕ → List ℕ
 spaced_line item spaces = item_text item ++ (replicate spaces 32 ++ 10 ∷ [])
 
--- a line for each item, in order, each with some spaces before its end, or with none
+-- a line for each item, in order, each with fewer than 96 spaces before its end
 abbrev pub AreLinesOf : List TraceItem → List ℕ → Type 0
 AreLinesOf [] text = text ≡ []
 AreLinesOf (item ∷ items) text =
-    (spaces : ℕ) × (rest : List ℕ) × (text ≡ spaced_line item spaces ++ rest)
+    (spaces : ℕ) × (spaces < 96) × (rest : List ℕ) × (text ≡ spaced_line item spaces ++ rest)
     × AreLinesOf items rest
 
 -- how many bytes are left in the block in which a file of so many bytes goes on

@@ -72,7 +72,7 @@ fn add_lines(
 
 // Adds the line of the item: with spaces up to the end of so many bytes, if there is no room for another one behind it.
 fn add_line(piece: &mut ArrayString<BLOCK>, item: &KeptItem, room: usize) -> Result<(), Refusal>
-    ensures line { OnOk result ((spaces : ℕ)
+    ensures line { OnOk result ((spaces : ℕ) × (spaces < 96)
         × (piece.new.bytes ≡ piece.old.bytes ++ spaced_line item.now spaces)) }
     ensures keeps { OnOk result (KeepsToBlock room (length piece.new.bytes)) }
     ensures refusal { IsOkUnless result Refusal.Io }

@@ -14,7 +14,7 @@ loop-count-preserved c =
     let text = c.add_line.new.piece.bytes in
     let next : take (i + 1) items ≡ take i items ++ item ∷ [] =
     take_more items i item c.loop-count-test.true ∙ ap (λ (it : TraceItem). take i items ++ it ∷ []) (sym c.index-items-count.is) in
-    let lines = lines_longer (take i items) c.loop-count.piece.bytes item line.0 text c.loop-count.invariant.0 line.1 in
+    let lines = lines_longer (take i items) c.loop-count.piece.bytes item line.0 line.1 text c.loop-count.invariant.0 line.2 in
     (subst (λ front. AreLinesOf front text) (sym next) lines, c.in_ok-add_line.ensures.keeps)
 
 pub returns-then-len-room-clause-keeps : goal.returns-then-len-room-clause-keeps
