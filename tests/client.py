@@ -30,7 +30,8 @@ sys.path.insert(0, str(FOLDER))
 import mltx as client_module  # noqa: E402
 from mltx import FORMS, Client, CommitUnknown, ConnectionLost, GaveUp, LogFull, NoRoom, NoSuchClient, NoSuchTx  # noqa: E402
 from mltx import OpenTransaction, Operation, Operator, Refused, Reply, Retries, Running, ScriptFault, ServedSession  # noqa: E402
-from mltx import ServerAway, SessionsTaken, TimedOut, Transaction, TransactionOver, UnexpectedAnswer, Wait  # noqa: E402
+from mltx import ServerAway, ServerRestarted, SessionsTaken, TimedOut, Transaction, TransactionOver  # noqa: E402
+from mltx import UnexpectedAnswer, Wait  # noqa: E402
 
 # How long to listen for a line that must not come, in seconds.
 SILENCE = 0.2
@@ -563,6 +564,20 @@ def server_that_ends_in_a_transaction(mltx: Program) -> None:
         killer.start()
         raised(ConnectionLost, tx.read, 7)
         killer.join()
+
+
+@test
+def server_that_was_restarted(mltx: Program) -> None:
+    """A new server at the address of a killed one begins with number 1 again: the client raises once, and then goes on."""
+    with mltx.serve() as server, connected(server) as client:
+        for number in (1, 2):
+            with client.begin() as tx:
+                same(tx.number, number, "the number of a transaction")
+                tx.up(301, 1)
+        server.kill()
+        with mltx.serve(limit=3, address=server.address) as again, connected(again):
+            raised(ServerRestarted, client.run, lambda tx: tx.up(301, 1))
+            same(client.run(lambda tx: (tx.number, tx.read(301))), (2, 0), "the transaction behind it, and what it reads")
 
 
 @test

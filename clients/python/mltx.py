@@ -36,7 +36,7 @@ __all__ = [
     *("Operation", "Form", "FORMS", "Argument", "Reply"),
     *("Operator", "Wait", "ServedSession", "OpenTransaction", "NoSuchClient"),
     *("MltxError", "ConnectionLost", "ServerAway", "TimedOut", "SessionsTaken", "CommitUnknown", "TransactionOver"),
-    "UnexpectedAnswer",
+    *("ServerRestarted", "UnexpectedAnswer"),
     *("Refused", "OutOfMemory", "NoRoom", "NoSuchTx", "Running", "TooManyOpen", "LogFull", "IdsSpent", "ScriptFault"),
     "GaveUp",
 ]
@@ -161,6 +161,12 @@ class CommitUnknown(MltxError):
 
 class TransactionOver(MltxError):
     """The transaction was committed or aborted before, so nothing was sent."""
+
+
+class ServerRestarted(MltxError):
+    """The server is another one than before, and has nothing of what was committed there: it gave out a number of a
+    transaction that is not above all that this client has seen, which no server does. Nothing was done; the client has closed
+    the connection, and goes on with the new server where it is used again."""
 
 
 class UnexpectedAnswer(MltxError):
@@ -710,6 +716,8 @@ class Client:
         self._session: Optional[Session] = None
         # The transaction that was begun last.
         self._last: Optional[Transaction] = None
+        # The greatest number of a transaction that this client has seen: within a server numbers only rise.
+        self._greatest = 0
 
     def __enter__(self) -> Client:
         return self
@@ -733,8 +741,8 @@ class Client:
     def begin(self) -> Transaction:
         """Begins a transaction, on a new connection where the last one has ended or is nearly used up.
 
-        Raises `Running` where one is open on this connection, `Refused` where the server refuses it otherwise, and
-        `ConnectionLost`.
+        Raises `Running` where one is open on this connection, `Refused` where the server refuses it otherwise,
+        `ConnectionLost`, and `ServerRestarted` where the server is another one than before.
 
             with client.begin() as tx:
                 tx.up(7, 1)
@@ -745,7 +753,12 @@ class Client:
             session = self.session()
         answer = session.ask("begin")[0]
         with session.understood():
-            self._last = Transaction(session, _number_behind("begun", answer))
+            number = _number_behind("begun", answer)
+        greatest, self._greatest = self._greatest, number
+        if number <= greatest:
+            self.close()
+            raise ServerRestarted(f"the server is another one than before: it began transaction {number} after {greatest}")
+        self._last = Transaction(session, number)
         return self._last
 
     def run(self, function: Callable[[Transaction], Result], *, retries: Optional[Retries] = None) -> Result:
@@ -757,8 +770,8 @@ class Client:
         times, and should do nothing else that lasts. It may call `abort`, which is no failure; its answer is then
         answered.
 
-        Raises `CommitUnknown` where the answer to the commit was lost, and does not run it again. Any other exception
-        aborts the transaction and is raised.
+        Raises `CommitUnknown` where the answer to the commit was lost, and `ServerRestarted` where the server is another one
+        than before, and does not run it again. Any other exception aborts the transaction and is raised.
 
             total = client.run(lambda tx: tx.balance(1) + tx.balance(2))
         """
