@@ -82,7 +82,8 @@ ONE: list[Section] = [
             ]),
     Section("The main promise",
             """`c` is the course that the events tell, and `m` the manager after the last one. Between any two events the manager
-            keeps [the same promise](#the-promise-over-a-history). A manager that refused every event would keep it.""", [
+            keeps [the same promise](#the-promise-over-a-history). A manager that refused every begin, for want of memory,
+            would keep it.""", [
                 Block("mlt_manager/specs/Courses.antt", "KeepsPromiseOver"),
             ]),
     Section("Events and answers",
@@ -93,11 +94,15 @@ ONE: list[Section] = [
                 Block("mlt_event/src/answer.rt", "Answer"),
             ]),
     Section("The course that events tell",
-            """By [[Tells]] a transaction does nothing before its begin or after its end, and has at most one pending operation.
-            Once its abort has begun, it does no operation and never commits. `Undoing` has no line with `Blocked` or an answer
-            `Refused`, so a step of an abort meets no missing slot. Any event may be refused here; for which reasons is in
-            `plays`.""", [
-                Block("mlt_manager/specs/Courses.antt", "TellsAll Tells# Turns Course# opening_course Life# Ops"),
+            """A transaction that is `NotOpen` has not begun, or has ended. `Pending op` says that `op` was called and is not
+            done, and `Undoing` that an abort has begun. By [[Tells]] numbers of transactions, and of commits, are 1, 2, 3 and so
+            on. A transaction does nothing before its begin or after its end, and has at most one pending operation. Once its
+            abort has begun, it does no operation and never commits. `Undoing` has no line with `Blocked` or an answer `Refused`,
+            so a step of an abort meets no missing slot. By [[MayRefuse]] an event is refused only where its transaction is not
+            at what the event is for: a commit of an idle one never is. A begin, or a call or a whole operation of an idle one,
+            may also be refused by a limit or for want of memory. That the limit is reached, and for which reason any other event
+            is refused, is in `plays`.""", [
+                Block("mlt_manager/specs/Courses.antt", "TellsAll Tells# MayRefuse Turns Course# opening_course IsBusy Life Ops"),
                 Block("mlt_order/specs/Tables.antt", "table_with"),
             ]),
     Section("Commit order",
@@ -133,8 +138,10 @@ ONE: list[Section] = [
             ]),
     Section("First images and clean pages",
             """A *subtransaction* is one operation, or the undoing of one. Until it ends, it keeps the first image of each page
-            that it writes: the page as it was, or `None` where there was none. That no open transaction keeps other images is not
-            shown: fields `locks` and `history` of [[KeepsPromises]].""", [
+            that it writes: the page as it was, or `None` where there was none. By field `busy` of
+            [[KeepsPromiseOver]] a transaction keeps one only while an operation is pending or after its abort has begun. That it
+            keeps none but of pages that its subtransaction has locked exclusively is not shown: field `locks` of
+            [[KeepsPromises]].""", [
                 Block("mlt_manager/specs/Bases.antt", "HasCleanPages"),
                 Block("mlt_tx/specs/Tables.antt", "KeepsImage KeepsNoImage"),
             ]),

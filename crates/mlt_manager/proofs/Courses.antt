@@ -1,8 +1,8 @@
 -- What events tell of the course of transactions is what the manager's tables and history say
-use Rattle.std.proofs.Common.{◌≡◌, ◌≢◌, ℕ, ◌+◌, List, [], ◌∷◌, ◌++◌, length, true, false, Option, None, Some, is_some, Ok, Err, refl, sym, ap, subst, ◌∙◌, append_assoc, append-nil, length-append, arith, nat_cmp}
+use Rattle.std.proofs.Common.{◌≡◌, ◌≢◌, ℕ, ◌+◌, List, [], ◌∷◌, ◌++◌, length, true, false, Option, None, Some, Contains, is_some, unwrap_or, Ok, Err, refl, sym, ap, subst, ◌∙◌, append_assoc, append-nil, length-append, arith, nat_cmp}
 use Rattle.std.specs.FinMap as map
 use Rattle.std.specs.FinSet as set
-use Rattle.mlt_manager.proofs.Names.{not_true, false≢true, Limits, Refusal, ObjOp, ObjReply, Step, empty_base, TraceItem, entries_of, Request, Do, OperationFields, WalkContext, context_by, local, Answer, Event, Told, SharedState, At, Transaction, TellsAt, Table, IsPending, IsUndoing, GivesPseudokeys, inserted_here, inserted_elsewhere, removed_here, FitsAt, State, state_of, HasCalled, HasEnded, HasStepped, IsOpenAt, txs_after, counted, ChangesOpen, LeavesBase, StepsBy, StepsUpTo, DropsIfItStands, HasRun, LetsGoOn, Stops, GoesOnBack, StopsBack, IsManager, ManagerFields, IsRun, Meets, Transcripts, UndoneTo, lists_by}
+use Rattle.mlt_manager.proofs.Names.{not_true, false≢true, Limits, Refusal, ObjOp, ObjReply, Step, empty_base, TraceItem, entries_of, Request, Do, OperationFields, WalkContext, context_by, local, Answer, Event, Told, SharedState, At, Transaction, TellsAt, Table, IsPending, IsUndoing, KeepsImage, image_of, Page, GivesPseudokeys, inserted_here, inserted_elsewhere, removed_here, FitsAt, State, images_kept, state_of, HasCalled, HasEnded, HasStepped, IsOpenAt, txs_after, counted, ChangesOpen, LeavesBase, StepsBy, StepsUpTo, DropsIfItStands, HasRun, LetsGoOn, Stops, GoesOnBack, StopsBack, IsManager, ManagerFields, IsRun, Meets, Transcripts, UndoneTo, lists_by}
 use Rattle.mlt_object_base.specs.declared.request.Request.TheVariants.{TakeBack}
 use Rattle.mlt_order.specs.Histories.{Lists, after_entries, after_entry, lists_of, no_lists}
 use Rattle.mlt_order.specs.Runs.{IsSerialBase}
@@ -11,12 +11,15 @@ use Rattle.mlt_order.proofs.Tables.{at_each, with_entry-other, with_entry-same}
 use Rattle.mlt_trace.proofs.ItemLaws.{transcripts_counted}
 use Rattle.mlt_trace.specs.Entries.{entry_of}
 use Rattle.mlt_trace_check.proofs.Histories.{nothing_of_others}
+use Rattle.mlt_tx.specs.OpenAt.{IsNotIdle}
 use Rattle.mlt_tx.specs.Tables.{CallsNone, CancelsOne}
+use Rattle.mlt_types.specs.declared.refusal.Refusal.TheVariants.{IdsSpent, LogFull, OutOfMemory, TooManyOpen}
 use Rattle.mlt_manager_invariant.proofs.Tables.{removed_elsewhere}
-use Rattle.mlt_manager.specs.Answers.{HasBegun, HasBegunAbort, HasClosed, HasCommitted}
-use Rattle.mlt_manager.specs.Courses.{Course, KeepsPromiseOver, Life, Ops, Tells, TellsAll, Turns, opening_course}
+use Rattle.mlt_manager.specs.Answers.{HasBegun, HasBegunAbort, HasClosed, HasCommitted, IsCauseAtBegin, IsCauseAtCallOf, IsCauseAtCancel, IsCauseAtStep, IsIdle}
+use Rattle.mlt_manager.specs.Courses.{Course, IsBusy, KeepsPromiseOver, Life, Ops, Tells, TellsAll, Turns, opening_course}
 use Rattle.mlt_manager.specs.Events.{Plays}
 use Rattle.mlt_manager.specs.Headline.{KeepsMainPromise}
+use Rattle.mlt_manager.specs.Undoings.{IsCauseAtUndo, IsNotUndoing}
 use Rattle.mlt_manager.proofs.Chains.{steps_keep}
 use Rattle.mlt_manager.proofs.Called.{one_there, pending_of, was_idle, was_with}
 use Rattle.mlt_manager.proofs.Headline.{same_transcripts}
@@ -163,7 +166,7 @@ module _ {P : Type 0} (m m' : ManagerFields P) (tx : ℕ) where
 -- ## Steps
 
 -- busy is who has something pending, or an abort
-busy_by : (a : At) (life : Life) → life ≡ life_at a → (a ≡ At.Idle → ⊥) → (life ≢ Life.NotOpen) × (life ≢ Life.Idle)
+busy_by : (a : At) (life : Life) → life ≡ life_at a → (a ≡ At.Idle → ⊥) → IsBusy life
 busy_by At.Idle life was not = absurd (not refl)
 busy_by (At.Pending o) life was not = (
   (λ is. let both : Life.Pending (asked_op o.request) ≡ Life.NotOpen = sym was ∙ is in absurd cc),
@@ -187,10 +190,10 @@ module _ (c d : Course) (tx : ℕ) (context : WalkContext) (before after : Trans
   step_row (At.Pending o) Answer.Going s turns =
       let on = same_request context (local before.subtx old.pages) (local after.subtx s.between.pages) o s.next s.tells.tells in
       let busy = busy_by (At.Pending o) (c.life tx) turns.0 (λ is. absurd cc) in
-      (busy.0, busy.1, stays_at (At.Pending o) (ap life_at s.now_at ∙ ap (λ (r : Request). Life.Pending (asked_op r)) on) (λ i. (s.tells.rest.undo_kept i).entries) turns)
+      (busy, stays_at (At.Pending o) (ap life_at s.now_at ∙ ap (λ (r : Request). Life.Pending (asked_op r)) on) (λ i. (s.tells.rest.undo_kept i).entries) turns)
   step_row (At.Pending o) (Answer.Waiting page by) s turns =
       let busy = busy_by (At.Pending o) (c.life tx) turns.0 (λ is. absurd cc) in
-      (busy.0, busy.1, stays_at (At.Pending o) (ap life_at s.now_at ∙ ap (λ (n : OperationFields). Life.Pending (asked_op n.request)) s.tells.tells.stays) (λ i. (s.tells.rest.undo_kept i).entries) turns)
+      (busy, stays_at (At.Pending o) (ap life_at s.now_at ∙ ap (λ (n : OperationFields). Life.Pending (asked_op n.request)) s.tells.tells.stays) (λ i. (s.tells.rest.undo_kept i).entries) turns)
   step_row (At.Pending o) (Answer.Blocked by) s turns =
       (asked_op o.request, turns.0, stays_at (At.Pending o) (ap life_at s.now_at ∙ ap (λ (n : OperationFields). Life.Pending (asked_op n.request)) s.tells.1) (λ i. (s.tells.0.tells.kept i).entries) turns)
   step_row (At.Pending o) (Answer.Done reply) s turns =
@@ -209,10 +212,10 @@ module _ (c d : Course) (tx : ℕ) (context : WalkContext) (before after : Trans
   step_row (At.Pending o) Answer.Aborted s turns = absurd s.tells
   step_row (At.Undoing inverting) Answer.Going s turns =
       let busy = busy_by (At.Undoing inverting) (c.life tx) turns.0 (λ is. absurd cc) in
-      (busy.0, busy.1, stays_at (At.Undoing inverting) (ap life_at s.now_at) (λ i. (s.tells.rest.undo_kept i).entries) turns)
+      (busy, stays_at (At.Undoing inverting) (ap life_at s.now_at) (λ i. (s.tells.rest.undo_kept i).entries) turns)
   step_row (At.Undoing inverting) (Answer.Waiting page by) s turns =
       let busy = busy_by (At.Undoing inverting) (c.life tx) turns.0 (λ is. absurd cc) in
-      (busy.0, busy.1, stays_at (At.Undoing inverting) (ap life_at s.now_at) (λ i. (s.tells.rest.undo_kept i).entries) turns)
+      (busy, stays_at (At.Undoing inverting) (ap life_at s.now_at) (λ i. (s.tells.rest.undo_kept i).entries) turns)
   step_row (At.Undoing inverting) Answer.Undone s turns =
       let takes = s.tells.takes in
       (after.undo.entries, takes.off.last, stood ∙ takes.off.entries, takes.left, turns_as c tx Life.Undoing Life.Undoing (life_at after.at) Life.Undoing after.undo.entries after.undo.entries d refl (ap life_at s.now_at) refl turns)
@@ -260,7 +263,7 @@ module _ {P : Type 0} (bits_of : P → ℕ → ℕ) (tx : ℕ) where
   on_course : (m last : ManagerFields P) (steps : List (ManagerFields P × Answer)) → IsManager bits_of m → StepsBy bits_of LetsGoOn m steps last tx → course_of last ≡ course_of m
   on_course m last [] h same = ap course_of same
   on_course m last ((next, Answer.Going) ∷ more) h (first, on, rest) =
-      on_course next last more (step_keeps bits_of m h tx next Answer.Going first).0 rest ∙ (step_told m next Answer.Going h first).2
+      on_course next last more (step_keeps bits_of m h tx next Answer.Going first).0 rest ∙ (step_told m next Answer.Going h first).1
   on_course m last ((next, other) ∷ more) h (first, none, rest) = absurd none
 
   -- what is called and then dropped is as it was
@@ -279,7 +282,7 @@ module _ {P : Type 0} (bits_of : P → ℕ → ℕ) (tx : ℕ) where
       subst (λ (n : ManagerFields P). Turns c tx Life.Idle Life.Idle (c.ops tx ++ (op, reply) ∷ []) (course_of n)) (sym same)
       (turns_as c tx Life.Idle Life.Idle Life.Idle Life.Idle (k.ops tx ++ (other, reply) ∷ []) (c.ops tx ++ (op, reply) ∷ []) (course_of stopped) refl refl (λ i. both.1 i ++ (same_op op other both.0 i, reply) ∷ []) both.2)
   whole_row (Answer.Waiting page by) c k stopped m' op calls row stops drops =
-      dropped c (course_of stopped) (course_of m') op (subst (Turns c tx Life.Idle (Life.Pending op) (c.ops tx)) (sym row.2) calls) (cancel_course stopped m' drops.pending drops.cancels drops.rest)
+      dropped c (course_of stopped) (course_of m') op (subst (Turns c tx Life.Idle (Life.Pending op) (c.ops tx)) (sym row.1) calls) (cancel_course stopped m' drops.pending drops.cancels drops.rest)
   whole_row (Answer.Blocked by) c k stopped m' op calls row stops drops =
       dropped c (course_of stopped) (course_of m') op (subst (Turns c tx Life.Idle (Life.Pending op) (c.ops tx)) (sym row.2) calls) (cancel_course stopped m' drops.pending drops.cancels drops.rest)
   whole_row (Answer.Refused reason) c k stopped m' op calls row stops same =
@@ -306,7 +309,7 @@ module _ {P : Type 0} (bits_of : P → ℕ → ℕ) (tx : ℕ) where
   back_course : (m last : ManagerFields P) (steps : List (ManagerFields P × Answer)) → IsManager bits_of m → StepsBy bits_of GoesOnBack m steps last tx → (course_of m).life tx ≡ Life.Undoing → Unwinds (course_of m) (course_of last)
   back_course m last [] h same was = ((course_of m).ops tx, [], sym (append-nil ((course_of m).ops tx)), none_turns (course_of m) tx Life.Undoing (course_of last) was (ap course_of same))
   back_course m last ((next, Answer.Going) ∷ more) h (first, on, rest) was =
-      let same = (step_told m next Answer.Going h first).2 in
+      let same = (step_told m next Answer.Going h first).1 in
       subst (λ (c : Course). Unwinds c (course_of last)) same (back_course next last more (step_keeps bits_of m h tx next Answer.Going first).0 rest ((λ i. (same i).life tx) ∙ was))
   back_course m last ((next, Answer.Undone) ∷ more) h (first, on, rest) was =
       let row = step_told m next Answer.Undone h first in
@@ -348,7 +351,7 @@ module _ {P : Type 0} (bits_of : P → ℕ → ℕ) (tx : ℕ) where
         (λ none. undoing_left s.before (steps_keep bits_of GoesOnBack tx m s.before s.steps h s.goes) (map.get s.before.txs tx) refl
             ((λ i. (turns.1 i).life tx) ∙ with_entry-same (course_of m).life tx tx Life.Undoing refl)
             ((λ i. (turns.1 i).ops tx) ∙ with_entry-same (course_of m).ops tx tx left refl ∙ none)),
-        subst (Turns (course_of m) tx Life.Undoing Life.Undoing left) (sym row.2) turns,
+        subst (Turns (course_of m) tx Life.Undoing Life.Undoing left) (sym row.1) turns,
       )
       by_told other u row none = absurd none
 
@@ -420,37 +423,98 @@ module _ {P : Type 0} (bits_of : P → ℕ → ℕ) (m m' : ManagerFields P) (h 
       (turns_as (course_of m) tx (life_at ch.before.at) (life_at ch.before.at) (life_at ch.after.at) (life_at ch.before.at) ch.after.undo.entries ch.before.undo.entries (course_of m') refl (ap life_at c.tells.idle) c.tells.makes.entries
       (turned m m' tx (Some ch.before) (Some ch.after) ch.was (inserted m.txs m'.txs tx ch.after ch.is) (ap (λ (n : ManagerFields P). n.begun) rest) (same_items m m' tx c.tells.makes.items)))
 
+-- ## Refusals
+
+idle_at : (a : At) → IsIdle a → life_at a ≡ Life.Idle
+idle_at At.Idle is = refl
+idle_at (At.Pending o) none = absurd none
+idle_at (At.Undoing inverting) none = absurd none
+
+not_undoing_at : (a : At) → IsNotUndoing a → life_at a ≡ Life.Undoing → ⊥
+not_undoing_at At.Idle is undoing = absurd cc
+not_undoing_at (At.Pending o) is undoing = absurd cc
+not_undoing_at (At.Undoing inverting) none undoing = absurd none
+
+begin_refused : {P : Type 0} (m : ManagerFields P) (reason : Refusal) → IsCauseAtBegin reason m → Contains (TooManyOpen ∷ IdsSpent ∷ OutOfMemory ∷ []) reason
+begin_refused m Refusal.TooManyOpen cause = (0, omega arith, refl)
+begin_refused m Refusal.IdsSpent cause = (1, omega arith, refl)
+begin_refused m Refusal.OutOfMemory cause = (2, omega arith, refl)
+begin_refused m other none = absurd none
+
+-- what the transaction of a number is not at, by why an event of it is refused
+module _ (txs : Table) (tx : ℕ) where
+  abbrev here : Life
+  here = life_in (map.get txs tx)
+
+  idle_here : IsOpenAt txs tx IsIdle → here ≡ Life.Idle
+  idle_here there = ap life_in there.there ∙ idle_at there.one.at there.is_at
+
+  undoing_here : IsOpenAt txs tx IsUndoing → here ≡ Life.Undoing
+  undoing_here there = ap life_in there.there ∙ ap life_at (undoing_of_at there.one.at there.is_at).1
+
+  pending_here : IsOpenAt txs tx IsPending → (op : ObjOp) × (here ≡ Life.Pending op)
+  pending_here there = let o = pending_of there.one.at there.is_at in (asked_op o.0.request, ap life_in there.there ∙ ap life_at o.1)
+
+  not_busy : (reason : Refusal) → IsCauseAtStep reason txs tx → IsBusy here → ⊥
+  not_busy Refusal.NoSuchTx none busy = busy.0 (ap life_in none)
+  not_busy Refusal.NotRunning there busy = busy.1 (idle_here there)
+  not_busy other none busy = absurd none
+
+  not_pending : (reason : Refusal) → IsCauseAtCancel reason txs tx → (op : ObjOp) → here ≡ Life.Pending op → ⊥
+  not_pending Refusal.NoSuchTx none op is = let both : Life.NotOpen ≡ Life.Pending op = sym (ap life_in none) ∙ is in absurd cc
+  not_pending Refusal.Undoing there op is = let both : Life.Undoing ≡ Life.Pending op = sym (undoing_here there) ∙ is in absurd cc
+  not_pending Refusal.NotRunning there op is = let both : Life.Idle ≡ Life.Pending op = sym (idle_here there) ∙ is in absurd cc
+  not_pending other none op is = absurd none
+
+  not_idle : (reason : Refusal) → IsNotIdle reason txs tx → here ≡ Life.Idle → ⊥
+  not_idle Refusal.NoSuchTx none is = let both : Life.NotOpen ≡ Life.Idle = sym (ap life_in none) ∙ is in absurd cc
+  not_idle Refusal.Undoing there is = let both : Life.Undoing ≡ Life.Idle = sym (undoing_here there) ∙ is in absurd cc
+  not_idle Refusal.Running there is = let p = pending_here there in (let both : Life.Pending p.0 ≡ Life.Idle = sym p.1 ∙ is in absurd cc)
+  not_idle other none is = absurd none
+
+  not_undoing : (reason : Refusal) → IsCauseAtUndo reason txs tx → here ≡ Life.Undoing → ⊥
+  not_undoing Refusal.NoSuchTx none is = let both : Life.NotOpen ≡ Life.Undoing = sym (ap life_in none) ∙ is in absurd cc
+  not_undoing Refusal.NotRunning there is = not_undoing_at there.one.at there.is_at (sym (ap life_in there.there) ∙ is)
+  not_undoing other none is = absurd none
+
+  call_refused : (max_ops : ℕ) (reason : Refusal) → IsCauseAtCallOf reason txs tx max_ops → here ≡ Life.Idle → Contains (LogFull ∷ OutOfMemory ∷ []) reason
+  call_refused max_ops Refusal.LogFull cause is = (0, omega arith, refl)
+  call_refused max_ops other cause is = absurd (not_idle other cause is)
+
+no_memory : Contains (LogFull ∷ OutOfMemory ∷ []) OutOfMemory
+no_memory = (1, omega arith, refl)
+
 -- ## Runs
 
 module _ {P : Type 0} (bits_of : P → ℕ → ℕ) where
   -- **What an event makes of the course.**
   event_course : (m m' : ManagerFields P) → IsManager bits_of m → (e : Event) (t : Told) → Meets bits_of e t m m' → Tells (course_of m) e t (course_of m') × IsManager bits_of m'
   event_course m m' h Event.Begin (Told.Begun tx) a = (begin_course bits_of m m' h tx a, begin_kept bits_of m m' h (Ok tx) a)
-  event_course m m' h Event.Begin (Told.Refused reason) a = (ap course_of a.1, begin_kept bits_of m m' h (Err reason) a)
+  event_course m m' h Event.Begin (Told.Refused reason) a = ((begin_refused m reason a.0, ap course_of a.1), begin_kept bits_of m m' h (Err reason) a)
   event_course m m' h Event.Begin other none = absurd none
   event_course m m' h (Event.Call tx op) Told.Called a = (call_course bits_of tx m m' op a, call_kept bits_of m m' h tx op (Ok tt) a)
-  event_course m m' h (Event.Call tx op) (Told.Refused Refusal.OutOfMemory) a = (not_called_course bits_of m m' h tx a.1 a.2, call_kept bits_of m m' h tx op (Err Refusal.OutOfMemory) a)
-  event_course m m' h (Event.Call tx op) (Told.Refused reason) a = (ap course_of a.1, call_kept bits_of m m' h tx op (Err reason) a)
+  event_course m m' h (Event.Call tx op) (Told.Refused Refusal.OutOfMemory) a = ((λ is. no_memory, not_called_course bits_of m m' h tx a.1 a.2), call_kept bits_of m m' h tx op (Err Refusal.OutOfMemory) a)
+  event_course m m' h (Event.Call tx op) (Told.Refused reason) a = ((call_refused m.txs tx m.max_ops reason a.0, ap course_of a.1), call_kept bits_of m m' h tx op (Err reason) a)
   event_course m m' h (Event.Call tx op) other none = absurd none
   event_course m m' h (Event.Step tx) (Told.Answered told) (a, leaves, named) = (step_course bits_of tx m m' told a leaves, step_kept bits_of m m' h tx (Ok told) a)
-  event_course m m' h (Event.Step tx) (Told.Refused reason) a = (ap course_of a.1, step_kept bits_of m m' h tx (Err reason) a)
+  event_course m m' h (Event.Step tx) (Told.Refused reason) a = ((not_busy m.txs tx reason a.0, ap course_of a.1), step_kept bits_of m m' h tx (Err reason) a)
   event_course m m' h (Event.Step tx) other none = absurd none
   event_course m m' h (Event.Cancel tx) Told.Cancelled (a, keeps) = (cancel_course bits_of tx m m' a.0 a.1 a.2, cancel_kept bits_of m m' h tx (Ok tt) a)
-  event_course m m' h (Event.Cancel tx) (Told.Refused reason) a = (ap course_of a.1, cancel_kept bits_of m m' h tx (Err reason) a)
+  event_course m m' h (Event.Cancel tx) (Told.Refused reason) a = ((not_pending m.txs tx reason a.0, ap course_of a.1), cancel_kept bits_of m m' h tx (Err reason) a)
   event_course m m' h (Event.Cancel tx) other none = absurd none
   event_course m m' h (Event.Commit tx) (Told.Committed number) a = (commit_course bits_of m m' h tx number a, commit_kept bits_of m m' h tx (Ok number) a)
-  event_course m m' h (Event.Commit tx) (Told.Refused reason) a = (ap course_of a.1, commit_kept bits_of m m' h tx (Err reason) a)
+  event_course m m' h (Event.Commit tx) (Told.Refused reason) a = ((not_idle m.txs tx reason a.0, ap course_of a.1), commit_kept bits_of m m' h tx (Err reason) a)
   event_course m m' h (Event.Commit tx) other none = absurd none
   event_course m m' h (Event.Abort tx) (Told.Aborting true) a = (close_course bits_of m m' h tx a, abort_kept bits_of m m' h tx (Ok true) a)
   event_course m m' h (Event.Abort tx) (Told.Aborting false) a = (abort_course bits_of m m' h tx a, abort_kept bits_of m m' h tx (Ok false) a)
-  event_course m m' h (Event.Abort tx) (Told.Refused reason) a = (ap course_of a.1, abort_kept bits_of m m' h tx (Err reason) a)
+  event_course m m' h (Event.Abort tx) (Told.Refused reason) a = ((not_idle m.txs tx reason a.0, ap course_of a.1), abort_kept bits_of m m' h tx (Err reason) a)
   event_course m m' h (Event.Abort tx) other none = absurd none
   event_course m m' h (Event.Whole tx op) (Told.Answered told) (a, leaves, named) = (whole_course bits_of tx m m' op told h a, whole_kept bits_of m m' h tx op (Ok told) a)
-  event_course m m' h (Event.Whole tx op) (Told.Refused Refusal.OutOfMemory) a = (not_called_course bits_of m m' h tx a.1 a.2, whole_kept bits_of m m' h tx op (Err Refusal.OutOfMemory) a)
-  event_course m m' h (Event.Whole tx op) (Told.Refused reason) a = (ap course_of a.1, whole_kept bits_of m m' h tx op (Err reason) a)
+  event_course m m' h (Event.Whole tx op) (Told.Refused Refusal.OutOfMemory) a = ((λ is. no_memory, not_called_course bits_of m m' h tx a.1 a.2), whole_kept bits_of m m' h tx op (Err Refusal.OutOfMemory) a)
+  event_course m m' h (Event.Whole tx op) (Told.Refused reason) a = ((call_refused m.txs tx m.max_ops reason a.0, ap course_of a.1), whole_kept bits_of m m' h tx op (Err reason) a)
   event_course m m' h (Event.Whole tx op) other none = absurd none
   event_course m m' h (Event.WholeUndo tx) (Told.Answered told) (a, leaves, named) = (undo_course bits_of tx m m' told h a.0 a.1, whole_undo_kept bits_of m m' h tx (Ok told) a)
-  event_course m m' h (Event.WholeUndo tx) (Told.Refused reason) a = (ap course_of a.1, whole_undo_kept bits_of m m' h tx (Err reason) a)
+  event_course m m' h (Event.WholeUndo tx) (Told.Refused reason) a = ((not_undoing m.txs tx reason a.0, ap course_of a.1), whole_undo_kept bits_of m m' h tx (Err reason) a)
   event_course m m' h (Event.WholeUndo tx) other none = absurd none
 
   -- **What a run makes of the course.**
@@ -470,6 +534,20 @@ module _ {P : Type 0} (bits_of : P → ℕ → ℕ) where
       (λ runs. false≢true (sym (ap is_some is) ∙ sym (h.sound.opened tx) ∙ (h.sound.match.records.running tx).1 runs))
   stands_in m h tx (Some one) is = sym (h.sound.fits tx one is).stands
 
+  -- who is at nothing keeps no first image
+  busy_at : (s : State) (tx : ℕ) (t : Transaction) (page : ℕ) (first : Option Page) (a : At) → FitsAt a s tx t → map.get s.images tx ≡ Some t.subtx.images → image_of t.subtx.images page ≡ Some first → IsBusy (life_at a)
+  busy_at s tx t page first At.Idle fits own keeps =
+      let same : Some map.empty ≡ Some t.subtx.images = sym fits.no_images ∙ own in
+      let none : None ≡ Some first = sym (map.get-empty {X = Option Page} nat_cmp page) ∙ ap (λ o. image_of (unwrap_or o map.empty) page) same ∙ keeps in
+      absurd cc
+  busy_at s tx t page first (At.Pending o) fits own keeps = busy_by (At.Pending o) (life_at (At.Pending o)) refl (λ is. absurd cc)
+  busy_at s tx t page first (At.Undoing inverting) fits own keeps = busy_by (At.Undoing inverting) Life.Undoing refl (λ is. absurd cc)
+
+  keeps_busy : (m : ManagerFields P) → IsManager bits_of m → (page : ℕ) (first : Option Page) (image : KeepsImage m.txs page first) → IsBusy (life_in (map.get m.txs image.tx))
+  keeps_busy m h page first image =
+      subst (λ o. IsBusy (life_in o)) (sym image.there)
+      (busy_at (state_of bits_of m h.images h.base) image.tx image.one page first image.one.at (h.sound.fits image.tx image.one image.there).where_at (h.sound.kept image.tx ∙ ap images_kept image.there) image.keeps)
+
   -- **Every manager keeps the promise over its course.**
   promise_over : (m : ManagerFields P) → IsManager bits_of m → KeepsMainPromise m → KeepsPromiseOver (course_of m) m
   promise_over m h main =
@@ -479,6 +557,7 @@ module _ {P : Type 0} (bits_of : P → ℕ → ℕ) where
         alone = subst (λ (t : Transcripts). IsSerialBase Step empty_base t.committed main.base) told main.alone;
         clean = main.clean;
         put_back = main.put_back;
+        busy = keeps_busy m h;
         state = main.state;
         means = main.means;
         taken_back = subst (λ f. UndoneTo Step main.base f main.state) (alike _ _ (λ tx. ap (λ (t : Transcripts). t.of_open tx) told ∙ stands_in m h tx (map.get m.txs tx) refl)) main.taken_back;
