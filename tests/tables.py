@@ -96,52 +96,52 @@ Absent         x       .       .      .   .  .
 Yes            .       .       x      .   .  .
 No             x       .       .      .   .  .
 
-Added, then Present, from no element 1 1:
-  held add 1 1 added, asked add 1 1 present: element 1 1
-  asked add 1 1 added, held add 1 1 present: element 1 1
-Added, then Removed, from no element 1 1:
-  held add 1 1 added, asked remove 1 1 removed: no element 1 1
-  asked remove 1 1 absent, held add 1 1 added: element 1 1
-Added, then Yes, from no element 1 1:
-  held add 1 1 added, asked has 1 1 yes: element 1 1
-  asked has 1 1 no, held add 1 1 added: element 1 1
-Present, then Removed, from element 1 1:
-  held add 1 1 present, asked remove 1 1 removed: no element 1 1
-  asked remove 1 1 removed, held add 1 1 added: element 1 1
-Removed, then Added, from element 1 1:
-  held remove 1 1 removed, asked add 1 1 added: element 1 1
-  asked add 1 1 present, held remove 1 1 removed: no element 1 1
-Removed, then Absent, from element 1 1:
-  held remove 1 1 removed, asked remove 1 1 absent: no element 1 1
-  asked remove 1 1 removed, held remove 1 1 absent: no element 1 1
-Removed, then No, from element 1 1:
-  held remove 1 1 removed, asked has 1 1 no: no element 1 1
-  asked has 1 1 yes, held remove 1 1 removed: no element 1 1
-Absent, then Added, from no element 1 1:
-  held remove 1 1 absent, asked add 1 1 added: element 1 1
-  asked add 1 1 added, held remove 1 1 removed: no element 1 1
-Yes, then Removed, from element 1 1:
-  held has 1 1 yes, asked remove 1 1 removed: no element 1 1
-  asked remove 1 1 removed, held has 1 1 no: no element 1 1
-No, then Added, from no element 1 1:
-  held has 1 1 no, asked add 1 1 added: element 1 1
-  asked add 1 1 added, held has 1 1 yes: element 1 1
+Added, then Present, from no element 201 21:
+  held add 201 21 added, asked add 201 21 present: element 201 21
+  asked add 201 21 added, held add 201 21 present: element 201 21
+Added, then Removed, from no element 201 21:
+  held add 201 21 added, asked remove 201 21 removed: no element 201 21
+  asked remove 201 21 absent, held add 201 21 added: element 201 21
+Added, then Yes, from no element 201 21:
+  held add 201 21 added, asked has 201 21 yes: element 201 21
+  asked has 201 21 no, held add 201 21 added: element 201 21
+Present, then Removed, from element 201 21:
+  held add 201 21 present, asked remove 201 21 removed: no element 201 21
+  asked remove 201 21 removed, held add 201 21 added: element 201 21
+Removed, then Added, from element 201 21:
+  held remove 201 21 removed, asked add 201 21 added: element 201 21
+  asked add 201 21 present, held remove 201 21 removed: no element 201 21
+Removed, then Absent, from element 201 21:
+  held remove 201 21 removed, asked remove 201 21 absent: no element 201 21
+  asked remove 201 21 removed, held remove 201 21 absent: no element 201 21
+Removed, then No, from element 201 21:
+  held remove 201 21 removed, asked has 201 21 no: no element 201 21
+  asked has 201 21 yes, held remove 201 21 removed: no element 201 21
+Absent, then Added, from no element 201 21:
+  held remove 201 21 absent, asked add 201 21 added: element 201 21
+  asked add 201 21 added, held remove 201 21 removed: no element 201 21
+Yes, then Removed, from element 201 21:
+  held has 201 21 yes, asked remove 201 21 removed: no element 201 21
+  asked remove 201 21 removed, held has 201 21 no: no element 201 21
+No, then Added, from no element 201 21:
+  held has 201 21 no, asked add 201 21 added: element 201 21
+  asked add 201 21 added, held has 201 21 yes: element 201 21
 
 size       Added Present Removed Absent Yes No
 size           x       .       x      .   .  .
 
-Added, then size, from no element 1 1:
-  held add 1 1 added, asked size 1 is 1: element 1 1
-  asked size 1 is 0, held add 1 1 added: element 1 1
-size, then Added, from no element 1 1:
-  held size 1 is 0, asked add 1 1 added: element 1 1
-  asked add 1 1 added, held size 1 is 1: element 1 1
-Removed, then size, from element 1 1:
-  held remove 1 1 removed, asked size 1 is 0: no element 1 1
-  asked size 1 is 1, held remove 1 1 removed: no element 1 1
-size, then Removed, from element 1 1:
-  held size 1 is 1, asked remove 1 1 removed: no element 1 1
-  asked remove 1 1 removed, held size 1 is 0: no element 1 1
+Added, then size, from no element 201 21:
+  held add 201 21 added, asked size 201 is 1: element 201 21
+  asked size 201 is 0, held add 201 21 added: element 201 21
+size, then Added, from no element 201 21:
+  held size 201 is 0, asked add 201 21 added: element 201 21
+  asked add 201 21 added, held size 201 is 1: element 201 21
+Removed, then size, from element 201 21:
+  held remove 201 21 removed, asked size 201 is 0: no element 201 21
+  asked size 201 is 1, held remove 201 21 removed: no element 201 21
+size, then Removed, from element 201 21:
+  held size 201 is 1, asked remove 201 21 removed: no element 201 21
+  asked remove 201 21 removed, held size 201 is 0: no element 201 21
 """
 
 
@@ -188,7 +188,7 @@ def play(before: str, operations: list[Op]) -> tuple[list[str], str]:
         else:
             reply, held = apply(held, op)
             told.append(reply)
-    shown = {"account": f"account 1 {held}", "element": "element 1 1", "counter": f"counter 1 {held or 0}"}[cell]
+    shown = {"account": f"account 101 {held}", "element": "element 201 21", "counter": f"counter 301 {held or 0}"}[cell]
     return told, f"no {' '.join(shown.split()[: 3 if cell == 'element' else 2])}" if held is None and cell != "counter" else shown
 
 

@@ -131,12 +131,12 @@ const TABLES_EXAMPLE: &str = "Example: mltx tables counter
   Counted          .    x
   Read             x    .
 
-  Counted, then Read, from counter 1 0:
-    held up 1 1 done, asked read 1 is 1: counter 1 1
-    asked read 1 is 0, held up 1 1 done: counter 1 1
-  Read, then Counted, from counter 1 0:
-    held read 1 is 0, asked up 1 1 done: counter 1 1
-    asked up 1 1 done, held read 1 is 1: counter 1 1
+  Counted, then Read, from counter 301 0:
+    held up 301 1 done, asked read 301 is 1: counter 301 1
+    asked read 301 is 0, held up 301 1 done: counter 301 1
+  Read, then Counted, from counter 301 0:
+    held read 301 is 0, asked up 301 1 done: counter 301 1
+    asked up 301 1 done, held read 301 is 1: counter 301 1
 
 Rows are operations that a transaction holds, and columns are operations that another one requests.
 An `x` marks a conflict: some two such operations get other replies, or lead to another state, if

@@ -29,8 +29,8 @@ pub record IsSizeInOrders (class : ElementClass) (orders : Orders × Orders) : T
   pub after : Bool
   pub changes : ElementStep example.present example.op reply after
   pub operation_held : orders.0 ≡ held_then example.present
-      (order_of (on_element example.op reply) (told_size 1 example.after) after)
-      (order_of (told_size 1 example.before) (on_element example.op reply) after)
+      (order_of (on_element example.op reply) (told_size 201 example.after) after)
+      (order_of (told_size 201 example.before) (on_element example.op reply) after)
   pub size_held : orders.1 ≡ held_then example.present
-      (order_of (told_size 1 example.before) (on_element example.op reply) after)
-      (order_of (on_element example.op reply) (told_size 1 example.after) after)
+      (order_of (told_size 201 example.before) (on_element example.op reply) after)
+      (order_of (on_element example.op reply) (told_size 201 example.after) after)

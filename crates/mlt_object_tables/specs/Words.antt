@@ -50,25 +50,25 @@ abbrev pub counter_word : CounterClass → List ℕ
 counter_word Counted = codes "Counted"
 counter_word Read = codes "Read"
 
--- an operation with its reply, on account 1, element 1 of set 1, or counter 1
+-- an operation with its reply, on account 101, element 21 of set 201, or counter 301
 abbrev pub on_account : AccountOp → ObjReply → ObjOp × ObjReply
-on_account asked reply = (ObjOp.Account 1 asked, reply)
+on_account asked reply = (ObjOp.Account 101 asked, reply)
 
 abbrev pub on_element : ElementOp → ObjReply → ObjOp × ObjReply
-on_element asked reply = (ObjOp.Element 1 1 asked, reply)
+on_element asked reply = (ObjOp.Element 201 21 asked, reply)
 
 abbrev pub on_counter : CounterOp → ObjReply → ObjOp × ObjReply
-on_counter asked reply = (ObjOp.Counter 1 asked, reply)
+on_counter asked reply = (ObjOp.Counter 301 asked, reply)
 
 -- that object, with what it holds
 abbrev pub account_value : Option ℕ → CellValue
-account_value balance = CellValue.Account 1 balance
+account_value balance = CellValue.Account 101 balance
 
 abbrev pub element_value : Bool → CellValue
-element_value present = CellValue.Element 1 1 present
+element_value present = CellValue.Element 201 21 present
 
 abbrev pub counter_value : ℕ → CellValue
-counter_value n = CellValue.Counter 1 n
+counter_value n = CellValue.Counter 301 n
 
 -- each class is listed
 pub each_account_class_is_listed : (class : AccountClass) → Contains account_classes class

@@ -11,7 +11,7 @@ use mlt_object_kinds::{
     Account, AccountOp, Counter, CounterOp, Done, Element, ElementOp, ObjOp, ObjReply,
 };
 
-/// A conflict table whose classes have words. Its operations are shown on account 1, element 1 of set 1, or counter 1.
+/// A conflict table whose classes have words. It shows operations on account 101, element 21 of set 201, or counter 301.
 pub trait NamedTable: Table + 'static {
     /// The classes, in the order of the table.
     ghost all_classes: { List Self.Class };
@@ -102,11 +102,11 @@ impl NamedTable for Account {
     }
 
     fn done(op: &AccountOp, reply: &ObjReply) -> Done {
-        Done::new(ObjOp::Account(1, *op), *reply)
+        Done::new(ObjOp::Account(101, *op), *reply)
     }
 
     fn value(state: &Option<u64>) -> CellValue {
-        CellValue::Account(1, *state)
+        CellValue::Account(101, *state)
     }
 }
 
@@ -139,11 +139,11 @@ impl NamedTable for Element {
     }
 
     fn done(op: &ElementOp, reply: &ObjReply) -> Done {
-        Done::new(ObjOp::Element(1, 1, *op), *reply)
+        Done::new(ObjOp::Element(201, 21, *op), *reply)
     }
 
     fn value(state: &bool) -> CellValue {
-        CellValue::Element(1, 1, *state)
+        CellValue::Element(201, 21, *state)
     }
 }
 
@@ -172,10 +172,10 @@ impl NamedTable for Counter {
     }
 
     fn done(op: &CounterOp, reply: &ObjReply) -> Done {
-        Done::new(ObjOp::Counter(1, *op), *reply)
+        Done::new(ObjOp::Counter(301, *op), *reply)
     }
 
     fn value(state: &u64) -> CellValue {
-        CellValue::Counter(1, *state)
+        CellValue::Counter(301, *state)
     }
 }

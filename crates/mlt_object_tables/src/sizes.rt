@@ -44,9 +44,9 @@ fn order(first: &Done, second: &Done, present: bool) -> OpOrder
     }
 }
 
-// The size of set 1, as an operation with its reply.
+// The size of set 201, as an operation with its reply.
 fn size_told(size: u64) -> Done
-    ensures { result ≡ told_size 1 size }
+    ensures { result ≡ told_size 201 size }
 {
-    Done::new(ObjOp::Size(1), ObjReply::Is(size))
+    Done::new(ObjOp::Size(201), ObjReply::Is(size))
 }
