@@ -215,19 +215,19 @@ def page_of_a_circle(mltx: Program) -> None:
 
 @test
 def page_with_reasons(mltx: Program) -> None:
-    """What the program says of each block, wait and circle stands at its step, and at no other."""
+    """What the program says of each block, wait and deadlock stands at its step, and at no other."""
     made = page("--program", mltx.path, mltx.file("circle.txt", CIRCLE))
     reasons = {it.step: it.of("reason")[0] for it in made.sections if it.of("reason")}
     starts = {
-        9: "up 2 3 done, of transaction 2, stands in the way of read 2, which would be told is 3",
-        14: "up 1 2 done, of transaction 1, stands in the way of read 1, which would be told is 2",
-        16: "up 1 2 done, of transaction 1, stands in the way of read 1, which would be told is 2",
+        9: "T1 wants read 2; now it would get is 3. T2 holds up 2 3 (done), uncommitted.",
+        14: "T2 wants read 1; now it would get is 2. T1 holds up 1 2 (done), uncommitted.",
+        16: "T3 wants read 1; now it would get is 2. T1 holds up 1 2 (done), uncommitted.",
     }
     same({step: said[: len(starts.get(step, ""))] for step, said in reasons.items()}, starts, "what stands in the way")
-    circles = {step: said.partition("a circle: ")[2] for step, said in reasons.items()}
-    same(circles, {9: "", 14: "2 waits for 1, 1 waits for 2", 16: ""}, "the circles")
+    deadlocks = {step: said.partition("Deadlock: ")[2] for step, said in reasons.items()}
+    same(deadlocks, {9: "", 14: "T2 waits for T1, T1 waits for T2.", 16: ""}, "the deadlocks")
     waits = example(mltx, "wait-for-a-page.txt")
-    locked = "page 0 is locked by transaction 2, which is in deposit 101 50"
+    locked = "T3 needs page 0, which T2 has locked for deposit 101 50."
     same({it.step: it.of("reason") for it in waits.sections if it.of("reason")}, {13: [locked]}, "the wait")
 
 

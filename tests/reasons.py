@@ -1,5 +1,5 @@
-"""What `steps --explain` says of each block, of each wait for a page, and of circles of waits. The rows are worked out by
-hand from docs/SCHEDULES.md; of random schedules the model says which lines are wanted.
+"""What `steps --explain` says of each block, of each wait for a page, and of deadlocks. The rows are worked out by hand from
+docs/SCHEDULES.md; of random schedules the model says which lines are wanted.
 
 A row is written as in schedules.py. The lines that begin with `#` are the reasons of the answer before them, and
 `# example Held, Asked` stands for the example of two classes, as `mltx tables` prints it (tables.py tests that)."""
@@ -7,28 +7,53 @@ import re
 from random import Random
 
 import harness
-from harness import ROOT, Program, each, expect, holds, same, test
+from harness import ROOT, Program, each, expect, holds, match, same, test
 from model import Event, Op, apply as applied, clash, text_of
 from pages import example as page_of_example
 from random_work import SCHEDULES, Cells, Watch, dice_of, random_schedule, show, told_in
 from rows import EXAMPLES
 from schedules import EIGHT, LOW, MOST, PARTED, ROWS, Schedule, begun, called, empty, going, made, undone
 
-# The first lines of the reasons of a block and of a wait, and the line of a circle.
 Examples = dict[tuple[str, ...], list[str]]
-OP, REPLY = r"[a-z]+( [0-9]+)+", r"([a-z]+|is [0-9]+)"
-IN_THE_WAY = re.compile(f"# {OP} {REPLY}, of transaction ([0-9]+), stands in the way of {OP}, which would be told {REPLY}")
-OF_PAGE = re.compile(f"# page ([0-9]+) is locked by transaction ([0-9]+), which (is in {OP}|takes back {OP} {REPLY})")
-OF_CIRCLE = re.compile("# a circle: ([0-9]+) waits for [0-9]+(, [0-9]+ waits for [0-9]+)+")
+# The forms of the reasons: the first line of a block, the line of a wait, and the line of a deadlock.
+OP, REPLY = r"[a-z]+(?: [0-9]+)+", r"(?:[a-z]+|is [0-9]+)"
+IN_THE_WAY = re.compile(
+    rf"# T([0-9]+) wants `({OP})`; now it would get `({REPLY})`\. "
+    rf"T([0-9]+) (?:holds `({OP})` \(({REPLY})\), uncommitted|has undone `({OP})` \(({REPLY})\))\."
+)
+OF_PAGE = re.compile(
+    rf"# T([0-9]+) needs page ([0-9]+), which T([0-9]+) has locked (for `{OP}`|to undo `{OP}` \({REPLY}\))\."
+)
+OF_DEADLOCK = re.compile(r"# Deadlock: T([0-9]+) waits for T[0-9]+(, T[0-9]+ waits for T[0-9]+)+\.")
+
+# Why the two operations of a block conflict: the reply of the one that is asked for is at risk, or the reply of the one that
+# is held; or the held one is undone, and the locks of its transaction last to the end of the abort.
+ASKED, HELD, UNDONE = "asked", "held", "undone"
+# The classes of operations that change something. What others ask for after one of these can get another reply without it.
+CHANGING = ("Opened", "Closed", "Deposited", "Withdrawn", "Added", "Removed", "Counted")
 
 
-def in_the_way(held: str, of: int, asked: str, told: str) -> str:
-    return f"# {held}, of transaction {of}, stands in the way of {asked}, which would be told {told}"
+def at_risk(held: str, asked: str) -> str:
+    """The reply that is at risk where two classes conflict. An account that can be closed had a deposit of nothing, which
+    would be told `missing` after the close."""
+    return ASKED if held in CHANGING and (held, asked) != ("Deposited", "Closed") else HELD
 
 
-def block(held: str, of: int, asked: str, told: str, classes: str) -> str:
+def in_the_way(t: int, asked: str, now: str, by: int, held: str, told: str, risk: str) -> list[str]:
+    """The two lines of `t`, which asks for an operation and would get a reply now, and of `by`, which did another one."""
+    does = f"has undone `{held}` ({told})" if risk == UNDONE else f"holds `{held}` ({told}), uncommitted"
+    why = {
+        ASKED: f"If T{by} aborts, `{now}` could be wrong",
+        HELD: f"If T{t} commits first, T{by}'s `{told}` could be wrong",
+        UNDONE: f"T{by} holds it until its abort ends",
+    }
+    wish = f"# T{t} wants `{asked}`; now it would get `{now}`."
+    return [f"{wish} T{by} {does}.", f"# {why[risk]}, so T{t} must wait for T{by}."]
+
+
+def block(t: int, asked: str, now: str, by: int, held: str, told: str, classes: str, risk: str) -> str:
     """The lines of a block, of a row."""
-    return f"{in_the_way(held, of, asked, told)}\n# example {classes}"
+    return "\n".join([*in_the_way(t, asked, now, by, held, told, risk), f"# example {classes}"])
 
 
 def counters(*changed: int) -> str:
@@ -38,7 +63,7 @@ def counters(*changed: int) -> str:
 
 def blocked_read(t: int, by: int) -> str:
     """Transaction `t` reads the counter of another one, up to its block, with the reason."""
-    reason = block(f"up {by} {by} done", by, f"read {by}", f"is {by}", "Counted, Read")
+    reason = block(t, f"read {by}", f"is {by}", by, f"up {by} {by}", "done", "Counted, Read", ASKED)
     return called(t, f"read {by}", 3, f"blocked by {by}") + f"\n{reason}"
 
 
@@ -49,7 +74,7 @@ begin > begun 2
 whole 2 deposit 1 5 > done done
 begin > begun 3
 whole 3 balance 1 > blocked by 2
-{block("deposit 1 5 done", 2, "balance 1", "is 15", "Deposited, Balance")}
+{block(3, "balance 1", "is 15", 2, "deposit 1 5", "done", "Deposited, Balance", ASKED)}
 account 1 10"""),
     "withdrawal-in-the-way-of-one-told-short": Schedule(f"""
 {made(1, holding=5)}
@@ -58,7 +83,7 @@ whole 2 withdraw 1 3 > done done
 begin > begun 3
 whole 3 withdraw 1 2 > done done
 whole 3 withdraw 1 1 > blocked by 2
-{block("withdraw 1 3 done", 2, "withdraw 1 1", "short", "Withdrawn, Short")}
+{block(3, "withdraw 1 1", "short", 2, "withdraw 1 3", "done", "Withdrawn, Short", ASKED)}
 account 1 5"""),
     "over-in-the-way-of-withdrawal": Schedule(f"""
 {made(1, holding=MOST - 10)}
@@ -66,19 +91,19 @@ begin > begun 2
 whole 2 deposit 1 11 > done over
 begin > begun 3
 whole 3 withdraw 1 1 > blocked by 2
-{block("deposit 1 11 over", 2, "withdraw 1 1", "done", "Over, Withdrawn")}
+{block(3, "withdraw 1 1", "done", 2, "deposit 1 11", "over", "Over, Withdrawn", HELD)}
 account 1 {MOST - 10}"""),
     "missing-in-the-way-of-open": Schedule(f"""
 {begun(1, 2)}
 whole 1 deposit 1 5 > done missing
 whole 2 open 1 > blocked by 1
-{block("deposit 1 5 missing", 1, "open 1", "opened", "Missing, Opened")}"""),
+{block(2, "open 1", "opened", 1, "deposit 1 5", "missing", "Missing, Opened", HELD)}"""),
     "add-in-the-way-of-size": Schedule(f"""
 {begun(1, 2)}
 whole 1 has 4 8 > done no
 whole 1 add 4 9 > done added
 whole 2 size 4 > blocked by 1
-{block("add 4 9 added", 1, "size 4", "is 1", "Added, size")}"""),
+{block(2, "size 4", "is 1", 1, "add 4 9", "added", "Added, size", ASKED)}"""),
     "remove-in-the-way-of-size": Schedule(f"""
 begin > begun 1
 whole 1 add 4 9 > done added
@@ -87,14 +112,14 @@ commit 1 > committed 1
 {begun(2, 3)}
 whole 2 remove 4 9 > done removed
 whole 3 size 4 > blocked by 2
-{block("remove 4 9 removed", 2, "size 4", "is 1", "Removed, size")}
+{block(3, "size 4", "is 1", 2, "remove 4 9", "removed", "Removed, size", ASKED)}
 element 4 8
 element 4 9"""),
     "size-in-the-way-of-add": Schedule(f"""
 {begun(1, 2)}
 whole 1 size 4 > done is 0
 whole 2 add 4 9 > blocked by 1
-{block("size 4 is 0", 1, "add 4 9", "added", "size, Added")}"""),
+{block(2, "add 4 9", "added", 1, "size 4", "is 0", "size, Added", HELD)}"""),
     "size-in-the-way-of-remove": Schedule(f"""
 begin > begun 1
 whole 1 add 4 9 > done added
@@ -103,7 +128,7 @@ commit 1 > committed 1
 whole 2 size 4 > done is 1
 whole 3 add 4 9 > done present
 whole 3 remove 4 9 > blocked by 2
-{block("size 4 is 1", 2, "remove 4 9", "removed", "size, Removed")}
+{block(3, "remove 4 9", "removed", 2, "size 4", "is 1", "size, Removed", HELD)}
 element 4 9"""),
     "present-in-the-way-of-remove": Schedule(f"""
 begin > begun 1
@@ -112,7 +137,7 @@ commit 1 > committed 1
 {begun(2, 3)}
 whole 2 add 4 9 > done present
 whole 3 remove 4 9 > blocked by 2
-{block("add 4 9 present", 2, "remove 4 9", "removed", "Present, Removed")}
+{block(3, "remove 4 9", "removed", 2, "add 4 9", "present", "Present, Removed", HELD)}
 element 4 9"""),
     "first-that-conflicts-is-named": Schedule(f"""
 {made(1, 2, holding=10)}
@@ -123,7 +148,7 @@ whole 2 withdraw 1 1 > done done
 whole 2 withdraw 1 3 > done done
 begin > begun 3
 whole 3 deposit 1 5 > blocked by 2
-{block("withdraw 1 1 done", 2, "deposit 1 5", "done", "Withdrawn, Deposited")}
+{block(3, "deposit 1 5", "done", 2, "withdraw 1 1", "done", "Withdrawn, Deposited", ASKED)}
 account 1 10
 account 2 10"""),
     "operation-of-the-lowest-is-named": Schedule(f"""
@@ -132,18 +157,18 @@ account 2 10"""),
 whole 4 deposit 1 4 > done done
 whole 3 deposit 1 3 > done done
 whole 2 balance 1 > blocked by 3
-{block("deposit 1 3 done", 3, "balance 1", "is 17", "Deposited, Balance")}
+{block(2, "balance 1", "is 17", 3, "deposit 1 3", "done", "Deposited, Balance", ASKED)}
 account 1 10"""),
-    "one-that-was-taken-back-is-in-the-way": Schedule(f"""
+    "one-that-was-undone-is-in-the-way": Schedule(f"""
 {begun(1, 2)}
 whole 1 up 8 4 > done done
 whole 1 up 7 1 > done done
 abort 1 > aborting
 step 1 > {going(3)}, undone
 whole 2 read 7 > blocked by 1
-{block("up 7 1 done", 1, "read 7", "is 0", "Counted, Read")}
+{block(2, "read 7", "is 0", 1, "up 7 1", "done", "Counted, Read", UNDONE)}
 whole 2 read 8 > blocked by 1
-{block("up 8 4 done", 1, "read 8", "is 4", "Counted, Read")}
+{block(2, "read 8", "is 4", 1, "up 8 4", "done", "Counted, Read", ASKED)}
 step 1 > {going(3)}, aborted
 whole 2 read 7 > done is 0"""),
     "one-of-an-earlier-transaction-is-not": Schedule(f"""
@@ -153,9 +178,9 @@ commit 1 > committed 1
 {begun(2, 3)}
 whole 2 up 7 2 > done done
 whole 3 read 7 > blocked by 2
-{block("up 7 2 done", 2, "read 7", "is 3", "Counted, Read")}
+{block(3, "read 7", "is 3", 2, "up 7 2", "done", "Counted, Read", ASKED)}
 counter 7 1"""),
-    "taken-back-by-an-undo-that-waits": Schedule(f"""
+    "undone-by-an-undo-that-waits": Schedule(f"""
 {made(*PARTED)}
 begin > begun 2
 whole 2 deposit 0 5 > done done
@@ -164,10 +189,10 @@ begin > begun 3
 {called(3, "open 1", 3)}
 abort 2 > aborting
 undo 2 > waiting by 3
-# page 0 is locked by transaction 3, which is in open 1
+# T2 needs page 0, which T3 has locked for `open 1`.
 begin > begun 4
 whole 4 balance 32768 > blocked by 2
-{block("deposit 32768 7 done", 2, "balance 32768", "is 0", "Deposited, Balance")}
+{block(4, "balance 32768", "is 0", 2, "deposit 32768 7", "done", "Deposited, Balance", UNDONE)}
 {empty(*PARTED)}
 depth 1""", LOW),
     "reader-has-the-header-of-a-split": Schedule(f"""
@@ -176,7 +201,7 @@ begin > begun 2
 {called(2, "balance 3", 1)}
 begin > begun 3
 {called(3, "open 32768", 3, "waiting by 2")}
-# page 2 is locked by transaction 2, which is in balance 3
+# T3 needs page 2, which T2 has locked for `balance 3`.
 {empty(*EIGHT)}""", LOW),
     "split-has-the-header": Schedule(f"""
 {made(*EIGHT)}
@@ -184,17 +209,17 @@ begin > begun 2
 {called(2, "open 32768", 6)}
 begin > begun 3
 {called(3, "balance 3", 0, "waiting by 2")}
-# page 2 is locked by transaction 2, which is in open 32768
+# T3 needs page 2, which T2 has locked for `open 32768`.
 whole 1 balance 3 > refused 3 NoSuchTx
 {empty(*EIGHT)}""", LOW),
-    "wait-for-one-that-takes-back": Schedule(f"""
+    "wait-for-one-that-undoes": Schedule(f"""
 {made(1)}
 {begun(2, 3)}
 whole 2 deposit 1 5 > done done
 abort 2 > aborting
 step 2 > {going(3)}
 {called(3, "deposit 1 7", 2, "waiting by 2")}
-# page 0 is locked by transaction 2, which takes back deposit 1 5 done
+# T3 needs page 0, which T2 has locked to undo `deposit 1 5` (done).
 step 2 > aborted
 step 3 > going, done done
 account 1 0"""),
@@ -204,70 +229,70 @@ account 1 0"""),
 whole 2 up 7 1 > done done
 {called(2, "deposit 1 5", 3)}
 whole 3 deposit 1 7 > waiting by 2
-# page 0 is locked by transaction 2, which is in deposit 1 5
+# T3 needs page 0, which T2 has locked for `deposit 1 5`.
 account 1 0"""),
-    "circle-of-two": Schedule(f"""
+    "deadlock-of-two": Schedule(f"""
 {counters(1, 2)}
 {blocked_read(1, 2)}
 {blocked_read(2, 1)}
-# a circle: 2 waits for 1, 1 waits for 2"""),
-    "circle-of-three": Schedule(f"""
+# Deadlock: T2 waits for T1, T1 waits for T2."""),
+    "deadlock-of-three": Schedule(f"""
 {counters(1, 2, 3)}
 {blocked_read(1, 2)}
 {blocked_read(2, 3)}
 {blocked_read(3, 1)}
-# a circle: 3 waits for 1, 1 waits for 2, 2 waits for 3"""),
-    "one-beside-a-circle": Schedule(f"""
+# Deadlock: T3 waits for T1, T1 waits for T2, T2 waits for T3."""),
+    "one-beside-a-deadlock": Schedule(f"""
 {counters(1, 2, 3)}
 {blocked_read(1, 2)}
 {blocked_read(2, 1)}
-# a circle: 2 waits for 1, 1 waits for 2
+# Deadlock: T2 waits for T1, T1 waits for T2.
 {blocked_read(3, 1)}"""),
-    "circle-that-closes-again": Schedule(f"""
+    "deadlock-that-closes-again": Schedule(f"""
 {counters(1, 2)}
 {blocked_read(1, 2)}
 {blocked_read(2, 1)}
-# a circle: 2 waits for 1, 1 waits for 2
+# Deadlock: T2 waits for T1, T1 waits for T2.
 step 1 > {going(3)}, blocked by 2
-{block("up 2 2 done", 2, "read 2", "is 2", "Counted, Read")}
-# a circle: 1 waits for 2, 2 waits for 1"""),
-    "no-circle-while-one-goes": Schedule(f"""
+{block(1, "read 2", "is 2", 2, "up 2 2", "done", "Counted, Read", ASKED)}
+# Deadlock: T1 waits for T2, T2 waits for T1."""),
+    "no-deadlock-while-one-goes": Schedule(f"""
 {counters(1, 2)}
 {blocked_read(1, 2)}
 step 1 > going
 {blocked_read(2, 1)}"""),
-    "no-circle-of-a-whole-operation": Schedule(f"""
+    "no-deadlock-of-a-whole-operation": Schedule(f"""
 {counters(1, 2)}
 whole 1 read 2 > blocked by 2
-{block("up 2 2 done", 2, "read 2", "is 2", "Counted, Read")}
+{block(1, "read 2", "is 2", 2, "up 2 2", "done", "Counted, Read", ASKED)}
 {blocked_read(2, 1)}"""),
-    "no-circle-closed-by-a-whole-operation": Schedule(f"""
+    "no-deadlock-closed-by-a-whole-operation": Schedule(f"""
 {counters(1, 2)}
 {blocked_read(1, 2)}
 whole 2 read 1 > blocked by 1
-{block("up 1 1 done", 1, "read 1", "is 1", "Counted, Read")}"""),
-    "no-circle-after-cancel": Schedule(f"""
+{block(2, "read 1", "is 1", 1, "up 1 1", "done", "Counted, Read", ASKED)}"""),
+    "no-deadlock-after-cancel": Schedule(f"""
 {counters(1, 2)}
 {blocked_read(1, 2)}
 cancel 1 > cancelled
 {blocked_read(2, 1)}"""),
-    "no-circle-with-another-operation": Schedule(f"""
+    "no-deadlock-with-another-operation": Schedule(f"""
 {counters(1, 2)}
 {blocked_read(1, 2)}
 cancel 1 > cancelled
 call 1 read 5 > called
 {blocked_read(2, 1)}"""),
-    "circle-beside-a-refused-commit": Schedule(f"""
+    "deadlock-beside-a-refused-commit": Schedule(f"""
 {counters(1, 2)}
 {blocked_read(1, 2)}
 commit 1 > refused 5 Running
 {blocked_read(2, 1)}
-# a circle: 2 waits for 1, 1 waits for 2"""),
-    "circle-that-an-abort-ends": Schedule(f"""
+# Deadlock: T2 waits for T1, T1 waits for T2."""),
+    "deadlock-that-an-abort-ends": Schedule(f"""
 {counters(1, 2)}
 {blocked_read(1, 2)}
 {blocked_read(2, 1)}
-# a circle: 2 waits for 1, 1 waits for 2
+# Deadlock: T2 waits for T1, T1 waits for T2.
 cancel 1 > cancelled
 {undone(1)}
 step 2 > {going(3)}, done is 0
@@ -287,7 +312,7 @@ def printed_examples(mltx: Program) -> Examples:
     expect(ran, out=ran.out)
     found = re.findall(r"(?m)^((\w+), then (\w+), from .*:)\n  (.*)\n  (.*)\n", ran.out.decode())
     return {
-        (held, asked): [f"# example of the conflict: {head}", f"#   {first}", f"#   {second}"]
+        (held, asked): [f"# Example of the conflict: {head}", f"#   {first}", f"#   {second}"]
         for head, held, asked, first, second in found
     }
 
@@ -335,12 +360,15 @@ def checked_form(line: str, reasons: list[str], examples: Examples) -> None:
     """Fails where what stands behind a line is none of the forms in SCHEDULES."""
     if line.startswith("waiting by "):
         found = OF_PAGE.fullmatch(reasons[0]) if len(reasons) == 1 else None
-        holds(found and found[2] == line.split()[2], f"{line!r} has the reasons {reasons}")
-    elif line.startswith("blocked by "):
-        found = IN_THE_WAY.fullmatch(reasons[0]) if reasons else None
         holds(found and found[3] == line.split()[2], f"{line!r} has the reasons {reasons}")
-        holds(reasons[1:4] in examples.values(), f"no example of the tables: {reasons[1:4]}")
-        holds(len(reasons) < 5 or len(reasons) == 5 and OF_CIRCLE.fullmatch(reasons[4]), f"{reasons}")
+    elif line.startswith("blocked by "):
+        found = match(IN_THE_WAY, reasons[0])
+        t, asked, now, by, held, told = (group for group in found.groups() if group)
+        same(by, line.split()[2], f"the holder in {reasons}")
+        forms = [in_the_way(int(t), asked, now, int(by), held, told, risk) for risk in (ASKED, HELD, UNDONE)]
+        holds(reasons[:2] in forms, f"{line!r} has the reasons {reasons}")
+        holds(reasons[2:5] in examples.values(), f"no example of the tables: {reasons[2:5]}")
+        holds(len(reasons) < 6 or len(reasons) == 6 and OF_DEADLOCK.fullmatch(reasons[5]), f"{reasons}")
     else:
         same(reasons, [], f"behind {line!r}")
 
@@ -361,16 +389,16 @@ OF_EXAMPLES = {
     "abort-under-later-deposit.txt": "",
     "block-by-reply.txt": f"""
 blocked by 2
-{block("withdraw 101 30 done", 2, "withdraw 101 40", "short", "Withdrawn, Short")}""",
+{block(3, "withdraw 101 40", "short", 2, "withdraw 101 30", "done", "Withdrawn, Short", ASKED)}""",
     "size-of-a-set.txt": f"""
 blocked by 3
-{block("size 201 is 1", 3, "add 201 22", "added", "size, Added")}
+{block(2, "add 201 22", "added", 3, "size 201", "is 1", "size, Added", HELD)}
 blocked by 2
-{block("add 201 22 added", 2, "size 201", "is 2", "Added, size")}""",
+{block(4, "size 201", "is 2", 2, "add 201 22", "added", "Added, size", ASKED)}""",
     "split-beside-a-reader.txt": "",
     "wait-for-a-page.txt": """
 waiting by 2
-# page 0 is locked by transaction 2, which is in deposit 101 50""",
+# T3 needs page 0, which T2 has locked for `deposit 101 50`.""",
 }
 
 
@@ -396,11 +424,11 @@ def reasons_of_schedules(mltx: Program) -> None:
     """The reason that SCHEDULES shows is the one of its example, and the page of that example shows it."""
     text = (ROOT / "docs/SCHEDULES.md").read_text().partition("Here is [`block-by-reply.txt`]")[2].partition("\n\n")[2]
     shown = [line.removeprefix("    ") for line in text.partition("\n\n")[0].splitlines()]
-    same(shown[1], in_the_way("withdraw 101 30 done", 2, "withdraw 101 40", "short"))
+    same(shown[1:3], in_the_way(3, "withdraw 101 40", "short", 2, "withdraw 101 30", "done", ASKED))
     ran = mltx.run("steps", "--explain", ROOT / "examples/block-by-reply.txt")
     same([(line, *reasons) for line, reasons in parted(ran.out.decode()) if reasons], [tuple(shown)])
     section = page_of_example(mltx, "block-by-reply.txt").sections[12]
-    words = "".join(line.removeprefix("#") for line in shown[1:]).replace(" ", "")
+    words = "".join(line.removeprefix("#") for line in shown[1:]).replace(" ", "").replace("`", "")
     holds(words in section.of("reason")[0].replace(" ", ""), f"{section.of('reason')} wanted {words}")
 
 
@@ -409,40 +437,43 @@ class ReasonWatch(Watch):
 
     def __init__(self, low: bool, examples: Examples) -> None:
         super().__init__(low)
-        self.examples, self.blocked, self.circles = examples, dict[int, int](), 0
+        self.examples, self.blocked, self.deadlocks = examples, dict[int, int](), 0
 
     def explained(self, event: Event, told: str, reasons: list[str]) -> None:
         """Takes one event, the line that it was told, and the reasons behind that."""
         word, t = told.split()[0], event[1] if len(event) > 1 else None
         by = int(told.split()[-1]) if word in ("blocked", "waiting") else 0
         op = event[2] if event[0] == "whole" else self.open[t].pending if word == "blocked" else None
-        wanted = self._in_the_way(by, op or (), reasons) if word == "blocked" else self._of_page(by, reasons) if by else []
+        wanted = self._in_the_way(t, by, op or (), reasons) if word == "blocked" else self._of_page(t, by, reasons) if by else []
         self._note(event, word, t, by)
         if word == "blocked" and event[0] == "step":
-            wanted = [*wanted, *self._circle(t)]
+            wanted = [*wanted, *self._deadlock(t)]
         same(reasons, wanted, f"the reasons of {told!r}, told to {show(event)}")
         self.tell(event, told)
 
-    def _in_the_way(self, by: int, op: Op, reasons: list[str]) -> list[str]:
+    def _in_the_way(self, t: int, by: int, op: Op, reasons: list[str]) -> list[str]:
         """The operation that was done first of those that conflict, and the example of both classes. What is asked for
         would be told what the model tells of the base, as long as it is sure of that."""
-        reply = applied(self.base.held(op), op)[0] if self.sure else reasons[0].partition(" would be told ")[2]
-        held = next(held for held in self.open[by].held if clash(held, (op, reply)))
+        reply = applied(self.base.held(op), op)[0] if self.sure else match(IN_THE_WAY, reasons[0])[3]
+        it = self.open[by]
+        place, held = next(done for done in enumerate(it.held) if clash(done[1], (op, reply)))
         classes = tuple(class_of(*done) for done in (held, (op, reply)))
-        return [in_the_way(f"{text_of(held[0])} {held[1]}", by, text_of(op), reply), *self.examples[classes]]
+        undone = place >= len(it.done) or it.vague and " has undone " in reasons[0]
+        risk = UNDONE if undone else at_risk(*classes)
+        return [*in_the_way(t, text_of(op), reply, by, text_of(held[0]), held[1], risk), *self.examples[classes]]
 
-    def _of_page(self, by: int, reasons: list[str]) -> list[str]:
-        """The page is any; what has it is in its operation, or takes back its last one."""
-        page = reasons[0].split()[2] if reasons else ""
+    def _of_page(self, t: int, by: int, reasons: list[str]) -> list[str]:
+        """The page is any; what has it is in its operation, or undoes its last one."""
+        found = match(OF_PAGE, reasons[0]) if reasons else None
         it = self.open[by]
         if it.pending:
-            what = f"is in {text_of(it.pending)}"
+            why = f"for `{text_of(it.pending)}`"
         elif it.vague:
-            what = reasons[0].partition(", which ")[2]
-            holds(what in {f"takes back {text_of(op)} {reply}" for op, reply in it.done}, f"{by} {what}")
+            why = found[4] if found else ""
+            holds(why in {f"to undo `{text_of(op)}` ({reply})" for op, reply in it.done}, f"{by} {why}")
         else:
-            what = f"takes back {text_of(it.done[-1][0])} {it.done[-1][1]}"
-        return [f"# page {page} is locked by transaction {by}, which {what}"]
+            why = f"to undo `{text_of(it.done[-1][0])}` ({it.done[-1][1]})"
+        return [f"# T{t} needs page {found[2] if found else 0}, which T{by} has locked {why}."]
 
     def _note(self, event: Event, word: str, t: int, by: int) -> None:
         """A step that was told anything else than a block waits for none, and so does what was cancelled."""
@@ -451,15 +482,15 @@ class ReasonWatch(Watch):
         if event[0] == "step" and word == "blocked":
             self.blocked[t] = by
 
-    def _circle(self, first: int) -> list[str]:
-        """The line of the circle that a transaction is in, if it is in one."""
+    def _deadlock(self, first: int) -> list[str]:
+        """The line of the deadlock that a transaction is in, if it is in one."""
         links, t = list[str](), first
         while t in self.blocked and len(links) <= len(self.open):
-            links.append(f"{t} waits for {self.blocked[t]}")
+            links.append(f"T{t} waits for T{self.blocked[t]}")
             t = self.blocked[t]
             if t == first:
-                self.circles += 1
-                return [f"# a circle: {', '.join(links)}"]
+                self.deadlocks += 1
+                return [f"# Deadlock: {', '.join(links)}."]
         return []
 
 
@@ -512,12 +543,12 @@ def crossing_reads(dice: Random, most: int) -> list[Event]:
 
 
 @test(seconds=4)
-def random_circles(mltx: Program) -> None:
-    """Circles of two and more, which most of these schedules have."""
-    circles = 0
+def random_deadlocks(mltx: Program) -> None:
+    """Deadlocks of two and more, which most of these schedules have."""
+    deadlocks = 0
     for number in range(100 * harness.CASES):
-        dice = dice_of("circles", number)
+        dice = dice_of("deadlocks", number)
         events = crossing_reads(dice, dice.randint(2, 6))
-        with told_in("circles", number, "".join(show(event) + "\n" for event in events)):
-            circles += checked_reasons(mltx, "mult", events).circles
-    holds(circles > 100, f"{circles} circles came about")
+        with told_in("deadlocks", number, "".join(show(event) + "\n" for event in events)):
+            deadlocks += checked_reasons(mltx, "mult", events).deadlocks
+    holds(deadlocks > 100, f"{deadlocks} deadlocks came about")

@@ -44,11 +44,11 @@ fn cycle(state: &ReplayedState, tx: TxId) -> Result<Option<Vec<Link>>, Refusal>
 fn push_line(text: &mut String, links: &[Link]) -> Result<(), Refusal>
     ensures refusal { IsOkUnless result Refusal.OutOfMemory }
 {
-    let mut lead = "# a circle: ";
+    let mut lead = "# Deadlock: ";
     for (TxId(tx), TxId(by)) in links {
-        write!(text, "{lead}{tx} waits for {by}")?;
+        write!(text, "{lead}T{tx} waits for T{by}")?;
         lead = ", ";
     }
-    text.push('\n')?;
+    writeln!(text, ".")?;
     Ok(())
 }

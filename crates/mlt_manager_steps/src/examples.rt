@@ -2,89 +2,90 @@
 
 ghost use Rattle.std.specs.Prelude.{IsOkUnless};
 
-use mlt_object_conflicts::{ElementClass, Table};
+use mlt_object_conflicts::Table;
 use mlt_object_kinds::{Account, Counter, Done, Element, ObjOp};
 use mlt_object_tables::{NamedTable, Orders, orders_of, push_orders, size_orders};
 use mlt_types::Refusal;
 
-// Appends the example of the table of their kind, for an operation that is held and one that is asked for.
-pub(crate) fn push_example(text: &mut String, held: &Done, asked: &Done) -> Result<(), Refusal>
-    ensures refusal { IsOkUnless result Refusal.OutOfMemory }
-{
-    let told = held.reply();
-    let reply = asked.reply();
-    match (held.op(), asked.op()) {
-        (ObjOp::Account(_, op), ObjOp::Account(_, other)) => push_of_classes::<Account>(
-            text,
-            Account::class(&op, &told),
-            Account::class(&other, &reply),
-        ),
-        (ObjOp::Element(_, _, op), ObjOp::Element(_, _, other)) => push_of_classes::<Element>(
-            text,
-            Element::class(&op, &told),
-            Element::class(&other, &reply),
-        ),
-        (ObjOp::Counter(_, op), ObjOp::Counter(_, other)) => push_of_classes::<Counter>(
-            text,
-            Counter::class(&op, &told),
-            Counter::class(&other, &reply),
-        ),
-        (ObjOp::Element(_, _, op), ObjOp::Size(_)) => {
-            push_beside_size(text, Element::class(&op, &told), true)
-        }
-        (ObjOp::Size(_), ObjOp::Element(_, _, op)) => {
-            push_beside_size(text, Element::class(&op, &reply), false)
-        }
-        _ => Ok(()),
+/// An example of the conflict of two classes, with their words.
+#[derive(Drop)]
+pub(crate) struct ConflictExample {
+    held: &'static str,
+    asked: &'static str,
+    orders: Orders,
+}
+
+impl ConflictExample {
+    /// Whether the operation that is asked for gets another reply where the held one has not come before it.
+    pub(crate) fn changes_asked(&self) -> bool {
+        self.orders.held_first.second.reply() != self.orders.asked_first.first.reply()
     }
 }
 
-// Appends the example of two classes of a table, where both operations have one and they conflict.
-fn push_of_classes<K: NamedTable>(
-    text: &mut String,
-    held: Option<K::Class>,
-    asked: Option<K::Class>,
-) -> Result<(), Refusal>
+/// The example of the table of their kind, for an operation that is held and one that is asked for.
+pub(crate) fn example_of(held: &Done, asked: &Done) -> Option<ConflictExample> {
+    let told = held.reply();
+    let reply = asked.reply();
+    match (held.op(), asked.op()) {
+        (ObjOp::Account(_, op), ObjOp::Account(_, other)) => {
+            of_classes::<Account>(Account::class(&op, &told)?, Account::class(&other, &reply)?)
+        }
+        (ObjOp::Element(_, _, op), ObjOp::Element(_, _, other)) => {
+            of_classes::<Element>(Element::class(&op, &told)?, Element::class(&other, &reply)?)
+        }
+        (ObjOp::Counter(_, op), ObjOp::Counter(_, other)) => {
+            of_classes::<Counter>(Counter::class(&op, &told)?, Counter::class(&other, &reply)?)
+        }
+        (ObjOp::Element(_, _, op), ObjOp::Size(_)) => {
+            let class = Element::class(&op, &told)?;
+            let (orders, _) = size_orders(class)?;
+            Some(ConflictExample {
+                held: Element::word(class),
+                asked: "size",
+                orders,
+            })
+        }
+        (ObjOp::Size(_), ObjOp::Element(_, _, op)) => {
+            let class = Element::class(&op, &reply)?;
+            let (_, orders) = size_orders(class)?;
+            Some(ConflictExample {
+                held: "size",
+                asked: Element::word(class),
+                orders,
+            })
+        }
+        _ => None,
+    }
+}
+
+// The example of two classes of a table.
+fn of_classes<K: NamedTable>(held: K::Class, asked: K::Class) -> Option<ConflictExample>
 where
     K::State: Copy,
     K::Op: Copy,
     K::Reply: Copy,
-    ensures refusal { IsOkUnless result Refusal.OutOfMemory }
 {
-    let (Some(held), Some(asked)) = (held, asked) else {
-        return Ok(());
-    };
-    match orders_of::<K>(held, asked) {
-        Some(orders) => push_lines(text, K::word(held), K::word(asked), &orders),
-        None => Ok(()),
-    }
+    Some(ConflictExample {
+        held: K::word(held),
+        asked: K::word(asked),
+        orders: orders_of::<K>(held, asked)?,
+    })
 }
 
-// Appends the example of an operation on an element and the size of its set, of which one is held.
-fn push_beside_size(
-    text: &mut String,
-    class: Option<ElementClass>,
-    is_held: bool,
-) -> Result<(), Refusal>
+/// Appends a line with the words of the two classes and what is there before, and a line for each order.
+///
+/// # Errors
+/// `OutOfMemory`, where a growth was refused.
+pub(crate) fn push_example(text: &mut String, example: &ConflictExample) -> Result<(), Refusal>
     ensures refusal { IsOkUnless result Refusal.OutOfMemory }
 {
-    let Some(class) = class else {
-        return Ok(());
-    };
-    let word = Element::word(class);
-    match size_orders(class) {
-        Some((orders, _)) if is_held => push_lines(text, word, "size", &orders),
-        Some((_, orders)) => push_lines(text, "size", word, &orders),
-        None => Ok(()),
-    }
-}
-
-// Appends a line with the words of two classes and what is there before, and a line for each order.
-fn push_lines(text: &mut String, held: &str, asked: &str, orders: &Orders) -> Result<(), Refusal>
-    ensures refusal { IsOkUnless result Refusal.OutOfMemory }
-{
+    let ConflictExample {
+        held,
+        asked,
+        orders,
+    } = example;
     let before = &orders.before;
-    write!(text, "# example of the conflict: {held}, then {asked}, ")?;
+    write!(text, "# Example of the conflict: {held}, then {asked}, ")?;
     writeln!(text, "from {before}:")?;
     push_orders(text, "#   ", orders)
 }

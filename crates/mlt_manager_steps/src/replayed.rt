@@ -15,13 +15,13 @@ use std::collections::BTreeMap;
 // An open transaction.
 #[derive(Drop)]
 struct OpenTx {
-    // All that it did, in order, taken back or not: it holds this up to its end.
+    // All that it did, in order, undone or not: it holds this up to its end.
     held: Vec<Done>,
     // What of that stands.
     standing: Vec<Done>,
     // The operation that was called, and not done, refused or dropped since.
     pending: Option<ObjOp>,
-    // Whom that is blocked by, where its last step was told so.
+    // The transaction that blocks it, if its last step was blocked.
     blocked_by: Option<TxId>,
 }
 
@@ -47,8 +47,8 @@ impl ReplayedState {
     }
 
     /// Takes one more event with its answer, and the whole history after it, of which only the new items are read.
-    /// Appends the line of the answer, and then the lines of the reasons: of a block which operation is in the way of which,
-    /// with the reply that it would get, and the cycle of waits that has come about; of a wait the page, and its holder.
+    /// Appends the line of the answer, and then the lines of the reason: of a block the operation that conflicts, the reply that
+    /// is at risk, and the deadlock that it closes; of a wait the page, and its holder.
     ///
     /// # Errors
     /// `OutOfMemory`, where a growth was refused.
@@ -109,7 +109,7 @@ impl ReplayedState {
         Ok(())
     }
 
-    // The last operation that stood was taken back.
+    // The last operation that stood was undone.
     fn back(&mut self, tx: TxId) -> Result<(), Refusal>
         ensures refusal { IsOkUnless result Refusal.OutOfMemory }
     {
@@ -153,7 +153,7 @@ impl ReplayedState {
         }
     }
 
-    /// All that a transaction did, taken back or not.
+    /// All that a transaction did, undone or not.
     pub(crate) fn held(&self, tx: TxId) -> &[Done] {
         match self.txs.get(&tx.0) {
             Some(one) => one.held.as_slice(),
@@ -161,9 +161,12 @@ impl ReplayedState {
         }
     }
 
-    /// The last operation of a transaction that stands.
-    pub(crate) fn last_standing(&self, tx: TxId) -> Option<Done> {
-        self.txs.get(&tx.0)?.standing.last().copied()
+    /// What a transaction did and has not undone.
+    pub(crate) fn standing(&self, tx: TxId) -> &[Done] {
+        match self.txs.get(&tx.0) {
+            Some(one) => one.standing.as_slice(),
+            None => &[],
+        }
     }
 
     /// The operation of a transaction that is pending.
@@ -171,12 +174,12 @@ impl ReplayedState {
         self.txs.get(&tx.0)?.pending
     }
 
-    /// Whom the pending operation of a transaction is blocked by.
+    /// The transaction that blocks the pending operation of this one.
     pub(crate) fn blocker(&self, tx: TxId) -> Option<TxId> {
         self.txs.get(&tx.0)?.blocked_by
     }
 
-    /// What an operation would be told.
+    /// The reply that an operation would get now.
     pub(crate) fn reply(&self, op: &ObjOp) -> ObjReply {
         let base = &self.base;
         match *op {

@@ -19,9 +19,9 @@ use std::io::{Read, Write};
 
 /// Reads events to the end of the input, and plays them in order from a new manager. Writes a line for what each was
 /// told, then the base of what is committed, and then the depth of the directory. Where reasons are asked for, lines that begin
-/// with `#` stand behind the line of an event that is blocked or waits: which operation is in the way of which, with what that
-/// would be told, and an example of the conflict; which cycle of waits has come about; or which page is locked, and what its
-/// holder is at. Answers the manager at the end, whose history is that of all events.
+/// with `#` follow the line of an event that is blocked or waits: which held operation conflicts, which reply is at risk, and an
+/// example of the conflict; the deadlock that a step closes; or which page is locked, and for which operation. Answers the
+/// manager at the end, whose history is that of all events.
 ///
 /// # Errors
 /// `ScriptFault` exactly for an input that is no list of events, with its first fault; `Io` where a read or a write
