@@ -25,18 +25,18 @@ BLOCK_OBJECTS: list[Objects] = [
     {}, {}, {ACCOUNT: ("–", "0")}, {ACCOUNT: ("–", "50")}, *[{ACCOUNT: ("50", "50")}] * 2, *[{ACCOUNT: ("50", "20")}] * 8,
     *[{ACCOUNT: ("50", "10")}] * 2, *[{ACCOUNT: ("50", "40")}] * 5, {ACCOUNT: ("50", "0")}, {ACCOUNT: ("0", "0")},
 ]
-BLOCKED = "3 is blocked by 2: withdraw 101 40 is asked, and on the same object 2 holds withdraw 101 30 done"
+BLOCKED = "3 is blocked by 2: it wants withdraw 101 40, and on the same object 2 holds withdraw 101 30 done"
 # examples/wait-for-a-page.txt. Transactions 2 and 3 deposit 50 and 70 coins into account 101, which has 0. 3 commits first.
 PAGE_OBJECTS: list[Objects] = [
     {}, {}, {ACCOUNT: ("–", "0")}, *[{ACCOUNT: ("0", "0")}] * 11, {ACCOUNT: ("0", "50")}, {ACCOUNT: ("0", "50")},
     {ACCOUNT: ("0", "120")}, {ACCOUNT: ("70", "120")}, {ACCOUNT: ("120", "120")},
 ]
-WAITS = "3 waits for 2: deposit 101 70 asks for a page that is locked by what 2 runs, deposit 101 50"
+WAITS = "3 waits for 2: deposit 101 70 needs a page that 2 has locked for deposit 101 50"
 # Two transactions that wait for each other. The third one, of which the operation is dropped, waits for one of them.
-CIRCLE = lines(
+DEADLOCK = lines(
     "begin|begin|whole 1 up 1 2|whole 2 up 2 3|call 1 read 2|step 1 4|call 2 read 1|step 2 4|begin|whole 3 read 1|abort 2"
 )
-CIRCLE_TOLD = lines(
+DEADLOCK_TOLD = lines(
     "begun 1|begun 2|done done|done done|called|going|going|going|blocked by 2|called|going|going|going|blocked by 1"
     "|begun 3|blocked by 1|refused 5 Running|depth 0"
 )
@@ -164,8 +164,8 @@ def page_of_a_block(mltx: Program) -> None:
     holds(section.of("note")[0].startswith("Transaction 3 wants 40 and would get short."), f"{section.of('note')}")
     running = "transaction 3 holds nothing; runs withdraw 101 40, 3 steps so far"
     same(section.items("open"), ["transaction 2 holds withdraw 101 30 done", running], "what is open")
-    takes_back = "transaction 2 holds withdraw 101 30 done; takes back withdraw 101 30"
-    same(made.sections[15].items("open"), [takes_back, "transaction 3 holds withdraw 101 10 done"], "in the abort")
+    undoes = "transaction 2 holds withdraw 101 30 done; undoes withdraw 101 30"
+    same(made.sections[15].items("open"), [undoes, "transaction 3 holds withdraw 101 10 done"], "in the abort")
     same(made.sections[22].items("open"), [], "what is open at the end")
     same({it.of("depth")[0] for it in made.sections}, {"Depth of the directory: 0"}, "the depth")
 
@@ -193,22 +193,22 @@ def page_of_lanes(mltx: Program) -> None:
 
 
 @test
-def page_of_a_circle(mltx: Program) -> None:
+def page_of_a_deadlock(mltx: Program) -> None:
     """Two that wait for each other, one whose operation is dropped, and the comments that follow an answer."""
-    told = CIRCLE_TOLD.replace("blocked by 2\n", f"blocked by 2\n# `read 2` is asked {'by 1 ' * 50}\n#after < up 2 3\n")
-    answers, schedule = mltx.file("circle.out", told), mltx.file("circle.txt", CIRCLE)
+    told = DEADLOCK_TOLD.replace("blocked by 2\n", f"blocked by 2\n# `read 2` is asked {'by 1 ' * 50}\n#after < up 2 3\n")
+    answers, schedule = mltx.file("deadlock.out", told), mltx.file("deadlock.txt", DEADLOCK)
     made = page("--program", mltx.path, schedule, answers)
     blocked = [
-        "1 is blocked by 2: read 2 is asked, and on the same object 2 holds up 2 3 done",
-        "2 is blocked by 1: read 1 is asked, and on the same object 1 holds up 1 2 done",
+        "1 is blocked by 2: it wants read 2, and on the same object 2 holds up 2 3 done",
+        "2 is blocked by 1: it wants read 1, and on the same object 1 holds up 1 2 done",
     ]
-    circle = "A circle: 1 → 2 → 1. Each waits for the end of the next one"
-    dropped = "3 is blocked by 1: read 1 is asked, and on the same object 1 holds up 1 2 done. The operation is dropped"
-    waits = {**dict.fromkeys(range(9, 14), blocked[:1]), **dict.fromkeys((14, 15, 17), [*blocked, circle])}
-    same(by_step(made, "waits"), {**waits, 16: [*blocked, dropped, circle]}, "who waits for whom")
+    deadlock = "Deadlock: 1 → 2 → 1. Each waits for the end of the next one"
+    dropped = "3 is blocked by 1: it wants read 1, and on the same object 1 holds up 1 2 done. The operation is dropped"
+    waits = {**dict.fromkeys(range(9, 14), blocked[:1]), **dict.fromkeys((14, 15, 17), [*blocked, deadlock])}
+    same(by_step(made, "waits"), {**waits, 16: [*blocked, dropped, deadlock]}, "who waits for whom")
     reasons = {it.step: it.of("reason") for it in made.sections if it.of("reason")}
     same(reasons, {9: [f"read 2 is asked {'by 1 ' * 49}by 1after < up 2 3"]}, "the reasons")
-    bare = mltx.file("bare.out", CIRCLE_TOLD)
+    bare = mltx.file("bare.out", DEADLOCK_TOLD)
     same(draw(schedule, answers), draw(schedule, bare), "the picture, in which they are not")
     same(made.sections[17].objects(), {"counter 1": ("0", "2"), "counter 2": ("0", "3")}, "the objects")
 
@@ -216,7 +216,7 @@ def page_of_a_circle(mltx: Program) -> None:
 @test
 def page_with_reasons(mltx: Program) -> None:
     """What the program says of each block, wait and deadlock stands at its step, and at no other."""
-    made = page("--program", mltx.path, mltx.file("circle.txt", CIRCLE))
+    made = page("--program", mltx.path, mltx.file("deadlock.txt", DEADLOCK))
     reasons = {it.step: it.of("reason")[0] for it in made.sections if it.of("reason")}
     starts = {
         9: "T1 wants read 2; now it would get is 3. T2 holds up 2 3 (done), uncommitted.",
@@ -286,7 +286,7 @@ def page_of_a_block_that_ends(mltx: Program) -> None:
     """Once the transaction that is in the way has ended, a next step may go on, and then nobody waits."""
     schedule = lines("begin|whole 1 up 1 2|begin|call 2 read 1|step 2 4|commit 1|step 2")
     made = page("--program", mltx.path, mltx.file("ends.txt", schedule))
-    blocked = "2 is blocked by 1: read 1 is asked, and on the same object 1 holds up 1 2 done"
+    blocked = "2 is blocked by 1: it wants read 1, and on the same object 1 holds up 1 2 done"
     gone = "2 was blocked by 1, which has ended: a next step may go on (read 1)"
     same(by_step(made, "waits"), {8: [blocked], 9: [gone]}, "who waits for whom")
     same(made.sections[10].heading, "10. step 2 going", "the last step")
@@ -310,7 +310,7 @@ def page_of_a_trace(mltx: Program) -> None:
     pages = [{}, {}, {ACCOUNT: ("–", "0")}, *[{ACCOUNT: ("0", it)} for it in ("0", "0", "0", "50", "120", "70", "70")]]
     same(objects, [*pages, {ACCOUNT: ("70", "70")}], "the objects")
     same(made.sections[6].heading, "6. op 4 deposit 101 50 done", "a heading")
-    same(made.sections[8].items("open")[0], "transaction 4 holds deposit 101 50 done (taken back)", "what is taken back")
+    same(made.sections[8].items("open")[0], "transaction 4 holds deposit 101 50 done (undone)", "what is undone")
 
 
 @test

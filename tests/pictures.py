@@ -148,10 +148,10 @@ class Wanted:
             self.aborted.append(lane)
             self.standing[lane].clear()
         elif word == "aborting" or kind == "back":
-            self.titles[lane].append(f"takes back {self.standing[lane][-1]}")
+            self.titles[lane].append(f"undo {self.standing[lane][-1]}")
         elif word == "undone":
             self.standing[lane].pop()
-            self.titles[lane].append(f"takes back {self.standing[lane][-1]}")
+            self.titles[lane].append(f"undo {self.standing[lane][-1]}")
         self.steps += word == "going"
         if kind == "back":
             self.standing[lane].pop()
@@ -209,7 +209,7 @@ def picture_of_an_example(mltx: Program, name: str) -> None:
     comments = " ".join(re.findall(r"(?m)^#(.*)", file.read_text())).replace("`", "")
     same(" ".join(seen.said("note")).split(), [*comments.split(), *left_by(end).split()], "the notes")
     same(seen.said("event"), HELD.get(name, []), "what is held by the one waited for")
-    same(seen.count("rect", "undo"), sum(answer == "aborting" for _, answer in told), "what is taken back")
+    same(seen.count("rect", "undo"), sum(answer == "aborting" for _, answer in told), "what is undone")
 
 
 @test(seconds=6)

@@ -33,7 +33,7 @@ SIGNS = {
     "still": "stands still",
     "cancelled": "the operation is dropped",
     "refused": "refused: nothing is done",
-    "undo": "an operation is taken back",
+    "undo": "an operation is undone",
     "committed": "commits: its changes stay",
     "aborted": "ends, and none of its changes stays",
 }

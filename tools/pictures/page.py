@@ -242,7 +242,7 @@ def _transaction(lane: Lane) -> str:
     held = []
     for done in lane.held:
         words = _done(done)
-        held.append(words if done in lane.standing else f"<s>{words}</s> (taken back)")
+        held.append(words if done in lane.standing else f"<s>{words}</s> (undone)")
     parts = [f"holds {', '.join(held)}" if held else "holds nothing", *([_running(lane.bar)] if lane.bar else [])]
     return f"<b>{lane.name()}</b> {'; '.join(parts)}"
 
@@ -252,14 +252,14 @@ def _done(done: Done) -> str:
 
 
 def _running(bar: Bar) -> str:
-    what = f"takes back {_code(bar.text)}" if bar.kind == "undo" else f"runs {_code(bar.text)}"
+    what = f"{'undoes' if bar.kind == 'undo' else 'runs'} {_code(bar.text)}"
     count = len(bar.ticks)
     return f"{what}, {count} step{'s' if count > 1 else ''} so far" if count else what
 
 
 def _wait(wait: Wait) -> str:
     """Who waits for whom, and what of that one is in the way."""
-    what = f"takes back {_code(wait.bar.text)}" if wait.bar.kind == "undo" else _code(wait.bar.text)
+    what = _code(wait.bar.title())
     here = ", ".join(map(_done, wait.here))
     if wait.is_over:
         said = f"was blocked by <b>{wait.target}</b>, which" if wait.kind == "blocked" else (
@@ -267,12 +267,12 @@ def _wait(wait: Wait) -> str:
         )
         said += f" has ended: a next step may go on ({what})"
     elif wait.kind == "blocked":
-        said = f"is blocked by <b>{wait.target}</b>: {what} is asked, and on the same object {wait.target} holds {here}"
+        said = f"is blocked by <b>{wait.target}</b>: it wants {what}, and on the same object {wait.target} holds {here}"
     else:
-        said = f"waits for <b>{wait.target}</b>: {what} asks for a page that is locked by what {wait.target} runs, {here}"
+        said = f"waits for <b>{wait.target}</b>: {what} needs a page that {wait.target} has locked for {here}"
     return f"<b>{wait.number}</b> {said}{'. The operation is dropped' if wait.is_dropped else ''}"
 
 
 def _circle(numbers: list[int]) -> str:
     path = " \u2192 ".join(map(str, [*numbers, numbers[0]]))
-    return f'<span class="circle">A circle: {path}. Each waits for the end of the next one</span>'
+    return f'<span class="circle">Deadlock: {path}. Each waits for the end of the next one</span>'

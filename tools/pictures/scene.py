@@ -33,7 +33,7 @@ class Done(NamedTuple):
 
 @dataclass
 class Bar:
-    """An operation (`operation`), or what takes one back (`undo`), from its first point to its last. It stood still
+    """An operation (`operation`), or the undo of one (`undo`), from its first point to its last. It stood still
     in each of `still`."""
 
     lane: Lane
@@ -46,13 +46,13 @@ class Bar:
     still: list[Pause] = field(default_factory=list)
 
     def title(self) -> str:
-        return f"takes back {self.text}" if self.kind == "undo" else self.text
+        return f"undo {self.text}" if self.kind == "undo" else self.text
 
 
 @dataclass
 class Lane:
     """A transaction. `closed` is the point of its end, `commit` the number under which it committed, `seen` the last
-    point at which something is drawn in it. `standing` is what it did and has not taken back, `held` all that it did."""
+    point at which something is drawn in it. `standing` is what it did and has not undone, `held` all that it did."""
 
     number: int | None
     first: int
@@ -197,7 +197,7 @@ class Scene:
             self._stop(lane.bar, lane.seen)
 
     def _back(self, lane: Lane, moment: Moment) -> None:
-        """A line of a trace: an operation is taken back."""
+        """A line of a trace: an operation is undone."""
         if not lane.standing:
             self._fault(moment, f"transaction {lane.number} has no operation left")
         lane.undoing = True
