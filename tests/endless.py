@@ -16,7 +16,7 @@ from serving import IO, STOPPING
 
 # How many transactions are in what a client sends at once, and how many of these a connection sends: 2 MB of lines.
 BATCH, BATCHES = 500, 100
-MOST_CONNECTIONS = 2**32 - 1
+MOST_CONNECTIONS = 2**63 - 1
 
 
 @contextmanager
@@ -136,7 +136,7 @@ def trace_is_there_while_it_goes(mltx: Program) -> None:
 
 @test(seconds=2)
 def operator_sees_what_is_kept(mltx: Program) -> None:
-    """Nothing, some time after it was done, and the limit is that of the numbers of clients. It ends by `/stop`."""
+    """Nothing, some time after it was done, and the limit is one that nobody reaches. It ends by `/stop`."""
     with mltx.serve("--endless", limit=None, admin=free_address()) as server:
         server.limit = MOST_CONNECTIONS
         same(server.first_line(), listening(server.address))

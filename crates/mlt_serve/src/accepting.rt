@@ -1,6 +1,6 @@
 //! Connections, as they come.
 
-ghost use Rattle.std.specs.Prelude.{◌≡◌, ◌≤◌};
+ghost use Rattle.std.specs.Prelude.{◌≡◌, ◌≤◌, ◌+◌, ◌-◌, ◌^◌, ◌%◌};
 ghost use Rattle.mlt_serve.specs.Endings.{result_of_accepting};
 
 use crate::door::Door;
@@ -22,7 +22,7 @@ const TOO_MANY: &[u8] = b"error 7 TooManyOpen\n";
 /// A connection that was accepted.
 #[derive(Drop)]
 pub(crate) struct Connection {
-    /// Its number among those accepted, from 1.
+    /// Its number, from 1.
     pub(crate) client: u32,
     pub(crate) stream: TcpStream,
     ghost numbered: { 1 ≤ client },
@@ -32,7 +32,7 @@ pub(crate) struct Connection {
 #[derive(Clone, Copy, Debug)]
 pub(crate) struct Accepting {
     /// How many connections were accepted and sent on.
-    pub(crate) connections: u32,
+    pub(crate) connections: u64,
     pub(crate) end: ListenerEnd,
 }
 
@@ -149,8 +149,8 @@ impl<'a, R: Wait + Clock> Acceptor<'a, R> {
     fn accept_all(
         &mut self,
         connections: &Sender<Connection, Global>,
-        limit: u32,
-    ) -> (u32, ListenerEnd)
+        limit: u64,
+    ) -> (u64, ListenerEnd)
         ensures { result.0 ≤ limit }
     {
         for before in 0..limit {
@@ -158,24 +158,31 @@ impl<'a, R: Wait + Clock> Acceptor<'a, R> {
                 Ok(stream) => stream,
                 Err(ended) => return (before, ended),
             };
-            let client = before + 1;
+            let client = number_of(before);
             self.door.count_accepted();
             let sent = connections.send(self.rt, Connection { client, stream });
             if sent.is_err() {
                 return (before, ListenerEnd::Memory);
             }
-            self.warn(client, limit);
+            self.warn(before + 1, limit);
         }
         (limit, ListenerEnd::Limit(limit))
     }
 
     /// Tells once nine in ten of the connections are taken.
-    fn warn(&self, client: u32, limit: u32) {
-        if limit >= 10 && client == limit - limit / 10 {
-            let note = Note::FewConnectionsLeft(u64::from(client), u64::from(limit));
-            self.notes.tell(self.rt, note);
+    fn warn(&self, taken: u64, limit: u64) {
+        if limit >= 10 && taken == limit - limit / 10 {
+            self.notes
+                .tell(self.rt, Note::FewConnectionsLeft(taken, limit));
         }
     }
+}
+
+/// The number of a connection before which so many were accepted: 1, 2, 3 and so on, and 1 again after 4,294,967,295.
+fn number_of(before: u64) -> u32
+    ensures { result ≡ before % (2 ^ 32 - 1) + 1 }
+{
+    (before % u64::from(u32::MAX)) as u32 + 1
 }
 
 /// Tells a client that it is not served, as far as that can be told at once.
@@ -186,7 +193,7 @@ fn turn_away(stream: TcpStream) {
     let _ = stream.shutdown(Shutdown::Write);
 }
 
-/// Accepts as many connections as the limit says, numbers them from 1, and sends each on as it comes. It accepts no more once an
+/// Accepts as many connections as the limit says, numbers them, and sends each on as it comes. It accepts no more once an
 /// accept has failed by the listener, a sending was refused, a session was refused a growth, or the server is to stop. Then clients
 /// are refused from now on, and a log message says why. What it has accepted it has sent on, unless that was refused.
 pub(crate) fn accept_all<R: Wait + Clock>(
@@ -195,7 +202,7 @@ pub(crate) fn accept_all<R: Wait + Clock>(
     notes: &Notes,
     connections: Sender<Connection, Global>,
     most_inside: Option<u64>,
-    limit: u32,
+    limit: u64,
 ) -> Accepting
     ensures { result.connections ≤ limit }
 {

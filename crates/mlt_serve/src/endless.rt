@@ -31,7 +31,7 @@ pub struct ServedEndless<P: Pseudo> {
     /// The manager. What it did was taken out of it.
     pub manager: Manager<P>,
     /// How many connections were accepted, and served.
-    pub connections: u32,
+    pub connections: u64,
     /// Why the trace was not written whole, if so.
     pub trace_failure: Option<io::Error>,
 }
@@ -42,7 +42,7 @@ pub struct ServedEndless<P: Pseudo> {
 /// As those of `tally_of`.
 fn served_of<P: Pseudo + Drop>(
     ended: Ended<P, Tally>,
-    limit: u32,
+    limit: u64,
 ) -> Result<ServedEndless<P>, Refusal>
     requires clients { ended.gathered.is_short ≡ false
         → AreOfClients ended.gathered.last ended.gathered.outcomes.told.items }
@@ -89,8 +89,6 @@ fn served_of<P: Pseudo + Drop>(
 /// At the end as many transactions were told begun as the manager has begun, and as many told committed as it has committed; and the
 /// manager's history, which clauses know whole, has each begin, each operation with its reply and each commit that clients were told.
 /// The outcomes of the tally are those of all sessions, as clauses see them.
-///
-/// There are no more connections than the options say, which is at most 4,294,967,295, as a client's number has 32 bits.
 ///
 /// # Errors
 /// `Io` and `OutOfMemory`, as `serve_on`. `Audit`, where neither came, and the counts are not those of the manager or not all connections

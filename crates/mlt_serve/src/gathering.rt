@@ -118,7 +118,7 @@ impl<K: Receipts + Drop> Gathered<K> {
     /// # Errors
     /// Why the accepting ended by a fault; else `OutOfMemory`, where a growth was refused; else `Audit`, where not as many connections
     /// were served as were accepted, or more than the limit says.
-    pub(crate) fn served(&self, accepting: Accepting, limit: u32) -> Result<u32, Refusal>
+    pub(crate) fn served(&self, accepting: Accepting, limit: u64) -> Result<u64, Refusal>
         ensures accepted { IfOk result (λ count. count ≡ accepting.connections) }
         ensures served { IfOk result (λ count. self.now.connections ≡ count) }
         ensures few { IfOk result (λ count. count ≤ limit) }
@@ -136,7 +136,7 @@ impl<K: Receipts + Drop> Gathered<K> {
             return Err(Refusal::OutOfMemory);
         }
         let count = accepting.connections;
-        if count > limit || self.connections != u64::from(count) {
+        if count > limit || self.connections != count {
             return Err(Refusal::Audit);
         }
         Ok(count)

@@ -58,7 +58,7 @@ impl<'a, 'b, 'c, P: Pseudo, L: MadeWith<P>, R: Wait + Clock> Operator<'a, 'b, 'c
             session_threads: running.load(Ordering::SeqCst),
             queued: door.queued(),
             connections: door.accepted(),
-            limit: u64::from(options.connections),
+            limit: options.connections,
             open: totals.open(),
             begun: totals.begun,
             operations: totals.operations,

@@ -10,8 +10,8 @@ pub struct ServeOptions {
     pub limits: Limits,
     /// How many session threads there are, 1 to 64.
     pub sessions: usize,
-    /// How many connections are accepted in all, from 1; a connection is numbered by 32 bits.
-    pub connections: u32,
+    /// How many connections are accepted in all, from 1.
+    pub connections: u64,
     /// How often an operation may be told to wait, or that it is blocked, 1 to 1,000,000. Then it is given up.
     pub tries: u64,
     /// For how long a connection may give nothing to read, or take nothing that is written, if that has an end.

@@ -13,14 +13,14 @@ use mlt_types::{Pseudo, Refusal};
 use std::alloc::Global;
 
 /// Whether the outcome is that of a connection up to the limit.
-fn is_of_client(outcome: &Outcome, limit: u32) -> bool
+fn is_of_client(outcome: &Outcome, limit: u64) -> bool
     ensures { IsTrue result ↔ IsOfClient limit outcome.now }
 {
-    1 <= outcome.client && outcome.client <= limit
+    1 <= outcome.client && u64::from(outcome.client) <= limit
 }
 
 /// Whether each outcome is.
-fn are_of_clients(outcomes: &[Outcome], limit: u32) -> bool
+fn are_of_clients(outcomes: &[Outcome], limit: u64) -> bool
     ensures { IsTrue result ↔ AreOfClients limit outcomes.now }
 {
     for outcome in outcomes {
@@ -49,7 +49,7 @@ pub(crate) fn outcomes_of<P: Pseudo>(
     alloc: Global,
     accepting: Accepting,
     gathered: Gathered<Vec<Outcome>>,
-    limit: u32,
+    limit: u64,
     manager: &Manager<P>,
 ) -> Result<Outcomes, Refusal>
     requires { manager.now.shared.history.handed ≡ [] }

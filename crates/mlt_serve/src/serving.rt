@@ -40,7 +40,7 @@ pub struct Served<P: Pseudo> {
     /// The manager, with the history of all that was done.
     pub manager: Manager<P>,
     /// How many connections were accepted, and served.
-    pub connections: u32,
+    pub connections: u64,
     /// Why the trace was not written whole, if so.
     pub trace_failure: Option<io::Error>,
 }
@@ -141,7 +141,7 @@ where
 fn served_of<P: Pseudo + Drop>(
     alloc: Global,
     ended: Ended<P, Vec<Outcome>>,
-    limit: u32,
+    limit: u64,
 ) -> Result<Served<P>, Refusal>
     requires { ended.manager.shared.history.handed ≡ [] }
     ensures manager { IfOk result (λ got. got.manager ≡ ended.manager) }
@@ -175,9 +175,9 @@ fn served_of<P: Pseudo + Drop>(
 
 /// Serves connections on a new manager, with these options: accepts as many as they say, or fewer where the server is to end before,
 /// and hands them to the session threads by a bounded channel. Connections have the numbers 1, 2, 3 in the order in which they are
-/// accepted; each is served by one session, whose transactions have that number as their client. An operation that waits or is
-/// blocked gets `GaveUp` once its tries are used up, or it has waited for too long. The outcomes stand by client and then by
-/// number.
+/// accepted, and 1 again after 4,294,967,295; each is served by one session, whose transactions have that number as their client. An
+/// operation that waits or is blocked gets `GaveUp` once its tries are used up, or it has waited for too long. The outcomes stand by
+/// client and then by number.
 ///
 /// A connection that gives nothing to read, or takes nothing that is written, for the idle time, if there is one, ends as by a
 /// fault of it. An operation that waits is not idle. Where a session ends by a fault of its connection or by a line that is too

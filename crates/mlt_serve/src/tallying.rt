@@ -18,7 +18,7 @@ use mlt_types::{Pseudo, Refusal};
 pub(crate) fn tally_of<P: Pseudo>(
     accepting: Accepting,
     gathered: Gathered<Tally>,
-    limit: u32,
+    limit: u64,
     manager: &Manager<P>,
 ) -> Result<Tally, Refusal>
     requires clients { gathered.is_short ≡ false
@@ -38,7 +38,7 @@ pub(crate) fn tally_of<P: Pseudo>(
         (refusal ≡ Refusal.Io) ⊎ (refusal ≡ Refusal.OutOfMemory) ⊎ (refusal ≡ Refusal.Audit)) }
 {
     let accepted = gathered.served(accepting, limit)?;
-    if gathered.last > accepted {
+    if u64::from(gathered.last) > accepted {
         return Err(Refusal::Audit);
     }
     let tally = gathered.outcomes;

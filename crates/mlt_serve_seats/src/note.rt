@@ -6,7 +6,7 @@ use std::{fmt, io};
 #[derive(Clone, Copy, Debug)]
 pub enum ListenerEnd {
     /// As many were taken as may be.
-    Limit(u32),
+    Limit(u64),
     /// An accept failed by a fault of the listener, of which the system says this.
     Accept(io::Error),
     /// A session was refused memory, or the connection that was to be handed on.

@@ -307,16 +307,20 @@ fn run_server<P: Pseudo + Drop + Send, T: Threads + Wait + Clock + Sync + Send +
     }
 }
 
+// How many connections a server without an end accepts, as many as it has numbers of transactions.
+const MOST_CONNECTIONS: u64 = (1 << 63) - 1;
+
 fn serve_options(serve: &Serve) -> ServeOptions
     ensures { result.sessions ≡ serve.now.sessions }
 {
+    let (limits, connections) = match serve.connections {
+        Connections::Limit(limit) => (Limits::program(), u64::from(limit)),
+        Connections::Endless => (Limits::endless(), MOST_CONNECTIONS),
+    };
     ServeOptions {
-        limits: Limits::program(),
+        limits,
         sessions: serve.sessions,
-        connections: match serve.connections {
-            Connections::Limit(limit) => limit,
-            Connections::Endless => u32::MAX,
-        },
+        connections,
         tries: serve.tries,
         idle: seconds(serve.times.idle),
         wait: seconds(serve.times.wait),
@@ -334,7 +338,7 @@ fn seconds(count: u64) -> Option<Duration> {
 }
 
 // Writes how many connections were served.
-fn write_served(rt: &HostRuntime, connections: u32) -> Result<(), Failure> {
+fn write_served(rt: &HostRuntime, connections: u64) -> Result<(), Failure> {
     let text = match format!(in rt.alloc(); "served {connections}\n") {
         Ok(text) => text,
         Err(refused) => return Err(Failure::from(Refusal::from(refused))),
