@@ -163,6 +163,7 @@ def cut_for(client: int, why: str) -> str:
 
 # Why a session is ended by the server.
 IDLE, LONG_LINE, MANY_BYTES = "idle for too long", "line too long", "too many bytes received"
+IS_HTTP = "HTTP request received"
 NO_MEMORY, BROKEN, OPEN_LONG = "out of memory", "connection lost", "transaction open for too long"
 BY_OPERATOR, STOPS = "ended by the operator", "the server is shutting down"
 

@@ -8,9 +8,9 @@ import threading
 import time
 from collections.abc import Iterable
 
-from harness import BROKEN, IDLE, LONG_LINE, MANY_BYTES, MOST_BYTES, PATIENCE, ROOT, Peer, Program, Text, as_bytes, command
-from harness import cut_for, each, expect, holds, in_any_order, lines, listening, match, may_break_off, readable, same, takes
-from harness import test
+from harness import BROKEN, IDLE, IS_HTTP, LONG_LINE, MANY_BYTES, MOST_BYTES, PATIENCE, ROOT, Peer, Program, Text, as_bytes
+from harness import command, cut_for, each, expect, holds, in_any_order, lines, listening, match, may_break_off, readable, same
+from harness import takes, test
 
 # How long to listen for an answer that must not come, in seconds.
 SILENCE = 0.2
@@ -479,6 +479,42 @@ def client_that_sends_for_ever_is_left(mltx: Program, case: tuple[str, float]) -
         same(server.talk("begin\nquit\n"), b"begun 1\nbye\n", "the next client")
         expect(server.end(), out="served 2\n")
         sending.join()
+
+
+# Lines that begin no session, with others behind them, and lines like them that do.
+CALLS = "begin\nup 7 666\ncommit\nquit\n"
+OF_HTTP = {
+    "request-of-a-web-page": "POST / HTTP/1.1\r\nHost: 127.0.0.1:7000\r\nContent-Length: 27\r\n\r\n" + CALLS,
+    "first-line-that-ends-in-http-1-0": "up 7 1 HTTP/1.0\n" + CALLS,
+    "first-line-that-is-http-1-1-alone": " HTTP/1.1\r\n" + CALLS,
+}
+LIKE_HTTP = "POST /HTTP/1.1", "GET / HTTP/1.2", "GET / HTTP/2", "GET / http/1.1", "GET / HTTP/1.1 ", "GET / HTTP/1.1\r\r"
+
+
+@each(OF_HTTP, seconds=1)
+def first_line_of_http(mltx: Program, sent: str) -> None:
+    """It is not answered, nor are lines behind it, and nothing of them is done: also where it comes in three pieces."""
+    with mltx.serve(limit=3) as server:
+        same(server.talk(sent), b"", f"the answers to {sent!r}")
+        with server.connect() as peer:
+            for piece in (sent[:3], sent[3:8], sent[8:]):
+                peer.send(piece)
+                time.sleep(0.1)
+            peer.hear()
+            same(peer.heard, b"", f"the answers to {sent!r} in pieces")
+        same(server.talk("begin\nread 7\n"), b"begun 1\nis 0\n", "the next client")
+        expect(server.end(), out="served 3\n", notes=[cut_for(1, IS_HTTP), cut_for(2, IS_HTTP)])
+
+
+@test
+def first_line_like_that_of_http(mltx: Program) -> None:
+    """It is a faulty line, as a line of HTTP is that is not the first one."""
+    texts = [*(line + "\n" for line in LIKE_HTTP), "foo\nPOST / HTTP/1.1\r\n"]
+    with mltx.serve(limit=len(texts)) as server:
+        for number, text in enumerate(texts, 1):
+            told = "error 10 ScriptFault\n" * text.count("\n") + f"begun {number}\nbye\n"
+            same(server.talk(text + "begin\nquit\n"), told.encode(), f"the answers to {text!r}")
+        expect(server.end(), out=f"served {len(texts)}\n")
 
 
 @test(seconds=1)

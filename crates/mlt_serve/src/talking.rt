@@ -39,6 +39,8 @@ pub(crate) fn talk<P: Pseudo, L: MadeWith<P>, R: Wait + Clock, K: Receipts + Dro
 fn cut_of(ended: Result<Summary, Refusal>, failure: Option<Failure>) -> Option<Cut>
     ensures memory { ended ≡ Err Refusal.OutOfMemory → result ≡ Some Cut.Memory }
     ensures line { ended ≡ Err Refusal.LineTooLong → result ≡ Some Cut.Line }
+    ensures http { ended ≡ Err Refusal.Io → failure ≡ Some Failure.Http
+        → result ≡ Some Cut.Http }
     ensures none { IsOk ended → result ≡ None }
 {
     match (ended, failure) {
@@ -46,6 +48,7 @@ fn cut_of(ended: Result<Summary, Refusal>, failure: Option<Failure>) -> Option<C
         (Err(Refusal::OutOfMemory), _) => Some(Cut::Memory),
         (Err(Refusal::LineTooLong), _) => Some(Cut::Line),
         (Err(_), Some(Failure::Idle)) => Some(Cut::Idle),
+        (Err(_), Some(Failure::Http)) => Some(Cut::Http),
         (Err(_), Some(Failure::Broken)) => Some(Cut::Connection),
         (Err(_), None) => Some(Cut::Bytes),
     }

@@ -3,8 +3,10 @@
 ghost use Rattle.std.specs.Prelude.{◌≡◌, IfSome};
 ghost use Rattle.std.specs.Io.{ReadsAtMost, WritesAtMost};
 
+use crate::first_line::ends_as_http;
 use crate::spin_policy::SpinPolicy;
 use crate::tuning::READ_SPINS;
+use mlt_text_words::{MOST_LINE_BYTES, find_lf};
 use std::cell::Cell;
 use std::hint::spin_loop;
 use std::io;
@@ -17,6 +19,8 @@ use std::time::{Clock, Duration, Instant};
 pub enum Failure {
     /// Nothing came or could go for the idle time.
     Idle,
+    /// The first line was that of an HTTP request.
+    Http,
     /// Any other way.
     Broken,
 }
@@ -34,6 +38,8 @@ pub struct Socket<'a, C: Clock> {
     idle: Option<Duration>,
     /// Whether a read or a write that can't go on at once waits until it can.
     waits: Cell<bool>,
+    /// Whether its first line has come.
+    has_begun: Cell<bool>,
     /// How the last one that failed did.
     failed: Cell<Option<Failure>>,
 }
@@ -57,6 +63,7 @@ impl<'a, C: Clock> Socket<'a, C> {
             spin_policy,
             idle,
             waits: Cell::new(true),
+            has_begun: Cell::new(false),
             failed: Cell::new(None),
         }
     }
@@ -110,12 +117,37 @@ impl<'a, C: Clock> Socket<'a, C> {
         None
     }
 
-    /// Reads bytes, once there are some.
+    /// Reads bytes, once there are some. At first it waits for a whole line, and fails where that is one of an HTTP request.
     pub fn read(&self, buf: &mut [u8]) -> io::Result<usize>
         ensures { ReadsAtMost result buf.new }
     {
-        let read = self.read_some(buf);
+        let read = if self.has_begun.replace(true) {
+            self.read_some(buf)
+        } else {
+            self.read_first(buf)
+        };
         self.noted(read)
+    }
+
+    /// Reads until an LF has come, or more bytes than a line may have, or the end of the input.
+    fn read_first(&self, buf: &mut [u8]) -> io::Result<usize>
+        ensures { ReadsAtMost result buf.new }
+    {
+        let mut held = 0;
+        for _ in 0..=MOST_LINE_BYTES {
+            let count = self.read_some(&mut buf[held..])?;
+            held += count;
+            if let Some(end) = find_lf(&buf[..held]) {
+                if ends_as_http(&buf[..end]) {
+                    return Err(io::Error::from(ErrorKind::InvalidData));
+                }
+                break;
+            }
+            if count == 0 || held > MOST_LINE_BYTES {
+                break;
+            }
+        }
+        Ok(held)
     }
 
     fn read_some(&self, buf: &mut [u8]) -> io::Result<usize>
@@ -228,6 +260,7 @@ impl<'a, C: Clock> Socket<'a, C> {
 fn failure_of(kind: ErrorKind) -> Failure {
     match kind {
         ErrorKind::WouldBlock | ErrorKind::TimedOut => Failure::Idle,
+        ErrorKind::InvalidData => Failure::Http,
         _ => Failure::Broken,
     }
 }

@@ -22,6 +22,8 @@ pub enum Cut {
     Idle,
     /// A line had more than 200 bytes.
     Line,
+    /// Its first line was that of an HTTP request.
+    Http,
     /// It had more bytes than a session may have.
     Bytes,
     /// It was refused memory.
@@ -77,6 +79,7 @@ impl fmt::Display for Cut {
         match self {
             Cut::Idle => write!(f, "idle for too long"),
             Cut::Line => write!(f, "line too long"),
+            Cut::Http => write!(f, "HTTP request received"),
             Cut::Bytes => write!(f, "too many bytes received"),
             Cut::Memory => write!(f, "out of memory"),
             Cut::Connection => write!(f, "connection lost"),
