@@ -22,8 +22,8 @@ from pathlib import Path
 from typing import Any, TypeVar
 from unittest import mock
 
-from harness import BY_OPERATOR, PATIENCE, ROOT, Program, Server, comes_to_be, cut_for, each, expect, free_address, holds, lines
-from harness import match, same, test
+from harness import BROKEN, BY_OPERATOR, PATIENCE, ROOT, Program, Server, comes_to_be, cut_for, each, expect, free_address, holds
+from harness import lines, match, same, test
 
 FOLDER = ROOT / "clients/python"
 sys.path.insert(0, str(FOLDER))
@@ -531,7 +531,9 @@ def sessions_that_are_all_taken(mltx: Program) -> None:
         holder.close()
         with Client(*server.address, session_timeout=None) as client:
             same(client.run(lambda tx: tx.read(7)), 1, "the counter")
-        expect(server.end(), out="served 6\n")
+        ended = server.end()
+        expect(ended, out="served 6\n", notes=ended.notes)
+        holds(set(ended.notes) <= {cut_for(number, BROKEN) for number in range(2, 6)}, f"{ended.notes}")
 
 
 @test(seconds=3)

@@ -13,8 +13,8 @@ from collections.abc import Callable, Iterable, Iterator
 from contextlib import contextmanager
 
 from harness import BROKEN, IDLE, LONG_LINE, MANY_BYTES, OPEN_LONG, PATIENCE, STOPS, Address, Failed, Peer, Program, Server
-from harness import comes_to_be, cut_for, each, expect, free_address, holds, lines, listening, match, may_break_off, notes_apart
-from harness import of_system, readable, same, takes, test
+from harness import comes_to_be, cut_for, each, expect, free_address, holds, in_any_order, lines, listening, match, may_break_off
+from harness import notes_apart, of_system, readable, same, takes, test
 from sessions import SILENCE, break_off, says_nothing, send_and_hear_nothing
 from waits import processor_seconds
 
@@ -336,6 +336,48 @@ def operation_waits_for_ever(mltx: Program, options: tuple[object, ...]) -> None
 # All sessions are taken.
 
 
+@test(seconds=2)
+def client_that_leaves_before_it_is_served(mltx: Program) -> None:
+    """What it sent is not done, whether it closed its connection or broke it off. One that has just ended its input is served."""
+    with mltx.serve("--sessions", 1, limit=5) as server, server.connect() as holder:
+        says(holder, "begin", "begun 1")
+        closed, reset = server.connect(), server.connect()
+        for number, peer in enumerate((closed, reset), 7):
+            peer.send(f"begin\nup {number} 1\ncommit\n")
+        time.sleep(1.2)
+        closed.socket.close()
+        break_off(reset)
+        with server.connect() as late:
+            late.send(lines("begin|up 9 1|commit"))
+            late.end()
+            says(holder, "quit", "bye")
+            holder.socket.close()
+            same(late.rest(), lines("begun 2|done|committed 1").encode(), "the client that ended its input")
+        told = lines("begun 3|is 0|is 0|is 1").encode()
+        same(server.talk(lines("begin|read 7|read 8|read 9")), told, "a client after those")
+        expect(server.end(), out="served 5\n", notes=[cut_for(2, BROKEN), cut_for(3, BROKEN)])
+
+
+@test(seconds=1)
+def clients_that_wait_for_a_session_as_the_server_stops(mltx: Program) -> None:
+    """Nothing that they sent is done, and they hear the end of the connection."""
+    trace = mltx.folder / "trace"
+    with until_eof(mltx, "--sessions", 1, "--trace", trace) as server, server.connect() as holder:
+        says(holder, "begin", "begun 1")
+        queued = [server.connect() for _ in range(2)]
+        for peer in queued:
+            peer.send("begin\nup 7 1\ncommit\n")
+        time.sleep(0.3)
+        server.end_input()
+        ended = server.end()
+        for peer in (holder, *queued):
+            peer.hear()
+            same(peer.heard, b"", "a client of a server that stopped")
+    notes = sorted((STOPPING, cut_for(2, STOPS), cut_for(3, STOPS)))
+    expect(in_any_order(ended), out="served 3\n", notes=notes)
+    same(trace.read_text(), lines("begin 1|abort 1"), "the trace")
+
+
 @test(seconds=1)
 def client_is_refused_while_all_sessions_are_taken(mltx: Program) -> None:
     """With `--full refuse` it hears why, and the end, at once, whatever it sent. It counts for nothing, and has no number."""
@@ -395,7 +437,9 @@ def sessions_that_get_no_thread(mltx: Program) -> None:
                 time.sleep(SILENCE)
                 same(len(readable(peers)), ran[-1], f"how many sessions answer, where {server.noted[-1]}")
             for peer in peers:
-                peer.say_all("quit\n")
+                peer.send("quit\n")
+                peer.hear()
+                peer.socket.close()
             for _ in range(2):
                 holds(server.talk("begin\nquit\n").endswith(b"\nbye\n"), "a later client")
             expect(server.end(said=""), out="served 9\n", notes=server.noted, what=f"without thread {number}")

@@ -476,7 +476,8 @@ def client_that_sends_for_ever_is_left(mltx: Program, case: tuple[str, float]) -
         same(peer.ask("quit"), "bye", "quit")
         sending = threading.Thread(target=send_for_ever, args=(peer, *case))
         sending.start()
-        same(server.talk("begin\nquit\n"), b"begun 1\nbye\n", "the next client")
+        with server.connect() as other:
+            same([other.ask("begin"), other.ask("quit")], ["begun 1", "bye"], "the next client")
         expect(server.end(), out="served 2\n")
         sending.join()
 

@@ -14,7 +14,7 @@ use std::io::Write;
 use std::net::{Shutdown, TcpStream};
 use std::sync::Wait;
 use std::thread;
-use std::time::{Clock, Duration};
+use std::time::{Clock, Duration, Instant};
 
 /// What a client hears that is refused since all session threads serve others.
 const TOO_MANY: &[u8] = b"error 7 TooManyOpen\n";
@@ -25,6 +25,8 @@ pub(crate) struct Connection {
     /// Its number, from 1.
     pub(crate) client: u32,
     pub(crate) stream: TcpStream,
+    /// When it was accepted, if a clock could say so.
+    pub(crate) since: Option<Instant>,
     ghost numbered: { 1 ≤ client },
 }
 
@@ -160,7 +162,12 @@ impl<'a, R: Wait + Clock> Acceptor<'a, R> {
             };
             let client = number_of(before);
             self.door.count_accepted();
-            let sent = connections.send(self.rt, Connection { client, stream });
+            let connection = Connection {
+                client,
+                stream,
+                since: Instant::now(self.rt).ok(),
+            };
+            let sent = connections.send(self.rt, connection);
             if sent.is_err() {
                 return (before, ListenerEnd::Memory);
             }

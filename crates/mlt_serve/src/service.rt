@@ -1,14 +1,17 @@
 //! What the sessions of a server have in common.
 
-ghost use Rattle.std.specs.Prelude.{◌≡◌, true};
+ghost use Rattle.std.specs.Prelude.{◌≡◌, None, Some, false, true};
 
 use crate::door::Door;
 use crate::options::ServeOptions;
+use crate::tuning::QUEUE_SECONDS;
 use mlt_serve_connections::{AdmissionQueue, SpinPolicy};
-use mlt_serve_seats::{Notes, Seats};
+use mlt_serve_seats::{Cut, Notes, Seats, is_broken, is_closed};
 use mlt_types::Pseudo;
 use mlt_work_desk::{MadeWith, Shared};
+use std::net::TcpStream;
 use std::sync::atomic::AtomicU64;
+use std::time::{Clock, Duration, Instant};
 
 /// What all sessions work with.
 #[derive(Drop)]
@@ -27,4 +30,42 @@ pub(crate) struct Service<'a, P: Pseudo, L: MadeWith<P>> {
     /// Whether the history is taken out of the manager as the server goes, and outcomes are not kept.
     pub(crate) is_endless: bool,
     ghost endless: { is_endless ≡ true → L.hands_out ≡ true },
+}
+
+impl<P: Pseudo, L: MadeWith<P>> Service<'_, P, L> {
+    /// Why a connection that was accepted then is not to be served any more, if so.
+    pub(crate) fn cut_in_queue<C: Clock>(
+        &self,
+        clock: &C,
+        stream: &TcpStream,
+        since: Option<Instant>,
+    ) -> Option<Cut> {
+        let is_gone = is_broken(stream) || (has_queued_long(clock, since) && is_closed(stream));
+        cut_of_queued(self.door.stops(), is_gone)
+    }
+}
+
+/// Why a connection in the queue is cut, if it is, where the server is to stop or not, and its client is gone or not.
+fn cut_of_queued(stops: bool, is_gone: bool) -> Option<Cut>
+    ensures stop { stops ≡ true → result ≡ Some Cut.Stop }
+    ensures gone { stops ≡ false → is_gone ≡ true → result ≡ Some Cut.Connection }
+    ensures none { stops ≡ false → is_gone ≡ false → result ≡ None }
+{
+    if stops {
+        Some(Cut::Stop)
+    } else if is_gone {
+        Some(Cut::Connection)
+    } else {
+        None
+    }
+}
+
+/// Whether a connection that was accepted then has queued for so long that its client, if it has closed its side, counts as gone.
+fn has_queued_long<C: Clock>(clock: &C, since: Option<Instant>) -> bool {
+    match (since, Instant::now(clock).ok()) {
+        (Some(since), Some(now)) => {
+            now.saturating_duration_since(since) >= Duration::from_secs(QUEUE_SECONDS)
+        }
+        _ => false,
+    }
 }

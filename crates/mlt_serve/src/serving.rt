@@ -181,7 +181,8 @@ fn served_of<P: Pseudo + Drop>(
 ///
 /// A connection that gives nothing to read, or takes nothing that is written, for the idle time, if there is one, ends as by a
 /// fault of it. An operation that waits is not idle. Where a session ends by a fault of its connection or by a line that is too
-/// long, the others go on. After a session at most a second is spent on reading away what its client still sends.
+/// long, the others go on. One whose client leaves before it is served, or that is not served yet as the server is to end, is closed,
+/// and counts as served. After a session at most a second is spent on reading away what its client still sends.
 ///
 /// Once no more connections are accepted the listener is shut down, so that clients are refused. Where the server is to end, sessions
 /// hear nothing more: they answer what has come, and those that are not done after some seconds are cut. What else happens is

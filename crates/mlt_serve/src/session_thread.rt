@@ -126,7 +126,8 @@ impl<P: Pseudo, L: MadeWith<P>, K: Receipts + Drop> SessionThread<P, L, K> {
         cut
     }
 
-    /// Serves a connection at its seat, and then closes it with the client. It answers whether memory was refused.
+    /// Serves a connection at its seat, and then closes it with the client. One that was cut in the queue counts as served. It answers
+    /// whether memory was refused.
     fn seat<R: Wait + Clock>(
         &mut self,
         rt: &R,
@@ -141,7 +142,16 @@ impl<P: Pseudo, L: MadeWith<P>, K: Receipts + Drop> SessionThread<P, L, K> {
         ensures short { self.new.is_short ≡ false
             → (self.old.is_short ≡ false) × (result ≡ false) }
     {
-        let Connection { client, stream } = connection;
+        let Connection {
+            client,
+            stream,
+            since,
+        } = connection;
+        if let Some(cut) = service.cut_in_queue(rt, &stream, since) {
+            self.connections = self.connections.saturating_add(1);
+            service.notes.tell(rt, Note::SessionCut(client, cut));
+            return false;
+        }
         let Ok((stream, handle)) = shared(alloc, stream) else {
             self.is_short = true;
             return true;

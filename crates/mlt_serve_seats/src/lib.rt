@@ -7,6 +7,7 @@
 
 mod note;
 mod notes;
+mod presence;
 mod seat;
 mod session;
 mod sitting;
@@ -15,6 +16,7 @@ mod writing;
 
 pub use note::{Cut, ListenerEnd, Note};
 pub use notes::{Notes, Outlet};
+pub use presence::{is_broken, is_closed};
 pub use seat::{Patience, Seat, Seats, SessionState};
 pub use session::{Activity, OpenTransaction, WaitState};
 pub use sitting::Sitting;

@@ -1,6 +1,7 @@
 //! Seats: what others see of a session, and how they end it.
 
 use crate::note::Cut;
+use crate::presence::is_broken;
 use crate::session::Activity;
 use crate::totals::Totals;
 use mlt_types::TxId;
@@ -238,11 +239,6 @@ fn has_passed(limit: Option<Duration>, since: Option<Instant>, now: Option<Insta
         (Some(limit), Some(since), Some(now)) => now.saturating_duration_since(since) >= limit,
         _ => false,
     }
-}
-
-/// Whether the connection was reset. It takes no bytes.
-fn is_broken(stream: &TcpStream) -> bool {
-    matches!(stream.take_error(), Ok(Some(_)) | Err(_))
 }
 
 /// The seats of all sessions.
