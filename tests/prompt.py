@@ -14,8 +14,8 @@ from contextlib import contextmanager
 from pathlib import Path
 
 from client import FOLDER, SILENCE, Relay, connected, shown_in
-from harness import PATIENCE, Address, Failed, Program, Ran, Server, each, expect, free_address, holds, lines, match, readable
-from harness import same, test
+from harness import BROKEN, PATIENCE, Address, Failed, Program, Ran, Server, cut_for, each, expect, free_address, holds, lines
+from harness import match, readable, same, test
 
 import mltx_shell
 from mltx import Client
@@ -396,7 +396,9 @@ def interrupted_while_an_operation_waits(mltx: Program) -> None:
             it.ask("commit", "committed 2\nmltx (committed 2)> ")
             it.ask("quit", "\n")
             same(it.process.wait(PATIENCE), 0, "the status")
-        expect(server.end(), out="served 3\n")
+        ended = server.end()
+        expect(ended, out="served 3\n", notes=ended.notes)
+        holds(set(ended.notes) <= {cut_for(2, BROKEN)}, f"{ended.notes}")
     expect(mltx.check(trace), out=lines("serial 1|serial 3|counter 7 1"), what="the check of the trace")
 
 

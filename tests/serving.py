@@ -252,8 +252,15 @@ def client_that_waits_in_a_transaction_that_is_open_long_is_cut(mltx: Program) -
         expect(server.end(), out="served 3\n", notes=[cut_for(2, OPEN_LONG)])
 
 
-@test(seconds=2)
-def client_that_is_reset_while_it_waits_is_found(mltx: Program) -> None:
+LEAVES: dict[str, Callable[[Peer], None]] = {
+    "reset": break_off,
+    "closed": lambda peer: peer.socket.close(),
+    "closed-for-sending": Peer.end,
+}
+
+
+@each({f"client-whose-connection-is-{name}-while-it-waits-is-found": leaves for name, leaves in LEAVES.items()}, seconds=2)
+def client_that_leaves_while_it_waits_is_found(mltx: Program, leaves: Callable[[Peer], None]) -> None:
     """Within a second or so what it did is taken back, and its session serves another, though nobody ends what it waits for."""
     with mltx.serve("--sessions", 2, limit=3) as server, server.connect() as holder:
         says(holder, "begin", "begun 1", "up 1 1", "done")
@@ -261,12 +268,29 @@ def client_that_is_reset_while_it_waits_is_found(mltx: Program) -> None:
             says(waiter, "begin", "begun 2", "up 2 1", "done")
             waiter.send("read 1\n")
             says_nothing(waiter, "the counter is held")
-            break_off(waiter)
-        with takes(0, 1 + SLACK, "a client that was reset while it waited was found"), server.connect() as other:
-            other.socket.settimeout(PATIENCE)
-            says(other, "begin", "begun 3", "read 2", "is 0", "quit", "bye")
+            leaves(waiter)
+            with takes(0, 1 + SLACK, "a client that left while it waited was found"), server.connect() as other:
+                other.socket.settimeout(PATIENCE)
+                says(other, "begin", "begun 3", "read 2", "is 0", "quit", "bye")
         says(holder, "up 1 1", "done", "commit", "committed 1", "quit", "bye")
         expect(server.end(), out="served 3\n", notes=[cut_for(2, BROKEN)])
+
+
+@test(seconds=2)
+def client_that_closes_behind_its_commit_while_it_waits_is_served(mltx: Program) -> None:
+    """Its commit, which nobody has read as it closes, is done once its operation is."""
+    with mltx.serve("--sessions", 2, limit=3) as server, server.connect() as holder:
+        says(holder, "begin", "begun 1", "up 1 1", "done")
+        with server.connect() as waiter:
+            says(waiter, "begin", "begun 2", "up 2 1", "done")
+            waiter.send("read 1\n")
+            says_nothing(waiter, "the counter is held")
+            waiter.send("commit\n")
+        time.sleep(1)
+        says(holder, "commit", "committed 1", "quit", "bye")
+        same(server.talk("begin\nread 2\n"), b"begun 3\nis 1\n", "another client")
+        ended = server.end()
+        expect(ended, out="served 3\n", notes=ended.notes)
 
 
 @test(seconds=1)

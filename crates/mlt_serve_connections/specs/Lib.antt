@@ -1,1 +1,1 @@
-pub mod FirstLines
+pub mod Lines

@@ -1,6 +1,7 @@
 //! The way of one session through the admission queue, and what it waits for before it begins a transaction.
 
 use crate::admission_queue::{AdmissionQueue, Pass};
+use crate::lines::is_one_line;
 use crate::restarts::Restarts;
 use crate::socket::Socket;
 use crate::tuning::EVENTS_PER_TURN;
@@ -160,6 +161,7 @@ impl<R: Wait + Clock> Read for Outside<'_, R> {
         self.admission.leave();
         let count = self.socket.read(buf)?;
         if count > 0 {
+            self.admission.sitting.read(is_one_line(&buf[..count]));
             self.admission.enter();
         }
         Ok(count)

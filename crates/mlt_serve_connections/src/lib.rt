@@ -9,7 +9,7 @@ mod accepting;
 mod admission;
 mod admission_queue;
 mod closing;
-mod first_line;
+mod lines;
 mod restarts;
 mod socket;
 mod spin_policy;

@@ -3,7 +3,7 @@
 ghost use Rattle.std.specs.Prelude.{◌≡◌, IfSome};
 ghost use Rattle.std.specs.Io.{ReadsAtMost, WritesAtMost};
 
-use crate::first_line::ends_as_http;
+use crate::lines::ends_as_http;
 use crate::spin_policy::SpinPolicy;
 use crate::tuning::READ_SPINS;
 use mlt_text_words::{MOST_LINE_BYTES, find_lf};

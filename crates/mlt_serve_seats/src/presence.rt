@@ -19,3 +19,9 @@ pub fn is_closed(stream: &TcpStream) -> bool {
     }];
     poll(&mut asked, 0) > 0 && asked[0].revents & (POLLRDHUP | POLLHUP | POLLERR) != 0
 }
+
+/// Whether the client has closed the connection, or its side of it, and all that it sent before was read.
+pub(crate) fn is_read_out(stream: &TcpStream) -> bool {
+    // It does not wait: there are bytes, or the end of them.
+    is_closed(stream) && matches!(stream.peek(&mut [0]), Ok(0))
+}

@@ -1,7 +1,7 @@
 //! Seats: what others see of a session, and how they end it.
 
 use crate::note::Cut;
-use crate::presence::is_broken;
+use crate::presence::{is_broken, is_read_out};
 use crate::session::Activity;
 use crate::totals::Totals;
 use mlt_types::TxId;
@@ -44,6 +44,8 @@ struct Session {
     since: Option<Instant>,
     /// Why others have cut it, and when, if they have.
     cut: Option<(Cut, Option<Instant>)>,
+    /// Whether it still hears its client.
+    hears: bool,
     stream: Arc<TcpStream>,
 }
 
@@ -93,6 +95,7 @@ impl Seat {
             client,
             since,
             cut: None,
+            hears: true,
             stream,
         });
     }
@@ -149,8 +152,8 @@ impl Seat {
 
     /// The session hears nothing more from its client than what has come. It ends once that is answered.
     pub fn hear_no_more<R: Wait>(&self, rt: &R) {
-        let record = self.record.lock(rt);
-        if let Some(session) = &record.session {
+        let mut record = self.record.lock(rt);
+        if let Some(session) = &mut record.session {
             session.hear_no_more();
         }
     }
@@ -198,7 +201,7 @@ impl Seat {
             let _ = session.stream.shutdown(Shutdown::Both);
         }
         let wait = activity.wait?;
-        if is_broken(&session.stream) {
+        if is_broken(&session.stream) || (wait.is_last && session.is_left()) {
             self.cut(session, Cut::Connection, now);
         }
         if has_passed(patience.wait, wait.since, now) {
@@ -213,7 +216,13 @@ impl Seat {
 }
 
 impl Session {
-    fn hear_no_more(&self) {
+    /// Whether its client has left, and has sent nothing more.
+    fn is_left(&self) -> bool {
+        self.hears && is_read_out(&self.stream)
+    }
+
+    fn hear_no_more(&mut self) {
+        self.hears = false;
         // It fails only where the connection is gone.
         let _ = self.stream.shutdown(Shutdown::Read);
     }

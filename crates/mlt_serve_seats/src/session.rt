@@ -67,6 +67,8 @@ impl OpenTransaction {
 pub struct WaitState {
     /// Since when it was first told to wait, if a clock could say so.
     pub since: Option<Instant>,
+    /// Whether nothing was read behind its line.
+    pub(crate) is_last: bool,
 }
 
 /// What a session thread does. It alone changes this, and shows it to others.
@@ -93,9 +95,12 @@ impl Activity {
         }
     }
 
-    /// Its operation is to wait.
-    pub(crate) fn wait(&mut self) {
-        self.wait = self.wait.or(Some(WaitState { since: None }));
+    /// Its operation is to wait. It is told whether nothing was read behind the line of that.
+    pub(crate) fn wait(&mut self, is_last: bool) {
+        self.wait = self.wait.or(Some(WaitState {
+            since: None,
+            is_last,
+        }));
     }
 
     /// An event that begins or ends something was told this. It answers whether others see a wait, or a transaction, that has ended so.

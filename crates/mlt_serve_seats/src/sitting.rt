@@ -17,6 +17,8 @@ pub struct Sitting<'a, R: Wait + Clock> {
     /// Whether others are to see its transactions, and not only waits.
     is_watched: bool,
     activity: RefCell<Activity>,
+    /// Whether what was read last is one line.
+    is_one_line: Cell<bool>,
     /// Whether others see all that it has done.
     is_shown: Cell<bool>,
 }
@@ -29,6 +31,7 @@ impl<'a, R: Wait + Clock> Sitting<'a, R> {
             seat,
             is_watched,
             activity: RefCell::new(seat.activity(rt)),
+            is_one_line: Cell::new(false),
             is_shown: Cell::new(true),
         }
     }
@@ -37,6 +40,11 @@ impl<'a, R: Wait + Clock> Sitting<'a, R> {
     fn activity(&self) -> Option<RefMut<'_, Activity>> {
         self.is_shown.set(false);
         self.activity.try_borrow_mut().ok()
+    }
+
+    /// It has read bytes, which are one line or not.
+    pub fn read(&self, is_one_line: bool) {
+        self.is_one_line.set(is_one_line);
     }
 
     /// It is to call this operation.
@@ -50,7 +58,7 @@ impl<'a, R: Wait + Clock> Sitting<'a, R> {
     /// It is to wait for its turn.
     pub fn rest(&self) {
         if let Some(mut activity) = self.activity() {
-            activity.wait();
+            activity.wait(self.is_one_line.get());
         }
     }
 

@@ -1,4 +1,4 @@
--- First lines of HTTP.
+-- Lines of HTTP.
 use Rattle.std.specs.Prelude.{ℕ, List, Bool, ◌==◌, ◌||◌, codes}
 use Rattle.std.specs.List.{ends_with}
 use Rattle.mlt_text_words.specs.Lines.{without_cr}
