@@ -571,15 +571,32 @@ def session_that_waits_is_not_idle(mltx: Program) -> None:
         expect(server.end(), out="served 2\n")
 
 
-@test(seconds=4)
+@test(seconds=2)
 def slow_client_is_not_cut(mltx: Program) -> None:
-    """With `--idle 1` a client that sends a byte every half second is heard."""
-    with mltx.serve("--idle", 1) as server, server.connect() as slow:
+    """With `--idle 2` a client that sends a byte every fifth of a second is heard."""
+    with mltx.serve("--idle", 2) as server, server.connect() as slow:
         for byte in "begin\n":
-            time.sleep(0.5)
+            time.sleep(0.2)
             slow.send(byte)
         same([slow.line(), slow.ask("commit"), slow.ask("quit")], ["begun 1", "committed 1", "bye"])
         expect(server.end(), out="served 1\n")
+
+
+@each({"blank-lines-are-idle": "\n", "bytes-that-are-no-line-are-idle": "x"}, seconds=3)
+def client_that_sends_no_line_is_cut(mltx: Program, sent: str) -> None:
+    """With `--idle 1` one that sends something every quarter of a second is cut after a second, be a transaction open or not."""
+    with mltx.serve("--idle", 1, limit=3) as server:
+        with server.connect() as closed, server.connect() as opened, server.connect() as other:
+            same([opened.ask("begin"), opened.ask("up 7 1"), other.ask("begin")], ["begun 1", "done", "begun 2"])
+            sending = [threading.Thread(target=send_for_ever, args=(peer, sent, 0.25)) for peer in (closed, opened)]
+            for one in sending:
+                one.start()
+            with takes(0.9, PATIENCE / 4, "the client was cut"):
+                same(other.ask("read 7"), "is 0", "once the client is cut")
+            same([other.ask("commit"), other.ask("quit")], ["committed 1", "bye"], "the other client")
+            for one in sending:
+                one.join()
+        expect(in_any_order(server.end()), out="served 3\n", notes=[cut_for(1, IDLE), cut_for(2, IDLE)])
 
 
 @each({"silence-without-an-idle-time": (), "silence-with-an-idle-time-of-0": ("--idle", 0)}, seconds=2)

@@ -14,7 +14,7 @@ pub struct ServeOptions {
     pub connections: u64,
     /// How often an operation may be told to wait, or that it is blocked, 1 to 1,000,000. Then it is given up.
     pub tries: u64,
-    /// For how long a connection may give nothing to read, or take nothing that is written, if that has an end.
+    /// For how long a connection may give no line to answer, or take nothing that is written, if that has an end.
     pub idle: Option<Duration>,
     /// For how long an operation may wait, if that has an end. Then it is given up.
     pub wait: Option<Duration>,

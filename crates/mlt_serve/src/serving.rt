@@ -179,7 +179,7 @@ fn served_of<P: Pseudo + Drop>(
 /// operation that waits or is blocked gets `GaveUp` once its tries are used up, or it has waited for too long. The outcomes stand by
 /// client and then by number.
 ///
-/// A connection that gives nothing to read, or takes nothing that is written, for the idle time, if there is one, ends as by a
+/// A connection that gives no line to answer, or takes nothing that is written, for the idle time, if there is one, ends as by a
 /// fault of it. An operation that waits is not idle. Where a session ends by a fault of its connection or by a line that is too
 /// long, the others go on. One whose client leaves before it is served, or that is not served yet as the server is to end, is closed,
 /// and counts as served. After a session at most a second is spent on reading away what its client still sends.

@@ -17,7 +17,7 @@ use std::time::{Clock, Duration, Instant};
 /// How a read or a write failed.
 #[derive(Clone, Copy, Debug, PartialEq, Eq)]
 pub enum Failure {
-    /// Nothing came or could go for the idle time.
+    /// No whole line came, or nothing could go, for the idle time.
     Idle,
     /// The first line was that of an HTTP request.
     Http,
@@ -28,7 +28,9 @@ pub enum Failure {
 /// A connection on which a read first looks for bytes for some microseconds, so that a client that sends its next line at once finds
 /// its session awake. It looks while there are fewer sessions than processors.
 ///
-/// Where a socket has an idle time, a stop of the program interrupts what waits there. It waits on then, for what is left of the time.
+/// An idle time begins at the first read after an answer was written: bytes that do not make up a line that is answered do not prolong
+/// it. Where a socket has an idle time, a stop of the program interrupts what waits there. It waits on then, for what is left of the
+/// time.
 #[derive(Drop)]
 pub struct Socket<'a, C: Clock> {
     clock: &'a C,
@@ -36,6 +38,8 @@ pub struct Socket<'a, C: Clock> {
     spin_policy: &'a SpinPolicy,
     /// For how long a read or a write waits, if that has an end.
     idle: Option<Duration>,
+    /// Since when it waits for a line that is answered, if it does, and the wait has an end.
+    since: Cell<Option<Instant>>,
     /// Whether a read or a write that can't go on at once waits until it can.
     waits: Cell<bool>,
     /// Whether its first line has come.
@@ -62,6 +66,7 @@ impl<'a, C: Clock> Socket<'a, C> {
             stream,
             spin_policy,
             idle,
+            since: Cell::new(None),
             waits: Cell::new(true),
             has_begun: Cell::new(false),
             failed: Cell::new(None),
@@ -159,19 +164,21 @@ impl<'a, C: Clock> Socket<'a, C> {
             }
         }
         self.put_waits(true)?;
-        let start = self.now()?;
-        let mut stream = self.stream;
-        let read = stream.read(buf);
-        if !is_interrupted(&read) {
-            return read;
+        if self.since.get().is_none() {
+            self.since.set(self.now()?);
+            let mut stream = self.stream;
+            let read = stream.read(buf);
+            if !is_interrupted(&read) {
+                return read;
+            }
         }
-        let read = self.read_again(start, buf);
+        let read = self.read_again(self.since.get(), buf);
         // Where this fails, the next wait is as short as the rest of this one.
         let _ = set_timeouts(self.stream, self.idle);
         read
     }
 
-    /// Reads bytes after an interruption, once there are some.
+    /// Reads bytes in what is left of a wait that began then, once there are some.
     fn read_again(&self, start: Option<Instant>, buf: &mut [u8]) -> io::Result<usize>
         ensures { ReadsAtMost result buf.new }
     {
@@ -191,6 +198,7 @@ impl<'a, C: Clock> Socket<'a, C> {
         ensures { WritesAtMost result buf.now }
     {
         let written = self.write_some(buf);
+        self.since.set(None);
         if let Ok(0) = written {
             self.failed.set(Some(Failure::Broken));
         }

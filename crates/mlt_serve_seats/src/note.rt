@@ -18,7 +18,7 @@ pub enum ListenerEnd {
 /// Why a session was cut.
 #[derive(Clone, Copy, Debug, PartialEq, Eq)]
 pub enum Cut {
-    /// Its client gave nothing to read, or took nothing that was written, for the idle time.
+    /// Its client gave no line to answer, or took nothing that was written, for the idle time.
     Idle,
     /// A line had more than 200 bytes.
     Line,
