@@ -542,11 +542,36 @@ def other_requests_are_refused(mltx: Program) -> None:
         same(counts(server, "stopping", "sessions"), {"stopping": 0, "sessions": 1}, "the server")
 
 
+# The header by which a browser does no more with an answer than the page needs.
+POLICY = (
+    "default-src 'none'; script-src 'unsafe-inline'; style-src 'unsafe-inline'; img-src data:; connect-src 'self'; "
+    "frame-ancestors 'none'"
+)
+
+
+def head_of(status: str, kind: str, allow: str, length: int) -> str:
+    """The lines of an answer before its body."""
+    head = f"HTTP/1.1 {status}\r\nconnection: close\r\ncontent-type: {kind}\r\ncache-control: no-store\r\n"
+    guard = f"content-security-policy: {POLICY}\r\nx-frame-options: DENY\r\n"
+    return f"{head}{guard}{allow}content-length: {length}\r\n\r\n"
+
+
+def answer_to(server: Server, request: str) -> bytes:
+    """All that is answered to these bytes."""
+    with Peer(socket.create_connection(server.admin, PATIENCE)) as operator:
+        operator.send(request)
+        return operator.rest()
+
+
 # What each other answer is: its status, a header of its own, its type and its body.
 NOTHING, ANOTHER, UNMARKED = "Not found.\n", "Method not allowed.\n", "The header X-Mltx: 1 is required.\n"
 ANSWERS = {
     ("GET", "/nosuch"): ("404 Not Found", "", TEXT, NOTHING),
-    ("DELETE", "/status"): ("405 Method Not Allowed", "allow: GET\r\n", TEXT, ANOTHER),
+    ("DELETE", "/status"): ("405 Method Not Allowed", "allow: GET, HEAD\r\n", TEXT, ANOTHER),
+    ("GET", "/waits"): ("200 OK", "", JSON, '{"waits":[]}\n'),
+    ("HEAD", "/waits"): ("200 OK", "", JSON, '{"waits":[]}\n'),
+    ("HEAD", "/nosuch"): ("404 Not Found", "", TEXT, NOTHING),
+    ("HEAD", "/stop"): ("405 Method Not Allowed", "allow: POST\r\n", TEXT, ANOTHER),
     ("GET", "/sessions/1/end"): ("405 Method Not Allowed", "allow: POST\r\n", TEXT, ANOTHER),
     ("POST", "/stop"): ("403 Forbidden", "", TEXT, UNMARKED),
     ("POST X-Mltx: 1", "/sessions/9/end"): ("404 Not Found", "", TEXT, "There is no session of this client.\n"),
@@ -557,38 +582,95 @@ ANSWERS = {
 
 @test
 def other_answers_byte_by_byte(mltx: Program) -> None:
-    """Their status, each of their headers and their body: those that refuse, and those to what is done."""
+    """Their status, each of their headers and their body, which HEAD leaves out: those that refuse, and those to what is done."""
     with operated(mltx) as server, served(server):
         for (words, path), (status, allow, kind, body) in ANSWERS.items():
             method, _, mark = words.partition(" ")
-            request = f"{method} {path} HTTP/1.1\r\nHost: here\r\n" + (f"{mark}\r\n\r\n" if mark else "\r\n")
-            with Peer(socket.create_connection(server.admin, PATIENCE)) as operator:
-                operator.send(request)
-                told = operator.rest()
-            head = f"HTTP/1.1 {status}\r\nconnection: close\r\ncontent-type: {kind}\r\ncache-control: no-store\r\n"
-            wanted = f"{head}{allow}content-length: {len(body)}\r\n\r\n{body}"
-            same(told, wanted.encode(), f"{words} {path}")
+            request = f"{method} {path} HTTP/1.1\r\nHost: localhost\r\n" + (f"{mark}\r\n\r\n" if mark else "\r\n")
+            wanted = head_of(status, kind, allow, len(body)) + (body if method != "HEAD" else "")
+            same(answer_to(server, request), wanted.encode(), f"{words} {path}")
+
+
+# Which hosts a request may name as that of the server: those that are not looked up in DNS. PORT is the server's.
+DIRECT = [
+    *("127.0.0.1", "127.0.0.1:PORT", "localhost", "localhost:PORT", "LocalHost:1", "LOCALHOST", "[::1]", "[::1]:PORT"),
+    *("10.1.2.3", "255.255.255.255:80", "0.0.0.0:PORT", "[fe80::1:2]:7001", "[::ffff:1.2.3.4]", "[1:2:3:4:5:6:7:8]:65536"),
+    "127.0.0.1:",
+]
+FOREIGN = [
+    *("evil.example", "evil.example:PORT", "x", "localhost.evil.example", "127.0.0.1.evil.example", "evil.example.localhost"),
+    *("localhost.", "localhosts", "local", "127.0.0.1.", "127.1", "1.2.3.4.5", "256.0.0.1", "127.0.0.01", "2130706433"),
+    "0x7f.0.0.1",
+]
+# Which pages a request may come from. No page of such a host says `null`.
+OWN = ["http://127.0.0.1:PORT", "http://localhost:PORT", "http://LOCALHOST", "https://localhost", "http://[::1]:PORT"]
+OTHERS = [
+    *("null", "", "http://evil.example", "http://evil.example:PORT", "https://localhost.evil.example"),
+    *("http://127.0.0.1.evil.example", "localhost", "127.0.0.1", "file://localhost", "http:localhost", "http://"),
+    *("http://localhost/", "http://localhost@evil.example", "http://evil.example http://localhost", "HTTP://evil.example"),
+    *("http://::1", "http://[::1", "http://[127.0.0.1]"),
+]
+STRANGER = "The host in Host and Origin must be an IP address or localhost.\n"
+
+
+@test
+def foreign_hosts_are_refused(mltx: Program) -> None:
+    """So that no page of another server reaches the operator's port by a name of its own that has this server's address."""
+    refused = (head_of("403 Forbidden", TEXT, "", len(STRANGER)) + STRANGER).encode()
+    with operated(mltx) as server, served(server) as peer:
+
+        def answers(headers: dict[str, str]) -> list[bytes]:
+            lines = "".join(f"{name}: {value}\r\n" for name, value in headers.items()).replace("PORT", str(server.admin[1]))
+            requests = [f"GET /waits HTTP/1.1\r\n{lines}\r\n", f"POST /sessions/9/end HTTP/1.1\r\n{lines}X-Mltx: 1\r\n\r\n"]
+            return [answer_to(server, request) for request in requests]
+
+        for headers in [*({"Host": host} for host in DIRECT), *({"Host": "localhost", "Origin": origin} for origin in OWN)]:
+            same([one.split(b" ")[1] for one in answers(headers)], [b"200", b"404"], f"a request with {headers}")
+        for headers in [*({"Host": host} for host in FOREIGN), *({"Host": "localhost", "Origin": origin} for origin in OTHERS)]:
+            same(answers(headers), [refused, refused], f"a request with {headers}")
+        for headers in ({"Host": "evil.example:PORT", "Origin": "http://evil.example:PORT"}, {"Host": ""}):
+            same(answers(headers), [refused, refused], f"a request with {headers}")
+        marked = "Host: evil.example\r\nX-Mltx: 1\r\n\r\n"
+        for path in ("/sessions/1/end", "/stop"):
+            same(answer_to(server, f"POST {path} HTTP/1.1\r\n{marked}"), refused, f"POST {path}")
+        for path in ("/", "/nosuch", "/stop"):
+            same(answer_to(server, f"GET {path} HTTP/1.1\r\n{marked}"), refused, f"GET {path}")
+        old = answer_to(server, "GET /waits HTTP/1.0\r\n\r\n")
+        same(old.partition(b" ")[2], refused.partition(b" ")[2], "a request of an older version without a host")
+        for host in ("", "Host: [127.0.0.1]\r\n", "Host: ::1\r\n", "Host: localhost\r\nHost: localhost\r\n"):
+            same(answer_to(server, f"GET /waits HTTP/1.1\r\n{host}\r\n").split(b" ")[1], b"400", f"a request with {host!r}")
+        says(peer, "begin", "begun 1", "up 1 1", "done")
+        same(counts(server, "stopping", "sessions"), {"stopping": 0, "sessions": 1}, "the server")
+
+
+@test
+def page_is_served_by_head(mltx: Program) -> None:
+    """As by GET, without the page."""
+    with operated(mltx) as server:
+        got, head = (answer_to(server, f"{method} / HTTP/1.1\r\nHost: localhost\r\n\r\n") for method in ("GET", "HEAD"))
+        holds(got.startswith(head) and head.endswith(b"\r\n\r\n") and got.endswith(b"</html>\n"), f"{head!r}")
+        for path in ("/status", "/metrics", "/sessions"):
+            got = answer_to(server, f"HEAD {path} HTTP/1.1\r\nHost: localhost\r\n\r\n")
+            holds(got.startswith(b"HTTP/1.1 200 ") and got.endswith(b"\r\n\r\n") and got.count(b"\r\n\r\n") == 1, f"{got!r}")
 
 
 @test
 def request_may_come_in_pieces(mltx: Program) -> None:
     """Byte by byte, with the name of the header in any letters, and of an older version."""
     with operated(mltx) as server, served(server) as peer:
-        request = b"POST /sessions/1/end HTTP/1.1\r\nHost: here\r\nx-mLTX:1\r\nContent-Length: 0\r\n\r\n"
+        request = b"POST /sessions/1/end HTTP/1.1\r\nHost: localhost\r\nx-mLTX:1\r\nContent-Length: 0\r\n\r\n"
         with Peer(socket.create_connection(server.admin, PATIENCE)) as operator:
             for byte in request:
                 operator.send(bytes([byte]))
-            told = operator.rest()
-        holds(told.startswith(b"HTTP/1.1 200 ") and told.endswith(b'\r\n\r\n{"ended":1}\n'), f"{told!r}")
+            got = operator.rest()
+        holds(got.startswith(b"HTTP/1.1 200 ") and got.endswith(b'\r\n\r\n{"ended":1}\n'), f"{got!r}")
         same(peer.rest(), b"", "the client that was ended")
-        with Peer(socket.create_connection(server.admin, PATIENCE)) as operator:
-            operator.send("GET /waits HTTP/1.0\r\n\r\n")
-            told = operator.rest()
-        holds(re.match(rb"HTTP/1\.[01] 200 ", told) and told.endswith(b'\r\n\r\n{"waits":[]}\n'), f"{told!r}")
+        got = answer_to(server, "GET /waits HTTP/1.0\r\nHost: localhost\r\n\r\n")
+        holds(re.match(rb"HTTP/1\.[01] 200 ", got) and got.endswith(b'\r\n\r\n{"waits":[]}\n'), f"{got!r}")
 
 
 STRANGE = {
-    "nothing": b"", "half-a-line": b"GET /stat", "half-a-request": b"GET /status HTTP/1.1\r\nHost: x\r\n",
+    "nothing": b"", "half-a-line": b"GET /stat", "half-a-request": b"GET /status HTTP/1.1\r\nHost: localhost\r\n",
     "noise": bytes(range(256)) * 40,
     "a-long-line": b"GET /" + b"x" * 300_000, "many-headers": b"GET /status HTTP/1.1\r\n" + b"X-A: b\r\n" * 50_000,
     "a-body-that-never-comes": b"POST /stop HTTP/1.1\r\nContent-Length: 1000000000\r\n\r\n",

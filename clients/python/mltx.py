@@ -920,7 +920,8 @@ class Operator:
         except OSError as fault:
             raise ServerAway(f"no server answers an operator at {self.host}:{self.port} ({fault})") from fault
         try:
-            connection.request(method, path, headers={"X-Mltx": "1"})
+            # The server refuses any other name, so that no page of the web reaches it by a name of its own.
+            connection.request(method, path, headers={"X-Mltx": "1", "Host": "localhost"})
             answer = connection.getresponse()
             return answer.status, answer.read(MOST_TOLD_BYTES)
         except socket.timeout as fault:

@@ -10,9 +10,10 @@ use Rattle.mlt_serve_admin.specs.declared.resources.Resource.{Resource}
 use Rattle.mlt_serve_admin.specs.declared.resources.Resource.TheVariants.{Page, Status, Metrics, Waits, Sessions, Stop, SessionEnd}
 use Rattle.mlt_serve_admin.specs.declared.replies.Content.{Content}
 use Rattle.mlt_serve_admin.specs.declared.routes.Route.{Route}
-use Rattle.mlt_serve_admin.specs.Resources.{method_of}
+use Rattle.mlt_serve_admin.specs.Resources.{methods_of}
 use Rattle.mlt_serve_admin.specs.Replies.{HasHead, headers_of, IsReply}
 use Rattle.mlt_serve_admin.specs.Routes.{IsRouteOf}
+use Rattle.mlt_serve_admin.specs.Hosts.{IsDirectRequest}
 
 -- the answer to a request that is open for this resource. Where it says so the server was told to end, or to cut the session of
 -- this client: `stopped` and `cut` are what holds then
@@ -29,7 +30,7 @@ IsAnswerAt stopped cut (SessionEnd client) response =
 -- the answer to a request by another method than that of the resource
 abbrev pub IsRefusedMethod : Resource → Response → Type 0
 IsRefusedMethod resource response =
-    HasHead 405 (headers_of Content.Line ++ (codes "allow", method_of resource) ∷ []) response
+    HasHead 405 (headers_of Content.Line ++ (codes "allow", methods_of resource) ∷ []) response
 
 -- the answer by a route, with what holds of the server where it was told to end, or to cut a session
 abbrev pub IsAnswerBy : Type 0 → (ℕ → Type 0) → Route → Response → Type 0
@@ -37,6 +38,7 @@ IsAnswerBy stopped cut (Route.Open resource) response = IsAnswerAt stopped cut r
 IsAnswerBy stopped cut Route.NotFound response = IsReply 404 Content.Line response
 IsAnswerBy stopped cut (Route.MethodNotAllowed resource) response = IsRefusedMethod resource response
 IsAnswerBy stopped cut Route.Forbidden response = IsReply 403 Content.Line response
+IsAnswerBy stopped cut Route.ForeignHost response = IsReply 403 Content.Line response
 
 -- the header that a browser adds for no page of somebody else
 abbrev pub IsMarked : Entries FieldValue → Type 0
@@ -46,8 +48,9 @@ IsMarked headers =
 -- the route of a request
 abbrev pub IsRouteFor : Request (List ℕ) → Route → Type 0
 IsRouteFor request route =
-    (is_marked : Bool) × (IsTrue is_marked ↔ IsMarked (head_of request).headers)
-    × IsRouteOf (head_of request).method (uri_path (head_of request).uri) is_marked route
+    (is_direct : Bool) × (IsTrue is_direct ↔ IsDirectRequest (head_of request).headers)
+    × (is_marked : Bool) × (IsTrue is_marked ↔ IsMarked (head_of request).headers)
+    × IsRouteOf (head_of request).method (uri_path (head_of request).uri) is_direct is_marked route
 
 -- the answer to a request, by its route, with what holds of the server where it was told to end, or to cut a session
 abbrev pub IsAnswer : Type 0 → (ℕ → Type 0) → Request (List ℕ) → Response → Type 0

@@ -1,4 +1,5 @@
 pub mod Answers
+pub mod Hosts
 pub mod Resources
 pub mod Replies
 pub mod Routes

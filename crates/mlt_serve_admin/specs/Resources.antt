@@ -1,5 +1,5 @@
 -- What stands at which path.
-use Rattle.std.specs.Prelude.{◌≡◌, ◌≢◌, ◌<◌, ◌^◌, ℕ, List, ◌++◌, codes, Bool, true, false, if◌then◌else◌, Some}
+use Rattle.std.specs.Prelude.{◌≡◌, ◌≢◌, ◌<◌, ◌^◌, ◌⊎◌, ℕ, List, ◌++◌, codes, Bool, true, false, if◌then◌else◌, IsTrue, IsFalse, Some}
 use Rattle.mlt_text_words.specs.Numbers.{number_of}
 use Rattle.mlt_serve_admin.specs.declared.resources.Resource.{Resource}
 use Rattle.mlt_serve_admin.specs.declared.resources.Resource.TheVariants.{Page, Status, Metrics, Waits, Sessions, Stop, SessionEnd}
@@ -33,6 +33,12 @@ changes Stop = true
 changes (SessionEnd client) = true
 changes _ = false
 
--- by which method it is asked for
-abbrev pub method_of : Resource → List ℕ
-method_of resource = if changes resource then codes "POST" else codes "GET"
+-- it is asked for by this method
+abbrev pub IsMethodOf : List ℕ → Resource → Type 0
+IsMethodOf method resource =
+    (IsTrue (changes resource) × (method ≡ codes "POST"))
+    ⊎ (IsFalse (changes resource) × ((method ≡ codes "GET") ⊎ (method ≡ codes "HEAD")))
+
+-- the methods by which it is asked for, as the header Allow lists them
+abbrev pub methods_of : Resource → List ℕ
+methods_of resource = if changes resource then codes "POST" else codes "GET, HEAD"

@@ -5,6 +5,7 @@
 //! address may do everything.
 #![tactic(auto)]
 
+mod hosts;
 mod json;
 mod metrics;
 mod operated;

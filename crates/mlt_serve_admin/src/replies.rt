@@ -2,12 +2,17 @@
 
 ghost use Rattle.std.specs.Prelude.{◌≡◌, ◌++◌, OnErr, OnOk};
 ghost use Rattle.http_server.specs.Response.{IsBlank};
-ghost use Rattle.mlt_serve_admin.specs.Replies.{content_type_of, headers_of, IsReply};
+ghost use Rattle.mlt_serve_admin.specs.Replies.{content_type_of, headers_of, IsReply, security_policy};
 
 use bytes::BufMut;
 use http::{HeaderName, HeaderValue, StatusCode};
 use http_server::Response;
 use std::alloc::AllocError;
+
+// What a browser may do with an answer: as much as the page does, in no frame.
+const SECURITY_POLICY: &str =
+    "default-src 'none'; script-src 'unsafe-inline'; style-src 'unsafe-inline'; \
+    img-src data:; connect-src 'self'; frame-ancestors 'none'";
 
 /// Of what a body is.
 #[derive(Clone, Copy)]
@@ -56,6 +61,14 @@ pub(crate) fn fill(
     response.add_header(
         HeaderName::from_static("cache-control"),
         HeaderValue::from_static("no-store"),
+    )?;
+    response.add_header(
+        HeaderName::from_static("content-security-policy"),
+        HeaderValue::from_static(SECURITY_POLICY),
+    )?;
+    response.add_header(
+        HeaderName::from_static("x-frame-options"),
+        HeaderValue::from_static("DENY"),
     )?;
     response.body.put_slice(body.as_bytes())
 }

@@ -1,9 +1,9 @@
 //! What stands at which path.
 
-ghost use Rattle.std.specs.Prelude.{◌≡◌, ◌≢◌, ◌++◌, ℕ, List, IfNone, IfSome};
+ghost use Rattle.std.specs.Prelude.{◌≡◌, ◌≢◌, ◌↔◌, ◌++◌, ℕ, List, IfNone, IfSome, IsTrue};
 ghost use Rattle.mlt_serve_admin.specs.declared.resources.Resource.{Resource};
 ghost use Rattle.mlt_serve_admin.specs.declared.resources.Resource.TheVariants.{SessionEnd};
-ghost use Rattle.mlt_serve_admin.specs.Resources.{changes, IsAt, IsAtNoFixedPath, method_of};
+ghost use Rattle.mlt_serve_admin.specs.Resources.{changes, IsAt, IsAtNoFixedPath, IsMethodOf, methods_of};
 
 use mlt_text_words::{after, read_number};
 
@@ -27,11 +27,22 @@ pub(crate) enum Resource {
 }
 
 impl Resource {
-    /// The method by which it is asked for.
-    pub(crate) fn method(self) -> &'static str
-        ensures { result.now ≡ method_of self }
+    /// Whether it is asked for by this method.
+    pub(crate) fn takes(self, method: &str) -> bool
+        ensures { IsTrue result ↔ IsMethodOf method.now self }
     {
-        if self.changes() { "POST" } else { "GET" }
+        if self.changes() {
+            method == "POST"
+        } else {
+            method == "GET" || method == "HEAD"
+        }
+    }
+
+    /// The methods by which it is asked for.
+    pub(crate) fn methods(self) -> &'static str
+        ensures { result.now ≡ methods_of self }
+    {
+        if self.changes() { "POST" } else { "GET, HEAD" }
     }
 
     /// Whether to ask for it changes the server.
@@ -87,8 +98,8 @@ fn ended_client(path: &[u8]) -> Option<u32>
     u32::try_from(number).ok()
 }
 
-// The text before these bytes, where it ends with them.
-fn before<'a>(text: &'a [u8], bytes: &[u8]) -> Option<&'a [u8]>
+/// The text before these bytes, where it ends with them.
+pub(crate) fn before<'a>(text: &'a [u8], bytes: &[u8]) -> Option<&'a [u8]>
     ensures some { IfSome result (λ front. text.now ≡ front.now ++ bytes.now) }
     ensures none { IfNone result ((front : List ℕ) → text.now ≢ front ++ bytes.now) }
 {

@@ -1,13 +1,14 @@
 //! The answer to one request.
 
-ghost use Rattle.std.specs.Prelude.{◌≡◌, ◌↔◌, ◌⊎◌, codes, IsTrue, OnErr, OnOk};
+ghost use Rattle.std.specs.Prelude.{◌≡◌, ◌↔◌, ◌⊎◌, codes, IfOk, IsTrue, OnErr, OnOk};
 ghost use Rattle.http.specs.Request.{head_of};
 ghost use Rattle.http_server.specs.Response.{IsBlank};
 ghost use Rattle.mlt_serve_admin.specs.declared.replies.Content.TheVariants as content;
 ghost use Rattle.mlt_serve_admin.specs.Replies.{IsReply};
 ghost use Rattle.mlt_serve_admin.specs.Answers.{IsAnswerAt, IsAnswerBy, IsMarked, IsRefusedMethod, IsRouteFor};
-ghost use Rattle.mlt_serve_admin.specs.Resources.{method_of};
+ghost use Rattle.mlt_serve_admin.specs.Resources.{methods_of};
 
+use crate::hosts::is_direct;
 use crate::json::{Sessions, Waits, json_line};
 use crate::metrics::metrics_text;
 use crate::operated::Operated;
@@ -38,7 +39,7 @@ impl<O: Operated> Service for OperatorService<'_, O> {
         request: &Request<Bytes>,
         response: &mut Response,
     ) -> Result<(), AllocError> {
-        let route = route_for(request);
+        let route = route_for(self.alloc, request)?;
         self.answer_by(route, response)?;
         Ok(())
     }
@@ -67,6 +68,12 @@ impl<O: Operated> OperatorService<'_, O> {
                 StatusCode::FORBIDDEN,
                 Content::Line,
                 "The header X-Mltx: 1 is required.\n",
+            ),
+            Route::ForeignHost => fill(
+                response,
+                StatusCode::FORBIDDEN,
+                Content::Line,
+                "The host in Host and Origin must be an IP address or localhost.\n",
             ),
         }
     }
@@ -166,14 +173,15 @@ impl<O: Operated> OperatorService<'_, O> {
 }
 
 // How this request is answered.
-fn route_for(request: &Request<Bytes>) -> Route
-    ensures { IsRouteFor request.now result }
+fn route_for(alloc: Global, request: &Request<Bytes>) -> Result<Route, AllocError>
+    ensures { IfOk result (IsRouteFor request.now) }
 {
-    route_of(
+    Ok(route_of(
         request.method().as_str(),
         request.uri().path(),
+        is_direct(alloc, request)?,
         is_marked(request),
-    )
+    ))
 }
 
 // Refuses a request by another method than that of the resource.
@@ -191,13 +199,9 @@ fn refuse_method(resource: Resource, response: &mut Response) -> Result<(), Allo
 }
 
 fn allow(resource: Resource) -> HeaderValue
-    ensures { result.bytes ≡ method_of resource }
+    ensures { result.bytes ≡ methods_of resource }
 {
-    if resource.changes() {
-        HeaderValue::from_static("POST")
-    } else {
-        HeaderValue::from_static("GET")
-    }
+    HeaderValue::from_static(resource.methods())
 }
 
 // Whether the request has the header that a browser adds for no page of somebody else.
