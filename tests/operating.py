@@ -3,6 +3,7 @@ import http.client
 import itertools
 import json
 import re
+import signal
 import socket
 import subprocess
 import threading
@@ -669,6 +670,21 @@ def request_may_come_in_pieces(mltx: Program) -> None:
         holds(re.match(rb"HTTP/1\.[01] 200 ", got) and got.endswith(b'\r\n\r\n{"waits":[]}\n'), f"{got!r}")
 
 
+@test
+def request_across_a_stop_of_the_program(mltx: Program) -> None:
+    """A stop of the program between two halves of a request ends no connection, if it is shorter than a request may take."""
+    with operated(mltx) as server:
+        for _ in range(5):
+            with Peer(socket.create_connection(server.admin, PATIENCE)) as operator:
+                began = time.monotonic()
+                operator.send("GET /waits HTTP/1.1\r\n")
+                server.stop()
+                server.process.send_signal(signal.SIGCONT)
+                operator.send("Host: localhost\r\n\r\n")
+                if time.monotonic() - began < 0.5:
+                    holds(operator.rest().endswith(b'\r\n\r\n{"waits":[]}\n'), "the request was not answered")
+
+
 STRANGE = {
     "nothing": b"", "half-a-line": b"GET /stat", "half-a-request": b"GET /status HTTP/1.1\r\nHost: localhost\r\n",
     "noise": bytes(range(256)) * 40,
@@ -704,6 +720,36 @@ def silent_operator_is_left_after_a_second(mltx: Program) -> None:
         with takes(0.5, 1 + SLACK, "a silent connection was closed"):
             same(counts(server, "sessions"), {"sessions": 0}, "another operator")
             same(silent.recv(1), b"", "what a silent operator hears")
+
+
+@each({f"{count}-slow-operators": count for count in (10, 100)}, seconds=4)
+def slow_operators_hold_nobody_up(mltx: Program, count: int) -> None:
+    """Each sends a byte of its request now and then, is cut after a second, and connects again. Others are answered meanwhile."""
+    ended = threading.Event()
+    with operated(mltx) as server, served(server), ThreadPoolExecutor(count) as threads:
+
+        def send_slowly() -> None:
+            while not ended.is_set():
+                with may_break_off(), socket.create_connection(server.admin, PATIENCE) as slow:
+                    began = time.monotonic()
+                    slow.sendall(b"GET /status HTTP/1.1\r\nHost: localhost\r\nX-A: ")
+                    while not ended.wait(0.3):
+                        holds(time.monotonic() - began < 1 + SLACK, "a slow connection is left open")
+                        slow.sendall(b"b")
+
+        slow_ones = [threads.submit(send_slowly) for _ in range(count)]
+        try:
+            time.sleep(1)
+            for _ in range(10):
+                with takes(0, 2, f"an operator beside {count} slow ones was answered"):
+                    same(counts(server, "sessions"), {"sessions": 1}, "the server")
+                time.sleep(0.2)
+            with takes(0, 2, f"a command beside {count} slow ones was done"):
+                same(posted(server, "/sessions/1/end"), (200, {"ended": 1}), "the command")
+        finally:
+            ended.set()
+        for one in slow_ones:
+            one.result()
 
 
 # What is done.

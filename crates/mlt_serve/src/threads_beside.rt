@@ -217,7 +217,7 @@ impl<'a, P: Pseudo + Send, L: MadeWith<P> + Send + Sync> Service<'a, P, L> {
                 let Ok(first) = scope.spawn(answer) else {
                     return Accepting::none();
                 };
-                // With one alone an operator waits for another.
+                // With two there are twice as many places for connections.
                 let more = move || serve_admin(rt, alloc, keys, listener, operator, is_over);
                 let second = scope.spawn(more);
                 let accepting = serve_connections(rt, alloc, service, threads);

@@ -1,4 +1,4 @@
-//! Connections of operators, one after another.
+//! Connections of operators.
 
 use crate::operated::Operated;
 use crate::service::OperatorService;
@@ -7,16 +7,23 @@ use std::alloc::Global;
 use std::hash::RandomState;
 use std::io::ErrorKind;
 use std::net::{TcpListener, TcpStream};
+use std::os::fd::OwnedFd;
 use std::sync::Wait;
 use std::sync::atomic::{AtomicBool, Ordering};
 use std::time::{Clock, Duration, Instant};
 use std::{io, thread};
 
-/// How many thousandths of a second pass after an accept that failed.
+/// How many connections a thread has at once.
+const PLACES: usize = 32;
+
+/// How many thousandths of a second an accept waits, and how many pass after one that failed.
 const PAUSE: u64 = 100;
 
-/// How many seconds a read or a write waits.
-const PATIENCE: u64 = 1;
+/// How many thousandths of a second the first read of a connection waits.
+const FIRST_READ: u64 = 5;
+
+/// After how many seconds a connection is closed whose request has not come whole.
+const LONGEST_REQUEST: u64 = 1;
 
 /// After how many seconds a connection is closed in any case.
 const LONGEST: u64 = 5;
@@ -24,13 +31,14 @@ const LONGEST: u64 = 5;
 /// The longest body of a request, in bytes. No request wants one.
 const MAX_BODY: usize = 1024;
 
-/// Accepts connections one after another, and answers one request of each, until the server is over.
+/// Accepts connections, and answers one request of each, until the server is over.
 ///
-/// After each accept it looks whether that is so, and then returns. Who sets `is_over` has to end an accept that waits, by shutting
-/// the listener down, or by a connection; that one is closed unanswered. After any other accept that failed it pauses, and goes on.
+/// After each accept it looks whether that is so, and then returns. An accept waits for a tenth of a second at most. After one that
+/// failed otherwise it pauses, and goes on.
 ///
-/// A connection that gives nothing to read, or takes nothing that is written, for a second is closed. So is one that is not done
-/// after five seconds, and one that is refused memory. Threads may share a listener, so that a slow client keeps out nobody else.
+/// A connection is closed whose request has not come whole within a second, or that is not done after five. Meanwhile others are
+/// answered: there are 32 places, and one more takes that of the oldest, so that slow clients keep out nobody. A connection that is
+/// refused memory is closed too. Threads may share a listener.
 ///
 /// The keys are for the names of headers, which clients choose.
 pub fn serve_admin<R: Wait + Clock, O: Operated>(
@@ -42,6 +50,9 @@ pub fn serve_admin<R: Wait + Clock, O: Operated>(
     is_over: &AtomicBool,
 ) {
     let mut service = OperatorService { alloc, operated };
+    let mut visits = Vec::new(alloc);
+    // Where this fails an accept waits for a connection, and slow ones until then.
+    let _ = limit_accepts(listener);
     for _ in rt.forever() {
         let accepted = listener.accept();
         if is_over.load(Ordering::SeqCst) {
@@ -49,13 +60,25 @@ pub fn serve_admin<R: Wait + Clock, O: Operated>(
         }
         match accepted {
             Ok((stream, _)) => {
-                let mut connection = Connection::new(alloc, keys, config());
+                if visits.len() >= PLACES {
+                    visits.remove(0);
+                }
                 // What fails here is its client's loss alone.
-                let _ = answer(rt, &mut connection, &mut service, &stream);
+                if let Ok(visit) = Visit::begin(rt, alloc, keys, stream) {
+                    let _ = visits.push(visit);
+                }
             }
+            Err(error) if error.kind() == ErrorKind::WouldBlock => (),
             Err(_) => thread::sleep(rt, Duration::from_millis(PAUSE)),
         }
+        visits.retain_mut(|visit| visit.goes_on(rt, &mut service));
     }
+}
+
+// Lets accepts wait no longer than that. It is an option of the socket, which std sets by a stream alone.
+fn limit_accepts(listener: &TcpListener) -> io::Result<()> {
+    let socket = OwnedFd::from(listener.try_clone()?);
+    TcpStream::from(socket).set_read_timeout(Some(Duration::from_millis(PAUSE)))
 }
 
 fn config() -> Config {
@@ -64,31 +87,77 @@ fn config() -> Config {
     config
 }
 
-// Reads, answers and writes until the connection is done, or has lasted too long.
-fn answer<C: Clock, O: Operated>(
-    clock: &C,
-    connection: &mut Connection,
-    service: &mut OperatorService<'_, O>,
-    stream: &TcpStream,
-) -> io::Result<()> {
-    let patience = Some(Duration::from_secs(PATIENCE));
-    stream.set_read_timeout(patience)?;
-    stream.set_write_timeout(patience)?;
-    let start = Instant::now(clock)?;
-    let mut socket = stream;
-    for _ in 0..u64::MAX {
-        connection.advance(service);
-        if connection.is_done() {
-            return Ok(());
+/// A connection that is not done.
+#[derive(Drop)]
+struct Visit {
+    connection: Connection,
+    stream: TcpStream,
+    since: Instant,
+}
+
+impl Visit {
+    /// That of a client that has just connected. Most send their request at once, so it waits a little for that.
+    fn begin<C: Clock>(
+        clock: &C,
+        alloc: Global,
+        keys: RandomState,
+        stream: TcpStream,
+    ) -> io::Result<Visit> {
+        let since = Instant::now(clock)?;
+        let mut connection = Connection::new(alloc, keys, config());
+        stream.set_read_timeout(Some(Duration::from_millis(FIRST_READ)))?;
+        let mut socket = &stream;
+        // If nothing has come, or this failed, the next read says so.
+        let _ = connection.read_from(&mut socket);
+        stream.set_nonblocking(true)?;
+        Ok(Visit {
+            connection,
+            stream,
+            since,
+        })
+    }
+
+    /// Reads, answers and writes what it can without a wait. Returns whether something is left to do, and time for it.
+    fn goes_on<C: Clock, O: Operated>(
+        &mut self,
+        clock: &C,
+        service: &mut OperatorService<'_, O>,
+    ) -> bool {
+        for _ in 0..u64::MAX {
+            self.connection.advance(service);
+            if self.connection.is_done() || self.is_late(clock) {
+                return false;
+            }
+            match self.transfer() {
+                Ok(()) => (),
+                Err(error) if error.kind() == ErrorKind::WouldBlock => return true,
+                Err(error) if error.kind() == ErrorKind::Interrupted => (),
+                Err(_) => return false,
+            }
         }
-        if start.elapsed(clock)? >= Duration::from_secs(LONGEST) {
-            break;
-        }
-        if !connection.wants_write() {
-            connection.read_from(&mut socket)?;
-        } else if connection.write_to(&mut socket)? == 0 {
-            return Err(ErrorKind::WriteZero.into());
+        false
+    }
+
+    fn is_late<C: Clock>(&self, clock: &C) -> bool {
+        let longest = if self.connection.wants_write() {
+            LONGEST
+        } else {
+            LONGEST_REQUEST
+        };
+        match self.since.elapsed(clock) {
+            Ok(elapsed) => elapsed >= Duration::from_secs(longest),
+            Err(_) => true,
         }
     }
-    Err(ErrorKind::TimedOut.into())
+
+    // Writes once, if there is something to write, or else reads once.
+    fn transfer(&mut self) -> io::Result<()> {
+        let mut socket = &self.stream;
+        if !self.connection.wants_write() {
+            self.connection.read_from(&mut socket)?;
+        } else if self.connection.write_to(&mut socket)? == 0 {
+            return Err(ErrorKind::WriteZero.into());
+        }
+        Ok(())
+    }
 }
