@@ -1,8 +1,9 @@
-//! A server over TCP: threads serve connections side by side on one manager. By the contract of
-//! `serve_on` the outcomes of all sessions agree with the manager's history. `serve_endless` keeps
-//! no outcomes: the history has each begin, reply and commit that clients were answered, and their
-//! numbers agree. That sessions run at once, that slow or silent clients stop nobody else, that log
-//! messages and traces are written, and that memory stays flat is only tested.
+//! A server over TCP: threads serve connections side by side on one manager. The outcomes that
+//! `serve_on` returns agree with the manager's history. `serve_endless` keeps no outcomes: the
+//! history has their begins, replies and commits, and the numbers of begins and commits agree. That
+//! these are the outcomes of all sessions, that sessions run at once, that slow or silent clients
+//! stop nobody else, that log messages and traces are written, and that memory stays flat is only
+//! tested.
 #![tactic(auto)]
 
 mod accepting;

@@ -1,8 +1,8 @@
 //! TCP connections, which sessions of a server are at work, and the pause of a restarted
 //! transaction. A `Socket` reads and writes, `accept` sorts the errors of an accept, and
-//! `lingering_close` ends a connection without losing its last answers. By an `AdmissionQueue` at
-//! most three sessions are at work at a time, without those that wait. Only safety, that a read fits
-//! its buffer, and which lines count as HTTP is proved; all else is only tested.
+//! `lingering_close` ends a connection without losing its last answers. An `AdmissionQueue` admits
+//! three sessions at a time, and lets one more bypass it. Only safety, that a read fits its buffer,
+//! and which lines count as HTTP is proved; all else is only tested.
 #![tactic(auto)]
 
 mod accepting;

@@ -1,7 +1,7 @@
 //! Many threads share one manager behind one mutex: each hold of the lock executes at most one
 //! event, and none is lost. Each thread uses the manager through a `LockDesk`: `begin`,
-//! `operation`, `commit`, `abort`. A call returns the manager's answer, or puts the thread to sleep
-//! until what it waits for is released. In a deadlock the youngest transaction gets GaveUp. That a
+//! `operation`, `commit`, `abort`. A call returns the manager's answer, or sleeps until what it
+//! waits for is released. Only the youngest transaction of a cycle gives up for a deadlock. That a
 //! thread sleeps, is woken, and looks at the queue of blocked operations is only tested.
 #![tactic(auto)]
 
