@@ -1,8 +1,9 @@
 //! The outcomes, once all connections are served.
 
-ghost use Rattle.std.specs.Prelude.{◌≡◌, ◌≤◌, ◌↔◌, ◌⊎◌, IfErr, IfOk, IsPermutation, IsTrue, []};
+ghost use Rattle.std.specs.Prelude.{◌≡◌, ◌≤◌, ◌↔◌, Err, IfErr, IfOk, IsOk, IsOkUnless, IsPermutation, IsTrue, [], false, true};
 ghost use Rattle.mlt_trace_audit.specs.Agreement.{Agrees};
 ghost use Rattle.mlt_serve.specs.Clients.{AreByClientAndNumber, AreOfClients, IsOfClient};
+ghost use Rattle.mlt_serve.specs.Endings.{result_of_accepting};
 
 use crate::accepting::Accepting;
 use crate::gathering::Gathered;
@@ -58,8 +59,12 @@ pub(crate) fn outcomes_of<P: Pseudo>(
     ensures clients { IfOk result (λ outcomes. AreOfClients accepting.connections outcomes) }
     ensures order { IfOk result (λ outcomes. AreByClientAndNumber outcomes) }
     ensures few { IfOk result (λ _. accepting.connections ≤ limit) }
-    ensures refusal { IfErr result (λ refusal.
-        (refusal ≡ Refusal.Io) ⊎ (refusal ≡ Refusal.OutOfMemory) ⊎ (refusal ≡ Refusal.Audit)) }
+    ensures served { IfOk result (λ _. gathered.connections ≡ accepting.connections) }
+    ensures early { IfErr (result_of_accepting accepting.end) (λ refusal. result ≡ Err refusal) }
+    ensures short { IsOk (result_of_accepting accepting.end) → gathered.is_short ≡ true
+        → result ≡ Err Refusal.OutOfMemory }
+    ensures audit { IsOk (result_of_accepting accepting.end) → gathered.is_short ≡ false
+        → IsOkUnless result Refusal.Audit }
 {
     let accepted = gathered.served(accepting, limit)?;
     let outcomes = in_order(gathered.outcomes);
