@@ -187,17 +187,18 @@ TWO: list[Section] = [
     ]),
     Section("What run and serve_on return",
             """An outcome is that of a script, or of a transaction of a session. By `history` all of the history is there. Either
-            call may return an error instead, and a `run` that refused every script would meet its contract. `serve --endless`
-            calls another function, of which [less is proved](THEOREM.md#what-no-contract-says).""", [
+            call may return an error instead. A `run` that refused every script would meet its contract, and so would a `serve_on`
+            that accepted nobody: no contract knows what comes over a socket. `serve --endless` calls another function, of which
+            [less is proved](THEOREM.md#what-no-contract-says).""", [
                 Block("mlt_work/src/running.rt", "run():ran,history"),
-                Block("mlt_work/specs/Runs.antt", "HasRunAll:outcomes,events,agrees,base"),
-                Block("mlt_serve/src/serving.rt", "serve_on():history,outcomes,clients"),
+                Block("mlt_work/specs/Runs.antt", "HasRunAll:outcomes,agrees,base"),
+                Block("mlt_serve/src/serving.rt", "serve_on():history,outcomes,clients,order"),
                 Block("mlt_script_serial/src/outcome.rt", "Outcome End"),
             ]),
     Section("An outcome for each script",
             """Those of `run` stand by client and by script. That a session writes to its client what its outcomes have is
-            [another contract](../crates/mlt_serve_session/src/sessions.rt); that `serve_on` returns the outcomes of all its
-            sessions is not in its contract.""", [
+            [another contract](../crates/mlt_serve_session/src/sessions.rt). By [[Agrees]] each transaction that the manager began
+            has its outcome; that the manager is that of the sessions is not in the contract of `serve_on`.""", [
                 Block("mlt_work_clients/specs/Places.antt", "AreAllOutcomes AreClientOutcomes"),
                 Block("mlt_script_serial/specs/Clients.antt", "AreOutcomes IsOutcome"),
                 Block("mlt_script_serial/specs/DeskRuns.antt", "HasEndedAs"),
@@ -268,8 +269,9 @@ NOT_SHOWN: list[tuple[str, str]] = [
     ("IsAcceptedTrace",
      "what [`check`](../crates/mlt_trace_check/src/trace_check.rt) accepts: each item stands behind the begin of its transaction "
      "and before its end, commits have the numbers 1, 2, 3, and the committed transactions lead to the base"),
-    ("Report Served", "what `run` and `serve_on` return: outcomes, and a count of events or connections"),
+    ("Report Served", "what `run` and `serve_on` return, with the outcomes"),
     ("AreOfClients", "the client of each outcome is the number of a connection, from 1 to how many there were"),
+    ("AreByClientAndNumber", "outcomes stand by their clients, and those of a client by their numbers"),
     ("Limits", "the greatest numbers of transactions, pages and operations"),
     ("IsBaseOfOutcomes",
      "the committed outcomes, in the order of their numbers, run alone from the empty base and lead to this base"),
