@@ -4,7 +4,7 @@ use mlt_object_kinds::ObjOp;
 
 /// Of which accounts, counters and sets a transaction has called an operation: a bit for each, which others may share (Bloom,
 /// Space/Time Trade-offs in Hash Coding with Allowable Errors, CACM 1970).
-#[derive(Clone, Copy, Debug, Drop)]
+#[derive(Clone, Copy)]
 pub(crate) struct Called {
     bits: u64,
 }

@@ -12,7 +12,7 @@ use mlt_types::TxId;
 use mlt_work_waits::{Awaited, BlockedQueue, Waiting, WaitsFor, Waker, Wakers, Whose};
 
 /// How many desks there are, and whose transactions wait for which. Not all wait, and none in a cycle.
-#[derive(Debug, Drop)]
+#[derive(Drop)]
 pub(crate) struct Desks {
     count: u64,
     /// Which of the wakers 0 to 63 desks have, a bit for each.

@@ -15,7 +15,7 @@ use mlt_work_waits::Waiting;
 use std::alloc::AllocError;
 
 /// The statistics of a manager, for its operator.
-#[derive(Debug, Drop)]
+#[derive(Drop)]
 pub struct DeskStatistics {
     /// How many events the manager has had; it stays at 2^64 - 1.
     pub events: u64,

@@ -7,7 +7,7 @@ use mlt_types::TxId;
 /// The timestamp of a transaction: the number under which its client first tried what it does. One that is restarted since an
 /// operation gave up keeps it (Rosenkrantz, Stearns and Lewis, System Level Concurrency Control for Distributed Database
 /// Systems, TODS 1978, section 4), so in the end it is the oldest, and gives way to nobody.
-#[derive(Clone, Copy, Debug, Drop)]
+#[derive(Clone, Copy)]
 pub(crate) struct Timestamp {
     number: u64,
     /// Whether the next transaction keeps it.

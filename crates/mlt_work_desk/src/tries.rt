@@ -13,7 +13,7 @@ pub enum Tries {
 }
 
 /// The tries that a desk has.
-#[derive(Clone, Copy, Debug, Drop)]
+#[derive(Clone, Copy)]
 pub(crate) struct TriesLeft {
     /// How many there are, and for what.
     pub given: Tries,

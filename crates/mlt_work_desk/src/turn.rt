@@ -10,7 +10,7 @@ use mlt_types::TxId;
 use mlt_work_waits::{Awaited, Waiting, Waker};
 
 /// What a desk does after an event.
-#[derive(Clone, Copy, Debug, PartialEq, Eq)]
+#[derive(Clone, Copy, PartialEq, Eq)]
 pub(crate) enum Turn {
     /// It goes on, and tries at once where it was to wait.
     Goes,
@@ -22,7 +22,7 @@ pub(crate) enum Turn {
 }
 
 /// Whose locks an event has given back.
-#[derive(Clone, Copy, Debug, PartialEq, Eq)]
+#[derive(Clone, Copy)]
 pub(crate) enum GivenBack {
     Nothing,
     /// Those of pages that the transaction had.
@@ -35,7 +35,7 @@ pub(crate) enum GivenBack {
 
 /// One that may sleep: its transaction and the timestamp of that, what wakes it, whether it has waited so often for pages that it
 /// takes precedence, and the operation that it is in, or was in last.
-#[derive(Clone, Copy, Debug)]
+#[derive(Clone, Copy)]
 pub(crate) struct SleepingThread {
     pub tx: TxId,
     pub timestamp: u64,
