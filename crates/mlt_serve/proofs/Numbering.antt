@@ -1,6 +1,7 @@
 -- Whose outcomes they are, where others come behind them.
-use Rattle.std.proofs.Common.{◌≡◌, ℕ, ◌≤◌, ◌++◌, List, [], max, All, subst, sym, arith, IsPermutation}
+use Rattle.std.proofs.Common.{◌≡◌, ◌↔◌, ℕ, ◌+◌, ◌<◌, ◌≤◌, ◌++◌, List, [], ◌∷◌, length, get_or, drop, max, All, subst, sym, arith, IsPermutation, add-one, drop-cons, drop_of_length-le}
 use Rattle.mlt_serve.proofs.Names.{All-append, All-nil, All-weaker, All-permutation, TraceItem, Outcome, AreOfClients, GrowsFor, IsOf, IsOfClient}
+use Rattle.mlt_serve.specs.Clients.{AreNumbered, ComesNext}
 
 -- those of the first connections are among those of more connections
 pub of_more : (least most : ℕ) (outcomes : List Outcome) → least ≤ most → AreOfClients least outcomes → AreOfClients most outcomes
@@ -28,3 +29,19 @@ pub gathered : (one other : ℕ) (old more new : List Outcome) → IsPermutation
 gathered one other old more new same are are_more =
     All-permutation (IsOfClient (max one other)) (old ++ more) new same
     (All-append (IsOfClient (max one other)) old more (of_more one (max one other) old (omega arith) are) (of_more other (max one other) more (omega arith) are_more))
+
+-- ---- numbers, from an outcome on
+
+module _ (outcomes : List Outcome) (i client number : ℕ) (so_far : AreNumbered client number (drop i outcomes) ↔ AreNumbered 0 0 outcomes) where
+  pub all_numbered : length outcomes ≤ i → AreNumbered 0 0 outcomes
+  all_numbered past = so_far.0 (subst (AreNumbered client number) (sym (drop_of_length-le outcomes past)) tt)
+
+  module _ (o : Outcome) (within : i < length outcomes) (is : o ≡ get_or outcomes i o) where
+    from_here : drop i outcomes ≡ o ∷ drop (i + 1) outcomes
+    from_here = subst (λ x. drop i outcomes ≡ x ∷ drop (i + 1) outcomes) (sym is) (rw (add-one i) (drop-cons outcomes i o within))
+
+    pub numbered_here : AreNumbered 0 0 outcomes → ComesNext client number o
+    numbered_here all = (subst (AreNumbered client number) from_here (so_far.1 all)).0
+
+    pub numbered_on : ComesNext client number o → AreNumbered o.client o.number (drop (i + 1) outcomes) ↔ AreNumbered 0 0 outcomes
+    numbered_on next = (λ rest. so_far.0 (subst (AreNumbered client number) (sym from_here) (next, rest)), λ all. (subst (AreNumbered client number) from_here (so_far.1 all)).1)

@@ -1,5 +1,5 @@
 -- Whose outcomes they are, what is in them, and how they stand.
-use Rattle.std.specs.Prelude.{◌≡◌, ◌⊎◌, ℕ, ◌<◌, ◌≤◌, ◌++◌, List, All, AllPairs}
+use Rattle.std.specs.Prelude.{◌≡◌, ◌==◌, ◌⊎◌, ℕ, ◌+◌, ◌<◌, ◌≤◌, ◌++◌, List, [], ◌∷◌, All, AllPairs, if◌then◌else◌}
 use Rattle.mlt_script_serial.specs.declared.outcome.Outcome.{Outcome}
 use Rattle.mlt_trace.specs.declared.item.TraceItem.{TraceItem}
 use Rattle.mlt_serve.specs.Tellings.{TellsOutcomes}
@@ -33,3 +33,13 @@ MayPrecede one other =
 -- greater number
 abbrev pub AreByClientAndNumber : List Outcome → Type 0
 AreByClientAndNumber outcomes = AllPairs MayPrecede outcomes
+
+-- behind an outcome of this client and number it is the next one of the client, or the first one of a later client
+abbrev pub ComesNext : ℕ → ℕ → Outcome → Type 0
+ComesNext client number o =
+    (client ≤ o.client) × (o.number ≡ (if o.client == client then number + 1 else 1))
+
+-- behind such an outcome, clients stand in order, and the outcomes of each have the numbers 1, 2, 3 and so on
+abbrev pub AreNumbered : ℕ → ℕ → List Outcome → Type 0
+AreNumbered client number [] = Unit {0}
+AreNumbered client number (o ∷ os) = ComesNext client number o × AreNumbered o.client o.number os

@@ -2,7 +2,7 @@
 
 ghost use Rattle.std.specs.Prelude.{◌≡◌, ◌≤◌, ◌↔◌, Err, IfErr, IfOk, IsOk, IsOkUnless, IsPermutation, IsTrue, [], false, true};
 ghost use Rattle.mlt_trace_audit.specs.Agreement.{Agrees};
-ghost use Rattle.mlt_serve.specs.Clients.{AreByClientAndNumber, AreOfClients, IsOfClient};
+ghost use Rattle.mlt_serve.specs.Clients.{AreByClientAndNumber, AreNumbered, AreOfClients, ComesNext, IsOfClient};
 ghost use Rattle.mlt_serve.specs.Endings.{result_of_accepting};
 
 use crate::accepting::Accepting;
@@ -13,21 +13,33 @@ use mlt_trace_audit::audit;
 use mlt_types::{Pseudo, Refusal};
 use std::alloc::Global;
 
-/// Whether the outcome is that of a connection up to the limit.
-fn is_of_client(outcome: &Outcome, limit: u64) -> bool
-    ensures { IsTrue result ↔ IsOfClient limit outcome.now }
+/// Whether the outcome is that of a connection up to the limit, and comes next after one of this client and number.
+fn comes_next(outcome: &Outcome, limit: u64, client: u32, number: u64) -> bool
+    ensures { IsTrue result
+        ↔ IsOfClient limit outcome.now × ComesNext client number outcome.now }
 {
-    1 <= outcome.client && u64::from(outcome.client) <= limit
+    if outcome.client < 1 || limit < u64::from(outcome.client) || outcome.client < client {
+        return false;
+    }
+    if outcome.client == client {
+        number < outcome.number && outcome.number - number == 1
+    } else {
+        outcome.number == 1
+    }
 }
 
-/// Whether each outcome is.
-fn are_of_clients(outcomes: &[Outcome], limit: u64) -> bool
-    ensures { IsTrue result ↔ AreOfClients limit outcomes.now }
+/// Whether each outcome is that of a connection up to the limit, and those of each have the numbers 1, 2, 3 and so on, in order.
+fn are_numbered(outcomes: &[Outcome], limit: u64) -> bool
+    ensures { IsTrue result ↔ AreOfClients limit outcomes.now × AreNumbered 0 0 outcomes.now }
 {
+    let mut client = 0;
+    let mut number = 0;
     for outcome in outcomes {
-        if !is_of_client(outcome, limit) {
+        if !comes_next(outcome, limit, client, number) {
             return false;
         }
+        client = outcome.client;
+        number = outcome.number;
     }
     true
 }
@@ -45,7 +57,8 @@ fn in_order(outcomes: Vec<Outcome>) -> Vec<Outcome>
 /// The outcomes of all sessions, by client and then by number, where they agree with the manager's history.
 ///
 /// # Errors
-/// As those of `Gathered::served`, and then `Audit`, where the outcomes are not those of the history.
+/// As those of `Gathered::served`, and then `Audit`, where the outcomes are not those of the history, or not numbered 1, 2, 3 for
+/// each client.
 pub(crate) fn outcomes_of<P: Pseudo>(
     alloc: Global,
     accepting: Accepting,
@@ -57,7 +70,7 @@ pub(crate) fn outcomes_of<P: Pseudo>(
     ensures same { IfOk result (λ outcomes. IsPermutation gathered.outcomes.items outcomes) }
     ensures agrees { IfOk result (λ outcomes. Agrees outcomes manager.now.shared.history.items) }
     ensures clients { IfOk result (λ outcomes. AreOfClients accepting.connections outcomes) }
-    ensures order { IfOk result (λ outcomes. AreByClientAndNumber outcomes) }
+    ensures order { IfOk result (λ outcomes. AreNumbered 0 0 outcomes) }
     ensures few { IfOk result (λ _. accepting.connections ≤ limit) }
     ensures served { IfOk result (λ _. gathered.connections ≡ accepting.connections) }
     ensures early { IfErr (result_of_accepting accepting.end) (λ refusal. result ≡ Err refusal) }
@@ -68,7 +81,7 @@ pub(crate) fn outcomes_of<P: Pseudo>(
 {
     let accepted = gathered.served(accepting, limit)?;
     let outcomes = in_order(gathered.outcomes);
-    if !are_of_clients(outcomes.as_slice(), accepted) {
+    if !are_numbered(outcomes.as_slice(), accepted) {
         return Err(Refusal::Audit);
     }
     let Some(history) = manager.history() else {

@@ -5,7 +5,7 @@ ghost use Rattle.mlt_manager.specs.Openings.{IsMadeWith};
 ghost use Rattle.mlt_work_log.specs.Seats.{id_of};
 ghost use Rattle.mlt_work_desk.specs.Makings.{making_by};
 ghost use Rattle.mlt_trace_audit.specs.Agreement.{Agrees};
-ghost use Rattle.mlt_serve.specs.Clients.{AreByClientAndNumber, AreOfClients};
+ghost use Rattle.mlt_serve.specs.Clients.{AreNumbered, AreOfClients};
 ghost use Rattle.mlt_serve.specs.Tellings.{TellsOutcomes};
 
 use crate::accepting::Accepting;
@@ -149,7 +149,7 @@ fn served_of<P: Pseudo + Drop>(
         (λ got. Agrees got.outcomes got.manager.shared.history.items) }
     ensures clients { IfOk result (λ got. AreOfClients got.connections got.outcomes) }
     ensures few { IfOk result (λ got. got.connections ≤ limit) }
-    ensures order { IfOk result (λ got. AreByClientAndNumber got.outcomes) }
+    ensures order { IfOk result (λ got. AreNumbered 0 0 got.outcomes) }
     ensures refusal { IfErr result (λ refusal.
         (refusal ≡ Refusal.Io) ⊎ (refusal ≡ Refusal.OutOfMemory) ⊎ (refusal ≡ Refusal.Audit)) }
 {
@@ -218,8 +218,8 @@ where
     // each outcome is that of one of the connections, which are no more than the options say
     ensures clients { IfOk result (λ got. AreOfClients got.connections got.outcomes) }
     ensures few { IfOk result (λ got. got.connections ≤ options.now.connections) }
-    // they stand by client and then by number
-    ensures order { IfOk result (λ got. AreByClientAndNumber got.outcomes) }
+    // they stand by client, and those of each client have the numbers 1, 2, 3 and so on
+    ensures order { IfOk result (λ got. AreNumbered 0 0 got.outcomes) }
     ensures refusal { IfErr result (λ refusal.
         (refusal ≡ Refusal.Io) ⊎ (refusal ≡ Refusal.OutOfMemory) ⊎ (refusal ≡ Refusal.Audit)) }
 {
