@@ -1,6 +1,8 @@
 mod Names
+pub mod Following
 pub mod Merging
 pub mod Numbering
 pub mod Receiving
 pub mod Sorting
+pub mod Subsequences
 pub mod Telling

@@ -1,10 +1,16 @@
 -- Names of other crates, of std and of specs/ that two files of these proofs or more import. Declares nothing.
+pub use Rattle.mlt_object_kinds.specs.declared.operation.ObjOp.{ObjOp}
+pub use Rattle.mlt_object_kinds.specs.declared.operation.ObjReply.{ObjReply}
 pub use Rattle.mlt_script_serial.specs.Calls.{Moves}
+pub use Rattle.mlt_script_serial.specs.declared.call.DeskAnswer.{DeskAnswer}
+pub use Rattle.mlt_script_serial.specs.declared.call.DeskCall.{DeskCall}
 pub use Rattle.mlt_script_serial.specs.declared.outcome.Outcome.{Outcome}
 pub use Rattle.mlt_serve.specs.Clients.{AreOfClients, GrowsFor, IsOf, IsOfClient}
-pub use Rattle.mlt_serve.specs.Tellings.{TellsOutcomes}
+pub use Rattle.mlt_serve.specs.Tellings.{IsSubsequence, TellsOutcomes}
 pub use Rattle.mlt_serve.specs.Threads.{AllHaveMemory, all_outcomes}
 pub use Rattle.mlt_trace.specs.declared.item.TraceItem.{TraceItem}
+pub use Rattle.mlt_trace_audit.proofs.Placed.{ops_of-append}
+pub use Rattle.mlt_trace_audit.specs.Outcomes.{ops_of}
 pub use Rattle.mlt_work_desk.specs.Holds.{DeskView}
 pub use Rattle.mlt_work_desk.specs.Makings.{making_by}
 pub use Rattle.mlt_work_log.specs.Prefixes.{StartsWith}

@@ -1,11 +1,12 @@
 -- Whose outcomes a session adds.
-use Rattle.std.proofs.Common.{◌≡◌, ◌⊎◌, inl, inr, ℕ, ◌+◌, [], ◌∷◌, List, refl, ap, All, Option, Some, None, Result, Ok, Err, IfOk, IfErr}
-use Rattle.mlt_serve.proofs.Names.{All-append, All-nil, All-push, TraceItem, Moves, StartsWith, DeskView, GrowsFor, IsOf}
+use Rattle.std.proofs.Common.{◌≡◌, ◌⊎◌, inl, inr, ℕ, ◌+◌, [], ◌∷◌, List, refl, ap, subst, All, Option, Some, None, Result, Ok, Err, IfOk, IfErr}
+use Rattle.mlt_serve.proofs.Names.{All-append, All-nil, All-push, TraceItem, Moves, StartsWith, DeskView, GrowsFor, IsOf, DeskAnswer}
 use Rattle.mlt_types.specs.declared.refusal.Refusal.{Refusal}
-use Rattle.mlt_script_serial.specs.declared.call.DeskAnswer.{DeskAnswer}
-use Rattle.mlt_serve_session.specs.Talks.{Turn}
+use Rattle.mlt_event_text.specs.Inputs.{lines_of}
+use Rattle.mlt_serve_session.specs.Talks.{Turn, closing, closing_answers, open_at_end}
 use Rattle.mlt_serve_session.specs.Outcomes.{begins_by, begun_in, call_of, outcome_if, outcome_behind, outcomes_of}
-use Rattle.mlt_serve_session.specs.Sessions.{Acted, BrokenOff, HeardAll, Scene, SpokenLong, Summed}
+use Rattle.mlt_serve_session.specs.Sessions.{Acted, BrokenOff, HeardAll, Scene, Spoken, SpokenLong, Summed}
+use Rattle.mlt_serve.proofs.Following.{AreTurns, all_in_order, are_turns, first_turns}
 use Rattle.mlt_serve.proofs.Telling.{all_told, moves_of, run_more}
 
 one_of_client : (client number : ℕ) (began : Option ℕ) (behind : List Turn) → All (IsOf client) (outcome_if client number began behind)
@@ -26,8 +27,16 @@ module _ {P D S : Type 0} (bits_of : P → ℕ → ℕ) (view : D → DeskView) 
   abbrev items : List TraceItem
   items = (view new.desk).history
 
-  acted_grows : (answers : List DeskAnswer) (turns : List Turn) → Acted moves client old new answers turns → GrowsFor items client old.outcomes new.outcomes
-  acted_grows answers turns acted = record { more = outcomes_of client 0 turns; appended = acted.noted; of_client = all_of_client client 0 turns; told = all_told bits_of view new.desk _ acted.gave }
+  acted_grows : (answers : List DeskAnswer) (turns : List Turn) → AreTurns None turns → Acted moves client old new answers turns → GrowsFor items client old.outcomes new.outcomes
+  acted_grows answers turns are acted =
+      let in_order = all_in_order bits_of view new.desk client 0 None turns (closing (open_at_end None turns)) (closing_answers (open_at_end None turns)) old.desk are acted.asked in
+      record { more = outcomes_of client 0 turns; appended = acted.noted; of_client = all_of_client client 0 turns; told = all_told bits_of view new.desk _ acted.gave in_order }
+
+  spoken_grows : Spoken moves client old new → GrowsFor items client old.outcomes new.outcomes
+  spoken_grows spoken = acted_grows _ _ (subst (AreTurns None) spoken.is (are_turns None (lines_of spoken.taken) spoken.answers)) spoken.acted
+
+  off_grows : BrokenOff moves client old new → GrowsFor items client old.outcomes new.outcomes
+  off_grows off = acted_grows _ _ (first_turns None off.heard off.unheard (subst (AreTurns None) off.is (are_turns None (lines_of off.taken) off.answers))) off.acted
 
   -- however a session ends, it adds outcomes of its client alone
   pub grows : (result : Result S Refusal) → IfOk result (λ s. Summed moves client old new (lines s) (commits s))
@@ -36,10 +45,10 @@ module _ {P D S : Type 0} (bits_of : P → ℕ → ℕ) (view : D → DeskView) 
       → (result ≡ Err Refusal.OutOfMemory → BrokenOff moves client old new)
       → IfErr result (λ r. (r ≡ Refusal.LineTooLong) ⊎ (r ≡ Refusal.OutOfMemory) ⊎ (r ≡ Refusal.Io))
       → GrowsFor items client old.outcomes new.outcomes
-  grows (Ok s) ok long io memory why = acted_grows _ _ ok.spoken.acted
-  grows (Err r) ok long io memory (inl e) = acted_grows _ _ (long (ap (λ (x : Refusal). Err x) e)).spoken.acted
-  grows (Err r) ok long io memory (inr (inl e)) = acted_grows _ _ (memory (ap (λ (x : Refusal). Err x) e)).acted
-  grows (Err r) ok long io memory (inr (inr e)) = acted_grows _ _ (io (ap (λ (x : Refusal). Err x) e)).off.acted
+  grows (Ok s) ok long io memory why = spoken_grows ok.spoken
+  grows (Err r) ok long io memory (inl e) = spoken_grows (long (ap (λ (x : Refusal). Err x) e)).spoken
+  grows (Err r) ok long io memory (inr (inl e)) = off_grows (memory (ap (λ (x : Refusal). Err x) e))
+  grows (Err r) ok long io memory (inr (inr e)) = off_grows (io (ap (λ (x : Refusal). Err x) e)).off
 
   -- and the desk has seen what it had seen
   pub sees_on : (result : Result S Refusal) → IfOk result (λ s. Summed moves client old new (lines s) (commits s))

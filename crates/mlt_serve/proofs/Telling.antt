@@ -1,19 +1,16 @@
 -- A history tells all that is in outcomes, as it grows, and as others come behind them.
-use Rattle.std.proofs.Common.{◌≡◌, ◌++◌, List, [], ◌∷◌, All, ℕ, ap, subst, sym, Contains, IsPermutation}
+use Rattle.std.proofs.Common.{◌≡◌, ◌++◌, List, [], ◌∷◌, All, ℕ, ap, subst, sym, get_or, Contains, IsPermutation}
 use Rattle.std.proofs.lemmas.Grind.{merely}
-use Rattle.mlt_serve.proofs.Names.{All-append, All-nil, All-weaker, All-permutation, TraceItem, Outcome, Moves, StartsWith, DeskView, GrowsFor, TellsOutcomes}
+use Rattle.mlt_serve.proofs.Names.{All-append, All-nil, All-weaker, All-permutation, TraceItem, Outcome, Moves, StartsWith, DeskView, GrowsFor, TellsOutcomes, DeskAnswer, DeskCall, ops_of-append, ops_of, IsSubsequence}
 use Rattle.std.proofs.lemmas.List.Elements.{Contains-append_left, Contains-append_right}
 use mathlib.Core.Logic.{∥∥₁_map}
-use Rattle.mlt_object_kinds.specs.declared.operation.ObjOp.{ObjOp}
-use Rattle.mlt_object_kinds.specs.declared.operation.ObjReply.{ObjReply}
 use Rattle.mlt_script_serial.specs.declared.outcome.End.{End}
-use Rattle.mlt_script_serial.specs.declared.call.DeskAnswer.{DeskAnswer}
-use Rattle.mlt_script_serial.specs.declared.call.DeskCall.{DeskCall}
 use Rattle.mlt_serve_session.specs.Desks.{Answers}
-use Rattle.mlt_serve_session.specs.Given.{Gave, GaveAll, GaveEnd, GaveReply}
+use Rattle.mlt_serve_session.specs.Given.{Gave, GaveAll, GaveEnd}
 use Rattle.mlt_work_desk.specs.Holds as desk
 use Rattle.mlt_work_desk.proofs.Seeing.{more_than, no_more}
-use Rattle.mlt_serve.specs.Tellings.{TellsAll, TellsEnd, TellsOutcome, TellsReply}
+use Rattle.mlt_serve.proofs.Subsequences.{before_more}
+use Rattle.mlt_serve.specs.Tellings.{TellsAll, TellsEnd, TellsOutcome}
 
 module _ {D P : Type 0} (bits_of : P → ℕ → ℕ) (view : D → DeskView) where
   -- how a desk over a lock moves, by what it has seen of the history
@@ -41,24 +38,21 @@ module _ {D P : Type 0} (bits_of : P → ℕ → ℕ) (view : D → DeskView) wh
         let here = subst (λ xs. Contains xs item) (sym sees.whole) (Contains-append_right (seen gave.before) sees.more item have) in
         subst (λ xs. Contains xs item) (sym more.1) (Contains-append_left (seen gave.after) more.0 item here)
 
-    reply_told : (tx : ℕ) (done : ObjOp × ObjReply) → GaveReply moves_of last tx done → TellsReply (seen last) tx done
-    reply_told tx done gave = contains_last _ _ gave (TraceItem.Op tx done) gave.moved.sees.have
-
     end_told : (tx : ℕ) (e : End) → GaveEnd moves_of last tx e → TellsEnd (seen last) tx e
     end_told tx (End.Committed n) gave = contains_last _ _ gave (TraceItem.Commit tx n) gave.moved.sees.have
     end_told tx End.Aborted gave = tt
     end_told tx (End.Refused r) gave = tt
 
-    outcome_told : (o : Outcome) → GaveAll moves_of last o → TellsOutcome (seen last) o
-    outcome_told o gave = merely (record {
+    outcome_told : (o : Outcome) → GaveAll moves_of last o → IsSubsequence o.done (ops_of o.tx (seen last)) → TellsOutcome (seen last) o
+    outcome_told o gave in_order = merely (record {
       begun = contains_last _ _ gave.begun (TraceItem.Begin o.tx) gave.begun.moved.sees.have;
-      replies = All-weaker (GaveReply moves_of last o.tx) (TellsReply (seen last) o.tx) (reply_told o.tx) o.done gave.replies;
+      replies = in_order;
       end = end_told o.tx o.end gave.end;
     })
 
     -- the history that such a desk has seen tells what it answered
-    pub all_told : (outcomes : List Outcome) → All (GaveAll moves_of last) outcomes → TellsOutcomes (seen last) outcomes
-    all_told outcomes gave = All-weaker (GaveAll moves_of last) (TellsOutcome (seen last)) outcome_told outcomes gave
+    pub all_told : (outcomes : List Outcome) → All (GaveAll moves_of last) outcomes → All (λ o. IsSubsequence o.done (ops_of o.tx (seen last))) outcomes → TellsOutcomes (seen last) outcomes
+    all_told outcomes gave in_order = λ k d within. outcome_told (get_or outcomes k d) (gave k d within) (in_order k d within)
 
 -- where there are none
 pub none_told : (items : List TraceItem) (outcomes : List Outcome) → outcomes ≡ [] → TellsOutcomes items outcomes
@@ -77,7 +71,7 @@ module _ (items first : List TraceItem) (more : StartsWith items first) where
   still_tells : (o : Outcome) → TellsOutcome first o → TellsOutcome items o
   still_tells o told = ∥∥₁_map told (λ (tells : TellsAll first o). record {
     begun = still_contains (TraceItem.Begin o.tx) tells.begun;
-    replies = All-weaker (TellsReply first o.tx) (TellsReply items o.tx) (λ done. still_contains (TraceItem.Op o.tx done)) o.done tells.replies;
+    replies = subst (λ xs. IsSubsequence o.done (ops_of o.tx xs)) (sym more.1) (subst (λ l. IsSubsequence o.done l) (sym (ops_of-append o.tx first more.0)) (before_more o.done (ops_of o.tx first) (ops_of o.tx more.0) tells.replies));
     end = still_ended o.tx o.end tells.end;
   })
 

@@ -87,7 +87,8 @@ fn served_of<P: Pseudo + Drop>(
 /// trace, if there is a file for it, and then dropped. So what the server holds does not grow with what it has done.
 ///
 /// At the end as many transactions were told begun as the manager has begun, and as many told committed as it has committed; and the
-/// manager's history, which clauses know whole, has each begin, each operation with its reply and each commit that clients were told.
+/// manager's history, which clauses know whole, has each begin, the operations of each transaction with their replies, in order, and
+/// each commit that clients were told.
 /// The outcomes of the tally are those of all sessions, as clauses see them.
 ///
 /// # Errors
@@ -116,8 +117,8 @@ where
     // as many were told committed as it has committed
     ensures commits { IfOk result
         (λ got. commits_told got.tally.told.items ≡ got.manager.commits) }
-    // the history of the manager tells all that is in an outcome: that the transaction has begun, each of its operations with its
-    // reply, and its commit
+    // the history of the manager tells all that is in an outcome: that the transaction has begun, its operations with their
+    // replies, in order, and its commit
     ensures told { IfOk result
         (λ got. TellsOutcomes got.manager.shared.history.items got.tally.told.items) }
     // each outcome was that of one of the connections, which are no more than the options say
