@@ -1,7 +1,7 @@
 //! Connections, as they come.
 
-ghost use Rattle.std.specs.Prelude.{◌≡◌, ◌≤◌, ◌+◌, ◌-◌, ◌^◌, ◌%◌};
-ghost use Rattle.mlt_serve.specs.Endings.{result_of_accepting};
+ghost use Rattle.std.specs.Prelude.{◌≡◌, ◌≤◌, ◌+◌, ◌-◌, ◌^◌, ◌%◌, IfErr, IfSome, false, true};
+ghost use Rattle.mlt_serve.specs.Endings.{is_limit, result_of_accepting};
 
 use crate::door::Door;
 use crate::tuning::ACCEPT_PAUSE_MILLISECONDS;
@@ -84,7 +84,9 @@ impl<'a, R: Wait + Clock> Acceptor<'a, R> {
     ///
     /// # Errors
     /// Why there is none.
-    fn next(&mut self) -> Result<TcpStream, ListenerEnd> {
+    fn next(&mut self) -> Result<TcpStream, ListenerEnd>
+        ensures { IfErr result (λ ended. is_limit ended ≡ false) }
+    {
         for _ in self.rt.forever() {
             let accepted = self.door.accept();
             if let Some(ended) = self.ended() {
@@ -106,7 +108,9 @@ impl<'a, R: Wait + Clock> Acceptor<'a, R> {
     }
 
     /// Why nobody is to be let in any more, if so.
-    fn ended(&self) -> Option<ListenerEnd> {
+    fn ended(&self) -> Option<ListenerEnd>
+        ensures { IfSome result (λ ended. is_limit ended ≡ false) }
+    {
         if self.door.stops() {
             Some(ListenerEnd::Stop)
         } else if self.door.is_short() {
@@ -153,7 +157,8 @@ impl<'a, R: Wait + Clock> Acceptor<'a, R> {
         connections: &Sender<Connection, Global>,
         limit: u64,
     ) -> (u64, ListenerEnd)
-        ensures { result.0 ≤ limit }
+        ensures few { result.0 ≤ limit }
+        ensures whole { is_limit result.1 ≡ true → result.0 ≡ limit }
     {
         for before in 0..limit {
             let stream = match self.next() {
@@ -211,7 +216,8 @@ pub(crate) fn accept_all<R: Wait + Clock>(
     most_inside: Option<u64>,
     limit: u64,
 ) -> Accepting
-    ensures { result.connections ≤ limit }
+    ensures few { result.connections ≤ limit }
+    ensures whole { is_limit result.end ≡ true → result.connections ≡ limit }
 {
     let mut acceptor = Acceptor {
         rt,
