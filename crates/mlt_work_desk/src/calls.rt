@@ -271,7 +271,6 @@ impl<'a, P: Pseudo, L: MadeWith<P>, R: Wait, G: Gate> LockDesk<'a, P, L, R, G> {
     /// One step of the operation that the desk is in, which was called. It answers the operation's answer, if it has one: a reply that
     /// the history has as one to this operation. Where a step's answer comes only where another desk acts for the same transaction, the
     /// answer is `NoSuchTx`.
-    #[tactic(auto, using(crate::proofs::Trying::spends_none, crate::proofs::Trying::spends_one))]
     #[inline(always)]
     fn step(&mut self) -> Option<Result<ObjReply, Refusal>>
         ensures told { IfSome result (λ reply. MayAnswerOperation P.bits_of self.old.thread.tx
@@ -343,7 +342,6 @@ impl<'a, P: Pseudo, L: MadeWith<P>, R: Wait, G: Gate> LockDesk<'a, P, L, R, G> {
     }
 
     /// Steps of an abort, up to its end.
-    #[tactic(auto, using(crate::proofs::Seeing::more_than, crate::proofs::Seeing::no_more, crate::proofs::Seeing::sees_later))]
     fn undo(&mut self)
         ensures ends { SeesAnswer P.bits_of (first_items self.old.snapshot)
             (call.Abort self.old.thread.tx) DeskAnswer.Aborted (first_items self.new.snapshot) }

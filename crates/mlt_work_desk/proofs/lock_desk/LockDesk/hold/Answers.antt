@@ -1,7 +1,7 @@
-use Rattle.std.proofs.Common.{rules, ◌≡◌, ◌≢◌, false}
-use Rattle.mlt_work_desk.proofs.Names.{first_items, EndsWithOp, is_done}
+use Rattle.std.proofs.Common.{rules, ◌≡◌, ◌≢◌, ◌∙◌, false, sym}
+use Rattle.mlt_work_desk.proofs.Names.{false≢true, first_items, EndsWithOp, is_done}
 use Rattle.mlt_work_desk.proofs.Cycles.{youngest_of_cycle}
-use Rattle.mlt_work_desk.proofs.Replying.{reply_not_done, reply_then}
+use Rattle.mlt_work_desk.proofs.Replying.{reply_goes_on, reply_not_done, reply_then}
 use Rattle.mlt_work_desk.proofs.lock_desk.LockDesk.hold.Goals as goal
 use Rattle.mlt_work_desk.proofs.lock_desk.LockDesk.hold.Goals.{then-is_done, else-is_done}
 
@@ -23,5 +23,38 @@ returns-clause-another g c = λ no_reply.
 
 pub returns-clause-youngest : goal.returns-clause-youngest
 returns-clause-youngest g c = λ gives.
+    let turns = c.act-told.ensures.turns in
+    youngest_of_cycle c.args.may_sleep c.act-told.result.0 c.args.self.now.thread _ _ _ c.act-told.result.1 turns.0 turns.2 gives
+
+pub returns-then-goes_on-clause-told : goal.returns-then-goes_on-clause-told
+returns-then-goes_on-clause-told g c =
+    let act = c.act-told.ensures in
+    record { before = _; after = c.act-told.new.self.manager; sound_before = act.before; sound_after = act.after; meets = act.meets }
+
+pub returns-then-goes_on-clause-sees : goal.returns-then-goes_on-clause-sees
+returns-then-goes_on-clause-sees g c = c.act-told.ensures.sees
+
+pub returns-then-goes_on-clause-one : goal.returns-then-goes_on-clause-one
+returns-then-goes_on-clause-one g c = c.act-told.ensures.amount
+
+pub returns-clause-told : goal.returns-clause-told
+returns-clause-told g c =
+    let act = c.act-told.ensures in
+    record { before = _; after = c.act-told.new.self.manager; sound_before = act.before; sound_after = act.after; meets = act.meets }
+
+pub returns-clause-sees : goal.returns-clause-sees
+returns-clause-sees g c = c.act-told.ensures.sees
+
+pub returns-clause-one : goal.returns-clause-one
+returns-clause-one g c = c.act-told.ensures.amount
+
+pub returns-then-goes_on-clause-reply : goal.returns-then-goes_on-clause-reply
+returns-then-goes_on-clause-reply g c = λ is. absurd (false≢true is)
+
+pub returns-then-goes_on-clause-another : goal.returns-then-goes_on-clause-another
+returns-then-goes_on-clause-another g c = λ no. reply_goes_on _ c.args.event c.act-told.result.0 (sym c.goes_on.ensures ∙ c.if-goes_on.true)
+
+pub returns-then-goes_on-clause-youngest : goal.returns-then-goes_on-clause-youngest
+returns-then-goes_on-clause-youngest g c = λ gives.
     let turns = c.act-told.ensures.turns in
     youngest_of_cycle c.args.may_sleep c.act-told.result.0 c.args.self.now.thread _ _ _ c.act-told.result.1 turns.0 turns.2 gives

@@ -1,9 +1,10 @@
-use Rattle.std.proofs.Common.{rules, ◌≡◌, inl, inr, false, refl, subst, true}
+use Rattle.std.proofs.Common.{rules, ◌≡◌, ◌∙◌, ap, inl, inr, false, refl, subst, true}
 use Rattle.mlt_types.specs.declared.refusal.Refusal.TheVariants.{GaveUp}
 use Rattle.mlt_work_desk.proofs.Names.{Answer, Event, Told, DeskCall, first_items, EndsWithOp, IfReply, IsToldTo, SeesEvent, SleepingThread}
 use Rattle.mlt_work_desk.specs.Tries.{GivesUp}
 use Rattle.mlt_work_waits.specs.Gates.{is_to_wait}
 use Rattle.mlt_work_desk.proofs.Seeing.{more_than, sees_more, sees_refused, sees_replied}
+use Rattle.mlt_work_desk.proofs.Trying.{spends_none, spends_one}
 use Rattle.mlt_work_desk.proofs.lock_desk.LockDesk.step.Goals as goal
 
 pub returns-in-Answered-Done-clause-sees : goal.returns-in-Answered-Done-clause-sees
@@ -13,7 +14,7 @@ returns-in-Answered-Done-clause-sees g c =
     let tx = c.args.self.now.thread.tx in
     let reply = c.in-Answered-Done.reply in
     let held = c.hold-told.ensures in
-    let is_reply : c.hold-told.new.self.is_reply ≡ true = search rules in
+    let is_reply : c.hold-told.new.self.is_reply ≡ true = c.if-self.true in
     let was_told : c.hold-told.result.0 ≡ Told.Answered (Answer.Done reply) = search rules in
     sees_replied g.P.Pseudo.bits_of before tx c.args.self.now.thread.op reply after (held.reply is_reply)
     (subst (λ said. SeesEvent before (Event.Step tx) said after) was_told held.sees)
@@ -23,7 +24,7 @@ returns-in-Answered-Done-2-clause-told g c =
     let step = Event.Step c.args.self.now.thread.tx in
     let done = Told.Answered (Answer.Done c.in-Answered-Done.reply) in
     let held = c.hold-told.ensures in
-    let is_other : c.hold-told.new.self.is_reply ≡ false = search rules in
+    let is_other : c.hold-told.new.self.is_reply ≡ false = c.if-self.false in
     let was_told : c.hold-told.result.0 ≡ done = search rules in
     let ends = EndsWithOp (first_items c.hold-told.new.self.snapshot) c.args.self.now.thread.op in (
       tt,
@@ -42,7 +43,7 @@ returns-in-Answered-Done-2-clause-told g c =
 pub returns-then-gives_up-clause-told : goal.returns-then-gives_up-clause-told
 returns-then-gives_up-clause-told g c =
     let held = c.hold-told.ensures in
-    let gave : c.gives_up.result ≡ true = search rules in
+    let gave : c.gives_up.result ≡ true = c.if-gives_up.true in
     let cancel = c.gives_up.ensures.cancels gave in
     let waits : is_to_wait c.hold-told.result.0 ≡ true = search rules in (
       tt,
@@ -73,3 +74,96 @@ returns-then-gives_up-clause-sees g c =
     let thread = c.args.self.now.thread in
     sees_refused g.P.Pseudo.bits_of before (DeskCall.Operation thread.tx thread.op) GaveUp after
     (more_than before mid after c.gives_up.ensures.more (sees_more before _ _ mid c.hold-told.ensures.sees))
+
+pub returns-in-Answered-Going-clause-more : goal.returns-in-Answered-Going-clause-more
+returns-in-Answered-Going-clause-more g c = sees_more _ _ _ _ c.hold-told.ensures.sees
+
+pub returns-in-Answered-Going-clause-spends : goal.returns-in-Answered-Going-clause-spends
+returns-in-Answered-Going-clause-spends g c = spends_none c.args.self.now.tries c.hold-told.new.self.tries c.is_patient-self.result c.hold-told.ensures.tries
+
+pub returns-in-Answered-Going-clause-tx : goal.returns-in-Answered-Going-clause-tx
+returns-in-Answered-Going-clause-tx g c = ap (λ (t : SleepingThread). t.tx) c.hold-told.ensures.thread
+
+pub returns-in-Answered-Going-clause-op : goal.returns-in-Answered-Going-clause-op
+returns-in-Answered-Going-clause-op g c = ap (λ (t : SleepingThread). t.op) c.hold-told.ensures.thread
+
+pub returns-in-Answered-Done-clause-more : goal.returns-in-Answered-Done-clause-more
+returns-in-Answered-Done-clause-more g c = sees_more _ _ _ _ c.hold-told.ensures.sees
+
+pub returns-in-Answered-Done-clause-spends : goal.returns-in-Answered-Done-clause-spends
+returns-in-Answered-Done-clause-spends g c = spends_none c.args.self.now.tries c.hold-told.new.self.tries c.is_patient-self.result c.hold-told.ensures.tries
+
+pub returns-in-Answered-Done-clause-tx : goal.returns-in-Answered-Done-clause-tx
+returns-in-Answered-Done-clause-tx g c = ap (λ (t : SleepingThread). t.tx) c.hold-told.ensures.thread
+
+pub returns-in-Answered-Done-clause-op : goal.returns-in-Answered-Done-clause-op
+returns-in-Answered-Done-clause-op g c = ap (λ (t : SleepingThread). t.op) c.hold-told.ensures.thread
+
+pub returns-in-Answered-Refused-clause-more : goal.returns-in-Answered-Refused-clause-more
+returns-in-Answered-Refused-clause-more g c = sees_more _ _ _ _ c.hold-told.ensures.sees
+
+pub returns-in-Answered-Refused-clause-spends : goal.returns-in-Answered-Refused-clause-spends
+returns-in-Answered-Refused-clause-spends g c = spends_none c.args.self.now.tries c.hold-told.new.self.tries c.is_patient-self.result c.hold-told.ensures.tries
+
+pub returns-in-Answered-Refused-clause-tx : goal.returns-in-Answered-Refused-clause-tx
+returns-in-Answered-Refused-clause-tx g c = ap (λ (t : SleepingThread). t.tx) c.hold-told.ensures.thread
+
+pub returns-in-Answered-Refused-clause-op : goal.returns-in-Answered-Refused-clause-op
+returns-in-Answered-Refused-clause-op g c = ap (λ (t : SleepingThread). t.op) c.hold-told.ensures.thread
+
+pub returns-in-Answered-Done-2-clause-more : goal.returns-in-Answered-Done-2-clause-more
+returns-in-Answered-Done-2-clause-more g c = sees_more _ _ _ _ c.hold-told.ensures.sees
+
+pub returns-in-Answered-Done-2-clause-spends : goal.returns-in-Answered-Done-2-clause-spends
+returns-in-Answered-Done-2-clause-spends g c = spends_none c.args.self.now.tries c.hold-told.new.self.tries c.is_patient-self.result c.hold-told.ensures.tries
+
+pub returns-in-Answered-Done-2-clause-tx : goal.returns-in-Answered-Done-2-clause-tx
+returns-in-Answered-Done-2-clause-tx g c = ap (λ (t : SleepingThread). t.tx) c.hold-told.ensures.thread
+
+pub returns-in-Answered-Done-2-clause-op : goal.returns-in-Answered-Done-2-clause-op
+returns-in-Answered-Done-2-clause-op g c = ap (λ (t : SleepingThread). t.op) c.hold-told.ensures.thread
+
+pub returns-in-Answered-Done-2-2-clause-more : goal.returns-in-Answered-Done-2-2-clause-more
+returns-in-Answered-Done-2-2-clause-more g c = sees_more _ _ _ _ c.hold-told.ensures.sees
+
+pub returns-in-Answered-Done-2-2-clause-spends : goal.returns-in-Answered-Done-2-2-clause-spends
+returns-in-Answered-Done-2-2-clause-spends g c = spends_none c.args.self.now.tries c.hold-told.new.self.tries c.is_patient-self.result c.hold-told.ensures.tries
+
+pub returns-in-Answered-Done-2-2-clause-tx : goal.returns-in-Answered-Done-2-2-clause-tx
+returns-in-Answered-Done-2-2-clause-tx g c = ap (λ (t : SleepingThread). t.tx) c.hold-told.ensures.thread
+
+pub returns-in-Answered-Done-2-2-clause-op : goal.returns-in-Answered-Done-2-2-clause-op
+returns-in-Answered-Done-2-2-clause-op g c = ap (λ (t : SleepingThread). t.op) c.hold-told.ensures.thread
+
+pub returns-in-Answered-Done-2-3-clause-more : goal.returns-in-Answered-Done-2-3-clause-more
+returns-in-Answered-Done-2-3-clause-more g c = sees_more _ _ _ _ c.hold-told.ensures.sees
+
+pub returns-in-Answered-Done-2-3-clause-spends : goal.returns-in-Answered-Done-2-3-clause-spends
+returns-in-Answered-Done-2-3-clause-spends g c = spends_none c.args.self.now.tries c.hold-told.new.self.tries c.is_patient-self.result c.hold-told.ensures.tries
+
+pub returns-in-Answered-Done-2-3-clause-tx : goal.returns-in-Answered-Done-2-3-clause-tx
+returns-in-Answered-Done-2-3-clause-tx g c = ap (λ (t : SleepingThread). t.tx) c.hold-told.ensures.thread
+
+pub returns-in-Answered-Done-2-3-clause-op : goal.returns-in-Answered-Done-2-3-clause-op
+returns-in-Answered-Done-2-3-clause-op g c = ap (λ (t : SleepingThread). t.op) c.hold-told.ensures.thread
+
+pub returns-then-gives_up-clause-spends : goal.returns-then-gives_up-clause-spends
+returns-then-gives_up-clause-spends g c = spends_one c.args.self.now.tries c.hold-told.new.self.tries c.gives_up.new.self.tries c.is_patient-self.result c.hold-told.ensures.tries c.gives_up.ensures.spent
+
+pub returns-then-gives_up-clause-tx : goal.returns-then-gives_up-clause-tx
+returns-then-gives_up-clause-tx g c = c.gives_up.ensures.tx ∙ ap (λ (t : SleepingThread). t.tx) c.hold-told.ensures.thread
+
+pub returns-then-gives_up-clause-op : goal.returns-then-gives_up-clause-op
+returns-then-gives_up-clause-op g c = c.gives_up.ensures.op ∙ ap (λ (t : SleepingThread). t.op) c.hold-told.ensures.thread
+
+pub returns-else-gives_up-clause-more : goal.returns-else-gives_up-clause-more
+returns-else-gives_up-clause-more g c = more_than _ (first_items c.hold-told.new.self.snapshot) _ c.gives_up.ensures.more (sees_more _ _ _ _ c.hold-told.ensures.sees)
+
+pub returns-else-gives_up-clause-spends : goal.returns-else-gives_up-clause-spends
+returns-else-gives_up-clause-spends g c = spends_one c.args.self.now.tries c.hold-told.new.self.tries c.gives_up.new.self.tries c.is_patient-self.result c.hold-told.ensures.tries c.gives_up.ensures.spent
+
+pub returns-else-gives_up-clause-tx : goal.returns-else-gives_up-clause-tx
+returns-else-gives_up-clause-tx g c = c.gives_up.ensures.tx ∙ ap (λ (t : SleepingThread). t.tx) c.hold-told.ensures.thread
+
+pub returns-else-gives_up-clause-op : goal.returns-else-gives_up-clause-op
+returns-else-gives_up-clause-op g c = c.gives_up.ensures.op ∙ ap (λ (t : SleepingThread). t.op) c.hold-told.ensures.thread
