@@ -1,6 +1,6 @@
 //! The counts of the outcomes, once all connections are served.
 
-ghost use Rattle.std.specs.Prelude.{◌≡◌, ◌≤◌, ◌-◌, ◌^◌, ◌<◌, Err, IfErr, IfOk, IsOk, IsOkUnless, IsTrue, length, false, true};
+ghost use Rattle.std.specs.Prelude.{◌≡◌, ◌≤◌, Err, IfErr, IfOk, IsOk, IsOkUnless, length, false, true};
 ghost use Rattle.mlt_serve_session.specs.Tallies.{commits_told};
 ghost use Rattle.mlt_serve.specs.Clients.{AreOfClients};
 ghost use Rattle.mlt_serve.specs.Endings.{result_of_accepting};
@@ -47,15 +47,8 @@ pub(crate) fn tally_of<P: Pseudo>(
         return Err(Refusal::Audit);
     }
     let tally = gathered.outcomes;
-    if !is_count(tally.begun, manager.begun()) || !is_count(tally.commits, manager.commits()) {
+    if !tally.has_counted(manager.begun(), manager.commits()) {
         return Err(Refusal::Audit);
     }
     Ok(tally)
-}
-
-/// Whether a count that stays at 2^64 - 1 has not come so far, and is this number.
-fn is_count(count: u64, number: u64) -> bool
-    ensures { IsTrue result → (count < 2 ^ 64 - 1) × (count ≡ number) }
-{
-    count < u64::MAX && count == number
 }

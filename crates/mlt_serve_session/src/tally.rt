@@ -1,6 +1,6 @@
 //! Outcomes that are counted, and that nobody keeps.
 
-ghost use Rattle.std.specs.Prelude.{◌≡◌, ◌-◌, ◌^◌, [], length, min};
+ghost use Rattle.std.specs.Prelude.{◌≡◌, ◌-◌, ◌^◌, ◌<◌, [], IsTrue, length, min};
 ghost use Rattle.mlt_serve_session.specs.Tallies.{commits_by, commits_told};
 
 use crate::receipts::{EndedTx, Receipts};
@@ -21,6 +21,16 @@ pub struct Tally {
     pub told: GhostList<Outcome>,
     ghost begun_are: { begun ≡ min (length told.items) (2 ^ 64 - 1) },
     ghost commits_are: { commits ≡ min (commits_told told.items) (2 ^ 64 - 1) },
+}
+
+impl Tally {
+    /// Whether it has surely counted so many outcomes, and so many commits. Of counts that have stayed at 2^64 - 1 it does not know.
+    pub fn has_counted(&self, begun: u64, commits: u64) -> bool
+        ensures begun { IsTrue result → length self.now.told.items ≡ begun }
+        ensures commits { IsTrue result → commits_told self.now.told.items ≡ commits }
+    {
+        is_count(self.begun, begun) && is_count(self.commits, commits)
+    }
 }
 
 /// Counts, and keeps nothing.
@@ -64,4 +74,11 @@ fn commits_by(end: End) -> u64
         End::Committed(_) => 1,
         End::Aborted | End::Refused(_) => 0,
     }
+}
+
+/// Whether a count that stays at 2^64 - 1 has not come so far, and is this number.
+fn is_count(count: u64, number: u64) -> bool
+    ensures { IsTrue result → (count < 2 ^ 64 - 1) × (count ≡ number) }
+{
+    count < u64::MAX && count == number
 }
