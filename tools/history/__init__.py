@@ -1,0 +1,1 @@
+"""What tools/histories is made of."""
