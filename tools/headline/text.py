@@ -271,7 +271,7 @@ NOT_SHOWN: list[tuple[str, str]] = [
      "and before its end, commits have the numbers 1, 2, 3, and the committed transactions lead to the base"),
     ("Report Served", "what `run` and `serve_on` return, with the outcomes"),
     ("AreOfClients", "the client of each outcome is the number of a connection, from 1 to how many there were"),
-    ("AreNumbered", "after an outcome of no client, outcomes stand by clients, and those of each have the numbers 1, 2, 3 and so on"),
+    ("AreNumbered", "with 0 and 0: outcomes stand by clients, and those of each have the numbers 1, 2, 3 and so on"),
     ("Limits", "the greatest numbers of transactions, pages and operations"),
     ("IsBaseOfOutcomes",
      "the committed outcomes, in the order of their numbers, run alone from the empty base and lead to this base"),

@@ -365,14 +365,14 @@ impl<P: Pseudo> Manager<P> {
         drop(self);
     }
 
-    /// How many transactions have begun, 0 to 2^32.
+    /// How many transactions have begun, 0 to 2^63 - 1.
     pub fn begun(&self) -> u64
         ensures { result ≡ self.now.begun }
     {
         self.parts.begun
     }
 
-    /// How many transactions have committed, 0 to 2^32.
+    /// How many transactions have committed, 0 to 2^63 - 1.
     pub fn commits(&self) -> u64
         ensures { result ≡ self.now.commits }
     {
