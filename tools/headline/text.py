@@ -27,23 +27,24 @@ SENTENCES: list[list[tuple[str, str]]] = [[
     ("After any list of page steps, commits and aborts by any number of transactions,",
      "the argument `events` of [[Manager::play]]: any list of [[Event]]s"),
     ("the committed transactions,", "field `committed` of the [[Course]] that the events tell"),
-    ("run alone in commit order", "field `alone` of [[KeepsPromiseOver]]: [[IsSerialBase]]"),
+    ("run alone in commit order", "field `alone` of [[IsSerializable]]: [[IsSerialBase]]"),
     ("from the empty base,", "[[empty_base]], in `alone`"),
-    ("give exactly the replies", "[[Step]], in `alone`: a base gives an operation one reply and no other"),
+    ("give exactly the replies", "[[Step]], in `alone`: a base gives an operation at most one reply"),
     ("that they were told,", "[[TellsAll]]: the course has each operation with the reply that its event returned"),
-    ("and the base so reached is", "field `base` of [[KeepsPromiseOver]]"),
-    ("what the pages mean,", "field `means`, for `state`"),
+    ("and the base so reached is", "field `base` of [[IsSerializable]]"),
+    ("what the pages mean,", "field `means` of [[KeepsPromiseOver]], for `state`"),
     ("read through both maps,",
      "[[PagesMean]]: [[IsRecordOf]] leads from pages to records, and [[HoldsIn]] from records to a base"),
-    ("once the pages of running subtransactions are put back", "field `put_back`: [[HasCleanPages]]"),
-    ("and the operations of open transactions are taken back.", "field `taken_back`: [[UndoneTo]], from `base` to `state`"),
+    ("once the pages of running subtransactions are put back", "fields `put_back`, which is [[HasCleanPages]], and `busy`"),
+    ("and the operations of open transactions are taken back.",
+     "field `taken_back`, [[UndoneTo]]: the open operations lead from `base` to `state`"),
 ], [
     ("The same holds", "[[Manager::keeps_its_promises]], a contract of every manager: [[KeepsMainPromise]]"),
     ("whenever the lock of running threads is free.", "the type under the lock, [[LockedState]], has a `Manager`"),
     ("Each call of the manager under it is one event,", "clause `meets` of [[LockedState::act]]"),
     ("and none is lost.", "invariant `counted` of [[LockedState]], clause `amount` of [[LockedState::act]], and [[Agrees]]"),
     ("Every history passes the checker of traces,", "[[Manager::passes_the_checker]], a contract of every manager"),
-    ("and what `run` and `serve_on` return", "[[run]] and [[serve_on]]: a list of [[Outcome]]s"),
+    ("and what `run` and `serve_on` return", "[[run]] and [[serve_on]]: of what they return, the list of [[Outcome]]s"),
     ("stands in the history.", "[[Agrees]]"),
 ]]
 
@@ -52,7 +53,7 @@ what lacks some of its fields or clauses. A long signature has no types of argum
 # How the definitions are to be read: what is written, and what it says.
 NOTATION: list[tuple[str, str]] = [
     ("`name : A → B → C`, then `name a b = …`",
-     "a function of an `A` and a `B` to a `C`. The first line that fits counts, and `_` fits all"),
+     "a function of an `A` and a `B` to a `C`. The first line that fits counts; `_`, or a name for a value, fits all"),
     ("`… → Type 0`", "the function returns a statement, or a kind of values"),
     ("`(x : A) → P`, `(x : A) × P`", "for each `x` of `A`, or for several, `P`; there is an `x` of `A` with `P`"),
     ("`P → Q`, `P × Q`", "if `P`, then `Q`; `P` and `Q`"),
@@ -81,14 +82,16 @@ ONE: list[Section] = [
                 Block("mlt_manager/src/manager.rt", "Manager.play():course,refusal"),
             ]),
     Section("The main promise",
-            """`c` is the course that the events tell, and `m` the manager after the last one. Between any two events the manager
-            keeps [the same promise](#the-promise-over-a-history). A manager that refused every begin, for want of memory,
-            would keep it.""", [
-                Block("mlt_manager/specs/Courses.antt", "KeepsPromiseOver"),
+            """`c` is the course that the events tell, and `m` the manager after the last one. A [[Base]] is a database state.
+            Between any two events the manager keeps [a like promise](#the-promise-over-a-history) over its history. A manager
+            that refused every begin, for want of memory, would keep both.""", [
+                Block("mlt_manager/specs/Courses.antt", "IsSerializable KeepsPromiseOver"),
             ]),
     Section("Events and answers",
-            """`Whole` is a call and its steps, and drops an operation that waits or is blocked. `WholeUndo` is the steps of an
-            abort, up to one that waits.""", [
+            """A step waits for the lock of a page, and is blocked by an operation that conflicts. `Whole` is a call and its
+            steps, and drops an operation that waits, is blocked or is refused. `WholeUndo` is the steps of an abort, up to one
+            that waits. `Aborting true` says that the abort has ended, since there was nothing to undo. That a step touches at
+            most one page is not shown.""", [
                 Block("mlt_event/src/event.rt", "Event"),
                 Block("mlt_event/src/told.rt", "Told"),
                 Block("mlt_event/src/answer.rt", "Answer"),
@@ -96,18 +99,24 @@ ONE: list[Section] = [
     Section("The course that events tell",
             """A transaction that is `NotOpen` has not begun, or has ended. `Pending op` says that `op` was called and is not
             done, and `Undoing` that an abort has begun. By [[Tells]] numbers of transactions, and of commits, are 1, 2, 3 and so
-            on. A transaction does nothing before its begin or after its end, and has at most one pending operation. Once its
-            abort has begun, it does no operation and never commits. `Undoing` has no line with `Blocked` or an answer `Refused`,
-            so a step of an abort meets no missing slot. By [[MayRefuse]] an event is refused only where its transaction is not
-            at what the event is for: a commit of an idle one never is. A begin, or a call or a whole operation of an idle one,
-            may also be refused by a limit or for want of memory. That the limit is reached, and for which reason any other event
-            is refused, is in `plays`.""", [
-                Block("mlt_manager/specs/Courses.antt", "TellsAll Tells# MayRefuse Turns Course# opening_course IsBusy Life Ops"),
+            on. A transaction does nothing before its begin or after its end, and has at most one pending operation, which a step
+            does, drops, or leaves pending. A step of an abort undoes the last operation: others are left, or it was the only
+            one. A whole undoing undoes the last operations, up to one that waits, or all. Once its abort has begun, it does no
+            operation and never commits. `Undoing` has no line with `Blocked` or
+            `Answered (Refused reason)`: undoing never meets a missing slot. By [[TellsAll]] the course is serializable behind
+            each event, so a transaction that aborts later got replies that a serial run could give, too.
+
+            By [[MayRefuse]] an event is `Refused` only where its transaction is not at what the event is for: a commit of an idle
+            one never is. A begin, a call or a whole operation of an idle one may also be refused by a limit or for want of
+            memory. A whole operation, or a step of a pending one, may be `Answered (Refused reason)`, which drops the operation.
+            For which other reasons, that a limit is reached, for which page and by which transaction one waits or is blocked, and
+            how many operations a whole undoing that waits has undone, is in `plays`.""", [
+                Block("mlt_manager/specs/Courses.antt", "TellsAll Tells MayRefuse Turns Course# opening_course IsBusy Life Ops"),
                 Block("mlt_order/specs/Tables.antt", "table_with"),
             ]),
     Section("Commit order",
             """By [[Step]] an operation, its reply and the base after it fix the base before it. So undoing the operations one by
-            one leads from the state back to the base.""", [
+            one leads from the state back to the base. There is such an order, since finitely many transactions have begun.""", [
                 Block("mlt_order/specs/Runs.antt", "IsSerialBase Runs"),
                 Block("mlt_order/specs/Interleavings.antt", "UndoneTo IsInterleaving items_of all_items"),
             ]),
@@ -138,10 +147,10 @@ ONE: list[Section] = [
             ]),
     Section("First images and clean pages",
             """A *subtransaction* is one operation, or the undoing of one. Until it ends, it keeps the first image of each page
-            that it writes: the page as it was, or `None` where there was none. By field `busy` of
-            [[KeepsPromiseOver]] a transaction keeps one only while an operation is pending or after its abort has begun. That it
-            keeps none but of pages that its subtransaction has locked exclusively is not shown: field `locks` of
-            [[KeepsPromises]].""", [
+            that it writes: the page as it was, or `None` where there was none. The undoing of an operation runs from the abort,
+            or from the `Undone` before it. By field `busy` of [[KeepsPromiseOver]] a transaction keeps an image only while an
+            operation is pending or after its abort has begun. That it is the page as it was, and that it keeps none but of pages
+            that its subtransaction has locked exclusively, is not shown: field `locks` of [[KeepsPromises]].""", [
                 Block("mlt_manager/specs/Bases.antt", "HasCleanPages"),
                 Block("mlt_tx/specs/Tables.antt", "KeepsImage KeepsNoImage"),
             ]),
@@ -169,14 +178,18 @@ ONE: list[Section] = [
 TWO: list[Section] = [
     Section("Under the lock",
             """Threads share a manager in a [[LockedState]] behind a mutex, and its invariants hold while the mutex is free. The
-            desk of a client makes each event by [[LockedState::act]], which adds 1 to its share of `book.total`. A call that only
-            reads is no event, nor is handing out the history, as `serve --endless` does.""", [
+            desk of a client makes each event by [[LockedState::act]], which adds 1 to its share of `book.total`, the sum of all
+            shares. `manager.events` counts them up to 2^64 - 1, where it stays. A call that only reads is no event, nor is
+            handing out the history, as `serve --endless` does. Not shown are the clauses by which the history goes on, from
+            one event to the next, from what a desk has seen (`seen`, `first`), and gets just the items of what the event
+            returned (`sees`); nor that all desks of a `run` or a server share one mutex.""", [
                 Block("mlt_work_desk/src/locked_state.rt", "LockedState:manager,book,counted"),
                 Block("mlt_work_desk/src/holds.rt", "LockedState.act():meets,amount"),
             ]),
     Section("The promise over a history",
-            """The history has an item for each thing that a transaction did. [[transcripts_of]] reads from it what a course
-            has.""", [
+            """The history has an item for each thing that a transaction did. [[transcripts_of]] reads from it `committed` and
+            `ops` of a course. What a transaction is at, the lines of [[Tells]] and [[MayRefuse]], and field `busy` are in part
+            one only.""", [
                 Block("mlt_manager/specs/Headline.antt", "KeepsMainPromise transcripts_of after_item Transcripts"),
                 Block("mlt_order/specs/Histories.antt", "but_last"),
                 Block("mlt_trace/src/item.rt", "TraceItem"),
@@ -186,19 +199,20 @@ TWO: list[Section] = [
         Block("mlt_manager/specs/Promises.antt", "PassesTheChecker:base,accepted"),
     ]),
     Section("What run and serve_on return",
-            """An outcome is that of a script, or of a transaction of a session. By `history` all of the history is there. Either
-            call may return an error instead. A `run` that refused every script would meet its contract, and so would a `serve_on`
-            that accepted nobody: no contract knows what comes over a socket. `serve --endless` calls another function, of which
-            [less is proved](THEOREM.md#what-no-contract-says).""", [
+            """An outcome is that of a script, or of a transaction of a session. By `history` nothing of the history was handed
+            out. Either call may return an error instead. A `run` that refused every script would meet its contract, and so would
+            a `serve_on` that accepted nobody: no contract knows what comes over a socket. `serve --endless` calls another
+            function, of which [less is proved](THEOREM.md#what-no-contract-says).""", [
                 Block("mlt_work/src/running.rt", "run():ran,history"),
-                Block("mlt_work/specs/Runs.antt", "HasRunAll:outcomes,agrees,base"),
+                Block("mlt_work/specs/Runs.antt", "HasRunAll:outcomes,agrees"),
                 Block("mlt_serve/src/serving.rt", "serve_on():history,outcomes,clients,order"),
                 Block("mlt_script_serial/src/outcome.rt", "Outcome End"),
             ]),
     Section("An outcome for each script",
             """Those of `run` stand by client and by script. That a session writes to its client what its outcomes have is
             [another contract](../crates/mlt_serve_session/src/sessions.rt). By [[Agrees]] each transaction that the manager began
-            has its outcome; that the manager is that of the sessions is not in the contract of `serve_on`.""", [
+            has its outcome. The contract of `serve_on` does not say that this manager is the one of the sessions. Of an
+            operation that was undone a history tells the reply, and no definition here judges it; part one does.""", [
                 Block("mlt_work_clients/specs/Places.antt", "AreAllOutcomes AreClientOutcomes"),
                 Block("mlt_script_serial/specs/Clients.antt", "AreOutcomes IsOutcome"),
                 Block("mlt_script_serial/specs/DeskRuns.antt", "HasEndedAs"),
@@ -215,7 +229,7 @@ TWO: list[Section] = [
                 Block("mlt_trace/specs/Entries.antt", "entries_of entry_of"),
             ]),
     Section("Views of histories and outcomes", "", [
-        Block("mlt_manager/src/manager.rt", "Manager.history():some"),
+        Block("mlt_manager/src/manager.rt", "Manager.history():some,none"),
         Block("mlt_trace/src/kept.rt", "KeptItem.get()"),
         Block("mlt_script_serial/src/outcome.rt", "Outcomes.as_slice() Transcript.as_slice()"),
         Block("mlt_object_kinds/src/done.rt", "Done.op() Done.reply()"),
@@ -268,13 +282,12 @@ NOT_SHOWN: list[tuple[str, str]] = [
     ("trace_text committed_txs", "the text of a history; the transactions of its commits, in order"),
     ("IsAcceptedTrace",
      "what [`check`](../crates/mlt_trace_check/src/trace_check.rt) accepts: each item stands behind the begin of its transaction "
-     "and before its end, commits have the numbers 1, 2, 3, and the committed transactions lead to the base"),
+     "and before its end, there is one begin and one end of each, commits have the numbers 1, 2, 3, and the committed "
+     "transactions lead to the base. Replies of other transactions are not judged"),
     ("Report Served", "what `run` and `serve_on` return, with the outcomes"),
     ("AreOfClients", "the client of each outcome is the number of a connection, from 1 to how many there were"),
     ("AreNumbered", "with 0 and 0: outcomes stand by clients, and those of each have the numbers 1, 2, 3 and so on"),
     ("Limits", "the greatest numbers of transactions, pages and operations"),
-    ("IsBaseOfOutcomes",
-     "the committed outcomes, in the order of their numbers, run alone from the empty base and lead to this base"),
     ("ScriptForm scripts_of_clients", "a script; the scripts of each client"),
     ("Follows IsPartial",
      "given the replies, the script asks for just these operations and ends so; they are the first of such a run"),

@@ -2,7 +2,7 @@
 use Rattle.std.proofs.Common.{◌≡◌, ◌≢◌, ℕ, ◌+◌, List, [], ◌∷◌, ◌++◌, length, true, false, Option, None, Some, Contains, is_some, unwrap_or, Ok, Err, refl, sym, ap, subst, ◌∙◌, append_assoc, append-nil, length-append, arith, nat_cmp}
 use Rattle.std.specs.FinMap as map
 use Rattle.std.specs.FinSet as set
-use Rattle.mlt_manager.proofs.Names.{not_true, false≢true, Limits, Refusal, ObjOp, ObjReply, Step, empty_base, TraceItem, entries_of, Request, Do, OperationFields, WalkContext, context_by, local, Answer, Event, Told, SharedState, At, Transaction, TellsAt, Table, IsPending, IsUndoing, KeepsImage, image_of, Page, GivesPseudokeys, inserted_here, inserted_elsewhere, removed_here, FitsAt, State, images_kept, state_of, HasCalled, HasEnded, HasStepped, IsOpenAt, txs_after, counted, ChangesOpen, LeavesBase, StepsBy, StepsUpTo, DropsIfItStands, HasRun, LetsGoOn, Stops, GoesOnBack, StopsBack, IsManager, ManagerFields, IsRun, Meets, Transcripts, UndoneTo, lists_by}
+use Rattle.mlt_manager.proofs.Names.{not_true, false≢true, Base, Limits, Refusal, ObjOp, ObjReply, Step, empty_base, TraceItem, entries_of, Request, Do, OperationFields, WalkContext, context_by, local, Answer, Event, Told, SharedState, At, Transaction, TellsAt, Table, IsPending, IsUndoing, KeepsImage, image_of, Page, GivesPseudokeys, inserted_here, inserted_elsewhere, removed_here, FitsAt, State, images_kept, state_of, HasCalled, HasEnded, HasStepped, IsOpenAt, txs_after, counted, ChangesOpen, LeavesBase, StepsBy, StepsUpTo, DropsIfItStands, HasRun, LetsGoOn, Stops, GoesOnBack, StopsBack, IsManager, ManagerFields, IsRun, Meets, Transcripts, transcripts_of, UndoneTo, lists_by}
 use Rattle.mlt_object_base.specs.declared.request.Request.TheVariants.{TakeBack}
 use Rattle.mlt_order.specs.Histories.{Lists, after_entries, after_entry, lists_of, no_lists}
 use Rattle.mlt_order.specs.Runs.{IsSerialBase}
@@ -16,7 +16,7 @@ use Rattle.mlt_tx.specs.Tables.{CallsNone, CancelsOne}
 use Rattle.mlt_types.specs.declared.refusal.Refusal.TheVariants.{IdsSpent, LogFull, OutOfMemory, TooManyOpen}
 use Rattle.mlt_manager_invariant.proofs.Tables.{removed_elsewhere}
 use Rattle.mlt_manager.specs.Answers.{HasBegun, HasBegunAbort, HasClosed, HasCommitted, IsCauseAtBegin, IsCauseAtCallOf, IsCauseAtCancel, IsCauseAtStep, IsIdle}
-use Rattle.mlt_manager.specs.Courses.{Course, IsBusy, KeepsPromiseOver, Life, Ops, Tells, TellsAll, Turns, opening_course}
+use Rattle.mlt_manager.specs.Courses.{Course, IsBusy, IsSerializable, KeepsPromiseOver, Life, Ops, Tells, TellsAll, Turns, opening_course}
 use Rattle.mlt_manager.specs.Events.{Plays}
 use Rattle.mlt_manager.specs.Headline.{KeepsMainPromise}
 use Rattle.mlt_manager.specs.Undoings.{IsCauseAtUndo, IsNotUndoing}
@@ -25,6 +25,7 @@ use Rattle.mlt_manager.proofs.Called.{one_there, pending_of, was_idle, was_with}
 use Rattle.mlt_manager.proofs.Headline.{same_transcripts}
 use Rattle.mlt_manager.proofs.Keeping.{counted_keeps}
 use Rattle.mlt_manager.proofs.Kept.{abort_kept, begin_kept, call_kept, cancel_kept, commit_kept, new_kept, step_kept, whole_kept, whole_undo_kept}
+use Rattle.mlt_manager.proofs.Promises.{committed_alone, open_taken_back, serial}
 use Rattle.mlt_manager.proofs.Stepped.{step_keeps}
 use Rattle.mlt_manager.proofs.UndoingAll.{undoing_of_at}
 use Rattle.mlt_manager.proofs.WholeBases.{same_request}
@@ -517,16 +518,6 @@ module _ {P : Type 0} (bits_of : P → ℕ → ℕ) where
   event_course m m' h (Event.WholeUndo tx) (Told.Refused reason) a = ((not_undoing m.txs tx reason a.0, ap course_of a.1), whole_undo_kept bits_of m m' h tx (Err reason) a)
   event_course m m' h (Event.WholeUndo tx) other none = absurd none
 
-  -- **What a run makes of the course.**
-  run_course : (events : List Event) (tolds : List Told) (m m' : ManagerFields P) → IsManager bits_of m → IsRun bits_of m events tolds m' → TellsAll (course_of m) events tolds (course_of m') × IsManager bits_of m'
-  run_course [] [] m m' h same = (ap course_of same, subst (IsManager bits_of) (sym same) h)
-  run_course (e ∷ es) (t ∷ ts) m m' h (next, meets, rest) =
-      let one = event_course (counted m) next (counted_keeps bits_of m h) e t meets in
-      let more = run_course es ts next m' one.1 rest in
-      ((course_of next, one.0, more.0), more.1)
-  run_course [] (t ∷ ts) m m' h none = absurd none
-  run_course (e ∷ es) [] m m' h none = absurd none
-
   -- what stands of an open transaction is what the history says
   stands_in : (m : ManagerFields P) → IsManager bits_of m → (tx : ℕ) (o : Option Transaction) → map.get m.txs tx ≡ o → (lists_by m).transcripts tx ≡ ops_in o
   stands_in m h tx None is =
@@ -548,20 +539,41 @@ module _ {P : Type 0} (bits_of : P → ℕ → ℕ) where
       subst (λ o. IsBusy (life_in o)) (sym image.there)
       (busy_at (state_of bits_of m h.images h.base) image.tx image.one page first image.one.at (h.sound.fits image.tx image.one image.there).where_at (h.sound.kept image.tx ∙ ap images_kept image.there) image.keeps)
 
-  -- **Every manager keeps the promise over its course.**
-  promise_over : (m : ManagerFields P) → IsManager bits_of m → KeepsMainPromise m → KeepsPromiseOver (course_of m) m
-  promise_over m h main =
+  -- a course over which the operations that its history has lead to a base and a state
+  abbrev serializable_by : (m : ManagerFields P) → IsManager bits_of m → (base state : Base) → IsSerialBase Step empty_base (transcripts_of m.shared.history.items).committed base
+      → UndoneTo Step base (transcripts_of m.shared.history.items).of_open state → IsSerializable (course_of m)
+  serializable_by m h base state alone back =
       let told = same_transcripts m.shared.history.items in
       record {
-        base = main.base;
-        alone = subst (λ (t : Transcripts). IsSerialBase Step empty_base t.committed main.base) told main.alone;
-        clean = main.clean;
-        put_back = main.put_back;
-        busy = keeps_busy m h;
-        state = main.state;
-        means = main.means;
-        taken_back = subst (λ f. UndoneTo Step main.base f main.state) (alike _ _ (λ tx. ap (λ (t : Transcripts). t.of_open tx) told ∙ stands_in m h tx (map.get m.txs tx) refl)) main.taken_back;
+        base = base;
+        alone = subst (λ (t : Transcripts). IsSerialBase Step empty_base t.committed base) told alone;
+        state = state;
+        taken_back = subst (λ f. UndoneTo Step base f state) (alike _ _ (λ tx. ap (λ (t : Transcripts). t.of_open tx) told ∙ stands_in m h tx (map.get m.txs tx) refl)) back;
       }
+
+  -- **The course of every manager is serializable.**
+  serial_over : (m : ManagerFields P) → IsManager bits_of m → IsSerializable (course_of m)
+  serial_over m h = serializable_by m h (serial bits_of m h).0 h.base (committed_alone bits_of m h) (open_taken_back bits_of m h)
+
+  -- **Every manager keeps the promise over its course.**
+  promise_over : (m : ManagerFields P) → IsManager bits_of m → KeepsMainPromise m → KeepsPromiseOver (course_of m) m
+  promise_over m h main = record {
+    serial = serializable_by m h main.base main.state main.alone main.taken_back;
+    clean = main.clean;
+    put_back = main.put_back;
+    busy = keeps_busy m h;
+    means = main.means;
+  }
+
+  -- **What a run makes of the course.**
+  run_course : (events : List Event) (tolds : List Told) (m m' : ManagerFields P) → IsManager bits_of m → IsRun bits_of m events tolds m' → TellsAll (course_of m) events tolds (course_of m') × IsManager bits_of m'
+  run_course [] [] m m' h same = (ap course_of same, subst (IsManager bits_of) (sym same) h)
+  run_course (e ∷ es) (t ∷ ts) m m' h (next, meets, rest) =
+      let one = event_course (counted m) next (counted_keeps bits_of m h) e t meets in
+      let more = run_course es ts next m' one.1 rest in
+      ((course_of next, one.0, serial_over next one.1, more.0), more.1)
+  run_course [] (t ∷ ts) m m' h none = absurd none
+  run_course (e ∷ es) [] m m' h none = absurd none
 
   -- **What events were told, from a new manager, is a course, and the last manager keeps the promise over it.**
   pub played_course : (limits : Limits) (pseudo : P) (events : List Event) (tolds : List Told) (last : ManagerFields P) → ((p : P) → GivesPseudokeys (bits_of p)) → Plays bits_of limits pseudo events tolds last

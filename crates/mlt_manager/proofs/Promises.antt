@@ -26,13 +26,13 @@ module _ {P : Type 0} (bits_of : P → ℕ → ℕ) (m : ManagerFields P) (h : I
   pages = clean_pages h.images m.shared.pages.store.pages
 
   -- what is committed leads to a base, and what is open leads on
-  serial : IsCommitOrderSerializable Step empty_base (lists_by m) h.base
+  pub serial : IsCommitOrderSerializable Step empty_base (lists_by m) h.base
   serial = serializable m.shared.history.items h.base h.sound.match.records.history
 
-  open_taken_back : UndoneTo Step serial.0 (transcripts_of m.shared.history.items).of_open h.base
+  pub open_taken_back : UndoneTo Step serial.0 (transcripts_of m.shared.history.items).of_open h.base
   open_taken_back = subst (λ (t : Transcripts). UndoneTo Step serial.0 t.of_open h.base) (sym (same_transcripts m.shared.history.items)) serial.2
 
-  committed_alone : IsSerialBase Step empty_base (transcripts_of m.shared.history.items).committed serial.0
+  pub committed_alone : IsSerialBase Step empty_base (transcripts_of m.shared.history.items).committed serial.0
   committed_alone = subst (λ (t : Transcripts). IsSerialBase Step empty_base t.committed serial.0) (sym (same_transcripts m.shared.history.items)) serial.1
 
   -- **Every manager keeps the main promise.**

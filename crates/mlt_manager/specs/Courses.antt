@@ -97,22 +97,27 @@ Tells c (Event.WholeUndo tx) (Answered Aborted) d = Turns c tx Undoing NotOpen [
 Tells c event (Refused reason) d = MayRefuse c event reason × (d ≡ c)
 Tells c event other d = ⊥
 
--- what events that were told these make of the course, one after another
-abbrev pub TellsAll : Course → List Event → List Told → Course → Type 0
-TellsAll c [] [] d = d ≡ c
-TellsAll c (event ∷ events) (told ∷ tolds) d = (next : Course) × Tells c event told next × TellsAll next events tolds d
-TellsAll c events tolds d = ⊥
-
--- The main promise. What committed, run alone in the order of the commits from the empty base, with the replies that it was
--- told, leads to `base`. The pages, with the first images of running subtransactions put back, mean `state`; and of a
--- transaction that keeps a first image an operation is pending, or the abort has begun. From `base` the operations of open
--- transactions lead to `state`, in every order in which they may be done: so `base` is what is left when they are taken back.
-pub record KeepsPromiseOver {P : Type 0} (c : Course) (m : ManagerFields P) : Type 0 where
+-- A course is serializable: what committed, run alone in the order of the commits from the empty base, with the replies that it
+-- was told, leads to `base`; and from that the operations of open transactions lead to `state`, in every order in which they may
+-- be done, so `base` is what is left when they are taken back.
+pub record IsSerializable (c : Course) : Type 0 where
   pub base : Base
   pub alone : IsSerialBase Step empty_base c.committed base
+  pub state : Base
+  pub taken_back : UndoneTo Step base c.ops state
+
+-- what events that were told these make of the course, one after another, which is serializable behind each
+abbrev pub TellsAll : Course → List Event → List Told → Course → Type 0
+TellsAll c [] [] d = d ≡ c
+TellsAll c (event ∷ events) (told ∷ tolds) d =
+    (next : Course) × Tells c event told next × IsSerializable next × TellsAll next events tolds d
+TellsAll c events tolds d = ⊥
+
+-- The main promise. The course is serializable. The pages, with the first images of running subtransactions put back, mean its
+-- `state`; and of a transaction that keeps a first image an operation is pending, or the abort has begun.
+pub record KeepsPromiseOver {P : Type 0} (c : Course) (m : ManagerFields P) : Type 0 where
+  pub serial : IsSerializable c
   pub clean : map.FinMap nat_cmp Page
   pub put_back : HasCleanPages m clean
   pub busy : (page : ℕ) (first : Option Page) (image : KeepsImage m.txs page first) → IsBusy (c.life image.tx)
-  pub state : Base
-  pub means : PagesMean clean state
-  pub taken_back : UndoneTo Step base c.ops state
+  pub means : PagesMean clean serial.state
