@@ -1,6 +1,7 @@
 """The trace of a server, which is written while it serves: it is there from the start on, has whole lines at each moment, also
 where the server is killed, and goes on without what can't be written."""
 import errno
+import os
 import random
 import re
 import signal
@@ -28,6 +29,122 @@ def trace_is_there_before_clients_are(mltx: Program) -> None:
             same(trace.read_bytes(), b"", "the trace of a server without clients")
             server.talk("quit\n")
             expect(server.end(), out="served 1\n")
+
+
+def trace_of_counter(number: int, first: int = 1) -> str:
+    """The trace of so many transactions, each of which adds 1 to counter 7."""
+    items = [f"begin {tx}\nop {tx} up 7 1 done\ncommit {tx} {tx}\n" for tx in range(first, first + number)]
+    return "".join(items)
+
+
+@test(seconds=2)
+def restart_keeps_earlier_traces(mltx: Program) -> None:
+    """A file that holds something is moved to the first free name, on each start; an empty one is not."""
+    trace, numbered = mltx.folder / "trace", {number: mltx.folder / f"trace.{number}" for number in range(1, 5)}
+    numbered[2].write_text("another file\n")
+    for number, moved in ((1, []), (2, [1]), (3, [1, 3])):
+        with mltx.serve("--trace", trace) as server:
+            server.talk(lines("begin|up 7 1|commit") * number + "quit\n")
+            expect(server.end(), out="served 1\n")
+        same(trace.read_text(), trace_of_counter(number), f"the trace of server {number}")
+        same([one for one in (1, 3, 4) if numbered[one].exists()], moved, f"the numbers that server {number} finds taken")
+    same(numbered[1].read_text(), trace_of_counter(1), "the trace of the first server")
+    same(numbered[2].read_text(), "another file\n", "a file that stood there")
+    same(numbered[3].read_text(), trace_of_counter(2), "the trace of the second server")
+    trace.write_text("")
+    with mltx.serve("--trace", trace) as server:
+        server.talk("quit\n")
+        expect(server.end(), out="served 1\n")
+    holds(not numbered[4].exists(), "an empty trace was moved")
+
+
+@test
+def trace_without_a_free_name(mltx: Program) -> None:
+    """Where all names are taken the server does not start, and the file stays as it was."""
+    trace = mltx.folder / "trace"
+    trace.write_text(trace_of_counter(1))
+    for number in range(1, 1000):
+        (mltx.folder / f"trace.{number}").touch()
+    second = f"{IO}mltx: {trace}: it holds a trace, and no name from FILE.1 to FILE.999 is free\n"
+    expect(mltx.run("serve", "-v", "127.0.0.1:0", "--trace", trace), status=1, err=second)
+    same(trace.read_text(), trace_of_counter(1), "the trace")
+    (mltx.folder / "trace.999").unlink()
+    with mltx.serve("--trace", trace) as server:
+        server.talk("quit\n")
+        expect(server.end(), out="served 1\n")
+    same((mltx.folder / "trace.999").read_text(), trace_of_counter(1), "the trace that was moved to the last name")
+
+
+@test
+def trace_behind_a_link(mltx: Program) -> None:
+    """The file that a symlink leads to is moved and made anew; the symlink stays."""
+    trace, file = mltx.folder / "trace", mltx.folder / "file"
+    trace.symlink_to(file)
+    file.write_text(trace_of_counter(1))
+    with mltx.serve("--trace", trace) as server:
+        server.talk(lines("begin|up 7 1|commit") * 2 + "quit\n")
+        expect(server.end(), out="served 1\n")
+    holds(trace.is_symlink() and not (mltx.folder / "trace.1").exists(), "the symlink was moved")
+    same(file.read_text(), trace_of_counter(2), "the trace")
+    same((mltx.folder / "file.1").read_text(), trace_of_counter(1), "the trace of before")
+
+
+@test(seconds=2)
+def trace_into_a_pipe(mltx: Program) -> None:
+    """A FIFO is neither moved nor locked: its reader gets the traces of two servers, one after the other."""
+    pipe = mltx.folder / "pipe"
+    os.mkfifo(pipe)
+    with subprocess.Popen(["cat", pipe], stdout=subprocess.PIPE) as reader, open(pipe, "wb"):
+        for number in (1, 2):
+            with mltx.serve("--trace", pipe) as server:
+                server.talk(lines("begin|up 7 1|commit") * number + "quit\n")
+                expect(server.end(), out="served 1\n")
+        reader_end = ThreadPoolExecutor(1).submit(lambda: reader.communicate(timeout=PATIENCE)[0])
+    same(reader_end.result().decode(), trace_of_counter(1) + trace_of_counter(2), "what came out of the pipe")
+
+
+@test
+def two_servers_with_one_trace(mltx: Program) -> None:
+    """The second does not start, whether the file holds something or not, and the first goes on. /dev/null both may have."""
+    trace = mltx.folder / "trace"
+    second = f"{IO}mltx: {trace}: another server writes its trace there\n"
+    with mltx.serve("--trace", trace) as server, server.connect() as peer:
+        for tx in (1, 2):
+            expect(mltx.run("serve", "-v", "127.0.0.1:0", "--trace", trace), status=1, err=second)
+            peer.send(lines("begin|up 7 1|commit"))
+            same([peer.line() for _ in range(3)], [f"begun {tx}", "done", f"committed {tx}"], "the answers of the first server")
+            comes_to_be(lambda: trace.read_text() == trace_of_counter(tx), "the trace is written")
+        says(peer, "quit", "bye")
+        expect(server.end(), out="served 1\n")
+    holds(not (mltx.folder / "trace.1").exists(), "a trace was moved")
+    with mltx.serve("--trace", "/dev/null") as one, mltx.serve("--trace", "/dev/null") as other:
+        for server in (one, other):
+            server.talk("quit\n")
+            expect(server.end(), out="served 1\n")
+
+
+@test(seconds=2)
+def trace_that_another_program_cuts(mltx: Program) -> None:
+    """It goes on at its new end, without a hole; and where a write fails then, what it has stays."""
+    trace = mltx.folder / "trace"
+    for fails in (False, True):
+        trace.unlink(missing_ok=True)
+        most = len(trace_of_counter(30)) + len(trace_of_counter(5, 31)) + 3
+        env = mltx.shim(FAIL=f"write-file {most} {errno.ENOSPC} 1 1000000") if fails else {}
+        with mltx.serve("--trace", trace, env=env) as server, server.connect() as peer:
+            for first, count in ((1, 30), (31, 5), (36, 5)):
+                peer.send(lines("begin|up 7 1|commit") * count)
+                same([peer.line() for _ in range(3 * count)][-1], f"committed {first + count - 1}", "the last answer")
+                if first == 1:
+                    comes_to_be(lambda: trace.read_text() == trace_of_counter(30), "the trace of thirty transactions is written")
+                    os.truncate(trace, 0)
+                elif first == 31:
+                    comes_to_be(lambda: trace.read_text() == trace_of_counter(5, 31), "the trace goes on")
+            says(peer, "quit", "bye")
+            note = f"could not write the trace, which ends here: {of_system(errno.ENOSPC)}"
+            wanted = {"status": 1, "err": IO, "notes": [note]} if fails else {}
+            expect(server.end(), out="served 1\n", **wanted)
+        same(trace.read_text(), trace_of_counter(5 if fails else 10, 31), "the trace after it was cut")
 
 
 def counts_up(server: Server, ended: threading.Event, seed: int, told: list[tuple[float, int]]) -> None:

@@ -7,11 +7,11 @@ use std::net::TcpListener;
 
 /// A file that a trace is written into as it goes.
 pub trait TraceFile: Write {
-    /// Keeps so many bytes from its start, and no more.
+    /// Takes so many bytes off its end.
     ///
     /// # Errors
     /// The system's, and then it is as it was.
-    fn keep(&mut self, length: u64) -> io::Result<()>;
+    fn take_back(&mut self, count: u64) -> io::Result<()>;
 }
 
 /// Tells when a server is to end.

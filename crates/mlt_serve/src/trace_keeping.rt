@@ -253,7 +253,7 @@ fn write_next_block<T: TraceFile>(
         Ok(count) => Ok(count),
         Err(refusal) => {
             // It can't be cut where it is no file on a disk.
-            let _ = file.file.keep(before);
+            let _ = file.file.take_back(file.bytes.saturating_sub(before));
             Err(refusal)
         }
     }

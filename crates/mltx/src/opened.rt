@@ -7,10 +7,14 @@ use mlt_serve::TraceFile;
 use mlt_text::write_text;
 use mlt_types::Refusal;
 use std::alloc::AllocError;
-use std::fs::File;
+use std::fs::{File, TryLockError};
 use std::hash::RandomState;
-use std::io;
+use std::io::ErrorKind;
 use std::net::TcpListener;
+use std::{fs, io};
+
+// How many traces of earlier servers are kept beside FILE.
+const MOST_MOVED: u32 = 999;
 
 /// What a server has open.
 #[derive(Drop)]
@@ -79,10 +83,47 @@ fn bind_admin(rt: &HostRuntime, address: &str) -> Result<TcpListener, Failure> {
 }
 
 fn create(rt: &HostRuntime, file: &str) -> Result<Output<File>, Failure> {
-    match File::create(rt, file) {
+    match create_trace(rt, file) {
         Ok(file) => Ok(Output::new(file)),
         Err(error) => Err(Failure::of_call(Known::OfTrace(error))),
     }
+}
+
+// The file for the trace, to which this server alone appends. A regular file that holds something keeps it under another name.
+fn create_trace(rt: &HostRuntime, file: &str) -> io::Result<File> {
+    let found = open_locked(rt, file)?;
+    let metadata = found.metadata()?;
+    if !metadata.is_file() || metadata.len() == 0 {
+        return Ok(found);
+    }
+    // Where FILE is a symlink, as /dev/stdout is, the file that it leads to is moved. It stays locked meanwhile.
+    let path = fs::canonicalize(rt, file)?;
+    move_away(rt, path.as_str())?;
+    open_locked(rt, path.as_str())
+}
+
+// Opens a file to append to it. A regular file is locked, unless its file system has no locks.
+fn open_locked(rt: &HostRuntime, path: &str) -> io::Result<File> {
+    let file = File::options().create(true).append(true).open(rt, path)?;
+    if file.metadata()?.is_file() {
+        if let Err(TryLockError::WouldBlock) = file.try_lock() {
+            let words = "another server writes its trace there";
+            return Err(io::Error::new(ErrorKind::WouldBlock, words));
+        }
+    }
+    Ok(file)
+}
+
+// Renames a file: the first free name of PATH.1, PATH.2 and so on is its new one.
+fn move_away(rt: &HostRuntime, path: &str) -> io::Result<()> {
+    for number in 1..=MOST_MOVED {
+        let name = format!(in rt.alloc(); "{path}.{number}")?;
+        if !fs::exists(rt, name.as_str())? {
+            return fs::rename(rt, path, name.as_str());
+        }
+    }
+    let words = "it holds a trace, and no name from FILE.1 to FILE.999 is free";
+    Err(io::Error::new(ErrorKind::AlreadyExists, words))
 }
 
 // Writes a line on standard error, with the port that was had where port 0 was asked for. A server whose line can't be written goes
@@ -98,7 +139,7 @@ fn tell(rt: &HostRuntime, line: Result<String, AllocError>) -> Result<(), Failur
 }
 
 impl TraceFile for Output<File> {
-    fn keep(&mut self, length: u64) -> io::Result<()> {
-        self.set_length(length)
+    fn take_back(&mut self, count: u64) -> io::Result<()> {
+        self.cut(count)
     }
 }

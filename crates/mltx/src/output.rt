@@ -26,9 +26,10 @@ impl<W: Write> Output<W> {
 }
 
 impl Output<File> {
-    /// Cuts the file to so many bytes.
-    pub(crate) fn set_length(&self, length: u64) -> io::Result<()> {
-        self.writer.set_len(length)
+    /// Cuts so many bytes off the end of the file.
+    pub(crate) fn cut(&self, count: u64) -> io::Result<()> {
+        let length = self.writer.metadata()?.len();
+        self.writer.set_len(length.saturating_sub(count))
     }
 }
 
