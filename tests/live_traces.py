@@ -94,13 +94,14 @@ def trace_into_a_pipe(mltx: Program) -> None:
     """A FIFO is neither moved nor locked: its reader gets the traces of two servers, one after the other."""
     pipe = mltx.folder / "pipe"
     os.mkfifo(pipe)
-    with subprocess.Popen(["cat", pipe], stdout=subprocess.PIPE) as reader, open(pipe, "wb"):
-        for number in (1, 2):
-            with mltx.serve("--trace", pipe) as server:
-                server.talk(lines("begin|up 7 1|commit") * number + "quit\n")
-                expect(server.end(), out="served 1\n")
-        reader_end = ThreadPoolExecutor(1).submit(lambda: reader.communicate(timeout=PATIENCE)[0])
-    same(reader_end.result().decode(), trace_of_counter(1) + trace_of_counter(2), "what came out of the pipe")
+    with subprocess.Popen(["cat", pipe], stdout=subprocess.PIPE) as reader:
+        with open(pipe, "wb"):
+            for number in (1, 2):
+                with mltx.serve("--trace", pipe) as server:
+                    server.talk(lines("begin|up 7 1|commit") * number + "quit\n")
+                    expect(server.end(), out="served 1\n")
+        told = reader.communicate(timeout=PATIENCE)[0].decode()
+    same(told, trace_of_counter(1) + trace_of_counter(2), "what came out of the pipe")
 
 
 @test
@@ -141,9 +142,8 @@ def trace_that_another_program_cuts(mltx: Program) -> None:
                 elif first == 31:
                     comes_to_be(lambda: trace.read_text() == trace_of_counter(5, 31), "the trace goes on")
             says(peer, "quit", "bye")
-            note = f"could not write the trace, which ends here: {of_system(errno.ENOSPC)}"
-            wanted = {"status": 1, "err": IO, "notes": [note]} if fails else {}
-            expect(server.end(), out="served 1\n", **wanted)
+            notes = [f"could not write the trace, which ends here: {of_system(errno.ENOSPC)}"] if fails else []
+            expect(server.end(), status=int(fails), out="served 1\n", err=IO if fails else "", notes=notes)
         same(trace.read_text(), trace_of_counter(5 if fails else 10, 31), "the trace after it was cut")
 
 

@@ -24,9 +24,13 @@ JSON, TEXT = "application/json", "text/plain; charset=utf-8"
 MARK = {"X-Mltx": "1"}
 Row = dict[str, Any]
 NUMBERS = [
-    *("seconds", "sessions", "session_threads", "queued", "connections", "limit", "open", "begun", "operations"),
-    *("commits", "aborts", "gave_up", "deadlocks", "events", "items", "bytes", "pages", "most_pages", "depth", "stopping"),
+    *("server", "seconds", "sessions", "session_threads", "queued", "connections", "limit", "open", "begun", "most_begun"),
+    *("operations", "commits", "aborts", "gave_up", "deadlocks", "no_room", "events", "items", "bytes", "pages", "most_pages"),
+    *("depth", "room", "trace_failed", "stopping"),
 ]
+# The header, 256 pages of a directory of depth 16, and a bucket for each of its 65,536 entries. A bucket has room for eight.
+MOST_PAGES, ROOM = 1 + 256 + 65_536, 8 * 65_536
+NO_ROOM, DEEPEST = "the first operation was refused for lack of room (NoRoom)", "the directory has reached its greatest depth, 16"
 
 
 @contextmanager
@@ -100,11 +104,33 @@ def status_of_a_server_without_clients(mltx: Program) -> None:
         told = asked(server, "/status")
         same(list(told), NUMBERS, "the names")
         holds(all(type(value) is int for value in told.values()), f"{told}")
-        others = ("seconds", "session_threads", "limit", "bytes", "pages", "most_pages")
+        most = {"limit": 77, "most_begun": 2**32, "most_pages": MOST_PAGES, "room": ROOM}
+        others = ("server", "seconds", "session_threads", "bytes", "pages", *most)
         nothing = {name: 0 for name in NUMBERS if name not in others}
         same({name: told[name] for name in nothing}, nothing, "what is 0 at the start")
-        same(told["limit"], 77, "the limit that was asked for")
+        same({name: told[name] for name in most}, most, "the limits")
         holds(0 <= told["pages"] < told["most_pages"] and told["seconds"] <= SLACK, f"{told}")
+
+
+@test
+def number_of_a_server(mltx: Program) -> None:
+    """It is the same as long as the server runs, another one's is not, and doubles have it exactly."""
+    endless = {"limit": 2**63 - 1, "most_begun": 2**63 - 1}
+    with operated(mltx) as server, mltx.serve("--endless", limit=None, admin=free_address()) as other:
+        same(other.first_line().split()[:3], ["mltx:", "listening", "on"], "the other server")
+        same(counts(other, *endless), endless, "the limits without an end")
+        one, again, another = [counts(it, "server")["server"] for it in (server, server, other)]
+    holds(one == again != another and max(one, another) < 2**53, f"{one}, then {again}; another server: {another}")
+
+
+@test(seconds=1)
+def trace_that_fails_is_told(mltx: Program) -> None:
+    """Once something is written of it: the file is a disk that is full."""
+    with operated(mltx, "--trace", "/dev/full") as server, server.connect() as peer:
+        same(counts(server, "trace_failed"), {"trace_failed": 0}, "before anything is written")
+        says(peer, "begin", "begun 1", "up 1 1", "done", "commit", "committed 1")
+        comes(server, "/status", lambda told: told["trace_failed"] == 1, "the trace has failed")
+        holds(b"\nmltx_trace_failed 1\n" in answer(server, "/metrics")[2], "it has failed, as metrics tell it")
 
 
 WORK = ("begin", "open 1", "deposit 1 5", "commit", "begin", "up 7 1", "abort", "begin", "read 7")
@@ -180,12 +206,33 @@ def nine_for_each(pair: int) -> list[int]:
     return [2 * pair + 65_536 * number for number in range(5)] + [2 * pair + 1 + 65_536 * number for number in range(4)]
 
 
+@test(seconds=2)
+def notes_on_no_room_and_on_the_deepest_directory(mltx: Program) -> None:
+    """Once each. Eight counters with a low pseudokey of 0 fill a bucket, which no split makes room in for a ninth; one that
+    differs in the last bit alone has the directory double sixteen times."""
+    with operated(mltx, "--hash", "low", limit=2) as server, server.connect() as peer:
+        says(peer, "begin", "begun 1", *(word for number in range(8) for word in (f"up {65_536 * number} 1", "done")))
+        same(counts(server, "depth", "no_room"), {"depth": 0, "no_room": 0}, "with eight counters")
+        holds(not is_noted(server, 0.6), "something was noted before")
+        says(peer, f"up {65_536 * 8} 1", "error 2 NoRoom")
+        same(server.next_note(), NO_ROOM)
+        says(peer, f"up {65_536 * 9} 1", "error 2 NoRoom")
+        same(counts(server, "depth", "no_room"), {"depth": 0, "no_room": 2}, "with two that have no room")
+        says(peer, "up 1 1", "done")
+        same(server.next_note(), DEEPEST)
+        same(counts(server, "depth", "no_room"), {"depth": 16, "no_room": 2}, "with one of another pseudokey")
+        says(peer, f"up {65_536 * 8} 1", "error 2 NoRoom", "commit", "committed 1")
+        holds(not is_noted(server, 0.6), "something was noted again")
+        says(peer, "quit", "bye")
+        server.talk("quit\n")
+        expect(server.end(said=""), out="served 2\n", notes=[NO_ROOM, DEEPEST])
+
+
 @test(seconds=6)
 def note_on_pages_that_get_few(mltx: Program) -> None:
-    """From nine in ten of the pages on it is noted once; not before, and clients go on. All buckets there can be are 65,536."""
+    """From nine in ten of the pages on it is noted once; not before, and clients go on. The directory is deep at once."""
     with operated(mltx, "--hash", "low", limit=2) as server, server.connect() as peer:
-        most, before, pairs, begun = counts(server, "most_pages")["most_pages"], 0, iter(range(32_768)), 0
-        holds(most < 65_536 * 10 // 9, f"{most} pages are more than clients can use nine in ten of")
+        most, before, pairs, begun = MOST_PAGES, 0, iter(range(32_768)), 0
         while 10 * (now := counts(server, "pages")["pages"]) < 9 * most:
             holds(not is_noted(server), f"a note with {before} of {most} pages")
             before, begun = now, begun + 1
@@ -193,23 +240,29 @@ def note_on_pages_that_get_few(mltx: Program) -> None:
             peer.send("".join(line + "\n" for line in ("begin", *(f"up {counter} 1" for counter in counters), "commit")))
             told = {peer.line() for _ in range(len(counters) + 2)}
             same(told, {f"begun {begun}", "done", f"committed {begun}"}, f"a client with {before} of {most} pages")
+            if begun == 1:
+                same(server.next_note(), DEEPEST)
         holds(is_noted(server, SLACK), f"nothing is noted with {now} of {most} pages")
         note = server.next_note()
         found = match(rf"^(\d+) of {most} pages are used$", note)
         holds(9 * most <= 10 * int(found[1]) <= 10 * now, f"{note}, with {before} and then {now} of {most} pages")
         says(peer, "begin", f"begun {begun + 1}", "read 0", "is 1", "up 0 1", "done", "quit", "bye")
         server.talk("quit\n")
-        expect(server.end(said=""), out="served 2\n", notes=[note])
+        expect(server.end(said=""), out="served 2\n", notes=[DEEPEST, note])
 
 
-# What a server tells once `busy` has made these numbers, each another one but for two zeros. Seconds and events are not known.
+# What a server tells once `busy` has made these numbers, each another one but for zeros. Words in capitals are not known.
 STATUS_TEXT = (
-    '{"seconds":SECONDS,"sessions":6,"session_threads":7,"queued":0,"connections":8,"limit":77,"open":5,"begun":24,'
-    '"operations":14,"commits":10,"aborts":9,"gave_up":3,"deadlocks":2,"events":EVENTS,"items":59,"bytes":3744,"pages":4,'
-    '"most_pages":70000,"depth":1,"stopping":0}\n'
+    '{"server":SERVER,"seconds":SECONDS,"sessions":6,"session_threads":7,"queued":0,"connections":8,"limit":77,"open":5,'
+    '"begun":24,"most_begun":4294967296,"operations":14,"commits":10,"aborts":9,"gave_up":3,"deadlocks":2,"no_room":0,'
+    '"events":EVENTS,"items":59,"bytes":3744,"pages":4,"most_pages":65793,"depth":1,"room":524288,"trace_failed":0,'
+    '"stopping":0}\n'
 )
 
 METRICS_TEXT = """\
+# HELP mltx_server A number that the server drew at random when it started.
+# TYPE mltx_server gauge
+mltx_server SERVER
 # HELP mltx_uptime_seconds Seconds since the server began to listen.
 # TYPE mltx_uptime_seconds gauge
 mltx_uptime_seconds SECONDS
@@ -234,6 +287,9 @@ mltx_open_transactions 5
 # HELP mltx_transactions_begun_total Transactions that were begun.
 # TYPE mltx_transactions_begun_total counter
 mltx_transactions_begun_total 24
+# HELP mltx_transaction_limit Transactions that can begin at most.
+# TYPE mltx_transaction_limit gauge
+mltx_transaction_limit 4294967296
 # HELP mltx_operations_total Operations that were done.
 # TYPE mltx_operations_total counter
 mltx_operations_total 14
@@ -249,6 +305,9 @@ mltx_gave_up_total 3
 # HELP mltx_deadlocks_total Operations that were answered GaveUp to end a deadlock.
 # TYPE mltx_deadlocks_total counter
 mltx_deadlocks_total 2
+# HELP mltx_no_room_total Operations that were answered NoRoom.
+# TYPE mltx_no_room_total counter
+mltx_no_room_total 0
 # HELP mltx_events_total Events of the transaction manager.
 # TYPE mltx_events_total counter
 mltx_events_total EVENTS
@@ -263,10 +322,16 @@ mltx_history_bytes 3744
 mltx_pages 4
 # HELP mltx_most_pages Pages that there can be at most.
 # TYPE mltx_most_pages gauge
-mltx_most_pages 70000
+mltx_most_pages 65793
 # HELP mltx_directory_depth Depth of the hash directory.
 # TYPE mltx_directory_depth gauge
 mltx_directory_depth 1
+# HELP mltx_room Objects that there can be at most, if their pseudokeys spread evenly.
+# TYPE mltx_room gauge
+mltx_room 524288
+# HELP mltx_trace_failed 1 if the trace could not be written, else 0.
+# TYPE mltx_trace_failed gauge
+mltx_trace_failed 0
 # HELP mltx_stopping 1 if the server is shutting down, else 0.
 # TYPE mltx_stopping gauge
 mltx_stopping 0
@@ -316,7 +381,9 @@ def numbers_as_texts(mltx: Program) -> None:
     for name, body, text in (("/status", json_text, STATUS_TEXT), ("/metrics", metrics_text, METRICS_TEXT)):
         found = match('("seconds":|\nmltx_uptime_seconds )([0-9]+)', body.decode())
         holds(told["seconds"] <= int(found[2]) <= most_seconds, f"{name} tells {found} as seconds")
-        wanted = text.replace("SECONDS", found[2]).replace("EVENTS", str(told["events"]))
+        wanted = text.replace("SECONDS", found[2])
+        for word, number in (("EVENTS", "events"), ("SERVER", "server")):
+            wanted = wanted.replace(word, str(told[number]))
         same((body.decode().splitlines(), body[-1:]), (wanted.splitlines(), b"\n"), name)
 
 

@@ -12,6 +12,7 @@ use mlt_types::{Pseudo, TxId};
 use mlt_work_desk::{DeskStatistics, MadeWith};
 use mlt_work_waits::Waiting;
 use std::alloc::{AllocError, Global};
+use std::hash::{BuildHasher, RandomState};
 use std::mem::size_of;
 use std::sync::Wait;
 use std::sync::atomic::Ordering;
@@ -24,6 +25,9 @@ const OUTCOME_BYTES: u64 = size_of::<Outcome>() as u64;
 
 const OPERATION_BYTES: u64 = size_of::<Done>() as u64;
 
+/// How many bits of a random number are left out, so that those who read numbers as doubles read it exactly.
+const UNUSED_BITS: u32 = 11;
+
 /// What an operator sees, and can do.
 #[derive(Drop)]
 pub(crate) struct Operator<'a, 'b, 'c, P: Pseudo, L: MadeWith<P>, R: Wait + Clock> {
@@ -31,15 +35,22 @@ pub(crate) struct Operator<'a, 'b, 'c, P: Pseudo, L: MadeWith<P>, R: Wait + Cloc
     service: &'b Service<'c, P, L>,
     /// Since when the server listens, if a clock could say so.
     since: Option<Instant>,
+    /// A number that was drawn at random.
+    number: u64,
 }
 
 impl<'a, 'b, 'c, P: Pseudo, L: MadeWith<P>, R: Wait + Clock> Operator<'a, 'b, 'c, P, L, R> {
-    /// One of a server that listens from now on.
-    pub(crate) fn new(rt: &'a R, service: &'b Service<'c, P, L>) -> Operator<'a, 'b, 'c, P, L, R> {
+    /// One of a server that listens from now on, with a number drawn from these keys.
+    pub(crate) fn new(
+        rt: &'a R,
+        service: &'b Service<'c, P, L>,
+        keys: &RandomState,
+    ) -> Operator<'a, 'b, 'c, P, L, R> {
         Operator {
             rt,
             service,
             since: Instant::now(rt).ok(),
+            number: keys.hash_one(0_u64) >> UNUSED_BITS,
         }
     }
 
@@ -48,11 +59,13 @@ impl<'a, 'b, 'c, P: Pseudo, L: MadeWith<P>, R: Wait + Clock> Operator<'a, 'b, 'c
             options,
             door,
             seats,
+            notes,
             running,
             ..
         } = self.service;
         let totals = seats.totals(self.rt);
         Counts {
+            server: self.number,
             seconds: milliseconds(self.since, now) / 1_000,
             sessions: sessions as u64,
             session_threads: running.load(Ordering::SeqCst),
@@ -61,17 +74,21 @@ impl<'a, 'b, 'c, P: Pseudo, L: MadeWith<P>, R: Wait + Clock> Operator<'a, 'b, 'c
             limit: options.connections,
             open: totals.open(),
             begun: totals.begun,
+            most_begun: options.limits.max_ids,
             operations: totals.operations,
             commits: totals.commits,
             aborts: totals.aborts,
             gave_up: totals.gave_up,
             deadlocks: totals.deadlocks,
+            no_room: totals.no_room,
             events: statistics.events,
             items: statistics.items as u64,
             bytes: self.bytes_kept(statistics, totals.ended(), totals.operations),
             pages: statistics.pages as u64,
-            most_pages: u64::from(options.limits.max_pages),
+            most_pages: options.most_pages(),
             depth: u64::from(statistics.depth),
+            room: options.room(),
+            trace_failed: notes.has_trace_failed(),
             is_stopping: door.stops(),
         }
     }

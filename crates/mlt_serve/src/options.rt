@@ -1,5 +1,6 @@
 //! How connections are served.
 
+use mlt_page::{DIR_ENTRIES, SLOTS};
 use mlt_types::Limits;
 use std::time::Duration;
 
@@ -22,4 +23,25 @@ pub struct ServeOptions {
     pub open: Option<Duration>,
     /// Whether a client is refused while all session threads serve others. Else it waits.
     pub refuses: bool,
+}
+
+impl ServeOptions {
+    /// How many buckets there can be: one for each entry of the deepest directory.
+    fn most_buckets(&self) -> u64 {
+        2_u64.saturating_pow(self.limits.max_depth)
+    }
+
+    /// How many pages there can be: the header, those of the deepest directory, and the buckets; or as many as there may be.
+    pub(crate) fn most_pages(&self) -> u64 {
+        let buckets = self.most_buckets();
+        let pages = buckets.div_ceil(DIR_ENTRIES as u64).saturating_add(buckets);
+        pages
+            .saturating_add(1)
+            .min(u64::from(self.limits.max_pages))
+    }
+
+    /// How many records the buckets have room for: one for each object.
+    pub(crate) fn room(&self) -> u64 {
+        self.most_buckets().saturating_mul(SLOTS as u64)
+    }
 }

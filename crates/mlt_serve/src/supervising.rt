@@ -23,6 +23,8 @@ struct Supervisor<'a, 'b, 'c, P: Pseudo, L: MadeWith<P>, R: Wait + Clock> {
     looks_for_threads: u32,
     has_told_numbers: bool,
     has_told_pages: bool,
+    has_told_depth: bool,
+    has_told_no_room: bool,
 }
 
 /// Looks after the sessions again and again, until there is nothing left to do.
@@ -43,6 +45,8 @@ pub(crate) fn supervise<P: Pseudo, L: MadeWith<P>, R: Wait + Clock, S: EndSignal
         looks_for_threads: LOOKS_FOR_THREADS,
         has_told_numbers: false,
         has_told_pages: false,
+        has_told_depth: false,
+        has_told_no_room: false,
     };
     for _ in rt.forever() {
         if signal.is_given() {
@@ -111,25 +115,44 @@ impl<P: Pseudo, L: MadeWith<P>, R: Wait + Clock> Supervisor<'_, '_, '_, P, L, R>
         }
     }
 
-    /// Tells once where nine in ten of the numbers are given out, or of the pages are used.
+    /// Tells once where nine in ten of the numbers are given out, or of the pages are used, where the directory is as deep as it may
+    /// be, and where an operation was refused for want of room.
     fn warn(&mut self) {
-        let begun = self.service.seats.totals(self.rt).begun;
-        let most = self.service.options.limits.max_ids;
-        if !self.has_told_numbers && is_nearly(begun, most) {
-            self.has_told_numbers = true;
+        let totals = self.service.seats.totals(self.rt);
+        let statistics = self.service.shared.statistics(self.rt);
+        let limits = self.service.options.limits;
+        let begun = totals.begun;
+        let most = limits.max_ids;
+        if is_news(&mut self.has_told_numbers, is_nearly(begun, most)) {
             self.tell(Note::FewNumbersLeft(begun, most));
         }
-        let pages = self.service.shared.statistics(self.rt).pages as u64;
-        let most = u64::from(self.service.options.limits.max_pages);
-        if !self.has_told_pages && is_nearly(pages, most) {
-            self.has_told_pages = true;
+        let pages = statistics.pages as u64;
+        let most = self.service.options.most_pages();
+        if is_news(&mut self.has_told_pages, is_nearly(pages, most)) {
             self.tell(Note::FewPagesLeft(pages, most));
+        }
+        let depth = limits.max_depth;
+        if is_news(
+            &mut self.has_told_depth,
+            u32::from(statistics.depth) >= depth,
+        ) {
+            self.tell(Note::DeepestDirectory(u64::from(depth)));
+        }
+        if is_news(&mut self.has_told_no_room, totals.no_room > 0) {
+            self.tell(Note::NoRoom);
         }
     }
 
     fn tell(&self, note: Note) {
         self.service.notes.tell(self.rt, note);
     }
+}
+
+/// Whether something is so for the first time, where it is told whether it was so before.
+fn is_news(was_so: &mut bool, is_so: bool) -> bool {
+    let is_news = is_so && !*was_so;
+    *was_so = *was_so || is_so;
+    is_news
 }
 
 /// Whether so many are nine in ten of the most, or more.

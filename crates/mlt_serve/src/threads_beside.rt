@@ -184,7 +184,7 @@ impl<'a, P: Pseudo + Send, L: MadeWith<P> + Send + Sync> Service<'a, P, L> {
         let Some(admin) = admin else {
             return serve_connections(rt, alloc, self, threads);
         };
-        let operator = Operator::new(rt, self);
+        let operator = Operator::new(rt, self, &admin.keys);
         let is_over = AtomicBool::new(false);
         self.serve_beside_operator(rt, alloc, admin, &operator, &is_over, threads)
     }

@@ -29,8 +29,9 @@ macro_rules! metrics {
 }
 
 // All numbers, in the order in which they are written.
-fn metrics(counts: &Counts) -> [Metric; 20] {
+fn metrics(counts: &Counts) -> [Metric; 25] {
     metrics! {
+        server gauge "A number that the server drew at random when it started." counts.server;
         uptime_seconds gauge "Seconds since the server began to listen." counts.seconds;
         sessions gauge "Connections that are being served." counts.sessions;
         session_threads gauge "Threads that serve sessions." counts.session_threads;
@@ -39,17 +40,21 @@ fn metrics(counts: &Counts) -> [Metric; 20] {
         connection_limit gauge "Connections that the server accepts at most." counts.limit;
         open_transactions gauge "Transactions that are open." counts.open;
         transactions_begun_total counter "Transactions that were begun." counts.begun;
+        transaction_limit gauge "Transactions that can begin at most." counts.most_begun;
         operations_total counter "Operations that were done." counts.operations;
         commits_total counter "Transactions that committed." counts.commits;
         aborts_total counter "Transactions that aborted." counts.aborts;
         gave_up_total counter "Operations that were answered GaveUp." counts.gave_up;
         deadlocks_total counter "Operations that were answered GaveUp to end a deadlock." counts.deadlocks;
+        no_room_total counter "Operations that were answered NoRoom." counts.no_room;
         events_total counter "Events of the transaction manager." counts.events;
         history_items gauge "Items of the history that are in memory." counts.items;
         history_bytes gauge "Bytes of the history and the outcomes in memory." counts.bytes;
         pages gauge "Pages that are in use." counts.pages;
         most_pages gauge "Pages that there can be at most." counts.most_pages;
         directory_depth gauge "Depth of the hash directory." counts.depth;
+        room gauge "Objects that there can be at most, if their pseudokeys spread evenly." counts.room;
+        trace_failed gauge "1 if the trace could not be written, else 0." u64::from(counts.trace_failed);
         stopping gauge "1 if the server is shutting down, else 0." u64::from(counts.is_stopping);
     }
 }

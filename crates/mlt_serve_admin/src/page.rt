@@ -84,6 +84,7 @@ const svg = (tag, attributes, text) => {
   return node;
 };
 const count = n => n.toLocaleString("en");
+const of = (n, most) => count(n) + (most < 2 ** 53 ? " of " + count(most) : "");
 const bytes = n => n < 1e4 ? n + " B" : n < 1e7 ? Math.round(n / 1e3) + " kB" : Math.round(n / 1e6) + " MB";
 const time = ms => {
   if (ms < 1000) return ms + " ms";
@@ -108,22 +109,26 @@ function commitsPerSecond(commits) {
 
 function showCounts(now) {
   const rows = {
-    "Sessions": count(now.sessions) + " of " + count(now.session_threads),
+    "Sessions": of(now.sessions, now.session_threads),
     "Queued": count(now.queued),
-    "Connections": count(now.connections) + " of " + count(now.limit),
+    "Connections": of(now.connections, now.limit),
     "Open transactions": count(now.open),
-    "Transactions begun": count(now.begun),
+    "Transactions begun": of(now.begun, now.most_begun),
     "Committed": count(now.commits),
     "Commits per second": count(Math.round(commitsPerSecond(now.commits))),
     "Aborted": count(now.aborts),
     "Operations": count(now.operations),
     "GaveUp answers": count(now.gave_up),
     "Of these, by deadlock": count(now.deadlocks),
+    "NoRoom answers": count(now.no_room),
     "Events": count(now.events),
     "History": count(now.items) + " items",
     "Memory of the history": bytes(now.bytes),
-    "Pages": count(now.pages) + " of " + count(now.most_pages),
+    "Pages": of(now.pages, now.most_pages),
     "Directory depth": count(now.depth),
+    "Room in objects": count(now.room),
+    "Trace": now.trace_failed ? "could not be written" : "no fault",
+    "Server": count(now.server),
   };
   for (const name in rows) {
     let value = document.getElementById(name);

@@ -19,6 +19,8 @@ pub struct ServerView {
 /// The numbers of a whole server. What is counted is counted since the server began.
 #[derive(Clone, Copy, Debug, PartialEq, Eq, Serialize)]
 pub struct Counts {
+    /// A number that was drawn at random when the server began.
+    pub server: u64,
     /// For how many seconds the server has listened.
     pub seconds: u64,
     /// How many connections are served.
@@ -35,6 +37,8 @@ pub struct Counts {
     pub open: u64,
     /// How many transactions were begun.
     pub begun: u64,
+    /// How many transactions may begin in all.
+    pub most_begun: u64,
     /// How many operations were done.
     pub operations: u64,
     /// How many transactions committed.
@@ -45,6 +49,8 @@ pub struct Counts {
     pub gave_up: u64,
     /// How many operations were given up to end a cycle of waits.
     pub deadlocks: u64,
+    /// How many operations were refused for want of room.
+    pub no_room: u64,
     /// How many events the manager had.
     pub events: u64,
     /// How many items the history has.
@@ -53,10 +59,15 @@ pub struct Counts {
     pub bytes: u64,
     /// How many pages there are.
     pub pages: u64,
-    /// How many pages there may be.
+    /// How many pages there can be.
     pub most_pages: u64,
     /// The depth of the directory.
     pub depth: u64,
+    /// How many objects there can be, if their pseudokeys spread evenly.
+    pub room: u64,
+    /// Whether the trace could not be written.
+    #[serde(serialize_with = "flag")]
+    pub trace_failed: bool,
     /// Whether the server was told to end.
     #[serde(rename = "stopping", serialize_with = "flag")]
     pub is_stopping: bool,

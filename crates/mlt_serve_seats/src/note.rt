@@ -57,6 +57,10 @@ pub enum Note {
     FewNumbersLeft(u64, u64),
     /// There are so many pages, of so many that may be: nine in ten.
     FewPagesLeft(u64, u64),
+    /// The directory is as deep as it may be, which is so deep: buckets that are full can't be split.
+    DeepestDirectory(u64),
+    /// An operation was refused for want of room, the first one.
+    NoRoom,
     /// So many session threads run, of so many that were asked for.
     FewThreads(u64, u64),
     /// The trace can't be written, of which the system says this. It is written no further.
@@ -110,6 +114,13 @@ impl fmt::Display for Note {
                 write!(f, "{given} of {most} transaction numbers are used")
             }
             Note::FewPagesLeft(pages, most) => write!(f, "{pages} of {most} pages are used"),
+            Note::DeepestDirectory(depth) => {
+                write!(f, "the directory has reached its greatest depth, {depth}")
+            }
+            Note::NoRoom => write!(
+                f,
+                "the first operation was refused for lack of room (NoRoom)"
+            ),
             Note::FewThreads(running, asked) => {
                 write!(f, "only {running} of {asked} session threads are running")
             }

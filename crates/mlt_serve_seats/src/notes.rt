@@ -3,7 +3,7 @@
 use crate::note::Note;
 use crossbeam_channel::{Receiver, Sender};
 use std::alloc::{AllocError, Global};
-use std::sync::atomic::{AtomicU64, Ordering};
+use std::sync::atomic::{AtomicBool, AtomicU64, Ordering};
 use std::sync::{Arc, Wait};
 use std::time::{Clock, Duration, SystemTime};
 
@@ -26,6 +26,8 @@ pub(crate) struct TimedNote {
 pub struct Notes {
     to: Sender<TimedNote, Global>,
     lost: Arc<AtomicU64>,
+    /// Whether one was sent that the trace can't be written.
+    has_trace_failed: AtomicBool,
     /// Nothing comes by it. It is closed once the outlet is gone.
     outlet_is_gone: Receiver<(), Global>,
 }
@@ -55,6 +57,7 @@ impl Notes {
         let notes = Notes {
             to,
             lost,
+            has_trace_failed: AtomicBool::new(false),
             outlet_is_gone,
         };
         Ok((notes, outlet))
@@ -63,9 +66,17 @@ impl Notes {
     /// Sends a note, at once.
     pub fn tell<R: Wait + Clock>(&self, rt: &R, note: Note) {
         let seconds = seconds_now(rt);
+        if matches!(note, Note::TraceFailed(_)) {
+            self.has_trace_failed.store(true, Ordering::SeqCst);
+        }
         if self.to.try_send(rt, TimedNote { note, seconds }).is_err() {
             self.lost.fetch_add(1, Ordering::SeqCst);
         }
+    }
+
+    /// Whether a note was sent that the trace can't be written.
+    pub fn has_trace_failed(&self) -> bool {
+        self.has_trace_failed.load(Ordering::SeqCst)
     }
 
     /// No more notes follow. It waits until those that were sent are written, but for 5 seconds at most: their reader may have
@@ -74,6 +85,7 @@ impl Notes {
         let Notes {
             to,
             lost: _,
+            has_trace_failed: _,
             outlet_is_gone,
         } = self;
         drop(to);

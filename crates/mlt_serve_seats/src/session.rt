@@ -5,7 +5,7 @@ ghost use Rattle.std.specs.Prelude.{◌<◌};
 use crate::totals::{Totals, add_one};
 use mlt_event::{Answer, Told};
 use mlt_object_kinds::{Done, ObjOp, ObjReply};
-use mlt_types::TxId;
+use mlt_types::{Refusal, TxId};
 use std::alloc::{AllocError, Global};
 use std::time::Instant;
 
@@ -111,6 +111,7 @@ impl Activity {
         match told {
             Told::Begun(tx) => self.begin(*tx, is_watched),
             Told::Answered(Answer::Done(reply)) => self.finish(op, *reply),
+            Told::Answered(Answer::Refused(Refusal::NoRoom)) => add_one(&mut self.totals.no_room),
             Told::Cancelled => add_one(&mut self.totals.gave_up),
             Told::Committed(_) => {
                 add_one(&mut self.totals.commits);

@@ -17,6 +17,8 @@ pub struct Totals {
     pub gave_up: u64,
     /// How many of these did since their transaction was the youngest of a cycle of waits.
     pub deadlocks: u64,
+    /// How many operations were refused for want of room.
+    pub no_room: u64,
 }
 
 /// Counts one more.
@@ -33,6 +35,7 @@ impl Totals {
         self.aborts = self.aborts.saturating_add(other.aborts);
         self.gave_up = self.gave_up.saturating_add(other.gave_up);
         self.deadlocks = self.deadlocks.saturating_add(other.deadlocks);
+        self.no_room = self.no_room.saturating_add(other.no_room);
     }
 
     /// How many transactions have ended; it stays at 2^64 - 1.
