@@ -14,7 +14,7 @@ from contextlib import contextmanager
 from pathlib import Path
 
 from harness import PATIENCE, Failed, Program, Server, comes_to_be, each, expect, holds, lines, listening, may_break_off
-from harness import of_system, same, test
+from harness import of_system, same, takes, test
 from serving import IO, says
 
 
@@ -102,6 +102,34 @@ def trace_into_a_pipe(mltx: Program) -> None:
                     expect(server.end(), out="served 1\n")
         told = reader.communicate(timeout=PATIENCE)[0].decode()
     same(told, trace_of_counter(1) + trace_of_counter(2), "what came out of the pipe")
+
+
+@test(seconds=7)
+def trace_into_a_pipe_that_is_full(mltx: Program) -> None:
+    """Its reader has stopped: clients are served, and once the server ends it waits for the reader for 5 seconds, and no more."""
+    pipe, count = mltx.folder / "pipe", 2_000
+    os.mkfifo(pipe)
+    with open(pipe, "r+b", buffering=0), mltx.serve("--trace", pipe) as server:
+        told = server.talk(lines("begin|up 7 1|commit") * count + "quit\n")
+        same(told.count(b"committed"), count, "the commits of a client")
+        note = "could not write the trace, which ends here: timed out"
+        with takes(4, 9, "the server ended"):
+            expect(server.end(), status=1, out="served 1\n", err=IO, notes=[note])
+
+
+@test(seconds=3)
+def trace_into_a_pipe_that_is_slow(mltx: Program) -> None:
+    """Its reader begins two seconds late: it gets all of the trace."""
+    pipe, count = mltx.folder / "pipe", 2_000
+    os.mkfifo(pipe)
+    with open(os.open(pipe, os.O_RDONLY | os.O_NONBLOCK), "rb", buffering=0) as reader, mltx.serve("--trace", pipe) as server:
+        told = server.talk(lines("begin|up 7 1|commit") * count + "quit\n")
+        same(told.count(b"committed"), count, "the commits of a client")
+        time.sleep(2)
+        os.set_blocking(reader.fileno(), True)
+        text = reader.readall().decode()
+        expect(server.end(), out="served 1\n")
+    same([line.rstrip(" ") for line in text.splitlines()], trace_of_counter(count).splitlines(), "what came out of the pipe")
 
 
 @test

@@ -6,7 +6,10 @@ ghost use Rattle.mlt_trace.specs.Lines.{AddsLines};
 use crate::ending::DoneSignal;
 use crate::operating::TraceFile;
 use crate::service::Service;
-use crate::tuning::{ITEMS_PER_HOLD, LEAST_PAUSE_MILLISECONDS, LOOK_MILLISECONDS, MANY_ITEMS};
+use crate::tuning::{
+    BLOCK_MILLISECONDS, ITEMS_PER_HOLD, LAST_BLOCK_MILLISECONDS, LEAST_PAUSE_MILLISECONDS,
+    LOOK_MILLISECONDS, MANY_ITEMS,
+};
 use mlt_serve_seats::{Note, Notes};
 use mlt_trace::{KeptItem, write_block};
 use mlt_types::{Pseudo, Refusal};
@@ -33,6 +36,33 @@ impl<T> Counting<T> {
             bytes: 0,
             failed: None,
         }
+    }
+}
+
+impl<T: TraceFile> Counting<T> {
+    /// Waits until the file takes bytes. Once the server ends that is for 5 seconds at most, since a thread in a write can't be called
+    /// back.
+    ///
+    /// # Errors
+    /// `Io`, where that took too long.
+    fn wait_for_room<R: Wait + Clock>(
+        &mut self,
+        rt: &R,
+        ending: &DoneSignal,
+    ) -> Result<(), Refusal> {
+        for _ in rt.forever() {
+            if self.file.takes_bytes(BLOCK_MILLISECONDS) {
+                return Ok(());
+            }
+            if ending.sleep(rt, Duration::ZERO) {
+                break;
+            }
+        }
+        if self.file.takes_bytes(LAST_BLOCK_MILLISECONDS) {
+            return Ok(());
+        }
+        self.failed = Some(io::Error::from(ErrorKind::TimedOut));
+        Err(Refusal::Io)
     }
 }
 
@@ -110,10 +140,10 @@ impl<'a, P: Pseudo, L: MadeWith<P>, T: TraceFile + Drop> TraceKeeper<'a, P, L, T
         for _ in rt.forever() {
             let is_last = ending.sleep(rt, Duration::from_millis(pause));
             if self.takes {
-                let taken = self.take_new(rt, notes);
+                let taken = self.take_new(rt, notes, ending);
                 pause = pause_after(pause, taken);
             } else if !self.is_over {
-                self.catch_up(rt, notes);
+                self.catch_up(rt, notes, ending);
             }
             if is_last {
                 break;
@@ -138,14 +168,14 @@ impl<'a, P: Pseudo, L: MadeWith<P>, T: TraceFile + Drop> TraceKeeper<'a, P, L, T
 
     /// Takes all that is new out of the manager, and writes it. Where a growth is refused nothing is taken, and nothing is lost. It
     /// answers how many items were taken.
-    fn take_new<R: Wait + Clock>(&mut self, rt: &R, notes: &Notes) -> usize
+    fn take_new<R: Wait + Clock>(&mut self, rt: &R, notes: &Notes, ending: &DoneSignal) -> usize
         requires { L.hands_out ≡ true }
     {
         self.is_behind = self.take_next(rt).is_err();
         if self.is_behind {
             return 0;
         }
-        self.write_next(rt, notes);
+        self.write_next(rt, notes, ending);
         self.next.len()
     }
 
@@ -164,14 +194,14 @@ impl<'a, P: Pseudo, L: MadeWith<P>, T: TraceFile + Drop> TraceKeeper<'a, P, L, T
     }
 
     /// Copies all that is new, and writes it.
-    fn catch_up<R: Wait + Clock>(&mut self, rt: &R, notes: &Notes) {
+    fn catch_up<R: Wait + Clock>(&mut self, rt: &R, notes: &Notes, ending: &DoneSignal) {
         for _ in rt.forever() {
             self.next.clear();
             // There is room for so many.
             let _ = self
                 .shared
                 .copy_items(rt, self.items, ITEMS_PER_HOLD, &mut self.next);
-            self.write_next(rt, notes);
+            self.write_next(rt, notes, ending);
             if self.next.is_empty() || self.is_over {
                 return;
             }
@@ -180,11 +210,11 @@ impl<'a, P: Pseudo, L: MadeWith<P>, T: TraceFile + Drop> TraceKeeper<'a, P, L, T
     }
 
     /// Writes the items that are about to be, if they are written and no write has failed. A failure is logged.
-    fn write_next<R: Wait + Clock>(&mut self, rt: &R, notes: &Notes) {
+    fn write_next<R: Wait + Clock>(&mut self, rt: &R, notes: &Notes, ending: &DoneSignal) {
         let Some(file) = &mut self.file else {
             return;
         };
-        if self.is_over || write_lines(file, self.next.as_slice()).is_ok() {
+        if self.is_over || write_lines(rt, file, self.next.as_slice(), ending).is_ok() {
             return;
         }
         self.is_over = true;
@@ -228,9 +258,15 @@ fn pause_after(pause: u64, taken: usize) -> u64 {
 }
 
 /// Writes lines of these items, block by block. Where that fails the file keeps whole lines, as far as it can be cut.
-fn write_lines<T: TraceFile>(file: &mut Counting<T>, items: &[KeptItem]) -> Result<(), Refusal> {
+fn write_lines<R: Wait + Clock, T: TraceFile>(
+    rt: &R,
+    file: &mut Counting<T>,
+    items: &[KeptItem],
+    ending: &DoneSignal,
+) -> Result<(), Refusal> {
     let mut rest = items;
     while !rest.is_empty() {
+        file.wait_for_room(rt, ending)?;
         let count = write_next_block(file, rest)?;
         rest = rest.get(count..).unwrap_or(&[]);
     }

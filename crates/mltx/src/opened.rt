@@ -139,6 +139,10 @@ fn tell(rt: &HostRuntime, line: Result<String, AllocError>) -> Result<(), Failur
 }
 
 impl TraceFile for Output<File> {
+    fn takes_bytes(&self, milliseconds: i32) -> bool {
+        self.is_ready(milliseconds)
+    }
+
     fn take_back(&mut self, count: u64) -> io::Result<()> {
         self.cut(count)
     }
