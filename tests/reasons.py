@@ -422,7 +422,8 @@ def each_schedule_of_the_examples_is_explained(_mltx: Program) -> None:
 @test
 def reasons_of_schedules(mltx: Program) -> None:
     """The reason that SCHEDULES shows is the one of its example, and the page of that example shows it."""
-    text = (ROOT / "docs/SCHEDULES.md").read_text().partition("Here is [`block-by-reply.txt`]")[2].partition("\n\n")[2]
+    page = (ROOT / "docs/SCHEDULES.md").read_text()
+    text = page.partition("(../examples/block-by-reply.txt), where")[2].partition("\n\n")[2]
     shown = [line.removeprefix("    ") for line in text.partition("\n\n")[0].splitlines()]
     same(shown[1:3], in_the_way(3, "withdraw 101 40", "short", 2, "withdraw 101 30", "done", ASKED))
     ran = mltx.run("steps", "--explain", ROOT / "examples/block-by-reply.txt")
