@@ -1,11 +1,13 @@
 """Exercises: what docs/ANSWERS.md shows is what the program writes of what docs/EXERCISES.md asks."""
 import re
 
-from harness import ROOT, Program, expect, holds, same, test
+from harness import ROOT, Program, expect, holds, match, same, test
 
 EXERCISES, ANSWERS = ROOT / "docs/EXERCISES.md", ROOT / "docs/ANSWERS.md"
 # How many exercises there are.
 COUNT = 12
+# How a page or an exercise says by which command a block is run.
+SAID = r"by\s+`mltx\s+([^`]*)FILE`"
 
 
 def parts_of(text: str, heading: str) -> dict[int, str]:
@@ -31,9 +33,8 @@ def asked_and_answered(exercise: str, answer: str) -> list[tuple[str, str]]:
 
 
 def run_as_said(mltx: Program, exercise: str, given: str, wanted: str) -> None:
-    """The program writes just this, where it is called as the exercise says. A fault goes to standard error."""
-    said = re.search(r"by `mltx\s+([^`]*)FILE`", exercise)
-    assert said, f"no command is named: {exercise}"
+    """The program writes just this, where it is called as the exercise says, or else the page. A fault goes to standard error."""
+    said = re.search(SAID, exercise) or match(SAID, EXERCISES.read_text())
     is_fault = wanted.startswith("mltx: ")
     ran = mltx.run(*said[1].split(), mltx.file("given", given))
     expect(ran, status=int(is_fault), out="" if is_fault else wanted, err=wanted if is_fault else "", what=given)
