@@ -199,12 +199,10 @@ TWO: list[Section] = [
             """Each transaction that the manager began has one outcome, with just its operations, undone ones
             too, their order, their replies, and its one end.""", [
                 Block("mlt_trace_audit/specs/Agreement.antt",
-                      "Agrees AreOfHistory NumbersAgree IsOnce count_of IsOfBegunTx CommitsRise"),
+                      "Agrees AreOfHistory NumbersAgree IsOnce IsOfBegunTx CommitsRise"),
                 Block("mlt_trace_audit/specs/Outcomes.antt", "IsOfHistory IsClosedSo ops_of closings_of Closing closing_by "
                       "IsWithoutTx IsRefusedEmpty RisesTo"),
                 Block("mlt_trace/specs/Numbers.antt", "begun_txs"),
-                Block("mlt_order/specs/Histories.antt", "items_done"),
-                Block("mlt_trace/specs/Entries.antt", "entries_of entry_of"),
             ]),
 ]
 PARTS: list[tuple[str, list[Section]]] = [("Part one: a list of events", ONE), ("Part two: threads", TWO)]
@@ -250,5 +248,4 @@ NOT_SHOWN: list[tuple[str, str]] = [
     ("Follows IsPartial", "with these replies the script does just these operations and ends so; or these first"),
     ("IsScriptEnd", "a refusal is for memory, room, a limit, or giving up"),
     ("Transcript", "operations with replies, as a list"),
-    ("Entry Begun Did TookBack Committed Closed", "entries of a history, one case for each case of [[TraceItem]]"),
 ]

@@ -1,19 +1,14 @@
 -- What items have of a transaction, and that placed ones have nothing of it behind its close.
 use Rattle.std.proofs.Common.{◌≡◌, ◌≢◌, ℕ, List, [], ◌∷◌, ◌++◌, true, false, cond, nat_eq, Contains, refl, sym, ap, subst, ◌∙◌, inl, inr, append_assoc, arith, eq-eqb, ne_eqb}
 use Rattle.mlt_trace_audit.proofs.Names.{cases_eq, Contains-append_left, ObjOp, ObjReply, Lists, Stage, Running, Ended, changed, TraceItem, Begin, Op, Back, Commit, Abort, begun_txs, begun_txs-append, ArePlaced, HasPlace, IsRunning, told, begun_stays, number_in, stage-other, told-push, runs_begun, HasNothing, closings_of, ops_of, ByAbort, ByCommit}
-use Rattle.mlt_order.specs.Histories.{Entry, after_entry, items_done}
-use Rattle.mlt_order.specs.Histories.Entry.{Begun, Closed, Did, TookBack}
-use Rattle.mlt_order.specs.Histories.Entry.{Committed as CommittedEntry}
-use Rattle.mlt_order.specs.Interleavings.{items_of}
-use Rattle.mlt_order.proofs.Parts.{items_of-append, items_of-other, items_of-same}
-use Rattle.mlt_trace.specs.Entries.{entries_of, entry_of}
-use Rattle.mlt_trace.proofs.ItemLaws.{entries_of-append}
+use Rattle.mlt_order.specs.Histories.{after_entry}
+use Rattle.mlt_trace.specs.Entries.{entry_of}
 
 -- ---- one item in front
 
 pub ops_other : (tx : ℕ) (item : TraceItem) (items : List TraceItem) → tx ≢ number_in item → ops_of tx (item ∷ items) ≡ ops_of tx items
 ops_other tx (Begin i) items apart = refl
-ops_other tx (Op i done) items apart = items_of-other tx (i, done) (items_done (entries_of items)) (λ e. apart (sym e))
+ops_other tx (Op i done) items apart = rw (ne_eqb i tx (λ e. apart (sym e))) refl
 ops_other tx (Back i) items apart = refl
 ops_other tx (Commit i number) items apart = refl
 ops_other tx (Abort i) items apart = refl
@@ -26,7 +21,7 @@ closings_other tx (Commit i number) items apart = rw (ne_eqb i tx (λ e. apart (
 closings_other tx (Abort i) items apart = rw (ne_eqb i tx (λ e. apart (sym e))) refl
 
 pub ops_own : (tx : ℕ) (done : ObjOp × ObjReply) (items : List TraceItem) → ops_of tx (Op tx done ∷ items) ≡ done ∷ ops_of tx items
-ops_own tx done items = items_of-same tx (tx, done) (items_done (entries_of items)) refl
+ops_own tx done items = rw (eq-eqb tx tx refl) refl
 
 pub closings_commit : (tx number : ℕ) (items : List TraceItem) → closings_of tx (Commit tx number ∷ items) ≡ ByCommit number ∷ closings_of tx items
 closings_commit tx number items = rw (eq-eqb tx tx refl) refl
@@ -36,19 +31,18 @@ closings_abort tx items = rw (eq-eqb tx tx refl) refl
 
 -- ---- two lists of items
 
-items_done-append : (one other : List (Entry (ObjOp × ObjReply))) → items_done (one ++ other) ≡ items_done one ++ items_done other
-items_done-append [] other = refl
-items_done-append (Did i item ∷ one) other = ap (λ l. (i, item) ∷ l) (items_done-append one other)
-items_done-append (Begun i ∷ one) other = items_done-append one other
-items_done-append (TookBack i ∷ one) other = items_done-append one other
-items_done-append (CommittedEntry i ∷ one) other = items_done-append one other
-items_done-append (Closed i ∷ one) other = items_done-append one other
-
 pub ops_of-append : (tx : ℕ) (items later : List TraceItem) → ops_of tx (items ++ later) ≡ ops_of tx items ++ ops_of tx later
-ops_of-append tx items later =
-    ap (λ (es : List (Entry (ObjOp × ObjReply))). items_of tx (items_done es)) (entries_of-append items later)
-    ∙ ap (λ l. items_of tx l) (items_done-append (entries_of items) (entries_of later))
-    ∙ items_of-append tx (items_done (entries_of items)) (items_done (entries_of later))
+ops_of-append tx [] later = refl
+ops_of-append tx (Begin i ∷ items) later = ops_of-append tx items later
+ops_of-append tx (Op i done ∷ items) later =
+    let rest = ops_of-append tx items later in
+    elim (nat_eq i tx) as (λ b. cond b (done ∷ ops_of tx (items ++ later)) (ops_of tx (items ++ later)) ≡ cond b (done ∷ ops_of tx items) (ops_of tx items) ++ ops_of tx later) [
+      | true ↦ ap (λ l. done ∷ l) rest
+      | false ↦ rest
+    ]
+ops_of-append tx (Back i ∷ items) later = ops_of-append tx items later
+ops_of-append tx (Commit i number ∷ items) later = ops_of-append tx items later
+ops_of-append tx (Abort i ∷ items) later = ops_of-append tx items later
 
 pub closings_of-append : (tx : ℕ) (items later : List TraceItem) → closings_of tx (items ++ later) ≡ closings_of tx items ++ closings_of tx later
 closings_of-append tx [] later = refl

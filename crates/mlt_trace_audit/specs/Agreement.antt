@@ -11,7 +11,7 @@ count_of tx outcomes = count_by (λ o. o.tx == tx) outcomes
 
 -- the number is not 0, and stands in one of the outcomes
 abbrev pub IsOnce : List Outcome → ℕ → Type 0
-IsOnce outcomes tx = (tx ≢ 0) × (count_of tx outcomes ≡ 1)
+IsOnce outcomes tx = (tx ≢ 0) × (count_by (λ o. o.tx == tx) outcomes ≡ 1)
 
 abbrev pub IsOfBegunTx : List TraceItem → Outcome → Type 0
 IsOfBegunTx items o = o.tx ≢ 0 → Contains (begun_txs items) o.tx

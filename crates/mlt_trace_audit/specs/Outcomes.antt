@@ -3,13 +3,10 @@ use Rattle.std.specs.Prelude.{◌≡◌, ◌≢◌, ℕ, ◌<◌, List, [], ◌�
 use Rattle.mlt_types.specs.declared.refusal.Refusal.{Refusal}
 use Rattle.mlt_object_kinds.specs.declared.operation.ObjOp.{ObjOp}
 use Rattle.mlt_object_kinds.specs.declared.operation.ObjReply.{ObjReply}
-use Rattle.mlt_order.specs.Histories.{items_done}
-use Rattle.mlt_order.specs.Interleavings.{items_of}
 use Rattle.mlt_trace.specs.declared.item.TraceItem.{TraceItem}
-use Rattle.mlt_trace.specs.declared.item.TraceItem.TheVariants.{Commit, Abort}
-use Rattle.mlt_trace.specs.Entries.{entries_of}
+use Rattle.mlt_trace.specs.declared.item.TraceItem.TheVariants.{Op, Commit, Abort}
 use Rattle.mlt_script_serial.specs.declared.outcome.End.{End}
-use Rattle.mlt_script_serial.specs.declared.outcome.End.TheVariants.{Committed, Aborted, Refused}
+use Rattle.mlt_script_serial.specs.declared.outcome.End.TheVariants.{Committed, Refused}
 use Rattle.mlt_script_serial.specs.declared.outcome.Outcome.{Outcome}
 
 -- How a transaction was closed.
@@ -21,7 +18,9 @@ pub data Closing : Type 0 where
 
 -- the operations that the transaction did, taken back or not, in order
 abbrev pub ops_of : ℕ → List TraceItem → List (ObjOp × ObjReply)
-ops_of tx items = items_of tx (items_done (entries_of items))
+ops_of tx [] = []
+ops_of tx (Op i done ∷ items) = if i == tx then done ∷ ops_of tx items else ops_of tx items
+ops_of tx (_ ∷ items) = ops_of tx items
 
 -- how the transaction was closed, each time: in the history of a manager, once at most
 abbrev pub closings_of : ℕ → List TraceItem → List Closing
@@ -33,8 +32,7 @@ closings_of tx (_ ∷ items) = closings_of tx items
 -- how a transaction is closed whose outcome has this end: by a commit of its number, or by an abort for any other end
 abbrev pub closing_by : End → Closing
 closing_by (Committed number) = ByCommit number
-closing_by Aborted = ByAbort
-closing_by (Refused refusal) = ByAbort
+closing_by other = ByAbort
 
 -- these items have of the transaction just these operations, and it is closed there once, as the end says
 pub record IsClosedSo (tx : ℕ) (done : List (ObjOp × ObjReply)) (end : End) (items : List TraceItem) : Type 0 where
