@@ -42,10 +42,10 @@ SENTENCES: list[tuple[str, list[tuple[str, str]]]] = [(
     ]), (
     """The same holds whenever the lock of running threads is free. Each call of the manager under it is one event, and none is
     lost. Every history passes the checker of traces, and what `run` and `serve_on` return stands in the history.""", [
-        ("The same", "[[KeepsMainPromise]], by [[Manager::keeps_its_promises]]"),
-        ("whenever the lock", "[[LockedState]] has a `Manager`"),
-        ("one event", "`meets` of [[LockedState::act]]"),
-        ("none is lost", "`counted` of [[LockedState]], `amount` of [[LockedState::act]], [[Agrees]]"),
+        ("The same", "[[HasPlayed]]"),
+        ("whenever the lock", "`played` of [[LockedState]]"),
+        ("one event", "`more` of [[LockedState::act]]"),
+        ("none is lost", "`counted` of [[LockedState]], `first` of [[LockedState::compare]]"),
         ("checker", "[[Manager::passes_the_checker]]"),
         ("return", "the [[Outcome]]s of [[run]] and [[serve_on]]"),
         ("in the history", "[[Agrees]]"),
@@ -59,6 +59,7 @@ NOTATION: list[tuple[str, str]] = [
     ("`Type 0`", "statements; kinds of values"),
     ("`(x : A) →`, `(x : A) ×`", "for each `x` of `A`; for some"),
     ("`P → Q`, `P × Q`", "if `P`, then `Q`; both"),
+    ("`∥ A ∥₁`", "there is an `A`"),
     ("`⊥`, `Unit {0}`", "false; true. A map to `Unit {0}` is a set"),
     ("`(a, b)`, `x.0`", "a pair; its first part"),
     ("`xs ++ y ∷ ys`", "`xs ++ (y ∷ ys)`. Arguments bind first, then `∷`, `++`, then `≡`, `<`, then `×`, then `→`"),
@@ -68,7 +69,7 @@ NOTATION: list[tuple[str, str]] = [
     ("`ensures`", "holds when the call returns"),
     ("`ghost name:`", "holds of values that no call is at work on"),
     ("`x.now`, `x.old`, `x.new`", "what the reference `x` leads to; before the call; after it"),
-    ("`{X : Type 0}`", "for any `X`, left out in calls"),
+    ("`{X : Type 0}`", "for any `X`"),
     ("`λ x. e`", "the function from `x` to `e`"),
 ]
 
@@ -144,6 +145,7 @@ ONE: list[Section] = [
             that, on the same clean pages: [[HasCleanPages]] fixes each page.""", [
                 Block("mlt_manager/src/manager.rt", "Manager.keeps_its_promises()"),
                 Block("mlt_manager/specs/Promises.antt", "KeepsPromises:main,file"),
+                Block("mlt_manager/specs/Headline.antt", "KeepsMainPromise:clean,put_back"),
                 Block("mlt_hash_form/specs/Prefixes.antt", "IsExtendibleHashFile:once"),
                 Block("mlt_hash_form/specs/File.antt", "IsOnceLive"),
                 Block("mlt_hash_form/specs/Form.antt", "slot_at"),
@@ -162,18 +164,24 @@ ONE: list[Section] = [
 TWO: list[Section] = [
     Section("Under the lock",
             """Threads share a manager behind a mutex. While that is free, the invariants of [[LockedState]] hold. The desk of a
-            client makes each event by [[LockedState::act]], which adds 1 to its share of `book.total`, the sum of all shares.
-            Reading is no event, nor is handing out the history, as `serve --endless` does. Not shown: the history goes on, from
-            one event to the next, from what a desk has seen (`seen`, `first`), and gets just the items of what the event
-            returned (`sees`); a `run` or a server has one lock.""", [
-                Block("mlt_work_desk/src/locked_state.rt", "LockedState:manager,book,counted"),
-                Block("mlt_work_desk/src/holds.rt", "LockedState.act():meets,amount"),
+            client makes each event by [[LockedState::act]], which adds 1 to its share of `book.total`, the sum of all shares. By
+            `more` the manager has executed it after all that it had executed before. A snapshot has the items that the history
+            had then; by `first` they stay its first ones. From one event to the next, only this and the number of events are
+            said to stay. Not shown: nothing else under the lock changes the manager but handing out its history, and a `run` or a
+            server has one lock. Reading is no event.
+
+            `L.hands_out` is true for `serve --endless` alone. There, `KeepsMainPromise` holds, a like promise over the
+            history.""", [
+                Block("mlt_work_desk/src/shared.rt", "Shared:state"),
+                Block("mlt_work_desk/src/locked_state.rt", "LockedState:manager,book,counted,played"),
+                Block("mlt_work_desk/src/holds.rt", "LockedState.act():more,amount,seen LockedState.compare():first"),
+                Block("mlt_work_log/specs/Prefixes.antt", "StartsWith"),
             ]),
-    Section("The promise over a history",
-            """[[transcripts_of]] reads from a history `committed` and `ops` of a course. In part one only are what a transaction
-            is at, [[Tells]], `busy`, and what judges the reply to an operation that was undone.""", [
-                Block("mlt_manager/specs/Headline.antt", "KeepsMainPromise transcripts_of after_item Transcripts"),
-                Block("mlt_order/specs/Histories.antt", "but_last"),
+    Section("What the manager has executed",
+            """[[HasPlayed]] says of events and answers what `play` says of its own. The history has just the items that
+            they tell.""", [
+                Block("mlt_work_desk/specs/Playing.antt", "IsPlayed HasPlayed:count,course,tells,keeps,items"),
+                Block("mlt_manager/specs/Tolds.antt", "AreToldBy AddsItems CalledOps called_after"),
                 Block("mlt_trace/src/item.rt", "TraceItem"),
                 Block("mlt_manager/src/manager.rt", "Manager.passes_the_checker()"),
                 Block("mlt_manager/specs/Promises.antt", "PassesTheChecker:base,accepted"),
@@ -184,13 +192,11 @@ TWO: list[Section] = [
             contract knows what comes over a socket, or says that this manager is the one of the sessions. [Another
             one](../crates/mlt_serve_session/src/sessions.rt) says that a session writes what its outcomes have. Of `serve
             --endless` [less is proved](THEOREM.md#what-no-contract-says).""", [
-                Block("mlt_work/src/running.rt", "run():ran,history"),
+                Block("mlt_work/src/running.rt", "run():ran,history,played"),
                 Block("mlt_work/specs/Runs.antt", "HasRunAll:outcomes,agrees"),
-                Block("mlt_serve/src/serving.rt", "serve_on():history,outcomes,clients,order"),
-                Block("mlt_script_serial/src/outcome.rt", "Outcome End Outcomes.as_slice() Transcript.as_slice()"),
+                Block("mlt_serve/src/serving.rt", "serve_on():history,played,outcomes,clients,order"),
                 Block("mlt_manager/src/manager.rt", "Manager.history():some,none"),
-                Block("mlt_trace/src/kept.rt", "KeptItem.get()"),
-                Block("mlt_object_kinds/src/done.rt", "Done.op() Done.reply()"),
+                Block("mlt_script_serial/src/outcome.rt", "Outcome End"),
                 Block("mlt_work_clients/specs/Places.antt", "AreAllOutcomes AreClientOutcomes"),
                 Block("mlt_script_serial/specs/Clients.antt", "AreOutcomes IsOutcome"),
                 Block("mlt_script_serial/specs/DeskRuns.antt", "HasEndedAs"),
@@ -198,8 +204,7 @@ TWO: list[Section] = [
     Section("Outcomes that agree with a history",
             """Each transaction that the manager began has one outcome, with just its operations, undone ones
             too, their order, their replies, and its one end.""", [
-                Block("mlt_trace_audit/specs/Agreement.antt",
-                      "Agrees AreOfHistory NumbersAgree IsOnce IsOfBegunTx CommitsRise"),
+                Block("mlt_trace_audit/specs/Agreement.antt", "Agrees AreOfHistory NumbersAgree:once IsOnce CommitsRise"),
                 Block("mlt_trace_audit/specs/Outcomes.antt", "IsOfHistory IsClosedSo ops_of closings_of Closing closing_by "
                       "IsWithoutTx IsRefusedEmpty RisesTo"),
                 Block("mlt_trace/specs/Numbers.antt", "begun_txs"),
@@ -210,7 +215,7 @@ PARTS: list[tuple[str, list[Section]]] = [("Part one: a list of events", ONE), (
 # Names of the library and the kit that stand in what is shown. `◌` takes the place of what stands around a name. Those without a
 # meaning are usual, and have no line.
 LIBRARY: list[tuple[str, str]] = [
-    ("◌+◌ ◌*◌ ◌^◌ ◌%◌ min ◌<◌ ◌≤◌ Bool true false ◌==◌ if◌then◌else◌ Option None Some Result Vec Ordering", ""),
+    ("◌+◌ ◌*◌ ◌^◌ ◌%◌ min ◌<◌ ◌≤◌ Bool true false ◌==◌ if◌then◌else◌ Option None Some Result Vec Mutex Ordering", ""),
     ("ℕ ◌-◌", "natural numbers; the difference, or 0 if that is negative"),
     ("◌≡◌ ◌≢◌ ◌↔◌", "the same, not the same, if and only if"),
     ("is_some unwrap_or option_copied", "there is a value; it, or else the second argument; what is lent"),
@@ -218,8 +223,7 @@ LIBRARY: list[tuple[str, str]] = [
     ("IsOkUnless", "an error is just this"),
     ("List [] ◌∷◌ ◌++◌", "finite lists; the empty one; an item, or a list, before a list"),
     ("Contains All", "it is an item; the statement holds of each"),
-    ("length count_by", "how many items; how many with a test"),
-    ("fold", "`fold f x ys`: from `x` on, `f` with each item of `ys`"),
+    ("length count_by replicate", "how many items; how many with a test; so many times an item"),
     ("slice_index_or", "the item at a place, from 0, or else the last argument"),
     ("nat_cmp ordering_then", "how numbers compare; the second where the first is equal"),
     ("map.FinMap set.FinSet", "finite maps, from keys that the first argument compares; sets. With the same values they are one"),
@@ -230,14 +234,15 @@ LIBRARY: list[tuple[str, str]] = [
 NOT_SHOWN_SAID = """The sentences read no more by these names than this, and by types without a row than their names say."""
 # What stands in what is shown, and is not followed. Types without a meaning have no line.
 NOT_SHOWN: list[tuple[str, str]] = [
-    ("Refusal Limits Manager Store HeadPage DirPage Value Turn", ""),
-    ("Report Served ScriptForm Outcomes Done KeptItem", ""),
+    ("Refusal Limits Manager Store HeadPage DirPage Value Turn HistoryLog LogSnapshot", ""),
+    ("Report Served ScriptForm Done KeptItem", ""),
     ("TellsNumber", "the reply is a number; [[TellsSize]] says which"),
     ("ManagerFields Table Transaction", "what contracts see of a manager; its open transactions; one"),
     ("page_at image_of", "`map.get`, of pages and of first images"),
     ("SLOTS FilePages buckets_of", "8; pages by number; the bucket there, or one without slots"),
-    ("Meets counted", "an event meets the contract of its call; a manager with one event more"),
+    ("goes_on", "of `Called` and `Going`, which tell no item"),
     ("MadeWith Pseudo", "types that a caller picks: a ledger; functions from keys to hashes, `P.bits_of`"),
+    ("first_items", "of a snapshot of the log of a lock"),
     ("trace_text committed_txs", "the text of a history; its committed transactions"),
     ("IsAcceptedTrace",
      "what [`check`](../crates/mlt_trace_check/src/trace_check.rt) accepts: each item is between the one begin and the one end "

@@ -4,6 +4,7 @@ ghost use Rattle.std.specs.Prelude.{◌≡◌, ◌⊎◌, ◌<◌, ◌≤◌, If
 ghost use Rattle.mlt_manager.specs.Openings.{IsMadeWith};
 ghost use Rattle.mlt_work_log.specs.Seats.{id_of};
 ghost use Rattle.mlt_work_desk.specs.Makings.{making_by};
+ghost use Rattle.mlt_work_desk.specs.Playing.{IsPlayed};
 ghost use Rattle.mlt_trace_audit.specs.Agreement.{Agrees};
 ghost use Rattle.mlt_serve.specs.Clients.{AreNumbered, AreOfClients};
 ghost use Rattle.mlt_serve.specs.Tellings.{TellsOutcomes};
@@ -91,6 +92,8 @@ where
     ensures made { IfOk result (λ ended. IsMadeWith ended.manager options.now.limits pseudo) }
     ensures history { L.hands_out ≡ false
         → IfOk result (λ ended. ended.manager.shared.history.handed ≡ []) }
+    ensures played { L.hands_out ≡ false
+        → IfOk result (λ ended. IsPlayed P.bits_of ended.manager) }
     ensures events { IfOk result (λ ended. ended.manager.events ≡ ended.gathered.events) }
     ensures clients { IfOk result (λ ended. ended.gathered.is_short ≡ false
         → AreOfClients ended.gathered.last (K.receipts ended.gathered.outcomes)) }
@@ -107,8 +110,8 @@ where
     let (book, mut all) = blank.open::<L>();
     let mut threads = new_threads(alloc, &mut all, &log, &mut writer, options.sessions)?;
     let (notes, outlet) = Notes::new(alloc)?;
-    let manager = Manager::new(alloc, options.limits, pseudo)?;
-    let shared = Shared::new(log, LockedState::new(manager, book, writer));
+    let state = LockedState::new(alloc, options.limits, pseudo, book, writer)?;
+    let shared = Shared::new(log, state);
     let service = Service {
         shared: &shared,
         admission_queue: &AdmissionQueue::new(),
@@ -143,8 +146,10 @@ fn served_of<P: Pseudo + Drop>(
     ended: Ended<P, Vec<Outcome>>,
     limit: u64,
 ) -> Result<Served<P>, Refusal>
-    requires { ended.manager.shared.history.handed ≡ [] }
+    requires history { ended.manager.shared.history.handed ≡ [] }
+    requires played { IsPlayed P.bits_of ended.manager }
     ensures manager { IfOk result (λ got. got.manager ≡ ended.manager) }
+    ensures played { IfOk result (λ got. IsPlayed P.bits_of got.manager) }
     ensures outcomes { IfOk result
         (λ got. Agrees got.outcomes got.manager.shared.history.items) }
     ensures clients { IfOk result (λ got. AreOfClients got.connections got.outcomes) }
@@ -212,6 +217,8 @@ where
     ensures made { IfOk result (λ got. IsMadeWith got.manager options.now.limits pseudo) }
     // all of its history is there
     ensures history { IfOk result (λ got. got.manager.shared.history.handed ≡ []) }
+    // it is one to which events lead from a new one
+    ensures played { IfOk result (λ got. IsPlayed P.bits_of got.manager) }
     // what clients were told is what the manager has done
     ensures outcomes { IfOk result
         (λ got. Agrees got.outcomes got.manager.shared.history.items) }

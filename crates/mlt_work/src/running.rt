@@ -3,6 +3,7 @@
 ghost use Rattle.std.specs.Prelude.{◌≡◌, ◌≤◌, ◌<◌, ◌⊎◌, [], false, IfErr, IfOk, Some};
 ghost use Rattle.mlt_work_log.specs.Seats.{id_of};
 ghost use Rattle.mlt_work_desk.specs.Makings.{making_by};
+ghost use Rattle.mlt_work_desk.specs.Playing.{IsPlayed};
 ghost use Rattle.mlt_work_clients.specs.Places.{scripts_of_clients};
 ghost use Rattle.mlt_work.specs.Runs.{HasRunAll};
 
@@ -46,6 +47,7 @@ fn run_with<
     ensures ran { IfOk result (λ got.
         HasRunAll (scripts_of_clients clients.now) options.now.limits pseudo got.0 got.1
         × (got.1.shared.history.handed ≡ [])) }
+    ensures played { IfOk result (λ got. IsPlayed P.bits_of got.1) }
     ensures refusal { IfErr result
         (λ refusal. (refusal ≡ Refusal.OutOfMemory) ⊎ (refusal ≡ Refusal.Audit)) }
 {
@@ -61,8 +63,8 @@ fn run_with<
         clients.len() as u64,
         options.workers,
     )?;
-    let manager = Manager::new(alloc, options.limits, pseudo)?;
-    let shared = Shared::new(log, LockedState::new(manager, book, writer));
+    let state = LockedState::new(alloc, options.limits, pseudo, book, writer)?;
+    let shared = Shared::new(log, state);
     let context = RunContext {
         shared: &shared,
         gate,
@@ -120,6 +122,8 @@ pub fn run<P: Pseudo + Drop + Send, R: Threads + Wait + Sync, G: Gate + Sync>(
         (λ got. HasRunAll (scripts_of_clients clients.now) options.now.limits pseudo got.0 got.1) }
     // all of the history is there
     ensures history { IfOk result (λ got. got.1.shared.history.handed ≡ []) }
+    // it is one to which events lead from a new one
+    ensures played { IfOk result (λ got. IsPlayed P.bits_of got.1) }
     ensures refusal { IfErr result
         (λ refusal. (refusal ≡ Refusal.OutOfMemory) ⊎ (refusal ≡ Refusal.Audit)) }
 {

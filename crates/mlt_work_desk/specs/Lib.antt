@@ -4,3 +4,4 @@ pub mod Makings
 pub mod Refusals
 pub mod Tries
 pub mod Waits
+pub mod Playing

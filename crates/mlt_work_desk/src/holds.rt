@@ -1,6 +1,8 @@
 //! What a desk does while it holds the lock.
 
-ghost use Rattle.std.specs.Prelude.{◌≡◌, ◌++◌, ◌+◌, ◌-◌, ◌<◌, ◌^◌, ◌≢◌, [], false, true, List, Some, min};
+ghost use Rattle.std.specs.Prelude.{◌≡◌, ◌++◌, ◌∷◌, ◌+◌, ◌-◌, ◌<◌, ◌^◌, ◌≢◌, [], false, true, IsOkUnless, List, Some, min};
+ghost use Rattle.mlt_event.specs.declared.event.Event.{Event};
+ghost use Rattle.mlt_event.specs.declared.told.Told.{Told};
 ghost use Rattle.mlt_manager.specs.Answers.{counted};
 ghost use Rattle.mlt_manager.specs.Events.{Meets};
 ghost use Rattle.mlt_manager.specs.Managers.{IsManager};
@@ -8,7 +10,8 @@ ghost use Rattle.mlt_work_waits.specs.declared.wait.Waker.{Waker};
 ghost use Rattle.mlt_work_log.specs.Prefixes.{StartsWith};
 ghost use Rattle.mlt_work_log.specs.Seats.{IsOf, IsWriterOf, all_items, first_items, id_of};
 ghost use Rattle.mlt_work_desk.specs.Holds.{EndsWithOp, IfReply, SeesEvent, goes_on};
-ghost use Rattle.mlt_work_desk.specs.Makings.{making_of};
+ghost use Rattle.mlt_work_desk.specs.Makings.{making_by, making_of};
+ghost use Rattle.mlt_work_desk.specs.Playing.{HasPlayed, IsPlayed};
 ghost use Rattle.mlt_work_desk.specs.Waits.{given_back_by, precedence_after, precedence_if, queue_after, queue_if, TurnsIfWaits, wait_if, waits_after, woken_by};
 
 use crate::desks::Desks;
@@ -18,31 +21,44 @@ use crate::turn::{SleepingThread, Turn, given_back, goes_on};
 use mlt_event::{Event, Told};
 use mlt_manager::Manager;
 use mlt_object_kinds::ObjOp;
-use mlt_types::Pseudo;
+use mlt_types::{Limits, Pseudo, Refusal};
 use mlt_work_log::{Growth, HistoryLog, LogSnapshot, LogWriter};
 use mlt_work_waits::Wakers;
+use std::alloc::Global;
 use std::marker::Brand;
 use std::sync::ledger::{Book, Share};
 
 impl<P: Pseudo, L: MadeWith<P>> LockedState<P, L> {
-    /// No desk, over a manager that has had no event.
-    pub fn new(manager: Manager<P>, book: Book<L>, writer: LogWriter) -> LockedState<P, L>
-        requires events { manager.events ≡ 0 }
-        requires made { Some (making_of manager) ≡ L.made_with }
-        requires history { L.hands_out ≡ false → manager.shared.history.handed ≡ [] }
+    /// No desk, over a new manager with these limits.
+    ///
+    /// # Errors
+    /// `OutOfMemory`, where a growth was refused.
+    pub fn new(
+        alloc: Global,
+        limits: Limits,
+        pseudo: P,
+        book: Book<L>,
+        writer: LogWriter,
+    ) -> Result<LockedState<P, L>, Refusal>
+    where
+        P: Drop,
+        requires made { Some (making_by limits pseudo) ≡ L.made_with }
         requires total { book.total ≡ 0 }
         requires of_log { IsWriterOf L.log_id writer }
-        requires logged { all_items writer ≡ manager.shared.history.items }
+        requires none { all_items writer ≡ [] }
+        ensures refusal { IsOkUnless result Refusal.OutOfMemory }
     {
-        LockedState {
+        let manager = Manager::new(alloc, limits, pseudo)?;
+        manager.keeps_its_promises();
+        Ok(LockedState {
             manager,
             book,
             desks: Desks::new(),
             writer,
-        }
+        })
     }
 
-    /// No desk, over a manager whose events so far count in the share.
+    /// No desk, over a manager whose events so far count in the share, and of which items may be handed out.
     pub fn of(
         manager: Manager<P>,
         book: Book<L>,
@@ -54,7 +70,7 @@ impl<P: Pseudo, L: MadeWith<P>> LockedState<P, L> {
         requires of_log { IsWriterOf L.log_id writer }
         requires none { all_items writer ≡ [] }
         requires made { Some (making_of manager) ≡ L.made_with }
-        requires history { L.hands_out ≡ false → manager.shared.history.handed ≡ [] }
+        requires hands_out { L.hands_out ≡ true }
         requires total { book.total ≡ 0 }
         requires part { 0 < share.old.parts }
         ensures amount { share.new.amount ≡ share.old.amount + manager.events }
@@ -101,6 +117,10 @@ impl<P: Pseudo, L: MadeWith<P>> LockedState<P, L> {
         ensures after { IsManager P.bits_of self.new.manager }
         ensures meets { Meets P.bits_of event result.0
             (counted self.old.manager) self.new.manager }
+        ensures more { (events : List Event) (tolds : List Told)
+            → HasPlayed P.bits_of events tolds self.old.manager
+            → HasPlayed P.bits_of (events ++ event ∷ []) (tolds ++ result.0 ∷ [])
+            self.new.manager }
         ensures keeps { IfReply event result.0 (self.new.manager.shared.history.items
             ≢ self.new.manager.shared.history.handed) }
         ensures amount { share.new.amount ≡ share.old.amount + 1 }
@@ -129,6 +149,7 @@ impl<P: Pseudo, L: MadeWith<P>> LockedState<P, L> {
         manager.kept_history();
         let told = manager.act(event);
         manager.keeps_its_invariant();
+        manager.keeps_its_promises();
         if goes_on(&told) {
             return (told, Turn::Goes);
         }
@@ -179,6 +200,7 @@ impl<P: Pseudo, L: MadeWith<P>> LockedState<P, L> {
         ensures events { result.events ≡ min all.old.amount (2 ^ 64 - 1) }
         ensures made { Some (making_of result) ≡ L.made_with }
         ensures history { L.hands_out ≡ false → result.shared.history.handed ≡ [] }
+        ensures played { L.hands_out ≡ false → IsPlayed P.bits_of result }
         ensures amount { all.new.amount ≡ all.old.amount }
         ensures parts { all.new.parts ≡ all.old.parts }
     {

@@ -2,6 +2,7 @@
 
 ghost use Rattle.std.specs.Prelude.{◌≡◌, ◌-◌, ◌^◌, [], false, Some, min};
 ghost use Rattle.mlt_work_desk.specs.Makings.{making_of};
+ghost use Rattle.mlt_work_desk.specs.Playing.{IsPlayed};
 ghost use Rattle.mlt_work_log.specs.Seats.{IsWriterOf, all_items};
 
 use crate::desks::Desks;
@@ -12,7 +13,7 @@ use mlt_work_log::LogWriter;
 use std::sync::ledger::Book;
 
 /// The manager, a book whose total is the number of its events, the desks, of which not all wait, and the writer of the log that has
-/// its history.
+/// its history. Unless items are handed out, the manager is one to which events lead from a new one.
 pub struct LockedState<P: Pseudo, L: MadeWith<P>> {
     pub(crate) manager: Manager<P>,
     pub(crate) book: Book<L>,
@@ -22,5 +23,6 @@ pub struct LockedState<P: Pseudo, L: MadeWith<P>> {
     ghost made: { Some (making_of manager) ≡ L.made_with },
     ghost of_log: { IsWriterOf L.log_id writer },
     ghost logged: { all_items writer ≡ manager.shared.history.items },
+    ghost played: { L.hands_out ≡ false → IsPlayed P.bits_of manager },
     ghost history: { L.hands_out ≡ false → manager.shared.history.handed ≡ [] },
 }

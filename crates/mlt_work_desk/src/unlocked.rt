@@ -4,6 +4,7 @@ ghost use Rattle.std.specs.Prelude.{◌≡◌, ◌-◌, ◌^◌, [], false, Some
 ghost use Rattle.mlt_work_log.specs.Prefixes.{StartsWith};
 ghost use Rattle.mlt_work_log.specs.Seats.{IsOf, first_items, id_of};
 ghost use Rattle.mlt_work_desk.specs.Makings.{making_of};
+ghost use Rattle.mlt_work_desk.specs.Playing.{IsPlayed};
 
 use crate::locked_state::LockedState;
 use crate::made_with::MadeWith;
@@ -37,6 +38,7 @@ impl<P: Pseudo, L: MadeWith<P>> Unlocked<P, L> {
         ensures events { result.events ≡ min all.old.amount (2 ^ 64 - 1) }
         ensures made { Some (making_of result) ≡ L.made_with }
         ensures history { L.hands_out ≡ false → result.shared.history.handed ≡ [] }
+        ensures played { L.hands_out ≡ false → IsPlayed P.bits_of result }
         ensures amount { all.new.amount ≡ all.old.amount }
         ensures parts { all.new.parts ≡ all.old.parts }
     {

@@ -1,9 +1,9 @@
-use Rattle.std.proofs.Common.{rules, ◌≡◌, ◌≢◌, ◌∙◌, false, sym}
+use Rattle.std.proofs.Common.{rules, ◌≡◌, ◌≢◌, ◌∙◌, List, [], ◌∷◌, length, false, ap, refl, sym, arith}
 use Rattle.mlt_work_desk.proofs.Names.{false≢true, first_items, EndsWithOp, is_done}
 use Rattle.mlt_work_desk.proofs.Cycles.{youngest_of_cycle}
 use Rattle.mlt_work_desk.proofs.Replying.{reply_goes_on, reply_not_done, reply_then}
 use Rattle.mlt_work_desk.proofs.lock_desk.LockDesk.hold.Goals as goal
-use Rattle.mlt_work_desk.proofs.lock_desk.LockDesk.hold.Goals.{then-is_done, else-is_done}
+use Rattle.mlt_work_desk.proofs.lock_desk.LockDesk.hold.Goals.{then-is_done, else-is_done, then-not-is_empty, else-not-is_empty}
 
 pub returns-clause-another : goal.returns-clause-another
 returns-clause-another g c = λ no_reply.
@@ -58,3 +58,21 @@ pub returns-then-goes_on-clause-youngest : goal.returns-then-goes_on-clause-youn
 returns-then-goes_on-clause-youngest g c = λ gives.
     let turns = c.act-told.ensures.turns in
     youngest_of_cycle c.args.may_sleep c.act-told.result.0 c.args.self.now.thread _ _ _ c.act-told.result.1 turns.0 turns.2 gives
+
+pub invariant_of-self-2-clause-part : goal.invariant_of-self-2-clause-part
+invariant_of-self-2-clause-part g c = c.act-told.ensures.parts ∙ c.args.self.now.part
+
+pub invariant_of-self-2-clause-of_log : goal.invariant_of-self-2-clause-of_log
+invariant_of-self-2-clause-of_log g c = c.act-told.ensures.of_log
+
+nothing : {X : Type 0} (xs : List X) → length xs ≡ 0 → xs ≡ []
+nothing [] none = refl
+nothing (x ∷ xs) none = absurd (omega (arith, none))
+
+pub invariant_of-self-2-clause-none : goal.invariant_of-self-2-clause-none
+invariant_of-self-2-clause-none g c = elim c.if-not-is_empty.branch [
+  | then-not-is_empty w ↦ ap (λ s. s.1.1.1.1.1.1.1.1.1.1.1.0.items) w.self-is ∙ w.clear.ensures
+  | else-not-is_empty w ↦
+      let none : length c.act-told.new.wakers.items ≡ 0 = search rules in
+      ap (λ s. s.1.1.1.1.1.1.1.1.1.1.1.0.items) w.self-is ∙ nothing c.act-told.new.wakers.items none
+]

@@ -3,6 +3,7 @@ use Rattle.mlt_work_desk.proofs.Names.{first_items, goes_on}
 use Rattle.mlt_work_desk.proofs.Adding.{event_adds}
 use Rattle.mlt_work_desk.proofs.Counting.{one_event, same_making}
 use Rattle.mlt_work_desk.proofs.GoingOn.{sees_same}
+use Rattle.mlt_work_desk.proofs.Playing.{more_played, still_played}
 use Rattle.mlt_work_desk.proofs.Replying.{keeps_reply, reply_goes_on}
 use Rattle.mlt_work_desk.proofs.locked_state.LockedState.act.Goals as goal
 
@@ -16,6 +17,22 @@ invariant_of-self-clause-counted g c =
 pub invariant_of-self-clause-made : goal.invariant_of-self-clause-made
 invariant_of-self-clause-made g c =
     ap Some (same_making g.P.Pseudo.bits_of c.args.event c.act-told.result c.args.self.now.manager c.act-told.new.self c.act-told.ensures.meets) ∙ c.args.self.now.made
+
+pub invariant_of-self-clause-played : goal.invariant_of-self-clause-played
+invariant_of-self-clause-played g c = λ stays.
+    still_played g.P.Pseudo.bits_of g.met.P.Pseudo.has_64_bits c.args.event c.act-told.result c.args.self.now.manager c.act-told.new.self c.act-told.ensures.meets c.keeps_its_promises.ensures (c.args.self.now.played stays)
+
+pub invariant_of-self-2-clause-played : goal.invariant_of-self-2-clause-played
+invariant_of-self-2-clause-played g c = λ stays.
+    still_played g.P.Pseudo.bits_of g.met.P.Pseudo.has_64_bits c.args.event c.act-told.result c.args.self.now.manager c.act-told.new.self c.act-told.ensures.meets c.keeps_its_promises.ensures (c.args.self.now.played stays)
+
+pub returns-clause-more : goal.returns-clause-more
+returns-clause-more g c = λ events tolds.
+    more_played g.P.Pseudo.bits_of g.met.P.Pseudo.has_64_bits events tolds c.args.event c.act-told.result c.args.self.now.manager c.act-told.new.self c.act-told.ensures.meets c.keeps_its_promises.ensures
+
+pub returns-then-goes_on-clause-more : goal.returns-then-goes_on-clause-more
+returns-then-goes_on-clause-more g c = λ events tolds.
+    more_played g.P.Pseudo.bits_of g.met.P.Pseudo.has_64_bits events tolds c.args.event c.act-told.result c.args.self.now.manager c.act-told.new.self c.act-told.ensures.meets c.keeps_its_promises.ensures
 
 pub invariant_of-self-2-clause-counted : goal.invariant_of-self-2-clause-counted
 invariant_of-self-2-clause-counted g c =

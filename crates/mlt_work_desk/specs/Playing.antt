@@ -1,0 +1,25 @@
+-- What the manager under a lock has executed.
+use Rattle.std.specs.Prelude.{ℕ, ◌≡◌, ◌-◌, ◌^◌, List, None, length, min}
+use Rattle.mlt_types.specs.declared.limits.Limits.{Limits}
+use Rattle.mlt_event.specs.declared.event.Event.{Event}
+use Rattle.mlt_event.specs.declared.told.Told.{Told}
+use Rattle.mlt_manager.specs.Courses.{Course, KeepsPromiseOver, TellsAll, opening_course}
+use Rattle.mlt_manager.specs.Events.{Plays}
+use Rattle.mlt_manager.specs.Managers.{ManagerFields}
+use Rattle.mlt_manager.specs.Tolds.{AreToldBy}
+
+-- From a new manager, these events with these answers lead to this one. They tell a course of transactions, over which the promise
+-- is kept, and the history has the items that they tell.
+pub record HasPlayed {P : Type 0} (bits_of : P → ℕ → ℕ) (events : List Event) (tolds : List Told) (m : ManagerFields P) : Type 0 where
+  pub limits : Limits
+  pub pseudo : P
+  pub plays : Plays bits_of limits pseudo events tolds m
+  pub count : m.events ≡ min (length events) (2 ^ 64 - 1)
+  pub course : Course
+  pub tells : TellsAll opening_course events tolds course
+  pub keeps : KeepsPromiseOver course m
+  pub items : AreToldBy events tolds (λ tx. None) m.shared.history.items
+
+-- some events with some answers lead to it
+abbrev pub IsPlayed : {P : Type 0} → (P → ℕ → ℕ) → ManagerFields P → Type 0
+IsPlayed bits_of m = ∥ ((events : List Event) × (tolds : List Told) × HasPlayed bits_of events tolds m) ∥₁
