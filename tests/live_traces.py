@@ -104,6 +104,15 @@ def trace_into_a_pipe(mltx: Program) -> None:
     same(told, trace_of_counter(1) + trace_of_counter(2), "what came out of the pipe")
 
 
+@test
+def trace_into_a_pipe_that_nobody_reads(mltx: Program) -> None:
+    """The server does not start, and says why: it waits for no reader while its port is taken."""
+    pipe = mltx.folder / "pipe"
+    os.mkfifo(pipe)
+    ran = mltx.run("serve", "-v", "127.0.0.1:0", "--trace", pipe, timeout=10)
+    expect(ran, status=1, err=f"{IO}mltx: {pipe}: no process reads it\n")
+
+
 @test(seconds=7)
 def trace_into_a_pipe_that_is_full(mltx: Program) -> None:
     """Its reader has stopped: clients are served, and once the server ends it waits for the reader for 5 seconds, and no more."""

@@ -121,6 +121,21 @@ def number_of_a_server(mltx: Program) -> None:
         same(counts(other, *endless), endless, "the limits without an end")
         one, again, another = [counts(it, "server")["server"] for it in (server, server, other)]
     holds(one == again != another and max(one, another) < 2**53, f"{one}, then {again}; another server: {another}")
+    with mltx.serve("-v", admin=free_address()) as server:
+        server.first_line()
+        number = counts(server, "server")["server"]
+        server.talk("quit\n")
+        expect(server.end(said="mltx: admin on %s:%d\n" % server.admin), out="served 1\n", err=f"mltx: server {number}\n")
+
+
+@test
+def note_on_an_operator_from_other_machines(mltx: Program) -> None:
+    """Where the address is not loopback, it is noted at the start."""
+    for host in ("0.0.0.0", "127.0.0.1"):
+        with mltx.serve(admin=(host, free_address()[1])) as server:
+            server.talk("quit\n")
+            note = "the admin address %s:%d is not loopback" % server.admin
+            expect(server.end(), out="served 1\n", notes=[note] if host == "0.0.0.0" else [])
 
 
 @test(seconds=1)

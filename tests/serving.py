@@ -574,6 +574,22 @@ def end_waits_for_no_reader(mltx: Program, count: int) -> None:
     expect(mltx.check(trace), out="serial 1\ncounter 7 1\n", what="the check of the trace")
 
 
+@test(seconds=1)
+def server_whose_standard_error_is_full_serves(mltx: Program) -> None:
+    """Clients are served, though nobody reads where it listens. Who reads at last gets that first."""
+    pipe = mltx.folder / "errors"
+    os.mkfifo(pipe)
+    with open(pipe, "r+b", buffering=0, opener=opened_without_waits) as reader:
+        filled = sum(iter(lambda: reader.write(b"x" * 4096) or 0, 0))
+        with mltx.serve(limit=2, redirect=f"2>{pipe}", timeout=SLACK) as server:
+            same(server.talk("begin\nquit\n"), b"begun 1\nbye\n", "the first client")
+            same(reader.read(filled), b"x" * filled, "what stood in the pipe")
+            holds(readable([reader], SLACK), "nothing is written once there is room")
+            same(reader.read(4096), listening(server.address).encode(), "what is written first")
+            same(server.talk("begin\nquit\n"), b"begun 2\nbye\n", "the second client")
+            expect(server.end(), out="served 2\n")
+
+
 # The end of standard input.
 
 

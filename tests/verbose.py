@@ -4,7 +4,7 @@ import socket
 from collections.abc import Mapping, Sequence
 from pathlib import Path
 
-from harness import MOST_BYTES, Program, each, expect, fault_of, lines, of_system, same, test
+from harness import MOST_BYTES, Program, each, expect, fault_of, lines, match, of_system, same, test
 
 IO = "mltx: 13 Io\n"
 SCRIPTS = lines("begin|open 1|commit")
@@ -94,7 +94,9 @@ def flag_changes_nothing_where_there_is_no_fault(mltx: Program) -> None:
             expect(mltx.run(*words), out=quiet.out, what=f"{words}")
     with mltx.serve("--verbose") as server:
         same(server.talk("begin\nquit\n"), b"begun 1\nbye\n", "serve --verbose")
-        expect(server.end(), out="served 1\n", what="serve --verbose")
+        ended = server.end()
+        number = match("^mltx: server ([0-9]+)\n$", ended.err.decode())[0]
+        expect(ended, out="served 1\n", err=number, what="serve --verbose, but for its number")
 
 
 BEGINNINGS = {

@@ -38,6 +38,8 @@ impl EndSignal for NoSignal {
 pub struct Operating<'a, N, T, S> {
     /// Where its notes are written.
     pub notes: N,
+    /// What is written there before them.
+    pub unsaid: String,
     /// Where the trace is written as it goes, if it is.
     pub trace: Option<T>,
     /// Tells when it is to end.
@@ -52,4 +54,6 @@ pub struct Admin<'a> {
     pub listener: &'a TcpListener,
     /// The seed of the maps of header fields.
     pub keys: RandomState,
+    /// The number of the server.
+    pub number: u64,
 }

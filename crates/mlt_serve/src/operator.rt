@@ -12,7 +12,6 @@ use mlt_types::{Pseudo, TxId};
 use mlt_work_desk::{DeskStatistics, MadeWith};
 use mlt_work_waits::Waiting;
 use std::alloc::{AllocError, Global};
-use std::hash::{BuildHasher, RandomState};
 use std::mem::size_of;
 use std::sync::Wait;
 use std::sync::atomic::Ordering;
@@ -25,9 +24,6 @@ const OUTCOME_BYTES: u64 = size_of::<Outcome>() as u64;
 
 const OPERATION_BYTES: u64 = size_of::<Done>() as u64;
 
-/// How many bits of a random number are left out, so that those who read numbers as doubles read it exactly.
-const UNUSED_BITS: u32 = 11;
-
 /// What an operator sees, and can do.
 #[derive(Drop)]
 pub(crate) struct Operator<'a, 'b, 'c, P: Pseudo, L: MadeWith<P>, R: Wait + Clock> {
@@ -35,22 +31,22 @@ pub(crate) struct Operator<'a, 'b, 'c, P: Pseudo, L: MadeWith<P>, R: Wait + Cloc
     service: &'b Service<'c, P, L>,
     /// Since when the server listens, if a clock could say so.
     since: Option<Instant>,
-    /// A number that was drawn at random.
+    /// The number of the server.
     number: u64,
 }
 
 impl<'a, 'b, 'c, P: Pseudo, L: MadeWith<P>, R: Wait + Clock> Operator<'a, 'b, 'c, P, L, R> {
-    /// One of a server that listens from now on, with a number drawn from these keys.
+    /// One of a server with this number, which listens from now on.
     pub(crate) fn new(
         rt: &'a R,
         service: &'b Service<'c, P, L>,
-        keys: &RandomState,
+        number: u64,
     ) -> Operator<'a, 'b, 'c, P, L, R> {
         Operator {
             rt,
             service,
             since: Instant::now(rt).ok(),
-            number: keys.hash_one(0_u64) >> UNUSED_BITS,
+            number,
         }
     }
 

@@ -13,12 +13,13 @@ use crate::supervising::supervise;
 use crate::trace_keeping::{keep_trace, room_for_items};
 use mlt_serve_admin::{Operated, serve_admin};
 use mlt_serve_connections::refuse_all;
-use mlt_serve_seats::{Outlet, write_notes};
+use mlt_serve_seats::{Note, Outlet, write_notes};
 use mlt_serve_session::Receipts;
 use mlt_types::Pseudo;
 use mlt_work_desk::MadeWith;
 use std::alloc::Global;
 use std::io::Write;
+use std::net::{SocketAddr, TcpListener};
 use std::sync::Wait;
 use std::sync::atomic::{AtomicBool, Ordering};
 use std::thread::Threads;
@@ -43,17 +44,24 @@ impl Ran {
     }
 }
 
-/// Starts the thread that writes notes, and returns whether there is one. No thread joins it: if the reader of the notes has
-/// stopped, it stays in its write. It has all that it needs.
-fn starts_to_write<R, N>(rt: &R, alloc: Global, outlet: Outlet, writer: N) -> bool
+/// Starts the thread that writes notes, behind what is unsaid, and returns whether there is one. No thread joins it: if the reader of the
+/// notes has stopped, it stays in its write. It has all that it needs.
+fn starts_to_write<R, N>(rt: &R, alloc: Global, outlet: Outlet, unsaid: String, writer: N) -> bool
 where
     R: Threads + Wait + Clock + Sync + Send + Copy + 'static,
     N: Write + Send + Drop + 'static,
 {
     let own = *rt;
     let mut writer = writer;
-    let write = move || write_notes(&own, alloc, &outlet, &mut writer);
+    let write = move || write_notes(&own, alloc, &outlet, unsaid.as_str(), &mut writer);
     thread::spawn(rt, write).is_ok()
+}
+
+/// The address of a listener, if others than this machine can reach it.
+fn open_address(listener: &TcpListener) -> Option<SocketAddr> {
+    let address = listener.local_addr().ok()?;
+    let is_loopback = address.ip().to_canonical().is_loopback();
+    (!is_loopback).then_some(address)
 }
 
 impl<'a, P: Pseudo + Send, L: MadeWith<P> + Send + Sync> Service<'a, P, L> {
@@ -77,11 +85,12 @@ impl<'a, P: Pseudo + Send, L: MadeWith<P> + Send + Sync> Service<'a, P, L> {
     {
         let Operating {
             notes,
+            unsaid,
             trace,
             signal,
             admin,
         } = operating;
-        if !starts_to_write(rt, alloc, outlet, notes) {
+        if !starts_to_write(rt, alloc, outlet, unsaid, notes) {
             return Ran::none();
         }
         self.serve_with_watch(rt, alloc, trace, signal, admin, threads)
@@ -184,7 +193,10 @@ impl<'a, P: Pseudo + Send, L: MadeWith<P> + Send + Sync> Service<'a, P, L> {
         let Some(admin) = admin else {
             return serve_connections(rt, alloc, self, threads);
         };
-        let operator = Operator::new(rt, self, &admin.keys);
+        if let Some(address) = open_address(admin.listener) {
+            self.notes.tell(rt, Note::OpenAdmin(address));
+        }
+        let operator = Operator::new(rt, self, admin.number);
         let is_over = AtomicBool::new(false);
         self.serve_beside_operator(rt, alloc, admin, &operator, &is_over, threads)
     }
@@ -206,7 +218,7 @@ impl<'a, P: Pseudo + Send, L: MadeWith<P> + Send + Sync> Service<'a, P, L> {
         requires { 0 < length threads.old }
     {
         let service = self;
-        let Admin { listener, keys } = admin;
+        let Admin { listener, keys, .. } = admin;
         thread::scope(
             thread::scope_env(),
             rt,

@@ -1,5 +1,6 @@
 //! Notes.
 
+use std::net::SocketAddr;
 use std::{fmt, io};
 
 /// Why no more connections are taken.
@@ -61,6 +62,8 @@ pub enum Note {
     DeepestDirectory(u64),
     /// An operation was refused for want of room, the first one.
     NoRoom,
+    /// The operator's address is not loopback.
+    OpenAdmin(SocketAddr),
     /// So many session threads run, of so many that were asked for.
     FewThreads(u64, u64),
     /// The trace can't be written, of which the system says this. It is written no further.
@@ -121,6 +124,7 @@ impl fmt::Display for Note {
                 f,
                 "the first operation was refused for lack of room (NoRoom)"
             ),
+            Note::OpenAdmin(address) => write!(f, "the admin address {address} is not loopback"),
             Note::FewThreads(running, asked) => {
                 write!(f, "only {running} of {asked} session threads are running")
             }

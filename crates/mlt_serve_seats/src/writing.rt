@@ -7,9 +7,16 @@ use std::alloc::{AllocError, Global};
 use std::io::Write;
 use std::sync::Wait;
 
-/// Writes a line for each note as it comes, until no more follow. A line that can't be written is lost, as is one that memory is
-/// refused for.
-pub fn write_notes<R: Wait, W: Write>(rt: &R, alloc: Global, outlet: &Outlet, writer: &mut W) {
+/// Writes what is unsaid, and then a line for each note as it comes, until no more follow. A line that can't be written is lost, as is
+/// one that memory is refused for.
+pub fn write_notes<R: Wait, W: Write>(
+    rt: &R,
+    alloc: Global,
+    outlet: &Outlet,
+    unsaid: &str,
+    writer: &mut W,
+) {
+    let _ = write_text(writer, unsaid.as_bytes());
     for _ in rt.forever() {
         let Some(told) = outlet.next(rt) else {
             return;

@@ -4,6 +4,7 @@ use crate::input::Input;
 use mlt_cli::{Detail, Job, Run, TextFault, report_verbose};
 use mlt_text::MAX_INPUT;
 use mlt_types::{Refusal, ScriptCause};
+use std::alloc::AllocError;
 use std::io;
 use std::io::ErrorKind;
 
@@ -76,6 +77,12 @@ impl From<Refusal> for Failure {
             refusal,
             known: Known::Nothing,
         }
+    }
+}
+
+impl From<AllocError> for Failure {
+    fn from(refused: AllocError) -> Failure {
+        Failure::from(Refusal::from(refused))
     }
 }
 

@@ -1,8 +1,9 @@
 //! The end of standard input.
 
+use crate::streams::is_ready;
+use libc::net::POLLIN;
 use mlt_serve::EndSignal;
 use std::io::{ErrorKind, Read, Stdin};
-use std::os::fd::AsRawFd;
 
 /// Tells where standard input has ended, if that is asked for. What it has is read away.
 #[derive(Drop)]
@@ -18,21 +19,11 @@ impl InputEnd {
             is_asked_for,
         }
     }
-
-    // Whether a read would not wait.
-    fn is_ready(&self) -> bool {
-        let mut fds = [libc::types::pollfd {
-            fd: self.stdin.as_raw_fd(),
-            events: libc::net::POLLIN,
-            revents: 0,
-        }];
-        libc::net::poll(&mut fds, 0) > 0
-    }
 }
 
 impl EndSignal for InputEnd {
     fn is_given(&mut self) -> bool {
-        if !self.is_asked_for || !self.is_ready() {
+        if !self.is_asked_for || !is_ready(&self.stdin, POLLIN, 0) {
             return false;
         }
         let mut buffer = [0; 4096];

@@ -124,8 +124,8 @@ fn do_job<T: Threads + Wait + Clock + Sync + Send + Copy + 'static>(
         Job::Check(check) if check.is_long => run_long_check(rt, check.input.as_str()),
         Job::Check(check) => run_check(rt, check.input.as_str(), keeps),
         Job::Serve(serve) => match serve.run.hash {
-            Hash::Mult => run_server(rt, threads, serve, Mult),
-            Hash::Low => run_server(rt, threads, serve, Low),
+            Hash::Mult => run_server(rt, threads, serve, keeps, Mult),
+            Hash::Low => run_server(rt, threads, serve, keeps, Low),
         },
         Job::Tables(name) => run_tables(rt, *name),
     }
@@ -265,25 +265,32 @@ fn run_server<P: Pseudo + Drop + Send, T: Threads + Wait + Clock + Sync + Send +
     rt: &HostRuntime,
     threads: &T,
     serve: &Serve,
+    tells_number: bool,
     pseudo: P,
 ) -> Result<(), Failure>
     requires some { 0 < serve.now.sessions }
     requires most { serve.now.sessions ≤ 64 }
 {
     let opened = Opened::open(rt, serve)?;
-    opened.report(rt)?;
+    let unsaid = opened.report(rt, tells_number)?;
     let Opened {
         listener,
         admin,
         trace,
         keys,
+        number,
     } = opened;
     let operating = Operating {
         notes: rt.stderr(),
+        unsaid,
         trace,
         signal: InputEnd::new(rt, serve.operating.until_eof),
         admin: match &admin {
-            Some(listener) => Some(Admin { listener, keys }),
+            Some(listener) => Some(Admin {
+                listener,
+                keys,
+                number,
+            }),
             None => None,
         },
     };
@@ -339,10 +346,7 @@ fn seconds(count: u64) -> Option<Duration> {
 
 // Writes how many connections were served.
 fn write_served(rt: &HostRuntime, connections: u64) -> Result<(), Failure> {
-    let text = match format!(in rt.alloc(); "served {connections}\n") {
-        Ok(text) => text,
-        Err(refused) => return Err(Failure::from(Refusal::from(refused))),
-    };
+    let text = format!(in rt.alloc(); "served {connections}\n")?;
     let mut output = Output::new(io::writer(rt));
     match write_text(&mut output, text.as_bytes()) {
         Ok(()) => Ok(()),

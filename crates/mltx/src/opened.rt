@@ -2,16 +2,22 @@
 
 use crate::failure::{Failure, Known};
 use crate::output::Output;
+use crate::streams::is_ready;
+use libc::net::POLLOUT;
 use mlt_cli::Serve;
 use mlt_serve::TraceFile;
 use mlt_text::write_text;
 use mlt_types::Refusal;
-use std::alloc::AllocError;
+use std::alloc::Global;
 use std::fs::{File, TryLockError};
-use std::hash::RandomState;
+use std::hash::{BuildHasher, RandomState};
 use std::io::ErrorKind;
 use std::net::TcpListener;
+use std::os::unix::fs::FileTypeExt;
 use std::{fs, io};
+
+// How many bits of a random number are left out, so that those who read numbers as doubles read it exactly.
+const UNUSED_BITS: u32 = 11;
 
 // How many traces of earlier servers are kept beside FILE.
 const MOST_MOVED: u32 = 999;
@@ -27,6 +33,8 @@ pub(crate) struct Opened {
     pub(crate) trace: Option<Output<File>>,
     /// The seed of the operator's maps.
     pub(crate) keys: RandomState,
+    /// The number of the server, which is drawn at random.
+    pub(crate) number: u64,
 }
 
 impl Opened {
@@ -56,22 +64,40 @@ impl Opened {
             admin,
             trace,
             keys,
+            number: keys.hash_one(0_u64) >> UNUSED_BITS,
         })
     }
 
-    /// Tells on standard error where the server listens, for clients and for an operator.
-    pub(crate) fn report(&self, rt: &HostRuntime) -> Result<(), Failure> {
+    /// Tells on standard error where the server listens, for clients and for an operator, and its number if that is asked for. It
+    /// returns what would have to wait for its reader. A server whose lines can't be written goes on.
+    pub(crate) fn report(&self, rt: &HostRuntime, tells_number: bool) -> Result<String, Failure> {
+        let mut lines = self.lines(rt.alloc())?;
+        if tells_number {
+            write!(lines, "mltx: server {}\n", self.number)?;
+        }
+        let mut stderr = rt.stderr();
+        if !is_ready(&stderr, POLLOUT, 0) {
+            return Ok(lines);
+        }
+        let _ = write_text(&mut stderr, lines.as_bytes());
+        Ok(String::new(rt.alloc()))
+    }
+
+    // The lines that tell where the server listens, with the port that was had where port 0 was asked for.
+    fn lines(&self, alloc: Global) -> Result<String, Failure> {
+        let mut lines = String::new(alloc);
         match self.listener.local_addr() {
-            Ok(address) => tell(rt, format!(in rt.alloc(); "mltx: listening on {address}\n"))?,
+            Ok(address) => write!(lines, "mltx: listening on {address}\n")?,
             Err(error) => return Err(Failure::of_call(Known::OfInput(error))),
         }
         let Some(admin) = &self.admin else {
-            return Ok(());
+            return Ok(lines);
         };
         match admin.local_addr() {
-            Ok(address) => tell(rt, format!(in rt.alloc(); "mltx: admin on {address}\n")),
-            Err(error) => Err(Failure::of_call(Known::OfAdmin(error))),
+            Ok(address) => write!(lines, "mltx: admin on {address}\n")?,
+            Err(error) => return Err(Failure::of_call(Known::OfAdmin(error))),
         }
+        Ok(lines)
     }
 }
 
@@ -104,12 +130,29 @@ fn create_trace(rt: &HostRuntime, file: &str) -> io::Result<File> {
 
 // Opens a file to append to it. A regular file is locked, unless its file system has no locks.
 fn open_locked(rt: &HostRuntime, path: &str) -> io::Result<File> {
-    let file = File::options().create(true).append(true).open(rt, path)?;
+    let file = open_to_append(rt, path)?;
     if file.metadata()?.is_file() {
         if let Err(TryLockError::WouldBlock) = file.try_lock() {
             let words = "another server writes its trace there";
             return Err(io::Error::new(ErrorKind::WouldBlock, words));
         }
+    }
+    Ok(file)
+}
+
+// Opens a file to append to it. An open of a FIFO waits for a reader, and this one does not: there has to be one.
+fn open_to_append(rt: &HostRuntime, path: &str) -> io::Result<File> {
+    let is_fifo = fs::metadata(rt, path).is_ok_and(|found| found.file_type().is_fifo());
+    // An open for both waits for nobody. It counts as a reader, until it is closed.
+    let reader = if is_fifo {
+        File::options().read(true).write(true).open(rt, path).ok()
+    } else {
+        None
+    };
+    let file = File::options().create(true).append(true).open(rt, path)?;
+    drop(reader);
+    if is_fifo && is_ready(&file, 0, 0) {
+        return Err(io::Error::new(ErrorKind::NotConnected, "no process reads it"));
     }
     Ok(file)
 }
@@ -124,18 +167,6 @@ fn move_away(rt: &HostRuntime, path: &str) -> io::Result<()> {
     }
     let words = "it holds a trace, and no name from FILE.1 to FILE.999 is free";
     Err(io::Error::new(ErrorKind::AlreadyExists, words))
-}
-
-// Writes a line on standard error, with the port that was had where port 0 was asked for. A server whose line can't be written goes
-// on.
-fn tell(rt: &HostRuntime, line: Result<String, AllocError>) -> Result<(), Failure> {
-    match line {
-        Ok(line) => {
-            let _ = write_text(&mut rt.stderr(), line.as_bytes());
-            Ok(())
-        }
-        Err(refused) => Err(Failure::from(Refusal::from(refused))),
-    }
 }
 
 impl TraceFile for Output<File> {

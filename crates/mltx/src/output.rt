@@ -1,11 +1,10 @@
 //! What the program writes to.
 
-use libc::net::{POLLOUT, poll};
-use libc::types::pollfd;
+use crate::streams::is_ready;
+use libc::net::POLLOUT;
 use std::fs::File;
 use std::io;
 use std::io::Write;
-use std::os::fd::AsRawFd;
 
 /// A writer, and why its last call that failed did.
 #[derive(Drop)]
@@ -31,12 +30,7 @@ impl<W: Write> Output<W> {
 impl Output<File> {
     /// Whether a write of a block would not wait, or fails, for which it is waited for so many milliseconds.
     pub(crate) fn is_ready(&self, milliseconds: i32) -> bool {
-        let mut fds = [pollfd {
-            fd: self.writer.as_raw_fd(),
-            events: POLLOUT,
-            revents: 0,
-        }];
-        poll(&mut fds, milliseconds) > 0
+        is_ready(&self.writer, POLLOUT, milliseconds)
     }
 
     /// Cuts so many bytes off the end of the file.

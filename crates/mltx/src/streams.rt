@@ -1,7 +1,19 @@
 //! The standard streams.
 
+use libc::net::poll;
+use libc::types::pollfd;
 use std::fs::File;
 use std::os::fd::AsRawFd;
+
+/// Whether a file is ready for these events, or fails, for which it is waited for so many milliseconds.
+pub(crate) fn is_ready<F: AsRawFd>(file: &F, events: i16, milliseconds: i32) -> bool {
+    let mut fds = [pollfd {
+        fd: file.as_raw_fd(),
+        events,
+        revents: 0,
+    }];
+    poll(&mut fds, milliseconds) > 0
+}
 
 /// What stands in the place of standard streams that were closed as the program began.
 #[derive(Drop)]
