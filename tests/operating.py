@@ -10,11 +10,11 @@ import threading
 import time
 from collections.abc import Callable, Iterator
 from concurrent.futures import ThreadPoolExecutor
-from contextlib import ExitStack, contextmanager
+from contextlib import ExitStack, contextmanager, suppress
 from typing import Any
 
-from harness import BY_OPERATOR, PATIENCE, STOPS, Peer, Program, Server, cut_for, each, expect, free_address, holds, match
-from harness import may_break_off, same, takes, test
+from harness import BY_OPERATOR, PATIENCE, STOPS, Failed, Peer, Program, Server, cut_for, each, expect, free_address, holds
+from harness import match, may_break_off, same, takes, test
 from live_traces import under_load
 from pages import browsers
 from sessions import says_nothing, send_and_hear_nothing
@@ -30,6 +30,7 @@ NUMBERS = [
 ]
 # The header, 256 pages of a directory of depth 16, and a bucket for each of its 65,536 entries. A bucket has room for eight.
 MOST_PAGES, ROOM = 1 + 256 + 65_536, 8 * 65_536
+NO_MEMORY = "the first operation was refused for lack of memory (OutOfMemory)"
 NO_ROOM, DEEPEST = "the first operation was refused for lack of room (NoRoom)", "the directory has reached its greatest depth, 16"
 
 
@@ -883,6 +884,32 @@ def operator_stops_the_server(mltx: Program) -> None:
     items = [[line for line in trace.read_text().splitlines() if line.split()[1] == number] for number in "12"]
     same(items[0], ["begin 1", "op 1 up 1 1 done", "back 1", "abort 1"], "what the trace has of the first")
     same(items[1], ["begin 2", "op 2 up 2 1 done", "commit 2 1"], "what the trace has of the second")
+
+
+def uses_memory_up(peer: Peer) -> None:
+    """Makes counters until one is refused memory, or the session is."""
+    with may_break_off(), suppress(Failed):
+        says(peer, "begin", "begun 1")
+        for number in itertools.count():
+            if peer.ask(f"up {number} 1") == "error 1 OutOfMemory":
+                return
+
+
+@test(seconds=8)
+def operator_stops_a_server_that_has_no_memory_left(mltx: Program) -> None:
+    """However much it may hold, the command comes to its end. That an operation was refused memory is noted, once."""
+    noted = list[str]()
+    for most in range(350_000, 600_000, 50_000):
+        with mltx.serve("--sessions", 2, limit=9, admin=free_address(), env=mltx.shim(MOST=str(most)), timeout=SLACK) as server:
+            with server.connect() as peer:
+                uses_memory_up(peer)
+                time.sleep(0.5)
+                with may_break_off(), suppress(http.client.HTTPException):
+                    posted(server, "/stop")
+                ended = server.end(is_all_noted=False)
+        holds(ended.status in (0, 1) and ended.notes.count(NO_MEMORY) <= 1, f"with {most} bytes: {ended}")
+        noted += ended.notes
+    holds(NO_MEMORY in noted, f"what was noted: {noted}")
 
 
 @test(seconds=12)

@@ -13,6 +13,7 @@ WANT = b"mltx: 1 OutOfMemory\n"
 REFUSED = "refused 1 OutOfMemory"
 ERROR = "error 1 OutOfMemory"
 # What a server may note of it.
+REFUSED_FIRST = "the first operation was refused for lack of memory (OutOfMemory)"
 NOTES = {cut_for(1, NO_MEMORY), "accepting no more connections: out of memory", "1 messages were lost", "2 messages were lost"}
 # A number above that of each request.
 LAST = 1 << 40
@@ -375,8 +376,9 @@ def talk(runs: Runs, said: list[str], **refused: int) -> tuple[Came, list[str]]:
             # The server did not come up.
             heard = b""
         ended = server.end(is_all_noted=not refused)
-    holds(set(ended.notes) <= (NOTES if refused else set()), f"notes of a server that is refused {refused}: {ended.notes}")
-    notes = tuple(note for note in ended.notes if not note.endswith(" lost"))
+    known = {*NOTES, REFUSED_FIRST} if refused else set()
+    holds(set(ended.notes) <= known, f"notes of a server that is refused {refused}: {ended.notes}")
+    notes = tuple(note for note in ended.notes if not note.endswith(" lost") and note != REFUSED_FIRST)
     return Came(ended.status, ended.out.decode(), ended.err.decode(), runs.traced_text(), notes), heard.decode().splitlines()
 
 

@@ -1,7 +1,8 @@
 /* Loaded before the C library, it refuses memory and threads, and fails calls of the program.
 
    REFUSE is `FIRST LAST LEAST`: of the requests for at least LEAST bytes, which are counted from 1, those with the
-   numbers FIRST to LAST are refused. With REFUSE_THREADS=N threads are refused from the N-th one on.
+   numbers FIRST to LAST are refused. With REFUSE_THREADS=N threads are refused from the N-th one on, and with MOST=N each
+   request that would have the program hold more than N bytes.
 
    FAIL is `CALL NUMBER FAULT MOST TIMES`: of the calls `read`, `write`, `recv`, `send` or `accept`, so many from the one
    with this number on, counted from 1, fail with the number FAULT of a fault, or do nothing and answer 0 where FAULT
@@ -17,6 +18,7 @@
 #include <dlfcn.h>
 #include <errno.h>
 #include <fcntl.h>
+#include <malloc.h>
 #include <pthread.h>
 #include <sched.h>
 #include <stdatomic.h>
@@ -29,6 +31,7 @@
 
 typedef void *ask(size_t);
 typedef void *ask_again(void *, size_t);
+typedef void give_back(void *);
 typedef int start_thread(pthread_t *, const pthread_attr_t *, void *(*)(void *), void *);
 typedef ssize_t read_some(int, void *, size_t);
 typedef ssize_t write_some(int, const void *, size_t);
@@ -41,8 +44,8 @@ typedef void leave(int);
 /* The function of this name that the C library has. */
 #define NEXT(type, name) ((type *)dlsym(RTLD_NEXT, name))
 
-static atomic_long asked, called;
-static long first, last, least, failing, times = 1;
+static atomic_long asked, called, held;
+static long first, last, least, most_held, failing, times = 1;
 static size_t most;
 static int fault;
 static char call[16];
@@ -50,14 +53,17 @@ static const char *accepts;
 static atomic_long started;
 
 __attribute__((constructor)) static void read_what_to_do(void) {
-    const char *refuse = getenv("REFUSE"), *fail = getenv("FAIL");
+    const char *refuse = getenv("REFUSE"), *fail = getenv("FAIL"), *hold = getenv("MOST");
     if (refuse) sscanf(refuse, "%ld %ld %ld", &first, &last, &least);
     if (fail) sscanf(fail, "%15s %ld %d %zu %ld", call, &failing, &fault, &most, &times);
+    if (hold) most_held = atol(hold);
     accepts = getenv("ACCEPTS");
     atomic_store(&asked, 0);
 }
 
-static int is_refused(size_t size) {
+/* Whether a request for a size is refused, in place of what holds so many bytes. */
+static int is_refused(size_t size, long before) {
+    if (most_held && atomic_load(&held) - before + (long)size > most_held) return errno = ENOMEM;
     if (size < (size_t)least) return 0;
     long number = atomic_fetch_add(&asked, 1) + 1;
     if (number < first || number > last) return 0;
@@ -68,13 +74,25 @@ static int is_refused(size_t size) {
 void *malloc(size_t size) {
     static ask *next;
     if (!next) next = NEXT(ask, "malloc");
-    return is_refused(size) ? 0 : next(size);
+    void *got = is_refused(size, 0) ? 0 : next(size);
+    atomic_fetch_add(&held, malloc_usable_size(got));
+    return got;
 }
 
 void *realloc(void *old, size_t size) {
     static ask_again *next;
     if (!next) next = NEXT(ask_again, "realloc");
-    return is_refused(size) ? 0 : next(old, size);
+    long before = malloc_usable_size(old);
+    void *got = is_refused(size, before) ? 0 : next(old, size);
+    if (got) atomic_fetch_add(&held, (long)malloc_usable_size(got) - before);
+    return got;
+}
+
+void free(void *old) {
+    static give_back *next;
+    if (!next) next = NEXT(give_back, "free");
+    atomic_fetch_sub(&held, malloc_usable_size(old));
+    next(old);
 }
 
 int pthread_create(pthread_t *thread, const pthread_attr_t *how, void *(*start)(void *), void *given) {

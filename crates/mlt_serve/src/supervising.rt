@@ -25,6 +25,7 @@ struct Supervisor<'a, 'b, 'c, P: Pseudo, L: MadeWith<P>, R: Wait + Clock> {
     has_told_pages: bool,
     has_told_depth: bool,
     has_told_no_room: bool,
+    has_told_no_memory: bool,
 }
 
 /// Looks after the sessions again and again, until there is nothing left to do.
@@ -47,6 +48,7 @@ pub(crate) fn supervise<P: Pseudo, L: MadeWith<P>, R: Wait + Clock, S: EndSignal
         has_told_pages: false,
         has_told_depth: false,
         has_told_no_room: false,
+        has_told_no_memory: false,
     };
     for _ in rt.forever() {
         if signal.is_given() {
@@ -116,7 +118,7 @@ impl<P: Pseudo, L: MadeWith<P>, R: Wait + Clock> Supervisor<'_, '_, '_, P, L, R>
     }
 
     /// Tells once where nine in ten of the numbers are given out, or of the pages are used, where the directory is as deep as it may
-    /// be, and where an operation was refused for want of room.
+    /// be, and where an operation was refused for want of room, or of memory.
     fn warn(&mut self) {
         let totals = self.service.seats.totals(self.rt);
         let statistics = self.service.shared.statistics(self.rt);
@@ -140,6 +142,9 @@ impl<P: Pseudo, L: MadeWith<P>, R: Wait + Clock> Supervisor<'_, '_, '_, P, L, R>
         }
         if is_news(&mut self.has_told_no_room, totals.no_room > 0) {
             self.tell(Note::NoRoom);
+        }
+        if is_news(&mut self.has_told_no_memory, totals.no_memory > 0) {
+            self.tell(Note::NoMemory);
         }
     }
 

@@ -31,6 +31,9 @@ const LONGEST: u64 = 5;
 /// The longest body of a request, in bytes. No request wants one.
 const MAX_BODY: usize = 1024;
 
+/// How many bytes of memory are kept for a request that comes where no more can be had, as one that stops the server.
+const RESERVE: usize = 65_536;
+
 /// Accepts connections, and answers one request of each, until the server is over.
 ///
 /// After each accept it looks whether that is so, and then returns. An accept waits for a tenth of a second at most. After one that
@@ -38,7 +41,7 @@ const MAX_BODY: usize = 1024;
 ///
 /// A connection is closed whose request has not come whole within a second, or that is not done after five. Meanwhile others are
 /// answered: there are 32 places, and one more takes that of the oldest, so that slow clients keep out nobody. A connection that is
-/// refused memory is closed too. Threads may share a listener.
+/// refused memory is closed too; while there is none some memory is kept for the next. Threads may share a listener.
 ///
 /// The keys are for the names of headers, which clients choose.
 pub fn serve_admin<R: Wait + Clock, O: Operated>(
@@ -51,15 +54,21 @@ pub fn serve_admin<R: Wait + Clock, O: Operated>(
 ) {
     let mut service = OperatorService { alloc, operated };
     let mut visits = Vec::new(alloc);
+    let mut reserve = Vec::<u8>::new(alloc);
     // Where this fails an accept waits for a connection, and slow ones until then.
     let _ = limit_accepts(listener);
     for _ in rt.forever() {
+        if visits.is_empty() {
+            // Where this fails the next connection has to do without.
+            let _ = reserve.reserve_exact(RESERVE);
+        }
         let accepted = listener.accept();
         if is_over.load(Ordering::SeqCst) {
             return;
         }
         match accepted {
             Ok((stream, _)) => {
+                reserve.shrink_to(0);
                 if visits.len() >= PLACES {
                     visits.remove(0);
                 }

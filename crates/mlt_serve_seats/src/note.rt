@@ -62,6 +62,8 @@ pub enum Note {
     DeepestDirectory(u64),
     /// An operation was refused for want of room, the first one.
     NoRoom,
+    /// A transaction or an operation was refused for want of memory, the first one.
+    NoMemory,
     /// The operator's address is not loopback.
     OpenAdmin(SocketAddr),
     /// So many session threads run, of so many that were asked for.
@@ -123,6 +125,10 @@ impl fmt::Display for Note {
             Note::NoRoom => write!(
                 f,
                 "the first operation was refused for lack of room (NoRoom)"
+            ),
+            Note::NoMemory => write!(
+                f,
+                "the first operation was refused for lack of memory (OutOfMemory)"
             ),
             Note::OpenAdmin(address) => write!(f, "the admin address {address} is not loopback"),
             Note::FewThreads(running, asked) => {

@@ -112,6 +112,10 @@ impl Activity {
             Told::Begun(tx) => self.begin(*tx, is_watched),
             Told::Answered(Answer::Done(reply)) => self.finish(op, *reply),
             Told::Answered(Answer::Refused(Refusal::NoRoom)) => add_one(&mut self.totals.no_room),
+            Told::Refused(Refusal::OutOfMemory)
+            | Told::Answered(Answer::Refused(Refusal::OutOfMemory)) => {
+                add_one(&mut self.totals.no_memory)
+            }
             Told::Cancelled => add_one(&mut self.totals.gave_up),
             Told::Committed(_) => {
                 add_one(&mut self.totals.commits);

@@ -19,6 +19,8 @@ pub struct Totals {
     pub deadlocks: u64,
     /// How many operations were refused for want of room.
     pub no_room: u64,
+    /// How many operations and begins were refused for want of memory.
+    pub no_memory: u64,
 }
 
 /// Counts one more.
@@ -36,6 +38,7 @@ impl Totals {
         self.gave_up = self.gave_up.saturating_add(other.gave_up);
         self.deadlocks = self.deadlocks.saturating_add(other.deadlocks);
         self.no_room = self.no_room.saturating_add(other.no_room);
+        self.no_memory = self.no_memory.saturating_add(other.no_memory);
     }
 
     /// How many transactions have ended; it stays at 2^64 - 1.
