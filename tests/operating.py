@@ -26,7 +26,7 @@ Row = dict[str, Any]
 NUMBERS = [
     *("server", "seconds", "sessions", "session_threads", "queued", "connections", "limit", "open", "begun", "most_begun"),
     *("operations", "commits", "aborts", "gave_up", "deadlocks", "no_room", "events", "items", "bytes", "pages", "most_pages"),
-    *("depth", "room", "trace_failed", "stopping"),
+    *("depth", "room", "trace", "trace_failed", "stopping"),
 ]
 # The header, 256 pages of a directory of depth 16, and a bucket for each of its 65,536 entries. A bucket has room for eight.
 MOST_PAGES, ROOM = 1 + 256 + 65_536, 8 * 65_536
@@ -143,7 +143,7 @@ def note_on_an_operator_from_other_machines(mltx: Program) -> None:
 def trace_that_fails_is_told(mltx: Program) -> None:
     """Once something is written of it: the file is a disk that is full."""
     with operated(mltx, "--trace", "/dev/full") as server, server.connect() as peer:
-        same(counts(server, "trace_failed"), {"trace_failed": 0}, "before anything is written")
+        same(counts(server, "trace", "trace_failed"), {"trace": 1, "trace_failed": 0}, "before anything is written")
         says(peer, "begin", "begun 1", "up 1 1", "done", "commit", "committed 1")
         comes(server, "/status", lambda told: told["trace_failed"] == 1, "the trace has failed")
         holds(b"\nmltx_trace_failed 1\n" in answer(server, "/metrics")[2], "it has failed, as metrics tell it")
@@ -271,8 +271,8 @@ def note_on_pages_that_get_few(mltx: Program) -> None:
 STATUS_TEXT = (
     '{"server":SERVER,"seconds":SECONDS,"sessions":6,"session_threads":7,"queued":0,"connections":8,"limit":77,"open":5,'
     '"begun":24,"most_begun":4294967296,"operations":14,"commits":10,"aborts":9,"gave_up":3,"deadlocks":2,"no_room":0,'
-    '"events":EVENTS,"items":59,"bytes":3744,"pages":4,"most_pages":65793,"depth":1,"room":524288,"trace_failed":0,'
-    '"stopping":0}\n'
+    '"events":EVENTS,"items":59,"bytes":3744,"pages":4,"most_pages":65793,"depth":1,"room":524288,"trace":0,'
+    '"trace_failed":0,"stopping":0}\n'
 )
 
 METRICS_TEXT = """\
@@ -345,6 +345,9 @@ mltx_directory_depth 1
 # HELP mltx_room Objects that there can be at most, if their pseudokeys spread evenly.
 # TYPE mltx_room gauge
 mltx_room 524288
+# HELP mltx_trace 1 if there is a trace, else 0.
+# TYPE mltx_trace gauge
+mltx_trace 0
 # HELP mltx_trace_failed 1 if the trace could not be written, else 0.
 # TYPE mltx_trace_failed gauge
 mltx_trace_failed 0
@@ -990,5 +993,5 @@ def page_in_a_browser(mltx: Program) -> None:
         says(holder, "commit", "committed 1")
         same(waiter.line(), "is 3", "the one that waited")
     shown = words_of(ran.stdout.decode(errors="replace"))
-    for text in ("read 7171", "deposit 4242 5 missing", "up 7171 3 done", "add 33 4444 added"):
+    for text in ("read 7171", "deposit 4242 5 missing", "up 7171 3 done", "add 33 4444 added", "Trace none"):
         holds(text in shown, f"the page does not show {text!r}: {shown[-1500:]}")

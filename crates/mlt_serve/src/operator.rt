@@ -84,6 +84,7 @@ impl<'a, 'b, 'c, P: Pseudo, L: MadeWith<P>, R: Wait + Clock> Operator<'a, 'b, 'c
             most_pages: options.most_pages(),
             depth: u64::from(statistics.depth),
             room: options.room(),
+            has_trace: self.service.has_trace,
             trace_failed: notes.has_trace_failed(),
             is_stopping: door.stops(),
         }

@@ -27,6 +27,8 @@ pub(crate) struct Service<'a, P: Pseudo, L: MadeWith<P>> {
     pub(crate) running: &'a AtomicU64,
     /// Whether transactions are noted at the seats, and not only waits.
     pub(crate) is_watched: bool,
+    /// Whether a trace is written.
+    pub(crate) has_trace: bool,
     /// Whether the history is taken out of the manager as the server goes, and outcomes are not kept.
     pub(crate) is_endless: bool,
     ghost endless: { is_endless ≡ true → L.hands_out ≡ true },

@@ -122,6 +122,7 @@ where
         notes: &notes,
         running: &AtomicU64::new(0),
         is_watched: operating.admin.is_some() || options.open.is_some(),
+        has_trace: operating.trace.is_some(),
         is_endless,
     };
     let ran = service.serve_with_notes(rt, alloc, outlet, operating, threads.as_mut_slice());

@@ -29,7 +29,7 @@ macro_rules! metrics {
 }
 
 // All numbers, in the order in which they are written.
-fn metrics(counts: &Counts) -> [Metric; 25] {
+fn metrics(counts: &Counts) -> [Metric; 26] {
     metrics! {
         server gauge "A number that the server drew at random when it started." counts.server;
         uptime_seconds gauge "Seconds since the server began to listen." counts.seconds;
@@ -54,6 +54,7 @@ fn metrics(counts: &Counts) -> [Metric; 25] {
         most_pages gauge "Pages that there can be at most." counts.most_pages;
         directory_depth gauge "Depth of the hash directory." counts.depth;
         room gauge "Objects that there can be at most, if their pseudokeys spread evenly." counts.room;
+        trace gauge "1 if there is a trace, else 0." u64::from(counts.has_trace);
         trace_failed gauge "1 if the trace could not be written, else 0." u64::from(counts.trace_failed);
         stopping gauge "1 if the server is shutting down, else 0." u64::from(counts.is_stopping);
     }

@@ -127,7 +127,7 @@ function showCounts(now) {
     "Pages": of(now.pages, now.most_pages),
     "Directory depth": count(now.depth),
     "Room in objects": count(now.room),
-    "Trace": now.trace_failed ? "could not be written" : "no fault",
+    "Trace": now.trace_failed ? "could not be written" : now.trace ? "no fault" : "none",
     "Server": count(now.server),
   };
   for (const name in rows) {

@@ -65,6 +65,9 @@ pub struct Counts {
     pub depth: u64,
     /// How many objects there can be, if their pseudokeys spread evenly.
     pub room: u64,
+    /// Whether there is a trace.
+    #[serde(rename = "trace", serialize_with = "flag")]
+    pub has_trace: bool,
     /// Whether the trace could not be written.
     #[serde(serialize_with = "flag")]
     pub trace_failed: bool,
