@@ -2,7 +2,9 @@
 import http.client
 import itertools
 import json
+import os
 import re
+import shlex
 import signal
 import socket
 import subprocess
@@ -13,7 +15,7 @@ from concurrent.futures import ThreadPoolExecutor
 from contextlib import ExitStack, contextmanager, suppress
 from typing import Any
 
-from harness import BY_OPERATOR, PATIENCE, STOPS, Failed, Peer, Program, Server, cut_for, each, expect, free_address, holds
+from harness import BY_OPERATOR, PATIENCE, ROOT, STOPS, Failed, Peer, Program, Server, cut_for, each, expect, free_address, holds
 from harness import match, may_break_off, same, takes, test
 from live_traces import under_load
 from pages import browsers
@@ -887,6 +889,20 @@ def operator_stops_the_server(mltx: Program) -> None:
     items = [[line for line in trace.read_text().splitlines() if line.split()[1] == number] for number in "12"]
     same(items[0], ["begin 1", "op 1 up 1 1 done", "back 1", "abort 1"], "what the trace has of the first")
     same(items[1], ["begin 2", "op 2 up 2 1 done", "commit 2 1"], "what the trace has of the second")
+
+
+@test(seconds=1)
+def server_is_stopped_as_systemd_does(mltx: Program) -> None:
+    """By the command of the unit in OPERATING, which ends once the server has ended in order."""
+    line = match("(?m)^ *ExecStop=(.*)$", (ROOT / "docs/OPERATING.md").read_text())[1]
+    with operated(mltx) as server, served(server) as peer:
+        says(peer, "begin", "begun 1", "up 1 1", "done")
+        words = shlex.split(line.replace("127.0.0.1:7001", "%s:%d" % server.admin))
+        env = {**os.environ, "MAINPID": str(server.process.pid)}
+        with takes(0, PATIENCE, "the command ended"), subprocess.Popen(words, env=env, stdout=subprocess.DEVNULL) as stopping:
+            ended = server.end(said="")
+            same(stopping.wait(PATIENCE), 0, "the status of the command")
+    expect(ended, out="served 1\n", notes=[STOPPING])
 
 
 def uses_memory_up(peer: Peer) -> None:

@@ -3,6 +3,7 @@ import errno
 import fcntl
 import os
 import resource
+import signal
 import socket
 import subprocess
 import sys
@@ -11,8 +12,9 @@ import threading
 import time
 from collections.abc import Callable, Iterable, Iterator
 from contextlib import contextmanager
+from pathlib import Path
 
-from harness import BROKEN, IDLE, LONG_LINE, MANY_BYTES, OPEN_LONG, PATIENCE, STOPS, Address, Failed, Peer, Program, Server
+from harness import BROKEN, IDLE, LONG_LINE, MANY_BYTES, OPEN_LONG, PATIENCE, ROOT, STOPS, Address, Failed, Peer, Program, Server
 from harness import comes_to_be, cut_for, each, expect, free_address, holds, in_any_order, lines, listening, match, may_break_off
 from harness import notes_apart, of_system, readable, same, takes, test
 from sessions import SILENCE, break_off, says_nothing, send_and_hear_nothing
@@ -588,6 +590,67 @@ def server_whose_standard_error_is_full_serves(mltx: Program) -> None:
             same(reader.read(4096), listening(server.address).encode(), "what is written first")
             same(server.talk("begin\nquit\n"), b"begun 2\nbye\n", "the second client")
             expect(server.end(), out="served 2\n")
+
+
+# Signals.
+
+
+def held(mltx: Program, before: str = "") -> Program:
+    """The program, started as OPERATING has it start so that signals stop it, by a shell that does this before."""
+    words = match(r"`(env [^`]*) mltx serve ..`", (ROOT / "docs/OPERATING.md").read_text())[1]
+    script = Path(mltx.file("held", f'#!/bin/sh\n{before}\nexec {words} "{mltx.path}" "$@"\n'))
+    script.chmod(0o755)
+    return Program(script, mltx.folder)
+
+
+@each({f"{it.name.lower()}-stops-a-server": it for it in (signal.SIGTERM, signal.SIGINT)}, seconds=1)
+def signal_stops_a_server(mltx: Program, number: signal.Signals) -> None:
+    """In order: what is open is taken back, the trace has all, and it tells how many it served. More of them change nothing."""
+    trace = mltx.folder / "trace"
+    with held(mltx).serve("--trace", trace, limit=9, timeout=3 + 2 * SLACK) as server, server.connect() as peer:
+        says(peer, "begin", "begun 1", "up 1 1", "done", "commit", "committed 1", "begin", "begun 2", "up 2 1", "done")
+        server.process.send_signal(number)
+        server.process.send_signal(number)
+        expect(server.end(), out="served 1\n", notes=[STOPPING])
+        same(peer.rest(), b"", "what the client hears")
+    done, taken_back = "begin 1|op 1 up 1 1 done|commit 1 1|", "begin 2|op 2 up 2 1 done|back 2|abort 2"
+    same(trace.read_text(), lines(done + taken_back), "the trace")
+
+
+@test(seconds=1)
+def signals_that_do_not_stop_a_server(mltx: Program) -> None:
+    """The program alone ends at once. Where it was started with SIGINT ignored, as in the background of a script, it goes on."""
+    for number in (signal.SIGTERM, signal.SIGINT):
+        with mltx.serve() as server, server.connect() as peer:
+            says(peer, "begin", "begun 1")
+            server.process.send_signal(number)
+            same(server.process.wait(SLACK), -number, "the status")
+    with held(mltx, "trap '' INT").serve() as server, server.connect() as peer:
+        says(peer, "begin", "begun 1")
+        server.process.send_signal(signal.SIGINT)
+        time.sleep(0.6)
+        says(peer, "commit", "committed 1", "quit", "bye")
+        expect(server.end(), out="served 1\n")
+
+
+@test(seconds=1)
+def trace_beyond_the_limit_of_a_file(mltx: Program) -> None:
+    """It ends with whole lines, as on a full disk, and clients are served. The signal for that is ignored."""
+    trace, count, most = mltx.folder / "trace", 300, 5_000
+    with held(mltx).serve("--trace", trace, limit=2) as server, server.connect() as peer:
+        says(peer, "begin", "begun 1", "abort", "aborted")
+        resource.prlimit(server.process.pid, resource.RLIMIT_FSIZE, (most, most))
+        peer.send(lines("begin|up 7 1|commit") * count)
+        same([peer.line() for _ in range(3 * count)][-1], f"committed {count}", "the last answer")
+        same(server.first_line(), listening(server.address))
+        note = f"could not write the trace, which ends here: {of_system(errno.EFBIG)}"
+        same(server.next_note(), note)
+        says(peer, "begin", f"begun {count + 2}", "quit", "bye")
+        server.talk("quit\n")
+        expect(server.end(said=""), status=1, out="served 2\n", err=IO, notes=[note])
+    text = trace.read_text()
+    holds(4_000 < len(text) <= most and text.endswith("\n"), f"{len(text)} bytes, which end in {text[-40:]!r}")
+    mltx.accepted(trace)
 
 
 # The end of standard input.

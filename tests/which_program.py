@@ -331,6 +331,34 @@ def interrupt_of_a_first_run(mltx: Program, case: tuple[list[str], str, str]) ->
     same((tree.asked(), tree.unproved.exists(), tree.left()), (asked, False, []), "what rt is asked, and what is left behind")
 
 
+@test(seconds=1)
+def signal_stops_a_server_of_the_script(mltx: Program) -> None:
+    """SIGTERM is a stop to the server that it becomes, in order. It ends another command at once, and a server too where no env
+    blocks signals."""
+    tree = Tree(mltx)
+    tree.run("solo")
+    shutil.copy(mltx.path, tree.unproved)
+
+    def signalled(*words: str) -> tuple[int, bytes]:
+        process = tree.start(*words)
+        assert process.stderr is not None
+        if "solo" not in words:
+            same(process.stderr.readline()[:18], b"mltx: listening on", "the server")
+        else:
+            time.sleep(0.5)
+        process.send_signal(signal.SIGTERM)
+        ran = ended(process)
+        return ran.status, ran.out
+
+    for words in (["serve", "127.0.0.1:0"], ["-v", "serve", "127.0.0.1:0"], ["serve", "127.0.0.1:0", "-v"]):
+        same(signalled(*words), (0, b"served 0\n"), f"{words}, once it got a signal")
+    same(signalled("solo", "-"), (-signal.SIGTERM, b""), "another command")
+    env = mltx.folder / "bin/env"
+    env.write_text("#!/bin/sh\nexit 125\n")
+    env.chmod(0o755)
+    same(signalled("serve", "127.0.0.1:0"), (-signal.SIGTERM, b""), "a server without such an env")
+
+
 @test
 def benchmarks_say_where_a_program_is_not_proved(mltx: Program) -> None:
     """Above the figures; and nothing of the proved one, which is measured beside it."""

@@ -5,6 +5,7 @@
 #![tactic(auto)]
 
 mod arguments;
+mod end_signals;
 mod failure;
 mod input;
 mod input_end;
@@ -16,6 +17,7 @@ ghost use Rattle.std.specs.Prelude.{◌≡◌, ◌≤◌, ◌<◌, [], IfOk, Ok}
 ghost use Rattle.mlt_cli.specs.CommandLine.{IsWithinBounds};
 
 use arguments::words;
+use end_signals::EndSignals;
 use failure::{Failure, Known, explain};
 use input::Input;
 use input_end::InputEnd;
@@ -284,7 +286,7 @@ fn run_server<P: Pseudo + Drop + Send, T: Threads + Wait + Clock + Sync + Send +
         notes: rt.stderr(),
         unsaid,
         trace,
-        signal: InputEnd::new(rt, serve.operating.until_eof),
+        signal: EndSignals::new(rt, InputEnd::new(rt, serve.operating.until_eof)),
         admin: match &admin {
             Some(listener) => Some(Admin {
                 listener,
