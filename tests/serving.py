@@ -515,10 +515,12 @@ def answering(peers: list[Peer]) -> list[Peer]:
 
 @test(seconds=4)
 def notes_that_nobody_reads_hold_nobody_up(mltx: Program) -> None:
-    """Two thousand clients are cut one after another, which is more than a pipe holds. Who reads at last hears of all: each is
-    noted, or counted as lost."""
+    """Two thousand clients are cut one after another, beside a pipe that is full. Who reads at last hears of all: each is noted,
+    or counted as lost."""
     count, long = 2_000, "x" * 201
     with mltx.serve("--sessions", 4, "--until-eof", limit=1_000_000, stdin=subprocess.PIPE) as server:
+        same(server.first_line(), listening(server.address))
+        fill_standard_error(server)
         with takes(0, 60, "two thousand clients were cut"):
             for _ in range(count):
                 with server.connect() as peer:
@@ -529,14 +531,34 @@ def notes_that_nobody_reads_hold_nobody_up(mltx: Program) -> None:
         time.sleep(1)
         out, err = server.process.communicate(timeout=PATIENCE)
     same((server.process.returncode, out), (0, b"served %d\n" % (count + 1)), "the end")
-    rest, notes = notes_apart(err.removeprefix(listening(server.address).encode()), server.began)
+    rest, notes = notes_apart(err.lstrip(b"x"), server.began)
     lost = [int(note.split()[0]) for note in notes if note.endswith(" lost")]
     cut = [int(note.split()[1]) for note in notes if note.startswith("client ")]
     same(cut, sorted(set(cut)), "the clients that are noted, in order")
     known = {STOPPING, *(f"{number} messages were lost" for number in lost), *(cut_for(number, LONG_LINE) for number in cut)}
     same((rest, set(notes) - known), (b"", set()), "what is none of these notes")
-    holds(len(cut) >= 100 and sum(lost) > 0, f"{len(cut)} clients were noted, and {lost} messages were lost")
+    holds(len(cut) >= 50 and sum(lost) > 0, f"{len(cut)} clients were noted, and {lost} messages were lost")
     same(len(notes) - len(lost) + sum(lost), count + 1, "how many were noted or lost, with the one that it stops")
+
+
+@test(seconds=4)
+def notes_come_at_a_rate(mltx: Program) -> None:
+    """A thousand clients are cut, one after another: at most 50 of these messages have the time of one second, and once a second
+    a line tells how many are missing. A message that comes once is not left out."""
+    count = 1_000
+    with until_eof(mltx, "--sessions", 4) as server:
+        same(server.first_line(), listening(server.address))
+        for _ in range(count):
+            same(server.talk("x" * 201), b"error 12 LineTooLong\n", "a client")
+        server.end_input()
+        ended = server.process.communicate(timeout=PATIENCE)[1].decode().splitlines()
+    dates = [line.split(": ")[1] for line in ended if line.endswith(LONG_LINE)]
+    most = max(map(dates.count, dates))
+    holds(most <= 50, f"{most} messages came in one second")
+    lost = [int(match("note ([0-9]+) messages were lost", line)[1]) for line in ended if line.endswith("lost")]
+    same(len(dates) + sum(lost), count, "the clients that are noted or lost")
+    holds(len(lost) <= len(set(dates)) + 1, f"{len(lost)} lines tell how many were lost in {len(set(dates))} seconds")
+    holds(ended[-1].endswith(f": {STOPPING}") or ended[-2].endswith(f": {STOPPING}"), f"the last lines are {ended[-2:]}")
 
 
 # How long the end of a server waits until its notes are written, in seconds.

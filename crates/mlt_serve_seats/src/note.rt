@@ -1,5 +1,7 @@
 //! Notes.
 
+ghost use Rattle.std.specs.Prelude.{◌<◌};
+
 use std::net::SocketAddr;
 use std::{fmt, io};
 
@@ -70,6 +72,24 @@ pub enum Note {
     FewThreads(u64, u64),
     /// The trace can't be written, of which the system says this. It is written no further.
     TraceFailed(io::Error),
+}
+
+/// How many kinds of log messages are told apart.
+pub(crate) const NOTE_KINDS: usize = 5;
+
+impl Note {
+    /// The number of its kind. Those of the last kind come seldom, most of them once.
+    pub(crate) fn kind(&self) -> usize
+        ensures { result < 5 }
+    {
+        match self {
+            Note::SessionCut(..) => 0,
+            Note::AcceptFailed(_) => 1,
+            Note::AcceptPauses(_) => 2,
+            Note::AcceptGoesOn => 3,
+            _ => 4,
+        }
+    }
 }
 
 impl fmt::Display for ListenerEnd {

@@ -1,7 +1,7 @@
 //! Notes on their way to who writes them.
 
 use crate::note::Note;
-use crossbeam_channel::{Receiver, Sender};
+use crossbeam_channel::{Receiver, RecvTimeoutError, Sender};
 use std::alloc::{AllocError, Global};
 use std::sync::atomic::{AtomicBool, AtomicU64, Ordering};
 use std::sync::{Arc, Wait};
@@ -9,6 +9,9 @@ use std::time::{Clock, Duration, SystemTime};
 
 /// How many notes may be on their way.
 const MOST_ON_THEIR_WAY: usize = 128;
+
+/// For how many seconds a note is waited for before it is told how many were lost.
+const LOST_SECONDS: u64 = 1;
 
 /// For how many seconds the end waits until all notes are written.
 const LAST_WRITES_SECONDS: u64 = 5;
@@ -95,9 +98,24 @@ impl Notes {
 }
 
 impl Outlet {
-    /// The next note, once there is one. None follows that.
-    pub(crate) fn next<R: Wait>(&self, rt: &R) -> Option<TimedNote> {
-        self.from.recv(rt).ok()
+    /// The next note, once there is one.
+    ///
+    /// # Errors
+    /// `Timeout`, where some were lost and none came for a second. `Disconnected`, where no more follow.
+    pub(crate) fn next<R: Wait + Clock>(&self, rt: &R) -> Result<TimedNote, RecvTimeoutError> {
+        if self.lost.load(Ordering::SeqCst) > 0 {
+            return self
+                .from
+                .recv_timeout(rt, Duration::from_secs(LOST_SECONDS));
+        }
+        self.from
+            .recv(rt)
+            .map_err(|_| RecvTimeoutError::Disconnected)
+    }
+
+    /// One more is lost.
+    pub(crate) fn lose(&self) {
+        self.lost.fetch_add(1, Ordering::SeqCst);
     }
 
     /// How many were lost since this was asked last.

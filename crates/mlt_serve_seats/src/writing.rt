@@ -1,15 +1,42 @@
 //! Lines of notes.
 
+use crate::note::NOTE_KINDS;
 use crate::notes::{Outlet, TimedNote};
+use crossbeam_channel::RecvTimeoutError;
 use httpdate::HttpDate;
 use mlt_text::write_text;
 use std::alloc::{AllocError, Global};
 use std::io::Write;
 use std::sync::Wait;
+use std::time::Clock;
 
-/// Writes what is unsaid, and then a line for each note as it comes, until no more follow. A line that can't be written is lost, as is
-/// one that memory is refused for.
-pub fn write_notes<R: Wait, W: Write>(
+/// How many notes of one kind are written in a second. The others are lost.
+const MOST_IN_A_SECOND: u64 = 50;
+
+/// How many notes of each kind came in one second.
+#[derive(Drop)]
+struct NoteRate {
+    second: Option<u64>,
+    come: [u64; NOTE_KINDS],
+}
+
+impl NoteRate {
+    /// Counts a note, and returns how many of its kind have come in its second. Where no clock tells the time it is the first.
+    fn count(&mut self, told: &TimedNote) -> u64 {
+        if told.seconds.is_none() || told.seconds != self.second {
+            self.second = told.seconds;
+            self.come = [0; NOTE_KINDS];
+        }
+        let come = &mut self.come[told.note.kind()];
+        *come = come.saturating_add(1);
+        *come
+    }
+}
+
+/// Writes what is unsaid, and then a line for each note as it comes, but for no more than 50 of one kind in a second, until no more
+/// follow. A line that can't be written is lost, as is one that memory is refused for. A line tells how many notes were lost, once a
+/// second or so.
+pub fn write_notes<R: Wait + Clock, W: Write>(
     rt: &R,
     alloc: Global,
     outlet: &Outlet,
@@ -17,14 +44,26 @@ pub fn write_notes<R: Wait, W: Write>(
     writer: &mut W,
 ) {
     let _ = write_text(writer, unsaid.as_bytes());
+    let mut rate = NoteRate {
+        second: None,
+        come: [0; NOTE_KINDS],
+    };
     for _ in rt.forever() {
-        let Some(told) = outlet.next(rt) else {
-            return;
-        };
-        write_note(alloc, &told, writer);
-        let lost = outlet.take_lost();
-        if lost > 0 {
-            write_lost(alloc, lost, writer);
+        match outlet.next(rt) {
+            Ok(told) => match rate.count(&told) {
+                1 => {
+                    write_lost(alloc, outlet, writer);
+                    write_note(alloc, &told, writer);
+                }
+                count if count <= MOST_IN_A_SECOND => write_note(alloc, &told, writer),
+                _ => outlet.lose(),
+            },
+            Err(why) => {
+                write_lost(alloc, outlet, writer);
+                if why == RecvTimeoutError::Disconnected {
+                    return;
+                }
+            }
         }
     }
 }
@@ -36,7 +75,12 @@ fn write_note<W: Write>(alloc: Global, told: &TimedNote, writer: &mut W) {
     }
 }
 
-fn write_lost<W: Write>(alloc: Global, lost: u64, writer: &mut W) {
+/// Writes how many notes were lost, if any were.
+fn write_lost<W: Write>(alloc: Global, outlet: &Outlet, writer: &mut W) {
+    let lost = outlet.take_lost();
+    if lost == 0 {
+        return;
+    }
     if let Ok(line) = format!(in alloc; "mltx: note {lost} messages were lost\n") {
         let _ = write_text(writer, line.as_bytes());
     }
