@@ -147,6 +147,7 @@ def two_servers_with_one_trace(mltx: Program) -> None:
     trace = mltx.folder / "trace"
     second = f"{IO}mltx: {trace}: another server writes its trace there\n"
     with mltx.serve("--trace", trace) as server, server.connect() as peer:
+        same(server.first_line(), listening(server.address))
         for tx in (1, 2):
             expect(mltx.run("serve", "-v", "127.0.0.1:0", "--trace", trace), status=1, err=second)
             peer.send(lines("begin|up 7 1|commit"))
