@@ -126,6 +126,41 @@ def trace_into_a_pipe_that_is_full(mltx: Program) -> None:
             expect(server.end(), status=1, out="served 1\n", err=IO, notes=[note])
 
 
+@test(seconds=7)
+def trace_into_a_file_that_hangs(mltx: Program) -> None:
+    """Its second write never returns, as on a disk that is gone: clients are served, and the server ends 5 seconds later."""
+    trace = mltx.folder / "trace"
+    with mltx.serve("--trace", trace, env=mltx.shim(FAIL="write-file 2 -1 1000000")) as server, server.connect() as peer:
+        says(peer, "begin", "begun 1", "up 7 1", "done", "commit", "committed 1")
+        comes_to_be(lambda: trace.read_text() == trace_of_counter(1), "the first transaction is written")
+        says(peer, "begin", "begun 2", "up 7 1", "done", "commit", "committed 2", "quit", "bye")
+        note = "could not write the trace, which ends here: timed out"
+        with takes(4, 9, "the server ended"):
+            expect(server.end(), status=1, out="served 1\n", err=IO, notes=[note])
+    same(trace.read_text(), trace_of_counter(1), "the trace")
+
+
+@test(seconds=8)
+def trace_that_stands_still_for_a_while(mltx: Program) -> None:
+    """A pipe without a reader for 6 seconds: a message tells after 5 seconds, another once it is read, and it is whole."""
+    pipe, count = mltx.folder / "pipe", 2_000
+    notes = ["the trace has taken nothing for 5 seconds", "writing the trace again"]
+    os.mkfifo(pipe)
+    with open(os.open(pipe, os.O_RDONLY | os.O_NONBLOCK), "rb", buffering=0) as reader:
+        with mltx.serve("--trace", pipe, limit=2) as server, ThreadPoolExecutor(1) as threads:
+            same(server.first_line(), listening(server.address))
+            same(server.talk(lines("begin|up 7 1|commit") * count).count(b"committed"), count, "the commits of a client")
+            with takes(3, 9, "the message came"):
+                same(server.next_note(), notes[0])
+            os.set_blocking(reader.fileno(), True)
+            text = threads.submit(reader.readall)
+            same(server.next_note(), notes[1])
+            tx = count + 1
+            same(server.talk(lines("begin|up 7 1|commit")).decode(), f"begun {tx}\ndone\ncommitted {tx}\n", "a later client")
+            expect(server.end(said=""), out="served 2\n", notes=notes)
+    same([line.rstrip(" ") for line in text.result().decode().splitlines()], trace_of_counter(tx).splitlines(), "the trace")
+
+
 @test(seconds=3)
 def trace_into_a_pipe_that_is_slow(mltx: Program) -> None:
     """Its reader begins two seconds late: it gets all of the trace."""

@@ -5,8 +5,8 @@
    request that would have the program hold more than N bytes.
 
    FAIL is `CALL NUMBER FAULT MOST TIMES`: of the calls `read`, `write`, `recv`, `send` or `accept`, so many from the one
-   with this number on, counted from 1, fail with the number FAULT of a fault, or do nothing and answer 0 where FAULT
-   is 0. The others take or give at most MOST bytes. Without TIMES it is one. The calls `write` of one kind of file alone
+   with this number on, counted from 1, fail with the number FAULT of a fault, do nothing and answer 0 where FAULT
+   is 0, and never return where it is -1. The others take or give at most MOST bytes. Without TIMES it is one. The calls `write` of one kind of file alone
    are `write-out`, `write-error`, and `write-file` for all but those two.
 
    ACCEPTS is a list of numbers of faults: accept n fails with the n-th of them, and is made where that is 0.
@@ -107,6 +107,7 @@ static int fails(const char *name, size_t *size) {
     if (size && *size > most) *size = most;
     long number = atomic_fetch_add(&called, 1) + 1;
     if (number < failing || number >= failing + times) return 0;
+    while (fault < 0) pause();
     errno = fault;
     return 1;
 }

@@ -105,7 +105,7 @@ pub fn serve_endless<P: Pseudo + Drop + Send, R, N, T, S>(
 where
     R: Threads + Wait + Clock + Sync + Send + Copy + 'static,
     N: Write + Send + Drop + 'static,
-    T: TraceFile + Send + Drop,
+    T: TraceFile + Send + Drop + 'static,
     S: EndSignal + Send + Drop,
     requires some { 0 < options.now.sessions }
     requires most { options.now.sessions ≤ 64 }

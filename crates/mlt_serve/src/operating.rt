@@ -7,9 +7,6 @@ use std::net::TcpListener;
 
 /// A file that a trace is written into as it goes.
 pub trait TraceFile: Write {
-    /// Whether it takes bytes, for which it is waited for so many milliseconds.
-    fn takes_bytes(&self, milliseconds: i32) -> bool;
-
     /// Takes so many bytes off its end.
     ///
     /// # Errors

@@ -79,7 +79,7 @@ where
     K: Receipts + Send + Drop,
     R: Threads + Wait + Clock + Sync + Send + Copy + 'static,
     N: Write + Send + Drop + 'static,
-    T: TraceFile + Send + Drop,
+    T: TraceFile + Send + Drop + 'static,
     S: EndSignal + Send + Drop,
     requires name { records.blank.name ≡ L.name }
     requires parts { records.blank.parts ≡ L.parts }
@@ -198,7 +198,7 @@ fn served_of<P: Pseudo + Drop>(
 /// `Io`, where an accept failed by the listener; others are tried again. `OutOfMemory`, where a growth or a thread
 /// was refused, in a session too. Either ends the accepting, and the connections that were taken are served. `Audit`, where
 /// neither came, and the outcomes do not agree with the manager's history or not all connections were served. All threads are
-/// joined but the one that writes notes: that is waited for 5 seconds at most, and has nothing of the others.
+/// joined but those that write notes and the trace: they are waited for 5 seconds at most, and have nothing of the others.
 pub fn serve_on<P: Pseudo + Drop + Send, R, N, T, S>(
     rt: &R,
     alloc: Global,
@@ -210,7 +210,7 @@ pub fn serve_on<P: Pseudo + Drop + Send, R, N, T, S>(
 where
     R: Threads + Wait + Clock + Sync + Send + Copy + 'static,
     N: Write + Send + Drop + 'static,
-    T: TraceFile + Send + Drop,
+    T: TraceFile + Send + Drop + 'static,
     S: EndSignal + Send + Drop,
     requires some { 0 < options.now.sessions }
     requires most { options.now.sessions ≤ 64 }

@@ -10,7 +10,7 @@ use crate::service::Service;
 use crate::session_thread::SessionThread;
 use crate::session_threads::serve_connections;
 use crate::supervising::supervise;
-use crate::trace_keeping::{keep_trace, room_for_items};
+use crate::trace_keeping::{TraceWriter, keep_trace, room_for_items};
 use mlt_serve_admin::{Operated, serve_admin};
 use mlt_serve_connections::refuse_all;
 use mlt_serve_seats::{Note, Outlet, write_notes};
@@ -65,13 +65,13 @@ fn open_address(listener: &TcpListener) -> Option<SocketAddr> {
 }
 
 impl<'a, P: Pseudo + Send, L: MadeWith<P> + Send + Sync> Service<'a, P, L> {
-    /// Serves connections with a thread beside them that writes notes, and the others. Where one of these is refused, nothing is
-    /// accepted.
+    /// Serves connections with a thread beside them that writes notes, one that writes the trace, and the others. Where one of these is
+    /// refused, nothing is accepted.
     pub(crate) fn serve_with_notes<
         K: Receipts + Send + Drop,
         R: Threads + Wait + Clock + Sync + Send + Copy + 'static,
         N: Write + Send + Drop + 'static,
-        T: TraceFile + Send + Drop,
+        T: TraceFile + Send + Drop + 'static,
         S: EndSignal + Send + Drop,
     >(
         &self,
@@ -93,20 +93,26 @@ impl<'a, P: Pseudo + Send, L: MadeWith<P> + Send + Sync> Service<'a, P, L> {
         if !starts_to_write(rt, alloc, outlet, unsaid, notes) {
             return Ran::none();
         }
-        self.serve_with_watch(rt, alloc, trace, signal, admin, threads)
+        let writer = match trace {
+            Some(file) => match TraceWriter::start(rt, alloc, file) {
+                Some(writer) => Some(writer),
+                None => return Ran::none(),
+            },
+            None => None,
+        };
+        self.serve_with_watch(rt, alloc, writer, signal, admin, threads)
     }
 
     /// Serves connections with a thread beside them that looks after them, and the others.
     fn serve_with_watch<
         K: Receipts + Send + Drop,
         R: Threads + Wait + Clock + Sync,
-        T: TraceFile + Send + Drop,
         S: EndSignal + Send + Drop,
     >(
         &self,
         rt: &R,
         alloc: Global,
-        trace: Option<T>,
+        writer: Option<TraceWriter>,
         signal: S,
         admin: Option<Admin<'_>>,
         threads: &mut [SessionThread<P, L, K>],
@@ -125,7 +131,7 @@ impl<'a, P: Pseudo + Send, L: MadeWith<P> + Send + Sync> Service<'a, P, L> {
                 let Ok(watching) = scope.spawn(look) else {
                     return Ran::none();
                 };
-                let ran = service.serve_with_trace(rt, alloc, trace, admin, threads);
+                let ran = service.serve_with_trace(rt, alloc, writer, admin, threads);
                 ending.end(rt);
                 watching.join(rt);
                 ran
@@ -133,24 +139,20 @@ impl<'a, P: Pseudo + Send, L: MadeWith<P> + Send + Sync> Service<'a, P, L> {
         )
     }
 
-    /// Serves connections with a thread beside them that writes the trace, if there is one, or takes the history out of the manager, and
+    /// Serves connections with a thread beside them that keeps the trace, if there is one, or takes the history out of the manager, and
     /// the others.
-    fn serve_with_trace<
-        K: Receipts + Send + Drop,
-        R: Threads + Wait + Clock + Sync,
-        T: TraceFile + Send + Drop,
-    >(
+    fn serve_with_trace<K: Receipts + Send + Drop, R: Threads + Wait + Clock + Sync>(
         &self,
         rt: &R,
         alloc: Global,
-        trace: Option<T>,
+        writer: Option<TraceWriter>,
         admin: Option<Admin<'_>>,
         threads: &mut [SessionThread<P, L, K>],
     ) -> Ran
         requires { 0 < length threads.old }
     {
         let service = self;
-        if trace.is_none() && !service.is_endless {
+        if writer.is_none() && !service.is_endless {
             return Ran {
                 accepting: service.serve_with_admin(rt, alloc, admin, threads),
                 trace_failure: None,
@@ -166,7 +168,7 @@ impl<'a, P: Pseudo + Send, L: MadeWith<P> + Send + Sync> Service<'a, P, L> {
             |scope| -> Ran
                 requires { 0 < length threads.now }
             {
-                let keep = move || keep_trace(rt, service, trace, next, ending);
+                let keep = move || keep_trace(rt, alloc, service, writer, next, ending);
                 let Ok(keeping) = scope.spawn(keep) else {
                     return Ran::none();
                 };

@@ -7,62 +7,39 @@ use crate::ending::DoneSignal;
 use crate::operating::TraceFile;
 use crate::service::Service;
 use crate::tuning::{
-    BLOCK_MILLISECONDS, ITEMS_PER_HOLD, LAST_BLOCK_MILLISECONDS, LEAST_PAUSE_MILLISECONDS,
-    LOOK_MILLISECONDS, MANY_ITEMS,
+    ITEMS_PER_HOLD, LATE_SECONDS, LEAST_PAUSE_MILLISECONDS, LOOK_MILLISECONDS, MANY_ITEMS,
 };
-use mlt_serve_seats::{Note, Notes};
+use crossbeam_channel::{Receiver, RecvTimeoutError, Sender};
+use mlt_serve_seats::Note;
 use mlt_trace::{KeptItem, write_block};
 use mlt_types::{Pseudo, Refusal};
-use mlt_work_desk::{MadeWith, Shared};
+use mlt_work_desk::MadeWith;
 use std::alloc::{AllocError, Global};
-use std::io;
 use std::io::{ErrorKind, Write};
-use std::sync::Wait;
+use std::sync::atomic::{AtomicU64, Ordering};
+use std::sync::{Arc, Wait};
+use std::thread::Threads;
 use std::time::{Clock, Duration};
+use std::{io, mem, thread};
 
-/// A file, how many bytes it took, and why its last call that failed did.
+/// A file, how many bytes and how many blocks it took, and why its last call that failed did.
 #[derive(Drop)]
 struct Counting<T> {
     file: T,
     bytes: u64,
+    blocks: Arc<AtomicU64>,
     failed: Option<io::Error>,
 }
 
 impl<T> Counting<T> {
-    /// A file that has taken nothing yet.
-    fn new(file: T) -> Counting<T> {
+    /// A file that has taken nothing yet. Others see its blocks there.
+    fn new(file: T, blocks: Arc<AtomicU64>) -> Counting<T> {
         Counting {
             file,
             bytes: 0,
+            blocks,
             failed: None,
         }
-    }
-}
-
-impl<T: TraceFile> Counting<T> {
-    /// Waits until the file takes bytes. Once the server ends that is for 5 seconds at most, since a thread in a write can't be called
-    /// back.
-    ///
-    /// # Errors
-    /// `Io`, where that took too long.
-    fn wait_for_room<R: Wait + Clock>(
-        &mut self,
-        rt: &R,
-        ending: &DoneSignal,
-    ) -> Result<(), Refusal> {
-        for _ in rt.forever() {
-            if self.file.takes_bytes(BLOCK_MILLISECONDS) {
-                return Ok(());
-            }
-            if ending.sleep(rt, Duration::ZERO) {
-                break;
-            }
-        }
-        if self.file.takes_bytes(LAST_BLOCK_MILLISECONDS) {
-            return Ok(());
-        }
-        self.failed = Some(io::Error::from(ErrorKind::TimedOut));
-        Err(Refusal::Io)
     }
 }
 
@@ -87,63 +64,74 @@ impl<T: Write> Write for Counting<T> {
     }
 }
 
+/// A list of items that was to be written, and why it was not, if so.
+#[derive(Drop)]
+struct Written {
+    items: Vec<KeptItem>,
+    failed: Option<io::Error>,
+}
+
+/// The thread that writes the trace, for the one that keeps it. No thread joins it: a thread in a write can't be called back.
+#[derive(Drop)]
+pub(crate) struct TraceWriter {
+    to: Sender<Vec<KeptItem>, Global>,
+    from: Receiver<Written, Global>,
+    /// How many blocks it has written.
+    blocks: Arc<AtomicU64>,
+}
+
+impl TraceWriter {
+    /// A thread that writes into this file. There is none where memory or the thread is refused.
+    pub(crate) fn start<R, T>(rt: &R, alloc: Global, file: T) -> Option<TraceWriter>
+    where
+        R: Threads + Wait + Clock + Sync + Send + Copy + 'static,
+        T: TraceFile + Send + Drop + 'static,
+    {
+        let (to, lists) = crossbeam_channel::bounded(alloc, 1).ok()?;
+        let (written, from) = crossbeam_channel::bounded(alloc, 1).ok()?;
+        let blocks = Arc::new(alloc, AtomicU64::new(0)).ok()?;
+        let mut file = Counting::new(file, blocks.clone().ok()?);
+        let own = *rt;
+        let write = move || write_lists(&own, &mut file, &lists, &written);
+        thread::spawn(rt, write).ok()?;
+        Some(TraceWriter { to, from, blocks })
+    }
+}
+
 /// The trace so far, and what is about to be written of it.
 #[derive(Drop)]
-struct TraceKeeper<'a, P: Pseudo, L: MadeWith<P>, T> {
-    /// The manager whose trace it is.
-    shared: &'a Shared<P, L>,
-    /// Where it is written, if it is.
-    file: Option<Counting<T>>,
+struct TraceKeeper<'a, 'b, P: Pseudo, L: MadeWith<P>> {
+    /// The service whose trace it is. Items are taken out of the manager of an endless one. Else they are copied, and it keeps them.
+    service: &'a Service<'b, P, L>,
+    /// What writes it, if it is written.
+    writer: Option<TraceWriter>,
     /// How many items of the history were written, where they are copied.
     items: usize,
     /// Items that are about to be.
     next: Vec<KeptItem>,
-    /// Whether items are taken out of the manager. Else they are copied, and it keeps them.
-    takes: bool,
     /// Whether items were there that could not be taken, for want of memory.
     is_behind: bool,
-    /// Whether a write failed. Nothing is written then.
-    is_over: bool,
-    ghost endless: { takes ≡ true → L.hands_out ≡ true },
+    /// Why a write failed, if one did. Nothing is written then.
+    failed: Option<io::Error>,
 }
 
-impl<'a, P: Pseudo, L: MadeWith<P>, T: TraceFile + Drop> TraceKeeper<'a, P, L, T> {
-    /// Nothing is written yet. Items are taken out of the manager into this list, or are copied.
-    fn new(
-        shared: &'a Shared<P, L>,
-        file: Option<T>,
-        next: Vec<KeptItem>,
-        takes: bool,
-    ) -> TraceKeeper<'a, P, L, T>
-        requires { takes ≡ true → L.hands_out ≡ true }
-    {
-        TraceKeeper {
-            shared,
-            file: file.map(Counting::new),
-            items: 0,
-            next,
-            takes,
-            is_behind: false,
-            is_over: false,
-        }
-    }
-
+impl<'a, 'b, P: Pseudo, L: MadeWith<P>> TraceKeeper<'a, 'b, P, L> {
     /// Takes or copies what is new, and writes it, again and again, until there is nothing left to do; and then what is left. It
     /// answers why the trace was not written whole, if so.
     fn keep_on<R: Wait + Clock>(
         mut self,
         rt: &R,
-        notes: &Notes,
+        alloc: Global,
         ending: &DoneSignal,
     ) -> Option<io::Error> {
         let mut pause = LOOK_MILLISECONDS;
         for _ in rt.forever() {
             let is_last = ending.sleep(rt, Duration::from_millis(pause));
-            if self.takes {
-                let taken = self.take_new(rt, notes, ending);
+            if self.service.is_endless {
+                let taken = self.take_new(rt, alloc, ending);
                 pause = pause_after(pause, taken);
-            } else if !self.is_over {
-                self.catch_up(rt, notes, ending);
+            } else {
+                self.catch_up(rt, alloc, ending);
             }
             if is_last {
                 break;
@@ -154,29 +142,26 @@ impl<'a, P: Pseudo, L: MadeWith<P>, T: TraceFile + Drop> TraceKeeper<'a, P, L, T
 
     /// Why the trace was not written whole, if so.
     fn failure(&self) -> Option<io::Error> {
-        let Some(file) = &self.file else {
-            return None;
-        };
-        if self.is_over {
-            file.failed.or(Some(io::Error::from(ErrorKind::WriteZero)))
-        } else if self.is_behind {
-            Some(io::Error::from(ErrorKind::OutOfMemory))
-        } else {
-            None
+        if self.writer.is_some() && self.is_behind {
+            return self
+                .failed
+                .or(Some(io::Error::from(ErrorKind::OutOfMemory)));
         }
+        self.failed
     }
 
     /// Takes all that is new out of the manager, and writes it. Where a growth is refused nothing is taken, and nothing is lost. It
     /// answers how many items were taken.
-    fn take_new<R: Wait + Clock>(&mut self, rt: &R, notes: &Notes, ending: &DoneSignal) -> usize
+    fn take_new<R: Wait + Clock>(&mut self, rt: &R, alloc: Global, ending: &DoneSignal) -> usize
         requires { L.hands_out ≡ true }
     {
         self.is_behind = self.take_next(rt).is_err();
         if self.is_behind {
             return 0;
         }
-        self.write_next(rt, notes, ending);
-        self.next.len()
+        let taken = self.next.len();
+        self.write_next(rt, alloc, ending);
+        taken
     }
 
     /// Takes all that is new out of the manager, in one hold of the lock. The manager goes on in the memory of what was taken before,
@@ -190,37 +175,118 @@ impl<'a, P: Pseudo, L: MadeWith<P>, T: TraceFile + Drop> TraceKeeper<'a, P, L, T
         self.next.clear();
         self.next.shrink_to(MANY_ITEMS);
         self.next.reserve(MANY_ITEMS)?;
-        self.shared.take_items(rt, &mut self.next)
+        self.service.shared.take_items(rt, &mut self.next)
     }
 
     /// Copies all that is new, and writes it.
-    fn catch_up<R: Wait + Clock>(&mut self, rt: &R, notes: &Notes, ending: &DoneSignal) {
+    fn catch_up<R: Wait + Clock>(&mut self, rt: &R, alloc: Global, ending: &DoneSignal) {
         for _ in rt.forever() {
+            if self.failed.is_some() {
+                return;
+            }
             self.next.clear();
             // There is room for so many.
-            let _ = self
-                .shared
-                .copy_items(rt, self.items, ITEMS_PER_HOLD, &mut self.next);
-            self.write_next(rt, notes, ending);
-            if self.next.is_empty() || self.is_over {
+            let _ = self.service.shared.copy_items(
+                rt,
+                self.items,
+                ITEMS_PER_HOLD,
+                &mut self.next,
+            );
+            if self.next.is_empty() {
                 return;
             }
             self.items = self.items.saturating_add(self.next.len());
+            self.write_next(rt, alloc, ending);
         }
     }
 
     /// Writes the items that are about to be, if they are written and no write has failed. A failure is logged.
-    fn write_next<R: Wait + Clock>(&mut self, rt: &R, notes: &Notes, ending: &DoneSignal) {
-        let Some(file) = &mut self.file else {
+    fn write_next<R: Wait + Clock>(&mut self, rt: &R, alloc: Global, ending: &DoneSignal) {
+        let Some(writer) = &self.writer else {
             return;
         };
-        if self.is_over || write_lines(rt, file, self.next.as_slice(), ending).is_ok() {
+        if self.failed.is_some() || self.next.is_empty() {
             return;
         }
-        self.is_over = true;
-        if let Some(error) = self.failure() {
-            notes.tell(rt, Note::TraceFailed(error));
+        let items = mem::replace(&mut self.next, Vec::new(alloc));
+        // There is room for one list, and the thread has none.
+        let _ = writer.to.try_send(rt, items);
+        match self.wait_for_writer(rt, writer, ending) {
+            Some(Written { items, failed }) => {
+                self.next = items;
+                self.failed = failed;
+            }
+            None => self.failed = Some(io::Error::from(ErrorKind::TimedOut)),
         }
+        if let Some(error) = self.failed {
+            self.service.notes.tell(rt, Note::TraceFailed(error));
+        }
+    }
+
+    /// The list that the thread was given, once it has written it. A message tells where it writes no block for 5 seconds, and one that
+    /// it goes on. Once the server ends it has 5 seconds for each block.
+    fn wait_for_writer<R: Wait + Clock>(
+        &self,
+        rt: &R,
+        writer: &TraceWriter,
+        ending: &DoneSignal,
+    ) -> Option<Written> {
+        let mut watch = BlockWatch::default();
+        let mut is_late = false;
+        for _ in rt.forever() {
+            let look = Duration::from_millis(LOOK_MILLISECONDS);
+            match writer.from.recv_timeout(rt, look) {
+                Ok(written) => {
+                    if is_late && written.failed.is_none() {
+                        self.service.notes.tell(rt, Note::TraceGoesOn);
+                    }
+                    return Some(written);
+                }
+                Err(RecvTimeoutError::Disconnected) => return None,
+                Err(RecvTimeoutError::Timeout) => (),
+            }
+            let is_over = ending.sleep(rt, Duration::ZERO);
+            let lasts = watch.look(writer.blocks.load(Ordering::SeqCst), is_over);
+            if is_over && lasts {
+                return None;
+            }
+            if !is_over {
+                self.warn(rt, is_late, lasts);
+                is_late = lasts;
+            }
+        }
+        None
+    }
+
+    /// Tells what is new of a block that is late or not, and was so at the look before.
+    fn warn<R: Wait + Clock>(&self, rt: &R, was_late: bool, is_late: bool) {
+        if is_late && !was_late {
+            self.service.notes.tell(rt, Note::TraceWaits(LATE_SECONDS));
+        }
+        if was_late && !is_late {
+            self.service.notes.tell(rt, Note::TraceGoesOn);
+        }
+    }
+}
+
+/// How many blocks were written, whether the server ends, and at how many looks in a row it was so.
+#[derive(Default, Drop)]
+struct BlockWatch {
+    blocks: u64,
+    is_over: bool,
+    looks: u64,
+}
+
+impl BlockWatch {
+    /// One more look. It returns whether it has been so for 5 seconds.
+    fn look(&mut self, blocks: u64, is_over: bool) -> bool {
+        if blocks != self.blocks || is_over != self.is_over {
+            self.looks = 0;
+        }
+        self.blocks = blocks;
+        self.is_over = is_over;
+        self.looks = self.looks.saturating_add(1);
+        self.looks.saturating_mul(LOOK_MILLISECONDS) >= LATE_SECONDS * 1_000
     }
 }
 
@@ -232,17 +298,46 @@ pub(crate) fn room_for_items(alloc: Global) -> Result<Vec<KeptItem>, AllocError>
     Vec::with_capacity(alloc, ITEMS_PER_HOLD)
 }
 
-/// Writes the trace into this file, if there is one, or takes the history out of the manager, until there is nothing left to do. It
+/// Writes the trace, if there is a thread for that, or takes the history out of the manager, until there is nothing left to do. It
 /// answers why the trace was not written whole, if so.
-pub(crate) fn keep_trace<P: Pseudo, L: MadeWith<P>, R: Wait + Clock, T: TraceFile + Drop>(
+pub(crate) fn keep_trace<P: Pseudo, L: MadeWith<P>, R: Wait + Clock>(
     rt: &R,
+    alloc: Global,
     service: &Service<'_, P, L>,
-    file: Option<T>,
+    writer: Option<TraceWriter>,
     next: Vec<KeptItem>,
     ending: &DoneSignal,
 ) -> Option<io::Error> {
-    let keeper = TraceKeeper::new(service.shared, file, next, service.is_endless);
-    keeper.keep_on(rt, service.notes, ending)
+    let keeper = TraceKeeper {
+        service,
+        writer,
+        items: 0,
+        next,
+        is_behind: false,
+        failed: None,
+    };
+    keeper.keep_on(rt, alloc, ending)
+}
+
+/// Writes each list that comes, until none follows, and gives it back.
+fn write_lists<R: Wait, T: TraceFile>(
+    rt: &R,
+    file: &mut Counting<T>,
+    lists: &Receiver<Vec<KeptItem>, Global>,
+    written: &Sender<Written, Global>,
+) {
+    for _ in rt.forever() {
+        let Ok(items) = lists.recv(rt) else {
+            return;
+        };
+        let failed = match write_lines(file, items.as_slice()) {
+            Ok(()) => None,
+            Err(_) => file.failed.or(Some(io::Error::from(ErrorKind::WriteZero))),
+        };
+        if written.send(rt, Written { items, failed }).is_err() {
+            return;
+        }
+    }
 }
 
 /// After how many milliseconds what is new is taken again, where so many items were there after this pause: sooner where these were
@@ -258,16 +353,11 @@ fn pause_after(pause: u64, taken: usize) -> u64 {
 }
 
 /// Writes lines of these items, block by block. Where that fails the file keeps whole lines, as far as it can be cut.
-fn write_lines<R: Wait + Clock, T: TraceFile>(
-    rt: &R,
-    file: &mut Counting<T>,
-    items: &[KeptItem],
-    ending: &DoneSignal,
-) -> Result<(), Refusal> {
+fn write_lines<T: TraceFile>(file: &mut Counting<T>, items: &[KeptItem]) -> Result<(), Refusal> {
     let mut rest = items;
     while !rest.is_empty() {
-        file.wait_for_room(rt, ending)?;
         let count = write_next_block(file, rest)?;
+        file.blocks.fetch_add(1, Ordering::SeqCst);
         rest = rest.get(count..).unwrap_or(&[]);
     }
     Ok(())

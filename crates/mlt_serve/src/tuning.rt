@@ -13,12 +13,9 @@ pub(crate) const LOOKS_FOR_THREADS: u32 = 12;
 /// How many items of a history are copied in one hold of the lock, in a microsecond or two. By `looked`.
 pub(crate) const ITEMS_PER_HOLD: usize = 256;
 
-/// How many milliseconds pass at most, while the file of the trace takes no bytes, until it is seen that the server ends. Nothing measures
-/// it.
-pub(crate) const BLOCK_MILLISECONDS: i32 = 250;
-
-/// For how many milliseconds a block of the trace is waited for once the server ends.
-pub(crate) const LAST_BLOCK_MILLISECONDS: i32 = 5_000;
+/// For how many seconds a block of the trace is written until that is told, and until it is given up once the server ends. Nothing
+/// measures it.
+pub(crate) const LATE_SECONDS: u64 = 5;
 
 /// How many items are many to be taken out of the manager at once, 262,144 bytes: where more are, they are taken sooner. By `endless`.
 pub(crate) const MANY_ITEMS: usize = 8_192;

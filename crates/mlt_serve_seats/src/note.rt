@@ -72,6 +72,10 @@ pub enum Note {
     FewThreads(u64, u64),
     /// The trace can't be written, of which the system says this. It is written no further.
     TraceFailed(io::Error),
+    /// The trace has taken nothing for so many seconds.
+    TraceWaits(u64),
+    /// The trace takes bytes again.
+    TraceGoesOn,
 }
 
 /// How many kinds of log messages are told apart.
@@ -158,6 +162,10 @@ impl fmt::Display for Note {
                 f,
                 "could not write the trace, which ends here: {error}"
             ),
+            Note::TraceWaits(seconds) => {
+                write!(f, "the trace has taken nothing for {seconds} seconds")
+            }
+            Note::TraceGoesOn => write!(f, "writing the trace again"),
         }
     }
 }

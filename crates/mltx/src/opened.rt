@@ -170,10 +170,6 @@ fn move_away(rt: &HostRuntime, path: &str) -> io::Result<()> {
 }
 
 impl TraceFile for Output<File> {
-    fn takes_bytes(&self, milliseconds: i32) -> bool {
-        self.is_ready(milliseconds)
-    }
-
     fn take_back(&mut self, count: u64) -> io::Result<()> {
         self.cut(count)
     }

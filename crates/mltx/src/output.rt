@@ -1,7 +1,5 @@
 //! What the program writes to.
 
-use crate::streams::is_ready;
-use libc::net::POLLOUT;
 use std::fs::File;
 use std::io;
 use std::io::Write;
@@ -28,11 +26,6 @@ impl<W: Write> Output<W> {
 }
 
 impl Output<File> {
-    /// Whether a write of a block would not wait, or fails, for which it is waited for so many milliseconds.
-    pub(crate) fn is_ready(&self, milliseconds: i32) -> bool {
-        is_ready(&self.writer, POLLOUT, milliseconds)
-    }
-
     /// Cuts so many bytes off the end of the file.
     pub(crate) fn cut(&self, count: u64) -> io::Result<()> {
         let length = self.writer.metadata()?.len();
