@@ -1,6 +1,7 @@
 """A server without end: what it holds does not grow with what it has done, with a trace, without one, and with one that can't be
 written; its trace is whole; and it ends as any server does."""
 import errno
+import os
 import subprocess
 import threading
 import time
@@ -12,7 +13,7 @@ from pathlib import Path
 from harness import Program, Server, each, expect, free_address, holds, lines, listening, of_system, same, test
 from live_traces import commits_of, small_disk, under_load
 from operating import asked, posted
-from serving import IO, STOPPING
+from serving import IO, STOPPING, says
 
 # How many transactions are in what a client sends at once, and how many of these a connection sends: 2 MB of lines.
 BATCH, BATCHES = 500, 100
@@ -101,6 +102,45 @@ def memory_stays_flat_on_a_full_disk(mltx: Program) -> None:
             ends(server, connections, note, STOPPING, status=1, err=IO)
         if disk:
             mltx.accepted(trace)
+
+
+def refused(server: Server, begins: int) -> int:
+    """How many of so many begins of a client, each with an abort behind it, were refused."""
+    told = server.talk(lines("begin|abort") * begins).decode().splitlines()
+    first = [line for line in told[::2] if not line.startswith("begun ")]
+    same((len(told), set(first) - {"error 1 OutOfMemory"}), (2 * begins, set()), "the answers")
+    return len(first)
+
+
+@test(seconds=20)
+def memory_stays_flat_while_a_trace_stands_still(mltx: Program) -> None:
+    """Nobody reads its pipe. What waits for it grows until begins are refused; a transaction that is open goes on, and commits.
+    Once the pipe is read transactions begin again, and the trace has all that was told."""
+    pipe, count, connections = mltx.folder / "pipe", 100_000, 7
+    os.mkfifo(pipe)
+    with open(os.open(pipe, os.O_RDONLY | os.O_NONBLOCK), "rb", buffering=0) as reader:
+        with endless(mltx, "--sessions", 4, "--trace", pipe) as server, server.connect() as peer:
+            same(server.first_line(), listening(server.address))
+            says(peer, "begin", "begun 1", "up 7 1", "done")
+            while refused(server, count) < count:
+                connections += 1
+                holds(connections < 30, "transactions begin again and again")
+            before = resident(server)
+            same([refused(server, count) for _ in range(5)], [count] * 5, "the begins that were refused")
+            after = resident(server)
+            holds(after <= before + 2_000_000 and after < 150_000_000, f"{before} bytes, and {after} after more begins")
+            says(peer, "up 7 1", "done", "commit", "committed 1")
+            notes = [server.next_note(), server.next_note()]
+            wanted = [" items wait for the trace, no transaction begins", "the trace has taken nothing for 5 seconds"]
+            same(sorted(note.lstrip("0123456789") for note in notes), wanted, "the notes")
+            os.set_blocking(reader.fileno(), True)
+            with ThreadPoolExecutor(1) as threads:
+                text = threads.submit(reader.readall)
+                same(server.next_note(), "writing the trace again")
+                holds(peer.ask("begin").startswith("begun "), "a transaction begins")
+                says(peer, "read 7", "is 2", "commit", "committed 2")
+                ends(server, connections, *notes, "writing the trace again", STOPPING)
+    same(commits_of(text.result().decode()), [1, 2], "the commits of the trace")
 
 
 @test(seconds=3)

@@ -1,6 +1,6 @@
 -- The operations of a session stand in the history in the order in which they were made.
 use Rattle.std.proofs.Common.{◌≡◌, inl, inr, ℕ, ◌+◌, ◌++◌, List, [], ◌∷◌, Option, Some, None, Bool, true, false, if◌then◌else◌, All, Contains, refl, sym, ap, subst, ◌∙◌, append_assoc}
-use Rattle.mlt_serve.proofs.Names.{All-append, All-nil, All-push, TraceItem, Outcome, Moves, StartsWith, DeskView, ObjOp, ObjReply, DeskAnswer, DeskCall, IsSubsequence, ops_of-append, ops_of}
+use Rattle.mlt_serve.proofs.Names.{All-append, All-nil, All-push, TraceItem, Outcome, Moves, StartsWith, ObjOp, ObjReply, DeskAnswer, DeskCall, IsSubsequence, ops_of-append, ops_of}
 use Rattle.mlt_event_text.specs.declared.command.Command.{Command}
 use Rattle.mlt_event_text.specs.declared.session_line.SessionLine.{SessionLine}
 use Rattle.mlt_event_text.specs.declared.session_line.SessionLine.TheVariants.{Says, TooLong}
@@ -87,39 +87,39 @@ stays tx before c (Refused r) fits none o = o
 
 -- ---- desks
 
-module _ {D P : Type 0} (bits_of : P → ℕ → ℕ) (view : D → DeskView) where
+module _ {D P : Type 0} (bits_of : P → ℕ → ℕ) (view : D → List TraceItem) where
   abbrev moves : Moves D
   moves = moves_of bits_of view
 
   -- from the one state to the other the desk saw more items, which have these operations of the transaction, in this order
   record Saw (tx : ℕ) (done : List (ObjOp × ObjReply)) (old new : D) : Type 0 where
     pub more : List TraceItem
-    pub whole : (view new).history ≡ (view old).history ++ more
+    pub whole : view new ≡ view old ++ more
     pub has : IsSubsequence done (ops_of tx more)
 
-  nothing : (tx : ℕ) (old new : D) → StartsWith (view new).history (view old).history → Saw tx [] old new
+  nothing : (tx : ℕ) (old new : D) → StartsWith (view new) (view old) → Saw tx [] old new
   nothing tx old new more = record { more = more.0; whole = more.1; has = tt }
 
   both : (tx : ℕ) (one other : List (ObjOp × ObjReply)) (old mid new : D) → Saw tx one old mid → Saw tx other mid new → Saw tx (one ++ other) old new
   both tx one other old mid new a b = record {
     more = a.more ++ b.more;
-    whole = b.whole ∙ ap (λ l. l ++ b.more) a.whole ∙ append_assoc (view old).history a.more b.more;
+    whole = b.whole ∙ ap (λ l. l ++ b.more) a.whole ∙ append_assoc (view old) a.more b.more;
     has = subst (λ l. IsSubsequence (one ++ other) l) (sym (ops_of-append tx a.more b.more)) (both_parts one other (ops_of tx a.more) (ops_of tx b.more) a.has b.has);
   }
 
   -- one call
   acts : (tx : ℕ) (before : Option ℕ) (line : SessionLine) (c : DeskCall) (a : DeskAnswer) (old mid : D) → Some c ≡ call_for before line → IsOpenOrNone tx before → Moved moves old c a mid
       → Saw tx (done_in (Some c) (Some a)) old mid
-  acts tx before line DeskCall.Begin a old mid is o moved = nothing tx old mid (moved.1.sees.more, moved.1.sees.whole)
-  acts tx before line (DeskCall.Operation x op) (Begun y) old mid is o moved = nothing tx old mid (moved.1.sees.more, moved.1.sees.whole)
+  acts tx before line DeskCall.Begin a old mid is o moved = nothing tx old mid (moved.1.more, moved.1.whole)
+  acts tx before line (DeskCall.Operation x op) (Begun y) old mid is o moved = nothing tx old mid (moved.1.more, moved.1.whole)
   acts tx before line (DeskCall.Operation x op) (Replied reply) old mid is o moved =
-      let have = subst (λ y. Contains moved.1.sees.more (TraceItem.Op y (op, reply))) (of_open x tx op before line o is) moved.1.sees.have in
-      record { more = moved.1.sees.more; whole = moved.1.sees.whole; has = has_op tx (op, reply) moved.1.sees.more have.0 have.1 have.2 }
-  acts tx before line (DeskCall.Operation x op) (Committed n) old mid is o moved = nothing tx old mid (moved.1.sees.more, moved.1.sees.whole)
-  acts tx before line (DeskCall.Operation x op) Aborted old mid is o moved = nothing tx old mid (moved.1.sees.more, moved.1.sees.whole)
-  acts tx before line (DeskCall.Operation x op) (Refused r) old mid is o moved = nothing tx old mid (moved.1.sees.more, moved.1.sees.whole)
-  acts tx before line (DeskCall.Commit x) a old mid is o moved = nothing tx old mid (moved.1.sees.more, moved.1.sees.whole)
-  acts tx before line (DeskCall.Abort x) a old mid is o moved = nothing tx old mid (moved.1.sees.more, moved.1.sees.whole)
+      let have = subst (λ y. Contains moved.1.more (TraceItem.Op y (op, reply))) (of_open x tx op before line o is) moved.1.have in
+      record { more = moved.1.more; whole = moved.1.whole; has = has_op tx (op, reply) moved.1.more have.0 have.1 have.2 }
+  acts tx before line (DeskCall.Operation x op) (Committed n) old mid is o moved = nothing tx old mid (moved.1.more, moved.1.whole)
+  acts tx before line (DeskCall.Operation x op) Aborted old mid is o moved = nothing tx old mid (moved.1.more, moved.1.whole)
+  acts tx before line (DeskCall.Operation x op) (Refused r) old mid is o moved = nothing tx old mid (moved.1.more, moved.1.whole)
+  acts tx before line (DeskCall.Commit x) a old mid is o moved = nothing tx old mid (moved.1.more, moved.1.whole)
+  acts tx before line (DeskCall.Abort x) a old mid is o moved = nothing tx old mid (moved.1.more, moved.1.whole)
 
   -- one turn
   abbrev StepsIf : D → Option DeskCall → Option DeskAnswer → D → Type 0
@@ -147,7 +147,7 @@ module _ {D P : Type 0} (bits_of : P → ℕ → ℕ) (view : D → DeskView) wh
 
   did : (tx : ℕ) (before : Option ℕ) (line : SessionLine) (c : Option DeskCall) (a : Option DeskAnswer) (old mid : D) → c ≡ call_for before line → IsOpenOrNone tx before → StepsIf old c a mid
       → Saw tx (done_in c a) old mid
-  did tx before line None None old mid is o steps = nothing tx old mid (no_more (view old).history (view mid).history (ap (λ d. (view d).history) steps))
+  did tx before line None None old mid is o steps = nothing tx old mid (no_more (view old) (view mid) (ap view steps))
   did tx before line (Some c) (Some a) old mid is o steps = acts tx before line c a old mid is o steps
   did tx before line None (Some a) old mid is o steps = absurd steps
   did tx before line (Some c) None old mid is o steps = absurd steps
@@ -160,7 +160,7 @@ module _ {D P : Type 0} (bits_of : P → ℕ → ℕ) (view : D → DeskView) wh
   remains tx before (Some c) None old mid steps none o = absurd steps
 
   -- what was done up to the next begin
-  up_to_next : (tx : ℕ) (t : Turn) (rest : List Turn) (next : Option ℕ) (old new : D) → begun_in (call_of t) t.answer ≡ next → StartsWith (view new).history (view old).history
+  up_to_next : (tx : ℕ) (t : Turn) (rest : List Turn) (next : Option ℕ) (old new : D) → begun_in (call_of t) t.answer ≡ next → StartsWith (view new) (view old)
       → (begun_in (call_of t) t.answer ≡ None → Saw tx (done_in (call_of t) t.answer ++ all_done rest) old new) → Saw tx (all_done (up_to next t rest)) old new
   up_to_next tx t rest None old new is more on = on is
   up_to_next tx t rest (Some x) old new is more on = nothing tx old new more
@@ -178,12 +178,12 @@ module _ {D P : Type 0} (bits_of : P → ℕ → ℕ) (view : D → DeskView) wh
   -- all that the last state has seen has the operations of an outcome in their order
   module _ (new : D) where
     abbrev pub InOrder : Outcome → Type 0
-    InOrder o = IsSubsequence o.done (ops_of o.tx (view new).history)
+    InOrder o = IsSubsequence o.done (ops_of o.tx (view new))
 
-    in_all : (tx : ℕ) (done : List (ObjOp × ObjReply)) (mid : D) → Saw tx done mid new → IsSubsequence done (ops_of tx (view new).history)
+    in_all : (tx : ℕ) (done : List (ObjOp × ObjReply)) (mid : D) → Saw tx done mid new → IsSubsequence done (ops_of tx (view new))
     in_all tx done mid saw =
         subst (λ l. IsSubsequence done (ops_of tx l)) (sym saw.whole)
-        (subst (λ l. IsSubsequence done l) (sym (ops_of-append tx (view mid).history saw.more)) (behind_more done (ops_of tx (view mid).history) (ops_of tx saw.more) saw.has))
+        (subst (λ l. IsSubsequence done l) (sym (ops_of-append tx (view mid) saw.more)) (behind_more done (ops_of tx (view mid)) (ops_of tx saw.more) saw.has))
 
     begins : (client number : ℕ) (before : Option ℕ) (c : Option DeskCall) (a : Option DeskAnswer) (ts : List Turn) (mid : D)
         → ((tx : ℕ) → open_after before a ≡ Some tx → Saw tx (all_done (before_next ts)) mid new) → All InOrder (outcome_if client number (begun_in c a) ts)

@@ -11,7 +11,6 @@ pub use Rattle.mlt_serve.specs.Threads.{AllHaveMemory, all_outcomes}
 pub use Rattle.mlt_trace.specs.declared.item.TraceItem.{TraceItem}
 pub use Rattle.mlt_trace_audit.proofs.Placed.{ops_of-append}
 pub use Rattle.mlt_trace_audit.specs.Outcomes.{ops_of}
-pub use Rattle.mlt_work_desk.specs.Holds.{DeskView}
 pub use Rattle.mlt_work_desk.specs.Makings.{making_by}
 pub use Rattle.mlt_work_log.specs.Prefixes.{StartsWith}
 pub use Rattle.mlt_work_log.specs.Seats.{first_items, id_of}

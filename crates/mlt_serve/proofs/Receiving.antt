@@ -1,6 +1,6 @@
 -- Whose outcomes a session adds.
 use Rattle.std.proofs.Common.{◌≡◌, ◌⊎◌, inl, inr, ℕ, ◌+◌, [], ◌∷◌, List, refl, ap, subst, All, Option, Some, None, Result, Ok, Err, IfOk, IfErr}
-use Rattle.mlt_serve.proofs.Names.{All-append, All-nil, All-push, TraceItem, Moves, StartsWith, DeskView, GrowsFor, IsOf, DeskAnswer}
+use Rattle.mlt_serve.proofs.Names.{All-append, All-nil, All-push, TraceItem, Moves, StartsWith, GrowsFor, IsOf, DeskAnswer}
 use Rattle.mlt_types.specs.declared.refusal.Refusal.{Refusal}
 use Rattle.mlt_event_text.specs.Inputs.{lines_of}
 use Rattle.mlt_serve_session.specs.Talks.{Turn, closing, closing_answers, open_at_end}
@@ -20,12 +20,12 @@ all_of_client client begun (t ∷ ts) =
     All-append (IsOf client) (outcome_if client (begun + 1) (begun_in (call_of t) t.answer) ts) (outcomes_of client (begun + begins_by t.answer) ts)
     (one_of_client client (begun + 1) (begun_in (call_of t) t.answer) ts) (all_of_client client (begun + begins_by t.answer) ts)
 
-module _ {P D S : Type 0} (bits_of : P → ℕ → ℕ) (view : D → DeskView) (client : ℕ) (old new : Scene D) (lines commits : S → ℕ) where
+module _ {P D S : Type 0} (bits_of : P → ℕ → ℕ) (view : D → List TraceItem) (client : ℕ) (old new : Scene D) (lines commits : S → ℕ) where
   abbrev moves : Moves D
   moves = moves_of bits_of view
 
   abbrev items : List TraceItem
-  items = (view new.desk).history
+  items = view new.desk
 
   acted_grows : (answers : List DeskAnswer) (turns : List Turn) → AreTurns None turns → Acted moves client old new answers turns → GrowsFor items client old.outcomes new.outcomes
   acted_grows answers turns are acted =
@@ -56,7 +56,7 @@ module _ {P D S : Type 0} (bits_of : P → ℕ → ℕ) (view : D → DeskView) 
       → (result ≡ Err Refusal.Io → HeardAll moves client old new)
       → (result ≡ Err Refusal.OutOfMemory → BrokenOff moves client old new)
       → IfErr result (λ r. (r ≡ Refusal.LineTooLong) ⊎ (r ≡ Refusal.OutOfMemory) ⊎ (r ≡ Refusal.Io))
-      → StartsWith items (view old.desk).history
+      → StartsWith items (view old.desk)
   sees_on (Ok s) ok long io memory why = run_more bits_of view old.desk _ _ new.desk ok.spoken.acted.asked
   sees_on (Err r) ok long io memory (inl e) = run_more bits_of view old.desk _ _ new.desk (long (ap (λ (x : Refusal). Err x) e)).spoken.acted.asked
   sees_on (Err r) ok long io memory (inr (inl e)) = run_more bits_of view old.desk _ _ new.desk (memory (ap (λ (x : Refusal). Err x) e)).acted.asked

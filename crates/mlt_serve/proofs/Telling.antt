@@ -1,51 +1,56 @@
 -- A history tells all that is in outcomes, as it grows, and as others come behind them.
-use Rattle.std.proofs.Common.{◌≡◌, ◌++◌, List, [], ◌∷◌, All, ℕ, ap, subst, sym, get_or, Contains, IsPermutation}
+use Rattle.std.proofs.Common.{◌≡◌, ◌++◌, append-nil, List, [], ◌∷◌, All, ℕ, ap, subst, sym, get_or, Contains, IsPermutation}
 use Rattle.std.proofs.lemmas.Grind.{merely}
-use Rattle.mlt_serve.proofs.Names.{All-append, All-nil, All-weaker, All-permutation, TraceItem, Outcome, Moves, StartsWith, DeskView, GrowsFor, TellsOutcomes, DeskAnswer, DeskCall, ops_of-append, ops_of, IsSubsequence}
+use Rattle.mlt_serve.proofs.Names.{All-append, All-nil, All-weaker, All-permutation, TraceItem, Outcome, Moves, StartsWith, GrowsFor, TellsOutcomes, DeskAnswer, DeskCall, ops_of-append, ops_of, IsSubsequence}
 use Rattle.std.proofs.lemmas.List.Elements.{Contains-append_left, Contains-append_right}
 use mathlib.Core.Logic.{∥∥₁_map}
 use Rattle.mlt_script_serial.specs.declared.outcome.End.{End}
+use Rattle.mlt_types.specs.declared.refusal.Refusal.{Refusal}
 use Rattle.mlt_serve_session.specs.Desks.{Answers}
 use Rattle.mlt_serve_session.specs.Given.{Gave, GaveAll, GaveEnd}
-use Rattle.mlt_work_desk.specs.Holds as desk
+use Rattle.mlt_work_desk.specs.Holds.{SeesAnswer}
 use Rattle.mlt_work_desk.proofs.Seeing.{more_than, no_more}
 use Rattle.mlt_serve.proofs.Subsequences.{before_more}
 use Rattle.mlt_serve.specs.Tellings.{TellsAll, TellsEnd, TellsOutcome}
 
-module _ {D P : Type 0} (bits_of : P → ℕ → ℕ) (view : D → DeskView) where
-  -- how a desk over a lock moves, by what it has seen of the history
+-- at a begin that was refused a desk has seen no more
+pub refused_begin : {P : Type 0} (bits_of : P → ℕ → ℕ) (items : List TraceItem) (r : Refusal) → SeesAnswer bits_of items DeskCall.Begin (DeskAnswer.Refused r) items
+refused_begin bits_of items r = record { more = []; whole = sym (append-nil items); have = tt }
+
+module _ {D P : Type 0} (bits_of : P → ℕ → ℕ) (view : D → List TraceItem) where
+  -- how a desk moves, by what it has seen of the history
   abbrev pub moves_of : Moves D
-  moves_of old call given new = desk.Answers bits_of (view old) call given (view new)
+  moves_of old call given new = SeesAnswer bits_of (view old) call given (view new)
 
   -- what it has seen
   abbrev pub seen : D → List TraceItem
-  seen d = (view d).history
+  seen d = view d
 
   -- it has seen what it had seen
   pub run_more : (old : D) (calls : List DeskCall) (answers : List DeskAnswer) (new : D) → Answers moves_of old calls answers new → StartsWith (seen new) (seen old)
   run_more old [] [] new same = no_more (seen old) (seen new) (ap seen same)
   run_more old (c ∷ calls) (a ∷ answers) new (mid, moved, rest) =
-      more_than (seen old) (seen mid) (seen new) (run_more mid calls answers new rest) (moved.1.sees.more, moved.1.sees.whole)
+      more_than (seen old) (seen mid) (seen new) (run_more mid calls answers new rest) (moved.1.more, moved.1.whole)
   run_more old [] (a ∷ answers) new none = absurd none
   run_more old (c ∷ calls) [] new none = absurd none
 
   module _ (last : D) where
     -- what it saw by an answer it has seen at last
-    contains_last : (c : DeskCall) (a : DeskAnswer) (gave : Gave moves_of last c a) (item : TraceItem) → Contains gave.moved.sees.more item → Contains (seen last) item
+    contains_last : (c : DeskCall) (a : DeskAnswer) (gave : Gave moves_of last c a) (item : TraceItem) → Contains gave.moved.more item → Contains (seen last) item
     contains_last c a gave item have =
-        let sees = gave.moved.sees in
+        let sees = gave.moved in
         let more = run_more gave.after gave.leads.calls gave.leads.answers last gave.leads.run in
         let here = subst (λ xs. Contains xs item) (sym sees.whole) (Contains-append_right (seen gave.before) sees.more item have) in
         subst (λ xs. Contains xs item) (sym more.1) (Contains-append_left (seen gave.after) more.0 item here)
 
     end_told : (tx : ℕ) (e : End) → GaveEnd moves_of last tx e → TellsEnd (seen last) tx e
-    end_told tx (End.Committed n) gave = contains_last _ _ gave (TraceItem.Commit tx n) gave.moved.sees.have
+    end_told tx (End.Committed n) gave = contains_last _ _ gave (TraceItem.Commit tx n) gave.moved.have
     end_told tx End.Aborted gave = tt
     end_told tx (End.Refused r) gave = tt
 
     outcome_told : (o : Outcome) → GaveAll moves_of last o → IsSubsequence o.done (ops_of o.tx (seen last)) → TellsOutcome (seen last) o
     outcome_told o gave in_order = merely (record {
-      begun = contains_last _ _ gave.begun (TraceItem.Begin o.tx) gave.begun.moved.sees.have;
+      begun = contains_last _ _ gave.begun (TraceItem.Begin o.tx) gave.begun.moved.have;
       replies = in_order;
       end = end_told o.tx o.end gave.end;
     })

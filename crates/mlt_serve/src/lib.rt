@@ -11,6 +11,7 @@ mod door;
 mod ending;
 mod endless;
 mod gathering;
+mod guarded_desk;
 mod operating;
 mod operator;
 mod options;

@@ -10,7 +10,7 @@ use mlt_serve_seats::{Cut, Notes, Seats, is_broken, is_closed};
 use mlt_types::Pseudo;
 use mlt_work_desk::{MadeWith, Shared};
 use std::net::TcpStream;
-use std::sync::atomic::AtomicU64;
+use std::sync::atomic::{AtomicBool, AtomicU64};
 use std::time::{Clock, Duration, Instant};
 
 /// What all sessions work with.
@@ -31,6 +31,8 @@ pub(crate) struct Service<'a, P: Pseudo, L: MadeWith<P>> {
     pub(crate) has_trace: bool,
     /// Whether the history is taken out of the manager as the server goes, and outcomes are not kept.
     pub(crate) is_endless: bool,
+    /// Whether no transaction begins, since too much waits for the trace.
+    pub(crate) refuses_begins: &'a AtomicBool,
     ghost endless: { is_endless ≡ true → L.hands_out ≡ true },
 }
 

@@ -29,7 +29,7 @@ use std::io::Write;
 use std::marker::Brand;
 use std::net::TcpListener;
 use std::sync::Wait;
-use std::sync::atomic::AtomicU64;
+use std::sync::atomic::{AtomicBool, AtomicU64};
 use std::thread::Threads;
 use std::time::Clock;
 
@@ -124,6 +124,7 @@ where
         is_watched: operating.admin.is_some() || options.open.is_some(),
         has_trace: operating.trace.is_some(),
         is_endless,
+        refuses_begins: &AtomicBool::new(false),
     };
     let ran = service.serve_with_notes(rt, alloc, outlet, operating, threads.as_mut_slice());
     notes.end(rt);

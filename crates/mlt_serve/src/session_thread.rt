@@ -7,6 +7,7 @@ ghost use Rattle.mlt_work_log.specs.Prefixes.{StartsWith};
 ghost use Rattle.mlt_work_log.specs.Seats.{IsOf, first_items};
 
 use crate::accepting::Connection;
+use crate::guarded_desk::GuardedDesk;
 use crate::service::Service;
 use crate::talking::talk;
 use crossbeam_channel::Receiver;
@@ -113,9 +114,17 @@ impl<P: Pseudo, L: MadeWith<P>, K: Receipts + Drop> SessionThread<P, L, K> {
         let tries = Tries::PerOperation(service.options.tries);
         let mut desk = LockDesk::after(rt, service.shared, &admission, mine, seen, tries);
         desk.serve(client);
+        let mut guarded = GuardedDesk {
+            desk,
+            refuses_begins: service.refuses_begins,
+        };
         let socket = Socket::new(rt, stream, service.spin_policy, service.options.idle);
-        let cut = talk(alloc, &socket, &admission, &mut desk, client, outcomes);
+        let cut = talk(alloc, &socket, &admission, &mut guarded, client, outcomes);
         socket.close();
+        let GuardedDesk {
+            desk,
+            refuses_begins: _,
+        } = guarded;
         let (mine, more, seen) = desk.close();
         admission.close();
         share.merge(mine);

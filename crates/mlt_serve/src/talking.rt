@@ -5,11 +5,12 @@ ghost use Rattle.mlt_work_log.specs.Prefixes.{StartsWith};
 ghost use Rattle.mlt_work_log.specs.Seats.{first_items};
 ghost use Rattle.mlt_serve.specs.Clients.{GrowsFor};
 
+use crate::guarded_desk::GuardedDesk;
 use mlt_serve_connections::{Admission, Failure, Outside, Socket};
 use mlt_serve_seats::Cut;
 use mlt_serve_session::{Receipts, Summary, session};
 use mlt_types::{Pseudo, Refusal};
-use mlt_work_desk::{LockDesk, MadeWith};
+use mlt_work_desk::MadeWith;
 use std::alloc::Global;
 use std::sync::Wait;
 use std::time::Clock;
@@ -21,13 +22,14 @@ pub(crate) fn talk<P: Pseudo, L: MadeWith<P>, R: Wait + Clock, K: Receipts + Dro
     alloc: Global,
     socket: &Socket<'_, R>,
     admission: &Admission<'_, R>,
-    desk: &mut LockDesk<'_, P, L, R, Admission<'_, R>>,
+    desk: &mut GuardedDesk<'_, '_, P, L, R, Admission<'_, R>>,
     client: u32,
     outcomes: &mut K,
 ) -> Option<Cut>
-    ensures outcomes { GrowsFor (first_items desk.new.snapshot) client
+    ensures outcomes { GrowsFor (first_items desk.new.desk.snapshot) client
         (K.receipts outcomes.old) (K.receipts outcomes.new) }
-    ensures sees { StartsWith (first_items desk.new.snapshot) (first_items desk.old.snapshot) }
+    ensures sees { StartsWith (first_items desk.new.desk.snapshot)
+        (first_items desk.old.desk.snapshot) }
 {
     let mut reader = Outside::new(socket, admission);
     let mut writer = Outside::new(socket, admission);

@@ -8,6 +8,7 @@ use crate::operating::TraceFile;
 use crate::service::Service;
 use crate::tuning::{
     ITEMS_PER_HOLD, LATE_SECONDS, LEAST_PAUSE_MILLISECONDS, LOOK_MILLISECONDS, MANY_ITEMS,
+    MOST_WAITING_ITEMS,
 };
 use crossbeam_channel::{Receiver, RecvTimeoutError, Sender};
 use mlt_serve_seats::Note;
@@ -186,12 +187,10 @@ impl<'a, 'b, P: Pseudo, L: MadeWith<P>> TraceKeeper<'a, 'b, P, L> {
             }
             self.next.clear();
             // There is room for so many.
-            let _ = self.service.shared.copy_items(
-                rt,
-                self.items,
-                ITEMS_PER_HOLD,
-                &mut self.next,
-            );
+            let _ = self
+                .service
+                .shared
+                .copy_items(rt, self.items, ITEMS_PER_HOLD, &mut self.next);
             if self.next.is_empty() {
                 return;
             }
@@ -202,16 +201,11 @@ impl<'a, 'b, P: Pseudo, L: MadeWith<P>> TraceKeeper<'a, 'b, P, L> {
 
     /// Writes the items that are about to be, if they are written and no write has failed. A failure is logged.
     fn write_next<R: Wait + Clock>(&mut self, rt: &R, alloc: Global, ending: &DoneSignal) {
-        let Some(writer) = &self.writer else {
-            return;
-        };
-        if self.failed.is_some() || self.next.is_empty() {
+        if self.writer.is_none() || self.failed.is_some() || self.next.is_empty() {
             return;
         }
         let items = mem::replace(&mut self.next, Vec::new(alloc));
-        // There is room for one list, and the thread has none.
-        let _ = writer.to.try_send(rt, items);
-        match self.wait_for_writer(rt, writer, ending) {
+        match self.write(rt, items, ending) {
             Some(Written { items, failed }) => {
                 self.next = items;
                 self.failed = failed;
@@ -223,21 +217,28 @@ impl<'a, 'b, P: Pseudo, L: MadeWith<P>> TraceKeeper<'a, 'b, P, L> {
         }
     }
 
-    /// The list that the thread was given, once it has written it. A message tells where it writes no block for 5 seconds, and one that
-    /// it goes on. Once the server ends it has 5 seconds for each block.
-    fn wait_for_writer<R: Wait + Clock>(
+    /// Gives the thread these items, and returns them once it has written them. A message tells where it writes no block for 5 seconds,
+    /// or where so much waits meanwhile that no transaction begins, and one that it goes on. Once the server ends it has 5 seconds for
+    /// each block.
+    fn write<R: Wait + Clock>(
         &self,
         rt: &R,
-        writer: &TraceWriter,
+        items: Vec<KeptItem>,
         ending: &DoneSignal,
     ) -> Option<Written> {
+        let Some(writer) = &self.writer else {
+            return None;
+        };
+        // There is room for one list, and the thread has none.
+        let _ = writer.to.try_send(rt, items);
         let mut watch = BlockWatch::default();
         let mut is_late = false;
         for _ in rt.forever() {
             let look = Duration::from_millis(LOOK_MILLISECONDS);
             match writer.from.recv_timeout(rt, look) {
                 Ok(written) => {
-                    if is_late && written.failed.is_none() {
+                    let refused = self.service.refuses_begins.swap(false, Ordering::SeqCst);
+                    if (is_late || refused) && written.failed.is_none() {
                         self.service.notes.tell(rt, Note::TraceGoesOn);
                     }
                     return Some(written);
@@ -258,13 +259,21 @@ impl<'a, 'b, P: Pseudo, L: MadeWith<P>> TraceKeeper<'a, 'b, P, L> {
         None
     }
 
-    /// Tells what is new of a block that is late or not, and was so at the look before.
+    /// Tells what is new of a block that is late or not, and was so at the look before. Where too much waits no transaction begins from
+    /// now on.
     fn warn<R: Wait + Clock>(&self, rt: &R, was_late: bool, is_late: bool) {
+        let service = self.service;
+        let refuses = service.refuses_begins.load(Ordering::SeqCst);
         if is_late && !was_late {
-            self.service.notes.tell(rt, Note::TraceWaits(LATE_SECONDS));
+            service.notes.tell(rt, Note::TraceWaits(LATE_SECONDS));
         }
-        if was_late && !is_late {
-            self.service.notes.tell(rt, Note::TraceGoesOn);
+        if was_late && !is_late && !refuses {
+            service.notes.tell(rt, Note::TraceGoesOn);
+        }
+        let waiting = service.shared.statistics(rt).items as u64;
+        if service.is_endless && !refuses && waiting >= MOST_WAITING_ITEMS {
+            service.refuses_begins.store(true, Ordering::SeqCst);
+            service.notes.tell(rt, Note::BeginsRefused(waiting));
         }
     }
 }

@@ -17,6 +17,10 @@ pub(crate) const ITEMS_PER_HOLD: usize = 256;
 /// measures it.
 pub(crate) const LATE_SECONDS: u64 = 5;
 
+/// How many items may wait for a trace that is written slowly, 16,777,216 bytes: where more do, no transaction begins. Nothing measures
+/// it.
+pub(crate) const MOST_WAITING_ITEMS: u64 = 524_288;
+
 /// How many items are many to be taken out of the manager at once, 262,144 bytes: where more are, they are taken sooner. By `endless`.
 pub(crate) const MANY_ITEMS: usize = 8_192;
 

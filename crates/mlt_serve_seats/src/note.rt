@@ -74,7 +74,9 @@ pub enum Note {
     TraceFailed(io::Error),
     /// The trace has taken nothing for so many seconds.
     TraceWaits(u64),
-    /// The trace takes bytes again.
+    /// So many items wait to be written into the trace, and no transaction begins until they are.
+    BeginsRefused(u64),
+    /// The trace takes bytes again, and transactions begin.
     TraceGoesOn,
 }
 
@@ -165,6 +167,10 @@ impl fmt::Display for Note {
             Note::TraceWaits(seconds) => {
                 write!(f, "the trace has taken nothing for {seconds} seconds")
             }
+            Note::BeginsRefused(items) => write!(
+                f,
+                "{items} items wait for the trace, no transaction begins"
+            ),
             Note::TraceGoesOn => write!(f, "writing the trace again"),
         }
     }

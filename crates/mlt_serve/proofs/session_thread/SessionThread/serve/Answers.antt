@@ -8,14 +8,14 @@ pub invariant_of-self-clause-of_clients : goal.invariant_of-self-clause-of_clien
 invariant_of-self-clause-of_clients g c =
     let old = g.K.Receipts.receipts c.args.self.now.outcomes in
     let new = g.K.Receipts.receipts c.talk-cut.new.outcomes in
-    subst (λ n. AreOfClients n new) (sym c.max.ensures) (grown (first_items c.talk-cut.new.desk.snapshot) c.args.client c.args.self.now.last old new c.requires c.args.self.now.of_clients c.talk-cut.ensures.outcomes)
+    subst (λ n. AreOfClients n new) (sym c.max.ensures) (grown (first_items c.talk-cut.new.desk.desk.snapshot) c.args.client c.args.self.now.last old new c.requires c.args.self.now.of_clients c.talk-cut.ensures.outcomes)
 
 pub invariant_of-self-clause-told : goal.invariant_of-self-clause-told
 invariant_of-self-clause-told g c =
     let old = g.K.Receipts.receipts c.args.self.now.outcomes in
     let new = g.K.Receipts.receipts c.talk-cut.new.outcomes in
     let first = first_items c.args.self.now.snapshot in
-    let last = first_items c.talk-cut.new.desk.snapshot in
+    let last = first_items c.talk-cut.new.desk.desk.snapshot in
     let began : first_items c.serve.new.self.snapshot ≡ first = search rules in
     let ended : first_items c.close-mine.result.2 ≡ last = search rules in
     subst (λ items. TellsOutcomes items new) (sym ended)
