@@ -7,7 +7,7 @@ import re
 from collections.abc import Callable, Iterable, Iterator, Sequence
 from typing import TypeVar
 
-from harness import NO_MEMORY, Failed, Program, Ran, cut_for, each, holds, lines, match, same, test
+from harness import NO_MEMORY, Failed, Program, Ran, Server, cut_for, each, holds, lines, match, same, test
 
 WANT = b"mltx: 1 OutOfMemory\n"
 REFUSED = "refused 1 OutOfMemory"
@@ -510,3 +510,29 @@ def out_of_memory_for_good_in_serve(mltx: Program) -> None:
         runs.serial(ended.trace or "")
         before = heard[: heard.index(ERROR)] if ERROR in heard else heard
         holds(before == tells[: len(before)], f"{what}, and all after it: {heard}, which is no front of {tells}")
+
+
+@test(seconds=4)
+def want_of_memory_ends_the_accepting(mltx: Program) -> None:
+    """Where a session is refused memory, or a connection on its way to one, the server ends before its limit is reached."""
+    runs, cut = Runs(mltx, "serve"), 0
+
+    def heard(server: Server) -> bytes:
+        try:
+            return server.talk("begin\nquit\n")
+        except (Failed, ConnectionError):
+            # The server did not come up, or ends just now.
+            return b""
+
+    def run(number: int) -> tuple[bytes, Ran]:
+        with mltx.serve(limit=2, env=runs.refusing(first=number), timeout=20) as server:
+            told = heard(server)
+            if told.endswith(b"bye\n"):
+                heard(server)
+            return told, server.end(is_all_noted=False)
+
+    for what, (told, ended) in runs.one_refused(run):
+        if not told.endswith(b"bye\n"):
+            same((ended.status, ended.out, ended.err), (1, b"", WANT), f"{what}: {told!r}")
+            cut += cut_for(1, NO_MEMORY) in ended.notes
+    holds(cut > 0, "no session was refused memory")
