@@ -1,6 +1,6 @@
 //! Outcomes that are counted, and that nobody keeps.
 
-ghost use Rattle.std.specs.Prelude.{◌≡◌, ◌-◌, ◌^◌, ◌<◌, [], IsTrue, length, min};
+ghost use Rattle.std.specs.Prelude.{◌≡◌, ◌-◌, ◌^◌, ◌<◌, ◌↔◌, [], IsTrue, length, min};
 ghost use Rattle.mlt_serve_session.specs.Tallies.{commits_by, commits_told};
 
 use crate::receipts::{EndedTx, Receipts};
@@ -24,10 +24,11 @@ pub struct Tally {
 }
 
 impl Tally {
-    /// Whether it has surely counted so many outcomes, and so many commits. Of counts that have stayed at 2^64 - 1 it does not know.
+    /// Whether it has counted so many outcomes, and so many commits, each below 2^64 - 1, where a count stays.
     pub fn has_counted(&self, begun: u64, commits: u64) -> bool
-        ensures begun { IsTrue result → length self.now.told.items ≡ begun }
-        ensures commits { IsTrue result → commits_told self.now.told.items ≡ commits }
+        ensures { let told = self.now.told.items in
+            IsTrue result ↔ (length told < 2 ^ 64 - 1) × (length told ≡ begun)
+            × (commits_told told < 2 ^ 64 - 1) × (commits_told told ≡ commits) }
     {
         is_count(self.begun, begun) && is_count(self.commits, commits)
     }
@@ -78,7 +79,7 @@ fn commits_by(end: End) -> u64
 
 /// Whether a count that stays at 2^64 - 1 has not come so far, and is this number.
 fn is_count(count: u64, number: u64) -> bool
-    ensures { IsTrue result → (count < 2 ^ 64 - 1) × (count ≡ number) }
+    ensures { IsTrue result ↔ (count < 2 ^ 64 - 1) × (count ≡ number) }
 {
     count < u64::MAX && count == number
 }
