@@ -88,7 +88,8 @@ fn listen<R: Read, W: Write, D: Desk, K: Receipts>(
 {
     let mut held = 0;
     let mut total = 0;
-    'rounds: for _ in 0..u64::MAX {
+    // Each read gives a byte, or is the last.
+    'rounds: for _ in 0..MAX_INPUT + 1 {
         let count = fill(reader, buffer, held, (MAX_INPUT - total).max(1))?;
         if count == 0 {
             return Ok(());
@@ -104,7 +105,7 @@ fn listen<R: Read, W: Write, D: Desk, K: Receipts>(
         }
         held = keep(buffer, at, end);
     }
-    Err(Refusal::Io)
+    unreachable!()
 }
 
 /// How a session went.

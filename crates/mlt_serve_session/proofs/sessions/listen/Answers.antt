@@ -1,5 +1,5 @@
 use Rattle.std.proofs.Common.{◌≡◌, inl, inr, refl, ◌+◌, ℕ, [], length, take, ◌∙◌, ap, subst, arith, length-take}
-use Rattle.mlt_serve_session.proofs.Names.{Listens, streams, Consumes-nil, on_err_all, talk_state, empty}
+use Rattle.mlt_serve_session.proofs.Names.{Listens, streams, on_err_all, talk_state, empty}
 use Rattle.mlt_text.proofs.Pieces.{nothing_read}
 use Rattle.mlt_serve_session.proofs.Reaching.{same_error}
 use Rattle.mlt_serve_session.proofs.Listening.{starts, ends_here, breaks, breaks_heard, stops, stops_heard, is_over, goes_further}
@@ -14,6 +14,7 @@ rounds-init g c =
       listens = starts g.D.Answering.moves c.args.client (talk_state c.args.client c.args.notes.now c.args.desk.now) (g.R.Read.remaining c.args.reader.now) (g.W.Write.contents c.args.writer.now) lines empty;
       held = omega arith;
       total = omega arith;
+      read = omega arith;
       commits = omega arith;
       begun = omega arith;
       going = ap (λ p. p.over) c.requires.fresh;
@@ -75,18 +76,6 @@ returns-then-notes-clause-ok g c =
     (g.W.Write.contents c.args.writer.now) (g.W.Write.contents c.rounds.writer) (g.W.Write.contents c.reply.new.writer) (take c.rounds.held c.rounds.buffer) f.0 (take (c.rounds.held + c.in_ok-count.count) c.fill.new.buffer) c.rounds.total c.in_ok-at.at c.rounds.invariant.listens (omega (arith, f.2, c.if-total-gt-MAX_INPUT.false)) f.5
     f.1 c.in_ok-at.ensures.ok c.if-notes.true
 
-pub returns-clause-err : goal.returns-clause-err
-returns-clause-err g c =
-    breaks g.D.Answering.moves c.args.client (talk_state c.args.client c.args.notes.now c.args.desk.now) (talk_state c.args.client c.rounds.notes c.rounds.desk) (g.R.Read.remaining c.args.reader.now) (g.R.Read.remaining c.rounds.reader)
-    (g.R.Read.remaining c.rounds.reader) (g.W.Write.contents c.args.writer.now) (g.W.Write.contents c.rounds.writer) (take c.rounds.held c.rounds.buffer) [] c.rounds.total c.rounds.invariant.listens
-    (omega (arith, c.rounds.invariant.total)) (Consumes-nil _)
-
-pub returns-clause-io : goal.returns-clause-io
-returns-clause-io g c _ =
-    breaks_heard g.D.Answering.moves c.args.client (talk_state c.args.client c.args.notes.now c.args.desk.now) (talk_state c.args.client c.rounds.notes c.rounds.desk) (g.R.Read.remaining c.args.reader.now) (g.R.Read.remaining c.rounds.reader)
-    (g.R.Read.remaining c.rounds.reader) (g.W.Write.contents c.args.writer.now) (g.W.Write.contents c.rounds.writer) (take c.rounds.held c.rounds.buffer) [] c.rounds.total c.rounds.invariant.listens c.rounds.invariant.total
-    (omega (arith, c.rounds.invariant.total)) (inl refl) c.rounds.invariant.going (Consumes-nil _)
-
 pub rounds-preserved : goal.rounds-preserved
 rounds-preserved g c =
     let f = c.in_ok-count.ensures.ok in
@@ -106,6 +95,7 @@ rounds-preserved g c =
           (g.W.Write.contents c.args.writer.now) (g.W.Write.contents c.reply.new.writer)) (take c.keep-held.result c.keep-held.new.buffer) n (talk_state c.args.client c.reply.new.notes c.reply.new.desk)) sum more;
       held = omega (arith, length-take c.keep-held.result c.keep-held.new.buffer);
       total = omega arith;
+      read = omega (arith, c.if-count-eq0.false, c.rounds.invariant.read);
       commits = c.in_ok-at.ensures.commits;
       begun = c.in_ok-at.ensures.begun;
       going = c.if-notes.false;
