@@ -7,7 +7,6 @@ import contextlib
 import enum
 import importlib.util
 import os
-import random
 import re
 import shutil
 import socket
@@ -28,6 +27,7 @@ from harness import lines, match, same, test
 FOLDER = ROOT / "clients/python"
 sys.path.insert(0, str(FOLDER))
 import mltx as client_module  # noqa: E402
+from mltx import core  # noqa: E402
 from mltx import FORMS, Client, CommitUnknown, ConnectionLost, GaveUp, LogFull, NoRoom, NoSuchClient, NoSuchTx  # noqa: E402
 from mltx import OpenTransaction, Operation, Operator, Refused, Reply, Retries, Running, ScriptFault, ServedSession  # noqa: E402
 from mltx import ServerAway, ServerRestarted, SessionsTaken, TimedOut, Transaction, TransactionOver  # noqa: E402
@@ -161,14 +161,19 @@ def installed(folder: Path) -> Path:
 
 @test(seconds=4)
 def client_can_be_installed(mltx: Program) -> None:
-    """Both modules are there, away from the sources; the prompt is a command; the version is the program's."""
+    """The package is there, away from the sources; the prompt is a command; the version is the program's."""
     target = installed(mltx.folder)
     env = {**os.environ, "PYTHONPATH": str(target), "PYTHONDONTWRITEBYTECODE": "1"}
-    code = "import importlib.metadata as told, mltx; print(mltx.__file__, told.version('mltx-client'))"
+    code = "import importlib.metadata as told, mltx.aio as it, mltx; "
+    code += "print(mltx.__file__, mltx.__version__, it.__name__, told.version('mltx-client'))"
     found = subprocess.run([sys.executable, "-c", code], cwd=mltx.folder, capture_output=True, text=True, env=env)
     version = mltx.run("--version").out.decode().split()[1]
-    same(found.stdout, f"{target}/mltx.py {version}\n", f"the module and its version: {found.stderr}")
-    command: list[str | Path] = [target / "bin/mltx-shell"] if target.is_dir() else [sys.executable, "-m", "mltx_shell"]
+    wanted = f"{target}/mltx/__init__.py {version} mltx.aio {version}\n"
+    same(found.stdout, wanted, f"the package and its version: {found.stderr}")
+    code = "import mltx, importlib.resources as told; print((told.files(mltx) / 'py.typed').is_file())"
+    found = subprocess.run([sys.executable, "-c", code], cwd=mltx.folder, capture_output=True, text=True, env=env)
+    same(found.stdout, "True\n", f"whether it says that it has types: {found.stderr}")
+    command: list[str | Path] = [target / "bin/mltx-shell"] if target.is_dir() else [sys.executable, "-m", "mltx.shell"]
     with mltx.serve(limit=2) as server:
         connected(server).close()
         words = [*command, "%s:%d" % server.address]
@@ -179,8 +184,10 @@ def client_can_be_installed(mltx: Program) -> None:
 
 @test
 def client_is_python_3_9(_mltx: Program) -> None:
-    for file in ("mltx.py", "mltx_shell.py", "build_wheel.py"):
-        ast.parse((FOLDER / file).read_text(), feature_version=(3, 9))
+    files = [*FOLDER.glob("*.py"), *FOLDER.glob("mltx/*.py")]
+    holds(len(files) > 5, "there are files")
+    for file in files:
+        ast.parse(file.read_text(), feature_version=(3, 9))
 
 
 # Calls with a number that is none of their range, and what is said of it.
@@ -296,39 +303,6 @@ def noted(tries: list[int], tx: Transaction) -> Transaction:
     return tx
 
 
-def transfer(tx: Transaction, source: int, target: int, amount: int) -> None:
-    """Moves an amount where the source has it, which is looked at first: two of them may be in a deadlock."""
-    if (tx.balance(source) or 0) < amount:
-        return
-    same(tx.ask_all([Operation.withdraw(source, amount), Operation.deposit(target, amount)]), [Reply.DONE] * 2)
-
-
-@test(seconds=3)
-def transfers_of_sixteen_threads(mltx: Program) -> None:
-    """The sum of all accounts is kept, while transfers give up and are run again."""
-    threads, accounts, trace = 16, range(6), mltx.folder / "trace"
-
-    def work(seed: int) -> None:
-        source = random.Random(seed)
-        with Client(*server.address, retries=PATIENT) as client:
-            for _ in range(20):
-                one, other = source.sample(accounts, 2)
-                client.run(lambda tx: transfer(tx, one, other, source.randrange(1, 100)))
-
-    with mltx.serve("--sessions", threads, "--tries", 20, "--trace", trace, limit=threads + 2) as server:
-        with connected(server) as client:
-            client.run(lambda tx: tx.ask_all([Operation.open(account) for account in accounts]))
-            client.run(lambda tx: tx.ask_all([Operation.deposit(account, 1_000) for account in accounts]))
-        with ThreadPoolExecutor(threads) as pool:
-            list(pool.map(work, range(threads)))
-        with connected(server) as client:
-            balances = client.run(lambda tx: tx.ask_all([Operation.balance(account) for account in accounts]))
-        same(sum(it or 0 for it in balances), 6_000, f"the sum of {balances}")
-        expect(server.end(), out=f"served {threads + 2}\n")
-    base = [f"account {account} {balance}" for account, balance in enumerate(balances)]
-    same(mltx.accepted(trace).splitlines()[-6:], base, "the base")
-
-
 @test
 def transaction_is_run_again_after_a_deadlock(mltx: Program) -> None:
     """Of two that wait for each other one gives up, and both are committed at last."""
@@ -419,7 +393,7 @@ def lines_that_wait_for_their_answers(_mltx: Program) -> None:
         session = client_module.Session(*listener.getsockname())
         connection, _ = listener.accept()
         asked = pool.submit(session.ask, *[f"up 7 {number}" for number in range(300)])
-        for count in (client_module.MOST_UNANSWERED, 300 - client_module.MOST_UNANSWERED):
+        for count in (core.MOST_UNANSWERED, 300 - core.MOST_UNANSWERED):
             same(heard_at_once(connection), count, "the lines that came")
             connection.sendall(b"done\n" * count)
         same(asked.result(PATIENCE), ["done"] * 300)
@@ -539,10 +513,10 @@ def sessions_that_are_all_taken(mltx: Program) -> None:
 @test(seconds=3)
 def first_answer_alone_has_its_timeout(mltx: Program) -> None:
     """An operation that waits behind the first answer waits on, for longer than that one may."""
-    with mltx.serve(limit=2) as server, connected(server) as holder, holder.begin() as held:
-        held.up(7, 1)
+    with mltx.serve(limit=2) as server, server.connect() as holder:
+        same((holder.ask("begin"), holder.ask("up 7 1")), ("begun 1", "done"))
         with Client(*server.address, session_timeout=2) as client, client.begin() as tx:
-            committing = threading.Timer(3, held.commit)
+            committing = threading.Timer(3, holder.ask, ["commit"])
             committing.start()
             same(tx.read(7), 1, "what it is told once the other one has committed")
             committing.join()
@@ -589,8 +563,8 @@ def server_that_ends_at_the_commit(mltx: Program) -> None:
         tx = client.begin()
         tx.up(7, 1)
         server.stop()
-        receive = tx.session.receive
-        with mock.patch.object(tx.session, "receive", lambda: (server.kill(), receive())[1]):
+        receive = tx.session._receive
+        with mock.patch.object(tx.session, "_receive", lambda: (server.kill(), receive())[1]):
             same(raised(CommitUnknown, tx.commit).transaction, 1)
         raised(TransactionOver, tx.commit)
 
@@ -623,7 +597,10 @@ def answer_that_does_not_come_in_time(mltx: Program) -> None:
             same(tx.is_open, False, "the transaction whose connection was closed")
             with client.begin() as tx:
                 tx.up(9, 1)
-        ends_well(mltx, server, trace, served=3, checked="serial 3|serial 1|counter 7 1|counter 9 1")
+        ended = server.end()
+        expect(ended, out="served 3\n", notes=ended.notes)
+        holds(set(ended.notes) <= {cut_for(2, BROKEN)}, f"{ended.notes}")
+    expect(mltx.check(trace), out=lines("serial 3|serial 1|counter 7 1|counter 9 1"), what="the check of the trace")
 
 
 @test
@@ -633,7 +610,7 @@ def session_that_is_used_up(mltx: Program) -> None:
     trace = mltx.folder / "trace"
     with mltx.serve("--trace", trace, limit=3) as server, connected(server) as client:
         client.run(lambda tx: tx.up(7, 1))
-        client.session().bytes_left = client_module.TRANSACTION_BYTES - 1
+        client.session().bytes_left = core.TRANSACTION_BYTES - 1
         tries: list[int] = []
 
         def use_up(tx: Transaction) -> Reply:
@@ -700,9 +677,9 @@ def operator_sees_and_ends(mltx: Program) -> None:
         same(seen_by(operator), ([], [(1, None), (2, None)]), "without transactions")
         held = holder.begin()
         held.up(7, 5)
-        tx = waiter.begin()
-        tx.add(4, 9)
         with ThreadPoolExecutor(1) as threads:
+            tx = threads.submit(waiter.begin).result(PATIENCE)
+            threads.submit(tx.add, 4, 9).result(PATIENCE)
             reading = threads.submit(tx.read, 7)
             comes_to_be(operator.waits, "somebody waits")
             rows = [(1, (1, 1, ("up 7 5 done",), None)), (2, (2, 1, ("add 4 9 added",), "read 7"))]
@@ -717,8 +694,8 @@ def operator_sees_and_ends(mltx: Program) -> None:
                 raised(NoSuchClient, operator.end_session, number)
             operator.end_session(1)
             same(reading.result(PATIENCE), 0, "what the other one reads")
-        raised(ConnectionLost, held.up, 7, 1)
-        tx.commit()
+            raised(ConnectionLost, held.up, 7, 1)
+            threads.submit(tx.commit).result(PATIENCE)
         operator.stop()
         ended = server.end()
         same((ended.status, ended.out, ended.err), (0, b"served 2\n", b""), "the server")
@@ -770,7 +747,7 @@ def shown_in(page: str, before: str) -> str:
 def writes(mltx: Program, server: Server, program: str, wanted: str) -> None:
     """Fails where a program of a page, which is given the server's address, writes anything else."""
     connected(server).close()
-    path = mltx.file("program.py", program.replace('"127.0.0.1", 7000', '"%s", %d' % server.address))
+    path = mltx.file("program.py", program.replace("127.0.0.1:7000", "%s:%d" % server.address))
     env = {"PYTHONPATH": str(FOLDER), "PYTHONDONTWRITEBYTECODE": "1"}
     ran = subprocess.run([sys.executable, path], capture_output=True, env=env, timeout=PATIENCE)
     same((ran.stdout.decode(), ran.stderr), (wanted, b""), "what the program writes")

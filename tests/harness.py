@@ -27,7 +27,7 @@ from typing import IO, TypeVar, cast, overload
 
 ROOT = Path(__file__).resolve().parent.parent
 # The version of the program and of the client, which is changed there first: tests fail where another text has the old one.
-VERSION = re.findall(r'(?m)^version = "(.*)"$', (ROOT / "clients/python/pyproject.toml").read_text())[0]
+VERSION = re.findall(r'(?m)^__version__ = "(.*)"$', (ROOT / "clients/python/mltx/__init__.py").read_text())[0]
 # The greatest number of bytes of an input.
 MOST_BYTES = 16_777_216
 # How long one run may take, in seconds, on a slow machine.

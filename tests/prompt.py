@@ -17,8 +17,8 @@ from client import FOLDER, SILENCE, Relay, connected, shown_in
 from harness import BROKEN, PATIENCE, Address, Failed, Program, Ran, Server, cut_for, each, expect, free_address, holds, lines
 from harness import match, readable, same, test
 
-import mltx_shell
 from mltx import Client
+from mltx.shell import Shell
 
 # A process that uses no time for so long waits, in seconds.
 QUIET = 0.1
@@ -204,7 +204,7 @@ def prompt_beyond_the_sessions(mltx: Program) -> None:
     """`status` and `begin` say that all sessions are taken, and go on once one is free."""
     with mltx.serve("--sessions", 1, limit=4) as server, connected(server) as holder:
         holder.run(lambda tx: tx.up(7, 1))
-        shell = mltx_shell.Shell(Client(*server.address, session_timeout=SILENCE))
+        shell = Shell(Client(*server.address, session_timeout=SILENCE))
         for line in ("status", "begin"):
             with contextlib.redirect_stderr(io.StringIO()) as said:
                 shell.onecmd(line)

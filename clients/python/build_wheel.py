@@ -12,7 +12,8 @@ from pathlib import Path
 from typing import Any, Optional
 
 HERE = Path(__file__).resolve().parent
-MODULES = ("mltx.py", "mltx_shell.py")
+# What is installed.
+FILES = (*sorted(path.relative_to(HERE).as_posix() for path in HERE.glob("mltx/*.py")), "mltx/py.typed")
 WHEEL = "Wheel-Version: 1.0\nGenerator: mltx\nRoot-Is-Purelib: true\nTag: py3-none-any\n"
 
 
@@ -22,17 +23,24 @@ def table(name: str) -> dict[str, str]:
     return dict(re.findall(r'(?m)^([\w-]+) = "(.*)"$', text))
 
 
+def version() -> str:
+    """The version, which stands in the package."""
+    found: list[str] = re.findall(r'(?m)^__version__ = "(.*)"$', (HERE / "mltx/__init__.py").read_text())
+    return found[0]
+
+
 def metadata() -> str:
-    """What the package says of itself."""
+    """What the package says of itself, with its page."""
     project = table("project")
     rows = [
         ("Metadata-Version", "2.1"),
         ("Name", project["name"]),
-        ("Version", project["version"]),
+        ("Version", version()),
         ("Summary", project["description"]),
         ("Requires-Python", project["requires-python"]),
+        ("Description-Content-Type", "text/markdown"),
     ]
-    return "".join(f"{key}: {value}\n" for key, value in rows)
+    return "".join(f"{key}: {value}\n" for key, value in rows) + "\n" + (HERE / project["readme"]).read_text()
 
 
 def record(files: dict[str, bytes], name: str) -> str:
@@ -49,9 +57,9 @@ def build_wheel(
 ) -> str:
     """Writes the wheel into a folder, and answers the name of its file."""
     project = table("project")
-    stem = f"{project['name'].replace('-', '_')}-{project['version']}"
+    stem = f"{project['name'].replace('-', '_')}-{version()}"
     scripts = "".join(f"{name} = {function}\n" for name, function in table("project.scripts").items())
-    files = {name: (HERE / name).read_bytes() for name in MODULES}
+    files = {name: (HERE / name).read_bytes() for name in FILES}
     told = {"METADATA": metadata(), "WHEEL": WHEEL, "entry_points.txt": f"[console_scripts]\n{scripts}"}
     files.update({f"{stem}.dist-info/{name}": text.encode() for name, text in told.items()})
     name = f"{stem}-py3-none-any.whl"

@@ -1,0 +1,634 @@
+"""The parts that the blocking client and the one for asyncio share.
+
+What waits is a coroutine here, and stands once. `mltx.aio` awaits it. The blocking client runs it by `now`: whatever it awaits
+there blocks the thread, so that it ends without a pause."""
+
+from __future__ import annotations
+
+import logging
+import os
+import random
+import socket
+import threading
+import time
+import warnings
+import weakref
+from collections.abc import Awaitable, Callable, Coroutine, Iterable, Iterator
+from contextlib import contextmanager, suppress
+from dataclasses import dataclass
+from typing import Any, Generic, Optional, Protocol, TypeVar
+
+from .errors import CommitUnknown, ConnectionLost, GaveUp, MltxError, PoolTimeout, ServerAway, ServerRestarted, SessionsTaken
+from .errors import TimedOut, TransactionOver, UnexpectedAnswer, WrongThread, refusal
+from .operations import Operation, Result, number_behind
+
+# How many bytes a session may send: the server ends it there without a word.
+MOST_SESSION_BYTES = 16_777_216
+# A transaction is begun on a new connection if fewer bytes are left than its lines may take.
+TRANSACTION_BYTES = 65_536
+# How many lines go out before their answers are read. More could fill the buffers both ways, and both sides would wait.
+MOST_UNANSWERED = 256
+# A server's answers are shorter, with their line feed.
+MOST_ANSWER_BYTES = 200
+# The first answer of a connection beyond those that a server holds, if it refuses them.
+FULL = b"error 7 TooManyOpen\n"
+
+LOG = logging.getLogger("mltx")
+LOG.addHandler(logging.NullHandler())
+
+# A function that hears of each try that failed: its number, why it failed, and the pause before the next one.
+OnRetry = Callable[[int, MltxError, float], object]
+
+
+def now(coroutine: Coroutine[Any, Any, Result]) -> Result:
+    """Runs a coroutine to its end, which never pauses."""
+    try:
+        coroutine.send(None)
+    except StopIteration as end:
+        # The value of a coroutine has no type here.
+        return end.value  # type: ignore[no-any-return]
+    raise RuntimeError("a coroutine of asyncio was given to the blocking client")
+
+
+def parse_address(text: str) -> tuple[str, int]:
+    """The host and the port of an address as `127.0.0.1:7000`, `localhost:7000` or `[::1]:7000`. Raises a
+    ValueError."""
+    host, colon, port = text.rpartition(":")
+    if not colon or not host or not (port.isascii() and port.isdecimal()) or not 1 <= int(port) <= 65_535:
+        raise ValueError(f"an address is HOST:PORT, as 127.0.0.1:7000, and not {text!r}")
+    return host.strip("[]"), int(port)
+
+
+def find_address(address: Optional[str], port: Optional[int]) -> tuple[str, int]:
+    """The host and the port: of a `HOST:PORT`, or of a host before its port, or of the environment variable MLTX_ADDR."""
+    if address is not None and port is not None:
+        if not 1 <= port <= 65_535:
+            raise ValueError(f"port has to be 1 to 65535, and is {port}")
+        return address, port
+    text = address or os.environ.get("MLTX_ADDR")
+    if not text or port is not None:
+        raise ValueError("there is no address: give HOST:PORT, or set MLTX_ADDR")
+    return parse_address(text)
+
+
+# Connections
+
+
+class Wire(Protocol):
+    """The bytes of a connection. A call raises `socket.timeout` after so many seconds, and an OSError if it fails. If `write`
+    fails, not all bytes were sent."""
+
+    async def write(self, data: bytes, timeout: Optional[float]) -> None:
+        ...
+
+    async def read_line(self, timeout: Optional[float]) -> bytes:
+        """The next line with its line feed, or less at the end of the connection."""
+
+    async def has_ended(self) -> bool:
+        ...
+
+    def close(self) -> None:
+        ...
+
+
+class Turns:
+    """Lets one thread at a time into a client, and raises `WrongThread` in another one. A thread that began a transaction is
+    the only one until the transaction ends, or the thread."""
+
+    def __init__(self) -> None:
+        self._lock = threading.Lock()
+        self._inside: Any = None
+        self._calls = 0
+        # The transaction that was begun last, if it still exists.
+        self.last: Callable[[], Optional[TransactionCore]] = lambda: None
+
+    def __enter__(self) -> None:
+        user = self.user()
+        with self._lock:
+            if user is not self._inside and (self._calls or self.is_kept()):
+                raise WrongThread(f"the client is in use by {self._inside!r}: take a client for each, or a pool")
+            self._inside = user
+            self._calls += 1
+
+    def __exit__(self, *_: object) -> None:
+        with self._lock:
+            self._calls -= 1
+
+    def has_open(self) -> bool:
+        """Whether a transaction is open."""
+        last = self.last()
+        return last is not None and last.is_open
+
+    def user(self) -> object:
+        """The caller."""
+        return threading.current_thread()
+
+    def is_kept(self) -> bool:
+        """Whether the last caller stays the only one between two calls."""
+        return self.has_open() and bool(self._inside.is_alive())
+
+
+class SessionCore:
+    """One connection. Lines go out, and each has one line as its answer, in order.
+
+    If a call fails, or is interrupted, the connection is closed: an answer that is still to come can't be taken for that of a
+    later line."""
+
+    def __init__(
+        self, wire: Wire, answer_timeout: Optional[float], session_timeout: Optional[float], turns: Optional[Turns]
+    ) -> None:
+        self._wire = wire
+        self.turns = turns or Turns()
+        self.bytes_left = MOST_SESSION_BYTES
+        self.is_open = True
+        # Whether an answer came: then it is one of the sessions that the server holds.
+        self.is_held = False
+        self._answer_timeout = answer_timeout
+        # How long the next answer is waited for.
+        self._timeout = min((it for it in (answer_timeout, session_timeout) if it is not None), default=None)
+
+    def close(self) -> None:
+        """Ends the connection. The server rolls back a transaction that is open."""
+        with self.turns:
+            self.cut()
+
+    def cut(self) -> None:
+        """Ends the connection, from any thread."""
+        self.is_open = False
+        self._wire.close()
+
+    @contextmanager
+    def understood(self) -> Iterator[None]:
+        """Closes the connection if an answer is none of this server's."""
+        try:
+            yield
+        except UnexpectedAnswer:
+            self.cut()
+            raise
+
+    async def _has_ended(self) -> bool:
+        with self.turns:
+            return not self.is_open or await self._wire.has_ended()
+
+    async def _send(self, *lines: str) -> None:
+        with self._call():
+            await self._write(lines)
+
+    async def _receive(self) -> str:
+        with self._call():
+            return await self._read()
+
+    async def _ask(self, *lines: str) -> list[str]:
+        answers: list[str] = []
+        with self._call():
+            for start in range(0, len(lines), MOST_UNANSWERED):
+                part = lines[start : start + MOST_UNANSWERED]
+                await self._write(part)
+                answers += [await self._read() for _ in part]
+        return answers
+
+    async def _write(self, lines: Iterable[str]) -> None:
+        text = "".join(line + "\n" for line in lines).encode("ascii")
+        if len(text) > self.bytes_left:
+            raise ConnectionLost(f"a session can't send more than {MOST_SESSION_BYTES} bytes")
+        await self._wire.write(text, self._timeout)
+        self.bytes_left -= len(text)
+
+    async def _read(self) -> str:
+        answer = await self._wire.read_line(self._timeout)
+        if len(answer) >= MOST_ANSWER_BYTES:
+            raise UnexpectedAnswer("what answers is no such server: the answer is too long")
+        if not answer.endswith(b"\n"):
+            # Nothing more is known here: a server ends a connection without a word.
+            raise ConnectionLost(
+                "the server ended the connection: it was stopped, or the connection was idle or its transaction open for too"
+                " long, or an operator ended it"
+            )
+        if not self.is_held and answer == FULL:
+            raise SessionsTaken("all sessions of the server are taken: it connected, and refused the client")
+        self.is_held, self._timeout = True, self._answer_timeout
+        return answer[:-1].decode("ascii", "replace")
+
+    @contextmanager
+    def _call(self) -> Iterator[None]:
+        """A call, which closes the connection if it fails."""
+        with self.turns:
+            if not self.is_open:
+                raise ConnectionLost("the connection is closed")
+            try:
+                yield
+            except socket.timeout as fault:
+                self.cut()
+                raise self._too_late() from fault
+            except OSError as fault:
+                self.cut()
+                raise ConnectionLost(f"the connection ended ({fault})") from fault
+            except BaseException:
+                self.cut()
+                raise
+
+    def _too_late(self) -> TimedOut:
+        """What to raise if no answer came in time."""
+        if self.is_held:
+            return TimedOut(f"no answer came within {self._timeout} seconds, and the connection was closed")
+        return SessionsTaken(
+            f"all sessions of the server are taken, or it has stopped: it connected, and did not answer within {self._timeout}"
+            " seconds"
+        )
+
+
+# Transactions
+
+
+class TransactionCore:
+    """A transaction of a session."""
+
+    def __init__(self, session: SessionCore, number: int, attempt: int = 1) -> None:
+        self.session = session
+        # Its number, which no other transaction of the server has.
+        self.number = number
+        # Which try it is, of `Client.run` or `Client.attempts`.
+        self.attempt = attempt
+        # The number of its commit, once it is committed.
+        self.commit_number: Optional[int] = None
+        self._is_over = False
+
+    def __del__(self, warn: Callable[..., None] = warnings.warn) -> None:
+        if self.is_open:
+            self.session.cut()
+            warn(f"transaction {self.number} was left open, and is rolled back", ResourceWarning, source=self)
+
+    @property
+    def is_open(self) -> bool:
+        """Whether it can be asked for more: it was neither committed nor aborted, and its connection was not closed."""
+        return self.session.is_open and not self._is_over
+
+    async def _ask_all(self, operations: Iterable[Operation[Result]]) -> list[Result]:
+        self._must_not_be_over()
+        asked = list(operations)
+        answers = await self.session._ask(*(operation.line for operation in asked))
+        with self.session.understood():
+            return [operation.result(answer) for operation, answer in zip(asked, answers)]
+
+    async def _commit(self) -> int:
+        self._must_not_be_over()
+        with self.session.turns:
+            if await self.session._has_ended():
+                self.session.cut()
+                raise ConnectionLost("the connection ended before the commit")
+            await self.session._send("commit")
+            try:
+                answer = await self.session._receive()
+            except ConnectionLost as lost:
+                self._is_over = True
+                LOG.warning("it is not known whether transaction %d was committed: %s", self.number, lost)
+                raise CommitUnknown(self.number) from lost
+            with self.session.understood():
+                self.commit_number = number_behind("committed", answer)
+            self._is_over = True
+            return self.commit_number
+
+    async def _abort(self) -> None:
+        self._must_not_be_over()
+        with self.session.turns:
+            self._is_over = True
+            answer = (await self.session._ask("abort"))[0]
+            if answer != "aborted":
+                with self.session.understood():
+                    raise refusal(answer)
+
+    async def _leave(self, is_well: bool) -> None:
+        """Commits at a good end of a block, and aborts at another one. If the connection ends meanwhile, the server rolls the
+        transaction back."""
+        try:
+            if is_well and not self._is_over:
+                await self._commit()
+        finally:
+            if self.is_open:
+                try:
+                    await self._abort()
+                except ConnectionLost:
+                    pass
+
+    def _must_not_be_over(self) -> None:
+        if self._is_over:
+            ended = f"committed as number {self.commit_number}" if self.commit_number else "ended"
+            raise TransactionOver(f"transaction {self.number} was {ended} before")
+
+
+@dataclass(frozen=True)
+class Retries:
+    """How often a transaction is tried, and how long is the pause between two tries, in seconds.
+
+    There are at most `attempts` tries, by default 20, and at most `connects` in a row, by default 3, at a server that is away or
+    whose sessions are all taken. If `seconds` is given, no try begins later than that after the first one; then the two numbers
+    only count if they are given too. An operation that waits is not cut short: that is for `answer_timeout`.
+
+    The pause before try n + 1 is drawn from 0 up to `first_pause * 2**(n - 1)`, or up to `longest_pause` if that is less. So
+    clients that were in each other's way come back at different times."""
+
+    attempts: Optional[int] = None
+    first_pause: float = 0.01
+    longest_pause: float = 1.0
+    connects: Optional[int] = None
+    seconds: Optional[float] = None
+
+    def __post_init__(self) -> None:
+        for name, count in (("attempts", self.attempts), ("connects", self.connects)):
+            if count is not None and count < 1:
+                raise ValueError(f"{name} has to be at least 1, and is {count}")
+        if self.seconds is not None and self.seconds < 0:
+            raise ValueError(f"seconds has to be at least 0, and is {self.seconds}")
+
+    def most(self, given: Optional[int], default: int) -> float:
+        """How many tries there may be, of all or in a row."""
+        return given if given is not None else default if self.seconds is None else float("inf")
+
+    def pauses(self) -> Iterator[float]:
+        """The pauses between the tries, one fewer than these."""
+        most, number = self.first_pause, 1
+        while number < self.most(self.attempts, 20):
+            yield random.uniform(0, min(most, self.longest_pause))
+            most, number = min(2 * most, self.longest_pause), number + 1
+
+
+# What leaves nothing of a transaction, so that it may be tried again.
+AGAIN = (GaveUp, ConnectionLost)
+
+
+class Tries:
+    """The tries of one transaction."""
+
+    def __init__(self, retries: Retries, on_retry: Optional[OnRetry]) -> None:
+        self._retries, self._on_retry = retries, on_retry
+        self._pauses = retries.pauses()
+        self._until = time.monotonic() + (float("inf") if retries.seconds is None else retries.seconds)
+        self._in_vain = 0
+        # The number of the next try, and the pause before it.
+        self.number = 1
+        self.pause = 0.0
+
+    def go_on(self, failure: MltxError, tx: Optional[TransactionCore] = None) -> bool:
+        """Whether there is another try after this failure."""
+        self._in_vain = self._in_vain + 1 if isinstance(failure, (ServerAway, SessionsTaken)) else 0
+        pause, left = next(self._pauses, None), self._until - time.monotonic()
+        is_committed = tx is not None and tx.commit_number is not None
+        most = self._retries.most(self._retries.connects, 3)
+        if is_committed or pause is None or left <= 0 or self._in_vain >= most:
+            return False
+        self.pause = min(pause, left)
+        LOG.info("try %d failed, and the next one is in %.3f seconds: %s", self.number, self.pause, failure)
+        if self._on_retry:
+            self._on_retry(self.number, failure, self.pause)
+        self.number += 1
+        return True
+
+
+# Clients
+
+
+class Numbers:
+    """The numbers of transactions that the clients of a server have seen: within a server they only rise."""
+
+    def __init__(self) -> None:
+        self._lock = threading.Lock()
+        # How often the server was another one, and the greatest number of the last.
+        self._seen = (0, 0)
+
+    def seen(self) -> tuple[int, int]:
+        """What is seen now, before a transaction is begun."""
+        return self._seen
+
+    def note(self, number: int, seen: tuple[int, int]) -> None:
+        """Notes the number of a transaction that was begun after this was seen. Raises `ServerRestarted`."""
+        is_other = number <= seen[1]
+        with self._lock:
+            servers, greatest = self._seen
+            if seen[0] == servers and is_other:
+                self._seen = (servers + 1, number)
+            elif seen[0] == servers or is_other:
+                self._seen = (servers, max(greatest, number))
+        if is_other:
+            LOG.warning("the server is another one than before")
+            raise ServerRestarted(f"the server is another one than before: it began transaction {number} after {seen[1]}")
+
+
+Session = TypeVar("Session", bound=SessionCore)
+Tx = TypeVar("Tx", bound=TransactionCore)
+
+
+class ClientCore(Generic[Session, Tx]):
+    """A client of the server at an address. It connects when it has to, and again if its connection has ended."""
+
+    def __init__(
+        self,
+        address: Optional[str] = None,
+        port: Optional[int] = None,
+        *,
+        connect_timeout: Optional[float] = 5.0,
+        answer_timeout: Optional[float] = None,
+        session_timeout: Optional[float] = 5.0,
+        retries: Retries = Retries(),
+        on_retry: Optional[OnRetry] = None,
+    ) -> None:
+        """The address is a `HOST:PORT`, or a host before its port, and by default that of the environment variable MLTX_ADDR.
+
+        The timeouts are in seconds, and None waits for ever. `session_timeout` is for the first answer on a connection, which
+        comes as soon as the server holds the session, and `answer_timeout` for the others: an operation may wait as long as
+        another transaction stays open. `on_retry(attempt, failure, pause)` is called for each try that failed, before the pause
+        that precedes the next one."""
+        self.host, self.port = find_address(address, port)
+        self.connect_timeout = connect_timeout
+        self.answer_timeout = answer_timeout
+        self.session_timeout = session_timeout
+        self.retries = retries
+        self.on_retry = on_retry
+        self._turns = self._new_turns()
+        self._numbers = Numbers()
+        self._last: Optional[Session] = None
+
+    # What differs between the two clients.
+
+    def _new_turns(self) -> Turns:
+        return Turns()
+
+    async def _connect(self) -> Session:
+        raise NotImplementedError
+
+    def _transaction(self, session: Session, number: int, attempt: int) -> Tx:
+        raise NotImplementedError
+
+    async def _sleep(self, seconds: float) -> None:
+        raise NotImplementedError
+
+    # What they share.
+
+    def close(self) -> None:
+        """Ends the connection, if there is one. The server rolls back a transaction that is open."""
+        with self._turns:
+            if self._last:
+                self._last.cut()
+                self._last = None
+
+    async def _session(self) -> Session:
+        with self._turns:
+            if self._last is None or await self._last._has_ended():
+                self.close()
+                self._last = await self._connect()
+                LOG.debug("connected to %s:%d", self.host, self.port)
+            return self._last
+
+    async def _begin(self, attempt: int = 1) -> Tx:
+        with self._turns:
+            session = await self._session()
+            if session.bytes_left < TRANSACTION_BYTES and not self._turns.has_open():
+                self.close()
+                session = await self._session()
+            seen = self._numbers.seen()
+            answer = (await session._ask("begin"))[0]
+            with session.understood():
+                number = number_behind("begun", answer)
+            try:
+                self._numbers.note(number, seen)
+            except ServerRestarted:
+                self.close()
+                raise
+            tx = self._transaction(session, number, attempt)
+            self._turns.last = weakref.ref(tx)
+            return tx
+
+    def _tries(self, retries: Optional[Retries]) -> Tries:
+        return Tries(retries or self.retries, self.on_retry)
+
+    async def _try(self, tries: Tries) -> Tx:
+        """Begins the next try, after its pause."""
+        while True:
+            if tries.pause:
+                await self._sleep(tries.pause)
+            try:
+                return await self._begin(tries.number)
+            except AGAIN as failure:
+                if not tries.go_on(failure):
+                    raise
+
+    async def _run(self, function: Callable[[Tx], Awaitable[Result]], retries: Optional[Retries]) -> Result:
+        tries = self._tries(retries)
+        while True:
+            tx = await self._try(tries)
+            try:
+                try:
+                    result = await function(tx)
+                except BaseException:
+                    await tx._leave(False)
+                    raise
+                await tx._leave(True)
+                return result
+            except AGAIN as failure:
+                if not tries.go_on(failure, tx):
+                    raise
+
+
+class AttemptCore(Generic[Tx]):
+    """A try of a transaction, which is a block."""
+
+    def __init__(self, client: ClientCore[Any, Tx], tries: Tries) -> None:
+        self._client, self._tries = client, tries
+        self._tx: Optional[Tx] = None
+        self.is_last = True
+
+    async def _enter(self) -> Tx:
+        self._tx = await self._client._try(self._tries)
+        return self._tx
+
+    async def _leave(self, failure: Optional[BaseException]) -> bool:
+        """Commits, or aborts at a failure. Answers whether there is another try, in which case the failure is not raised."""
+        if self._tx:
+            await self._tx._leave(failure is None)
+        self.is_last = not (isinstance(failure, AGAIN) and self._tries.go_on(failure, self._tx))
+        return not self.is_last
+
+
+AttemptOf = TypeVar("AttemptOf", bound=AttemptCore[Any])
+
+
+def until_last(make: Callable[[], AttemptOf]) -> Iterator[AttemptOf]:
+    """Attempts, up to the last one."""
+    while True:
+        attempt = make()
+        yield attempt
+        if attempt.is_last:
+            return
+
+
+ClientOf = TypeVar("ClientOf", bound=ClientCore[Any, Any])
+
+
+class PoolCore(Generic[ClientOf]):
+    """A bounded number of clients of one server. Each connects when it is first used, and again if its connection has ended.
+    They share what they know of the server: the first that finds another one raises `ServerRestarted`, with those that were just
+    beginning a transaction, and the others don't."""
+
+    def __init__(self, clients: list[ClientOf], timeout: Optional[float]) -> None:
+        if not clients:
+            raise ValueError("size has to be at least 1")
+        self.timeout = timeout
+        self.is_closed = False
+        self._lock = threading.Lock()
+        # All clients, those that are free, and the futures of those that wait for one, the longest first.
+        self._clients, self._free, self._waiting = clients, list(clients), list[Any]()
+        for client in clients:
+            client._numbers = clients[0]._numbers
+
+    def _future(self) -> Any:
+        raise NotImplementedError
+
+    async def _wait(self, future: Any) -> None:
+        """Returns once the future is done, or after the timeout."""
+        raise NotImplementedError
+
+    async def _take(self) -> ClientOf:
+        future, was_waited_for = self._future(), False
+        with self._lock:
+            self._waiting.append(future)
+        self._hand_over()
+        try:
+            await self._wait(future)
+            was_waited_for = True
+        finally:
+            with self._lock:
+                if future in self._waiting:
+                    self._waiting.remove(future)
+            if future.done() and (self.is_closed or not was_waited_for):
+                self._put(future.result())
+        if self.is_closed:
+            raise RuntimeError("the pool is closed")
+        if not future.done():
+            raise PoolTimeout(f"all {len(self._clients)} clients of the pool were in use for {self.timeout} seconds")
+        client: ClientOf = future.result()
+        return client
+
+    def _hand_over(self) -> None:
+        """Gives the clients that are free to those that wait."""
+        with self._lock:
+            while self._free and self._waiting:
+                self._waiting.pop(0).set_result(self._free.pop())
+
+    def _put(self, client: ClientOf) -> None:
+        with self._lock:
+            self._free.append(client)
+        self._hand_over()
+
+    def _give_back(self, client: ClientOf) -> None:
+        try:
+            if self.is_closed or client._turns.has_open():
+                client.close()
+        finally:
+            self._put(client)
+
+    def close(self) -> None:
+        """Ends the connections. One that is in use ends when it is given back."""
+        self.is_closed = True
+        for client in self._clients:
+            if not client._turns.has_open():
+                with suppress(WrongThread):
+                    client.close()
