@@ -299,7 +299,7 @@ def page_shows_what_is_written(mltx: Program, page: str) -> None:
         for words, wanted in commands_of(block):
             if words[0] == "cat":
                 same((mltx.folder / words[1]).read_text(), wanted, " ".join(words))
-            elif words[0].endswith("mltx") and words[1] != "serve":
+            elif words[0].endswith("mltx") and words[1] not in ("serve", "shell"):
                 words += ["--workers", "1"] if words[1] == "run" else []
                 ran = mltx.run(*(ROOT / word if word.startswith("examples/") else word for word in words[1:]))
                 same((ran.out + ran.err).decode(), wanted, " ".join(words))

@@ -12,6 +12,7 @@ import time
 from collections.abc import Iterator
 from contextlib import contextmanager
 from pathlib import Path
+from typing import IO, cast
 
 from client import FOLDER, SILENCE, Relay, connected, shown_in
 from harness import BROKEN, PATIENCE, Address, Failed, Program, Ran, Server, cut_for, each, expect, free_address, holds, lines
@@ -57,6 +58,8 @@ PIPED = {
         "begun 1|connected; transaction 1 is open|transaction 1 is rolled back",
         "",
     ),
+    "prompt-of-an-exit": ("begin|exit|up 7 1", "begun 1|transaction 1 is rolled back", ""),
+    "prompt-of-a-backslash-q": ("begin|\\q|up 7 1", "begun 1|transaction 1 is rolled back", ""),
     "prompt-of-an-input-that-ends-in-a-transaction": (
         "begin|up 7 1",
         "begun 1|done",
@@ -65,7 +68,7 @@ PIPED = {
     "prompt-ends-at-an-unknown-line": (
         "begin|up 7 1|upp 7 1|commit",
         "begun 1|done",
-        "upp: there is no such line; `help` lists all|standard input, line 3: upp 7 1"
+        "upp: there is no such line; did you mean `up`? `help` lists all|standard input, line 3: upp 7 1"
         "|transaction 1 was open at the end, and is rolled back",
     ),
     "prompt-ends-at-an-error": (
@@ -99,7 +102,9 @@ FAILS = {
         ":waits", "the operator's address is not known: give it as `--admin HOST:PORT` behind the server's",
     ),
     "prompt-of-words-behind-waits": (":waits 1", "nothing stands behind `:waits`; nothing was sent"),
-    "prompt-of-another-colon": (":wait", ":wait: there is no such line; `help` lists all"),
+    "prompt-of-another-colon": (":wait", ":wait: there is no such line; did you mean `:waits`? `help` lists all"),
+    "prompt-of-a-nearly-right-word": ("balence 1", "balence: there is no such line; did you mean `balance`? `help` lists all"),
+    "prompt-of-the-word-of-others": ("rollback", "rollback: there is no such line; did you mean `abort`? `help` lists all"),
     "prompt-of-no-number": ("up 7 x", "it is `up COUNTER AMOUNT`, with numbers; nothing was sent"),
     "prompt-of-a-file-that-is-not-there": (
         "source none.txt",
@@ -128,8 +133,8 @@ def help_of_the_prompt(mltx: Program) -> None:
         ran = typed(server.address, "help\nhelp deposit\n? read\nhelp source\nhelp nothing\n")
     out = ran.out.decode()
     calls = "open ACCOUNT", "add SET ELEMENT", "size SET", "up COUNTER AMOUNT"
-    for usage in (*calls, "begin", "source FILE", ":status", ":waits", "quit"):
-        holds(re.search(rf"(?m)^{usage} ", out), f"{usage} is listed in {out}")
+    for usage in (*calls, "begin", "source FILE", ":status", ":waits", ":watch", "\\timing", "quit"):
+        holds(re.search(rf"(?m)^{re.escape(usage)} ", out), f"{usage} is listed in {out}")
     deposit = (
         "deposit ACCOUNT AMOUNT|    asks for so much more in the account"
         "|    ACCOUNT is 0 to 4294967295, AMOUNT is 0 to 18446744073709551615"
@@ -248,6 +253,69 @@ def prompt_that_asks_the_operator(mltx: Program) -> None:
         holds(re.fullmatch(said, ran.err), f"what is said: {ran}")
 
 
+@test(seconds=3)
+def prompt_that_watches(mltx: Program) -> None:
+    """Behind the numbers it says each second what has changed, until it is interrupted; then it goes on."""
+    with mltx.serve(limit=3, admin=free_address()) as server, connected(server) as client:
+        words = [*SHELL, "%s:%d" % server.address, "--admin", "%s:%d" % server.admin]
+        with subprocess.Popen(words, stdin=subprocess.PIPE, stdout=subprocess.PIPE, preexec_fn=heed_interrupts) as process:
+            asked, told = cast(IO[bytes], process.stdin), cast(IO[bytes], process.stdout)
+            asked.write(b":watch\n:waits\n")
+            asked.flush()
+            while not told.readline().startswith(b"stopping "):
+                pass
+            client.run(lambda tx: tx.up(7, 1))
+            while (line := told.readline()) == b"no change\n":
+                pass
+            holds(b"commits 1 (+1)" in line.rstrip().split(b", "), f"what has changed: {line!r}")
+            process.send_signal(signal.SIGINT)
+            rest, _ = process.communicate(timeout=PATIENCE)
+            holds(rest.endswith(b"\nno transaction waits\n"), f"what follows: {rest!r}")
+            same(process.returncode, 0, "the status")
+
+
+# Operations of `-c`, after each other at one server: what is written, what standard error says, in which case the status is 1.
+ONCE = [
+    ("deposit 101 5", "missing: there is no such account", "rolled back, since `deposit 101 5` could not be done"),
+    ("open 101; open 102;deposit 101 50", "opened|opened|done", ""),
+    ("open 101 ; deposit 101 5", "exists: the account was there before|done", ""),
+    ("withdraw 101 30; deposit 102 30", "done|done", ""),
+    ("deposit 102 30; withdraw 101 30; up 7 1", "done|short: the balance is too low",
+     "rolled back, since `withdraw 101 30` could not be done"),
+    ("balance 101; balance 102; read 7", "is 25|is 30|is 0", ""),
+    ("close 101", "notempty: the balance is not 0", "rolled back, since `close 101` could not be done"),
+    ("up 7 1; upp 7 1", "", "upp: there is no such line; did you mean `up`? `help` lists all"),
+    ("begin", "", "begin: `-c` takes operations alone, and is a transaction"),
+    ("up 7", "", "up takes counter, amount, and was given 1 number; it is `up COUNTER AMOUNT`; nothing was sent"),
+    ("", "", ""),
+]
+
+
+@test(seconds=2)
+def prompt_of_one_transaction(mltx: Program) -> None:
+    """It is committed as a whole or not at all, and run again after it gave up. The address may stand in the environment."""
+    trace, env = mltx.folder / "trace", os.environ.copy()
+    with mltx.serve("--trace", trace, limit=1 + len(ONCE) - 3) as server:
+        connected(server).close()
+        for number, (given, out, err) in enumerate(ONCE):
+            env["MLTX_ADDR"] = "127.0.0.1:9" if number % 2 else "%s:%d" % server.address
+            address = ["%s:%d" % server.address] * (number % 2)
+            ran = subprocess.run([*SHELL, *address, "-c", given], capture_output=True, env=env, timeout=PATIENCE)
+            found = Ran(ran.returncode, ran.stdout, ran.stderr)
+            expect(found, status=1 if err else 0, out=lines(out), err=lines(err), what=given)
+        expect(server.end(), out=f"served {1 + len(ONCE) - 3}\n")
+    checked = "serial 2|serial 3|serial 4|serial 6|serial 8|account 101 25|account 102 30"
+    expect(mltx.check(trace), out=lines(checked), what="the check of the trace")
+    with mltx.serve("--tries", 1, limit=2) as server, connected(server) as holder, holder.begin() as held:
+        held.up(7, 1)
+        with subprocess.Popen([*SHELL, "%s:%d" % server.address, "-c", "read 7"], stdout=subprocess.PIPE) as process:
+            time.sleep(1)
+            held.commit()
+            same((process.communicate(timeout=PATIENCE)[0], process.returncode), (b"is 1\n", 0), "what is read at last")
+    ran = subprocess.run([*SHELL, "%s:%d" % free_address(), "-c", "read 7"], capture_output=True, timeout=PATIENCE)
+    same((ran.returncode, ran.stdout), (1, b""), "a server that is not there")
+
+
 @test
 def prompt_that_nobody_reads(mltx: Program) -> None:
     """Its output is a pipe whose other end is closed, as behind `| head`: it ends without a word, and commits nothing more."""
@@ -270,9 +338,10 @@ def prompt_that_nobody_reads(mltx: Program) -> None:
 def words_of_the_prompt(_mltx: Program) -> None:
     """A wrong command line has status 2."""
     good, admin = "127.0.0.1:7000", "--admin"
-    wrong: list[list[str]] = [[], ["nowhere"], ["127.0.0.1:0"], [good, "more"], ["--what", good]]
+    wrong: list[list[str]] = [[], ["nowhere"], ["127.0.0.1:0"], [good, "more"], ["--what", good], [good, "-c"]]
+    env = {name: value for name, value in os.environ.items() if name != "MLTX_ADDR"}
     for words in (*wrong, [good, admin], [good, admin, "nowhere"], [good, admin, "127.0.0.1:0"]):
-        ran = subprocess.run([*SHELL, *words], stdin=subprocess.DEVNULL, capture_output=True, timeout=PATIENCE)
+        ran = subprocess.run([*SHELL, *words], stdin=subprocess.DEVNULL, capture_output=True, env=env, timeout=PATIENCE)
         same((ran.returncode, ran.stdout), (2, b""), f"{words}")
         holds(ran.stderr.startswith(b"usage: "), f"{words}: {ran.stderr!r}")
 
@@ -354,6 +423,13 @@ def prompt_at_a_terminal(mltx: Program) -> None:
             it.ask("foo", "`help` lists all\nmltx [1]> ")
             it.ask("up 7 1", "done\nmltx [1]> ")
             it.ask("commit", "committed 1\nmltx (committed 1)> ")
+            it.type("deposit \t")
+            it.until("deposit \ndeposit ACCOUNT AMOUNT\nmltx (committed 1)> deposit ")
+            it.ask("7", "it is `deposit ACCOUNT AMOUNT`; nothing was sent\nmltx (committed 1)> ")
+            it.ask("\\ti\t", "timing is on\nmltx (committed 1)> ")
+            shown = it.ask("read 7", " ms\nmltx (committed 1)> ")
+            holds(re.fullmatch(r"read 7\nerror 3 NoSuchTx.*\n\d+\.\d ms\n.*> ", shown), f"the time: {shown!r}")
+            it.ask("\\timing", "timing is off\nmltx (committed 1)> ")
             it.ask("begin", "begun 2\nmltx [2]> ")
             it.type("half a line")
             it.until("half a line")
@@ -361,7 +437,7 @@ def prompt_at_a_terminal(mltx: Program) -> None:
             it.until("mltx [2]> ")
             it.ask("abort", "aborted\nmltx (aborted)> ")
             it.ask("help dep\t", "deposit ACCOUNT AMOUNT\n")
-            it.ask(":wa\t", "the operator's address is not known")
+            it.ask(":wai\t", "the operator's address is not known")
             it.until("mltx (aborted)> ")
             it.type("\x10\x10\x10\x10\n")
             it.until("begun 3\nmltx [3]> ")
@@ -420,10 +496,10 @@ def server_goes_away_at_a_terminal(mltx: Program) -> None:
 
 @test
 def readme_of_the_prompt_runs(mltx: Program) -> None:
-    """The lines on the client's page are answered as the page shows."""
+    """What the client's page gives to `-c` is answered as the page shows."""
     page = (FOLDER / "README.md").read_text()
     with mltx.serve(limit=2) as server:
         connected(server).close()
-        shown = shown_in(page, "## A prompt")
-        script = match(r"printf '(.*)' \| python3 mltx_shell.py 127.0.0.1:7000", shown)[1].replace("\\n", "\n")
-        expect(typed(server.address, script), out=shown_in(page.partition("## A prompt")[2], "writes"))
+        script = match(r'\$ mltx shell 127.0.0.1:7000 -c "(.*)"\n', shown_in(page, "## A prompt"))[1]
+        ran = typed(server.address, "", "-c", script)
+        expect(Ran(ran.status, ran.out, b""), status=1, out=shown_in(page.partition("## A prompt")[2], "writes"))

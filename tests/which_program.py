@@ -187,6 +187,17 @@ def first_run_by_way_of_a_link(mltx: Program) -> None:
 
 
 @test
+def first_run_of_the_prompt(mltx: Program) -> None:
+    """It is a program in Python that gets the other words, and nothing is built for it."""
+    tree = Tree(mltx)
+    shutil.copytree(ROOT / "clients/python", tree.top / "clients/python", ignore=shutil.ignore_patterns("__pycache__"))
+    ran = tree.run("shell", "no where")
+    same((ran.status, ran.out), (2, b""), "the status, and what is written")
+    holds(ran.err.endswith(b"mltx shell: error: an address is HOST:PORT, as 127.0.0.1:7000, and not 'no where'\n"), f"{ran}")
+    same((tree.asked(), tree.unproved.exists()), ("", False), "what rt is asked, and whether something is built")
+
+
+@test
 def unproved_program_is_optimised_and_not_watched(mltx: Program) -> None:
     """The compiler is asked to optimise, and else for the same; nothing of what watches accesses is linked."""
     tree = Tree(mltx)

@@ -1,5 +1,5 @@
 #!/usr/bin/env python3
-"""The prompt, run from this folder as `python3 mltx_shell.py HOST:PORT`."""
+"""The prompt, run from this folder as `python3 mltx_shell.py HOST:PORT`. `mltx shell`, at the top, runs it too."""
 
 import sys
 

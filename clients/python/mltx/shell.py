@@ -1,12 +1,13 @@
 """A prompt for a server that `mltx serve` runs.
 
-    python3 mltx_shell.py HOST:PORT [--admin HOST:PORT]
+    mltx shell [HOST:PORT] [--admin HOST:PORT] [-c OPERATIONS]
 
 Each line is one of a session, such as `begin`, `deposit 101 50` or `commit`, or a command of the prompt; `help` lists both.
 Those that begin with a colon ask the server's operator, whose address is that of `--admin`, as the server has it.
 Blank lines and lines that begin with `#` are skipped. The prompt says whether a transaction is open, with its number,
 and else how the last one ended. Without a terminal it reads lines from standard input up to the first that fails, and
-then the status is 1; a transaction that is open at the end is rolled back.
+then the status is 1; a transaction that is open at the end is rolled back. With `-c` it runs one transaction of operations
+with `;` between them.
 """
 
 from __future__ import annotations
@@ -14,27 +15,17 @@ from __future__ import annotations
 import argparse
 import atexit
 import cmd
+import difflib
 import glob
 import io
 import os
 import sys
-from collections.abc import Iterable
+import time
+from collections.abc import Callable, Iterable
 from pathlib import Path
 from typing import Any, Optional
 
-from . import (
-    FORMS,
-    Client,
-    CommitUnknown,
-    ConnectionLost,
-    Form,
-    MltxError,
-    Operator,
-    Reply,
-    Transaction,
-    Wait,
-    parse_address,
-)
+from . import FORMS, Client, CommitUnknown, ConnectionLost, Form, MltxError, Operation, Operator, Reply, Transaction, Wait
 
 try:
     import readline
@@ -46,6 +37,13 @@ except ImportError:
 MOST_FILES = 16
 # How many lines of history are kept from one use to the next.
 MOST_HISTORY = 1_000
+# How long `:watch` pauses, in seconds.
+WATCH_PAUSE = 1.0
+# Other words for the end, and words of other systems for lines.
+ENDS = ("exit", "\\q")
+SYNONYMS = {"rollback": "abort", "start": "begin"}
+# The replies of operations that could not be done.
+NOT_DONE = [str(reply) for reply in (Reply.MISSING, Reply.SHORT, Reply.OVER, Reply.NOT_EMPTY)]
 
 
 class LineFailed(Exception):
@@ -66,6 +64,8 @@ class Shell(cmd.Cmd):
         self.failed = False
         # How many files run one another now.
         self.files = 0
+        # Whether each line is followed by how long it took.
+        self.is_timed = False
         self.prompt = "mltx> "
 
     # How lines come in.
@@ -95,8 +95,9 @@ class Shell(cmd.Cmd):
     def onecmd(self, line: str) -> bool:
         """Runs one line, and answers whether it ends the session."""
         self.failed = False
+        is_timed, began = self.is_timed and line.strip(), time.monotonic()
         try:
-            return bool(super().onecmd(line))
+            return bool(super().onecmd("quit" if line.strip() in ENDS else line))
         except LineFailed as failure:
             self.fail(str(failure))
         except CommitUnknown as unknown:
@@ -110,6 +111,8 @@ class Shell(cmd.Cmd):
             self.fail(self.interrupted(line))
         finally:
             self.prompt = f"mltx{self.standing()}> "
+            if is_timed and self.is_timed:
+                self.say(f"{1_000 * (time.monotonic() - began):.1f} ms")
         return False
 
     def emptyline(self) -> bool:
@@ -119,24 +122,16 @@ class Shell(cmd.Cmd):
         word, *values = line.split()
         if word.startswith("#"):
             return
-        if word in OPERATOR_COMMANDS:
+        if word in OTHER_COMMANDS:
             nothing_behind(word, " ".join(values))
-            OPERATOR_COMMANDS[word](self)
+            OTHER_COMMANDS[word](self)
             return
-        if word not in FORMS:
-            raise LineFailed(f"{word}: there is no such line; `help` lists all")
-        self.ask(FORMS[word], values)
+        self.ask(operation_of(line))
 
     # What lines do.
 
-    def ask(self, form: Form[Any], values: list[str]) -> None:
+    def ask(self, operation: Operation[Any]) -> None:
         """Asks for an operation, and says its reply in words."""
-        if not all(value.isascii() and value.isdecimal() for value in values):
-            raise LineFailed(f"it is `{usage(form)}`, with numbers; nothing was sent")
-        try:
-            operation = form.of(*map(int, values))
-        except (TypeError, ValueError) as fault:
-            raise LineFailed(f"{fault}; it is `{usage(form)}`; nothing was sent") from None
         session = self.tx.session if self.tx else self.client.session()
         answer = session.ask(operation.line)[0]
         with session.understood():
@@ -181,10 +176,32 @@ class Shell(cmd.Cmd):
         else:
             self.say("connected; no transaction is open" + (f", the last one: {self.last}" if self.last else ""))
 
-    def show_status(self) -> None:
+    def switch_timing(self) -> None:
+        """\\timing
+        says behind each further line how long it took, or no longer does"""
+        self.is_timed = not self.is_timed
+        self.say(f"timing is {'on' if self.is_timed else 'off'}")
+
+    def show_status(self) -> dict[str, int]:
         """:status
         says the server's numbers, as an operator sees them"""
-        self.say("\n".join(f"{name:16}{number}" for name, number in self.asked_operator().status().items()))
+        told = self.asked_operator().status()
+        self.say("\n".join(f"{name:16}{number}" for name, number in told.items()))
+        return told
+
+    def watch_status(self) -> None:
+        """:watch
+        says the server's numbers, and then each second those that have changed, until Ctrl-C"""
+        before = self.show_status()
+        try:
+            while True:
+                time.sleep(WATCH_PAUSE)
+                told = self.asked_operator().status()
+                changes = {name: number - before.get(name, 0) for name, number in told.items() if name != "seconds"}
+                self.say(", ".join(f"{name} {told[name]} ({by:+})" for name, by in changes.items() if by) or "no change")
+                before = told
+        except KeyboardInterrupt:
+            self.say("")
 
     def show_waits(self) -> None:
         """:waits
@@ -218,10 +235,10 @@ class Shell(cmd.Cmd):
         """quit
         ends; a transaction that is open is rolled back"""
         nothing_behind("quit", rest)
+        self.client.close()
         if self.tx:
             self.say(f"transaction {self.tx.number} is rolled back")
             self.tx = None
-        self.client.close()
         return True
 
     def do_EOF(self, _rest: str) -> bool:
@@ -294,12 +311,17 @@ class Shell(cmd.Cmd):
     # Completion.
 
     def completenames(self, text: str, *_ignored: Any) -> list[str]:
-        return [f"{word} " for word in (*FORMS, *COMMANDS) if word.startswith(text)]
+        return [f"{word} " for word in LINES if word.startswith(text)]
 
     def completedefault(self, *args: Any) -> list[str]:
-        # The colon is no part of the text.
+        """The rest of a word whose first character is no part of the text. Behind an operation its form is shown."""
         text, line = args[:2]
-        return [f"{word[1:]} " for word in OPERATOR_COMMANDS if line.startswith(":") and word.startswith(f":{text}")]
+        word, *rest = line.lstrip().split(" ")
+        if rest and word in FORMS:
+            print(f"\n{usage(FORMS[word])}\n{self.prompt}{line}", end="", flush=True)
+        if not word:
+            return self.completenames(text)
+        return [f"{it[1:]} " for it in OTHER_COMMANDS if not rest and it[0] == word[0] and it[1:].startswith(text)]
 
     def complete_help(self, *args: Any) -> list[str]:
         return self.completenames(*args)
@@ -311,9 +333,30 @@ class Shell(cmd.Cmd):
         return [(path + "/" if os.path.isdir(path) else path)[cut:] for path in sorted(found)]
 
 
-# What asks the operator of the server.
-OPERATOR_COMMANDS = {":status": Shell.show_status, ":waits": Shell.show_waits}
-COMMANDS = ("begin", "commit", "abort", "status", *OPERATOR_COMMANDS, "source", "help", "quit")
+# The commands that begin with another character than a letter.
+OTHER_COMMANDS: dict[str, Callable[[Shell], object]] = {
+    ":status": Shell.show_status,
+    ":waits": Shell.show_waits,
+    ":watch": Shell.watch_status,
+    "\\timing": Shell.switch_timing,
+}
+COMMANDS = ("begin", "commit", "abort", "status", *OTHER_COMMANDS, "source", "help", "quit")
+LINES = (*FORMS, *COMMANDS)
+
+
+def operation_of(line: str) -> Operation[Any]:
+    """The operation that a line is."""
+    word, *values = line.split()
+    form = FORMS.get(word)
+    if form is None:
+        near = [SYNONYMS[word]] if word in SYNONYMS else difflib.get_close_matches(word, LINES, 1)
+        raise LineFailed(f"{word}: there is no such line; {f'did you mean `{near[0]}`? ' if near else ''}`help` lists all")
+    if not all(value.isascii() and value.isdecimal() for value in values):
+        raise LineFailed(f"it is `{usage(form)}`, with numbers; nothing was sent")
+    try:
+        return form.of(*map(int, values))
+    except (TypeError, ValueError) as fault:
+        raise LineFailed(f"{fault}; it is `{usage(form)}`; nothing was sent") from None
 
 
 def nothing_behind(word: str, rest: str) -> None:
@@ -336,7 +379,7 @@ def form_help(form: Form[Any]) -> list[str]:
 
 def command_help(word: str) -> tuple[str, str]:
     """How a command is written, and what it does."""
-    method = OPERATOR_COMMANDS.get(word) or getattr(Shell, f"do_{word}")
+    method = OTHER_COMMANDS.get(word) or getattr(Shell, f"do_{word}")
     first, _, rest = (method.__doc__ or "").partition("\n")
     return first, " ".join(rest.split())
 
@@ -402,6 +445,38 @@ def run_shell(shell: Shell) -> int:
     return 0
 
 
+def replies_of(tx: Transaction, operations: list[Operation[Any]]) -> list[str]:
+    """The replies of operations, up to the first that could not be done, in which case the transaction is aborted."""
+    answers: list[str] = []
+    for operation in operations:
+        answers += tx.session.ask(operation.line)
+        with tx.session.understood():
+            operation.result(answers[-1])
+        if answers[-1] in NOT_DONE:
+            tx.abort()
+            break
+    return answers
+
+
+def run_once(client: Client, text: str) -> int:
+    """Runs the operations of `-c` as one transaction. Answers the status."""
+    lines = [line.strip() for line in text.replace(";", "\n").splitlines() if line.strip()]
+    try:
+        for word in (line.split()[0] for line in lines):
+            if word in COMMANDS:
+                raise LineFailed(f"{word}: `-c` takes operations alone, and is a transaction")
+        operations = [operation_of(line) for line in lines]
+        answers = client.run(lambda tx: replies_of(tx, operations))
+    except (LineFailed, MltxError) as failure:
+        print(readable(str(failure)), file=sys.stderr)
+        return 1
+    print("".join(in_words(answer) + "\n" for answer in answers), end="", flush=True)
+    if answers and answers[-1] in NOT_DONE:
+        print(f"rolled back, since `{lines[len(answers) - 1]}` could not be done", file=sys.stderr)
+        return 1
+    return 0
+
+
 def leave_output() -> None:
     """Has what is still to be written go nowhere, once it has no reader: else Python complains as it ends."""
     nowhere = os.open(os.devnull, os.O_WRONLY)
@@ -410,18 +485,20 @@ def leave_output() -> None:
 
 
 def main() -> int:
-    parser = argparse.ArgumentParser(description="A prompt for a server that `mltx serve` runs.")
-    parser.add_argument("address", metavar="HOST:PORT", help="where the server listens, as 127.0.0.1:7000")
+    parser = argparse.ArgumentParser(prog="mltx shell", description="A prompt for a server that `mltx serve` runs.")
+    address = "where the server listens, as 127.0.0.1:7000; the environment variable MLTX_ADDR, if this is not given"
+    parser.add_argument("address", metavar="HOST:PORT", nargs="?", help=address)
     parser.add_argument("--admin", metavar="HOST:PORT", help="where its operator connects, as the server's own `--admin` says")
+    parser.add_argument("-c", metavar="OPERATIONS", help="run these as one transaction, as `withdraw 101 5; deposit 102 5`")
     given = parser.parse_args()
     try:
-        host, port = parse_address(given.address)
-        operator = Operator(*parse_address(given.admin)) if given.admin is not None else None
+        client = Client(given.address)
+        operator = Operator(given.admin) if given.admin is not None else None
     except ValueError as fault:
         parser.error(str(fault))
     try:
-        with Client(host, port) as client:
-            return run_shell(Shell(client, operator))
+        with client:
+            return run_shell(Shell(client, operator)) if given.c is None else run_once(client, given.c)
     except BrokenPipeError:
         leave_output()
         return 1
