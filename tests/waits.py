@@ -221,8 +221,8 @@ def insert_that_doubles_gets_through(mltx: Program) -> None:
             expect(server.end(), out=f"served {readers + 1}\n")
 
 
-# After one GaveUp a session begins again after at least so many seconds, and after four in a row after eight times as many.
-RESTART, LONGEST_RESTART = 0.0512, 0.4096
+# After GaveUp a session begins again after at least so many seconds for each session that pauses.
+RESTART = 0.0064
 
 
 def moved(peer: Peer, one: int, other: int) -> bool:
@@ -270,11 +270,10 @@ def clients_that_begin_again_at_once_get_through(mltx: Program) -> None:
     holds(sum(committed) >= 100 and sum(gave_up) <= 2 * sum(committed) and max(most) <= 50, what)
 
 
-def gives_up(peer: Peer, times: int) -> None:
-    """So many transactions in a row give up, by the one try that each operation has."""
-    for _ in range(times):
-        same(peer.ask("begin").split()[0], "begun")
-        same([peer.ask("read 1"), peer.ask("abort")], ["error 14 GaveUp", "aborted"])
+def gives_up(peer: Peer) -> None:
+    """A transaction gives up, by the one try that each operation has."""
+    same(peer.ask("begin").split()[0], "begun")
+    same([peer.ask("read 1"), peer.ask("abort")], ["error 14 GaveUp", "aborted"])
 
 
 def number_begun(line: str) -> int:
@@ -285,7 +284,7 @@ def number_begun(line: str) -> int:
 
 @test(seconds=1)
 def a_session_that_gave_up_pauses_before_it_begins_again(mltx: Program) -> None:
-    """Forty that gave up four times in a row pause side by side, beside a restarted transaction that stays open. Three do not
+    """Forty that gave up pause side by side, beside a restarted transaction that stays open. Three do not
     pause: one never gave up, one has committed since, and one has aborted what did not give up."""
     count = 40
     with mltx.serve("--tries", 1, "--sessions", count + 5, limit=count + 5) as server:
@@ -294,14 +293,14 @@ def a_session_that_gave_up_pauses_before_it_begins_again(mltx: Program) -> None:
             peer.socket.settimeout(SOON)
         same([holder.ask("begin"), holder.ask("up 1 1")], ["begun 1", "done"])
         for peer in (committed, aborted, silent):
-            gives_up(peer, 1)
+            gives_up(peer)
         for peer, end in ((committed, "commit"), (aborted, "abort")):
             number_begun(peer.ask("begin"))
             peer.ask(end)
         number_begun(silent.ask("begin"))
-        with ThreadPoolExecutor(count) as threads:
-            list(threads.map(lambda peer: gives_up(peer, 4), restarted))
-        with takes(LONGEST_RESTART, count * LONGEST_RESTART, f"{count} began again"):
+        for peer in restarted:
+            gives_up(peer)
+        with takes(count / 4 * RESTART, count * count / 4 * RESTART, f"{count} began again"):
             for peer in restarted:
                 peer.send("begin\n")
             for peer in restarted:

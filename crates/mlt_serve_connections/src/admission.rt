@@ -2,7 +2,6 @@
 
 use crate::admission_queue::{AdmissionQueue, Pass};
 use crate::lines::is_one_line;
-use crate::restarts::Restarts;
 use crate::socket::Socket;
 use crate::tuning::EVENTS_PER_TURN;
 use mlt_event::{Answer, Told};
@@ -10,10 +9,10 @@ use mlt_object_kinds::ObjOp;
 use mlt_serve_seats::Sitting;
 use mlt_work_waits::{Gate, is_to_wait};
 use std::cell::Cell;
+use std::io;
 use std::io::{Read, Write};
 use std::sync::Wait;
 use std::time::Clock;
-use std::{io, thread};
 
 /// The way of a session. It goes to work with the lines that it has read, and leaves before it writes their answers, before it reads on,
 /// and where an operation is to wait, which so keeps nobody from work. Once awake it goes on outside, since it may have locks for which
@@ -25,8 +24,9 @@ pub struct Admission<'a, R: Wait + Clock> {
     pass: Cell<Option<Pass>>,
     /// How many events it has made since it went to work.
     events: Cell<u32>,
-    /// Before a restarted transaction begins it waits outside.
-    restarts: Restarts,
+    /// Whether its last transaction gave up. Then it pauses outside before the next one: clients that try again at once would
+    /// else take from one another what they need, again and again. First tries never wait.
+    gave_up: Cell<bool>,
     /// Where others see what it does.
     sitting: Sitting<'a, R>,
 }
@@ -43,7 +43,7 @@ impl<'a, R: Wait + Clock> Admission<'a, R> {
             admission_queue,
             pass: Cell::new(None),
             events: Cell::new(0),
-            restarts: Restarts::new(),
+            gave_up: Cell::new(false),
             sitting,
         }
     }
@@ -55,7 +55,7 @@ impl<'a, R: Wait + Clock> Admission<'a, R> {
             admission_queue,
             pass,
             events: _,
-            restarts: _,
+            gave_up: _,
             sitting,
         } = self;
         if let Some(pass) = pass.into_inner() {
@@ -93,9 +93,9 @@ impl<'a, R: Wait + Clock> Admission<'a, R> {
 
 impl<R: Wait + Clock> Gate for Admission<'_, R> {
     fn begin(&self, _client: u32) {
-        if let Some(pause) = self.restarts.pause() {
+        if self.gave_up.replace(false) {
             self.leave();
-            thread::sleep(self.rt, pause);
+            self.admission_queue.pause(self.rt);
         }
     }
 
@@ -133,7 +133,11 @@ impl<R: Wait + Clock> Admission<'_, R> {
     #[inline(never)]
     fn pause_between(&self, told: &Told) {
         self.sitting.note(told);
-        self.restarts.note(told);
+        match told {
+            Told::Cancelled => self.gave_up.set(true),
+            Told::Committed(_) => self.gave_up.set(false),
+            _ => (),
+        }
         if is_to_wait(told) {
             self.leave();
         } else if self.events.get() >= EVENTS_PER_TURN {

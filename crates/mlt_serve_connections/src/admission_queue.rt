@@ -1,9 +1,10 @@
-//! Admission control: few sessions are at work at a time, and the others queue.
+//! Admission control: few sessions are at work at a time, and the others queue or pause.
 
-use crate::tuning::{MOST_ADMITTED, MOST_BYPASSING};
-use std::array;
+use crate::tuning::{MOST_ADMITTED, MOST_BYPASSING, RESTART_MICROSECONDS};
 use std::sync::atomic::{AtomicU64, Ordering};
 use std::sync::{Condvar, Mutex, Wait};
+use std::time::{Clock, Duration};
+use std::{array, thread};
 
 /// With it a session is at work. It can't be dropped: the queue takes it back.
 #[derive(Debug)]
@@ -28,6 +29,8 @@ pub struct AdmissionQueue {
     condvars: [Condvar; 64],
     /// How many sessions are at work that have not queued.
     bypassing: AtomicU64,
+    /// How many sessions pause at the moment, each before a restarted transaction.
+    pausing: AtomicU64,
 }
 
 impl AdmissionQueue {
@@ -39,6 +42,7 @@ impl AdmissionQueue {
             lock: Mutex::new(()),
             condvars: array::from_fn(|_| Condvar::new()),
             bypassing: AtomicU64::new(0),
+            pausing: AtomicU64::new(0),
         }
     }
 
@@ -77,6 +81,14 @@ impl AdmissionQueue {
                     .notify_all();
             }
         }
+    }
+
+    /// Pauses before a restarted transaction, the longer the more sessions do.
+    pub(crate) fn pause<R: Wait + Clock>(&self, rt: &R) {
+        let others = self.pausing.fetch_add(1, Ordering::SeqCst);
+        let micros = RESTART_MICROSECONDS.saturating_mul(others.saturating_add(1));
+        thread::sleep(rt, Duration::from_micros(micros));
+        self.pausing.fetch_sub(1, Ordering::SeqCst);
     }
 
     // Whether the one of this number is admitted.

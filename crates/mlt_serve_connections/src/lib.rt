@@ -10,7 +10,6 @@ mod admission;
 mod admission_queue;
 mod closing;
 mod lines;
-mod restarts;
 mod socket;
 mod spin_policy;
 mod tuning;

@@ -10,11 +10,9 @@ pub(crate) const MOST_BYPASSING: u64 = 1;
 /// stream did 0.5 to 0.75.
 pub(crate) const EVENTS_PER_TURN: u32 = 64;
 
-/// For how many microseconds a session pauses after one transaction that gave up. By `retries`, 63 clients.
-pub(crate) const RESTART_MICROSECONDS: u64 = 51_200;
-
-/// How often that pause doubles at most, with each further one in a row. By `retries`.
-pub(crate) const MOST_RESTART_DOUBLINGS: u32 = 3;
+/// For how many microseconds a session pauses before a restarted transaction, times the sessions that pause. By `retries`, 63
+/// clients.
+pub(crate) const RESTART_MICROSECONDS: u64 = 6_400;
 
 /// How many times a read looks for bytes before it sleeps, for some ten microseconds. By `connections`, 1 and 2 of them.
 pub(crate) const READ_SPINS: u32 = 50;
