@@ -14,7 +14,7 @@ use std::io::Write;
 
 /// The line that tells of a fault. Its `Display` writes `mltx: N NAME`, for a faulty script or trace
 /// ` line L CAUSE` after it, and a line feed.
-#[derive(Clone, Copy, Debug)]
+#[derive(Drop)]
 pub struct FaultLine(pub Refusal);
 
 impl fmt::Display for FaultLine {

@@ -3,7 +3,7 @@
 use mlt_types::{ScriptCause, TraceCause};
 
 /// What a text is read as.
-#[derive(Clone, Copy, Debug, PartialEq, Eq)]
+#[derive(Clone, Copy)]
 pub(crate) enum TextKind {
     /// Scripts.
     Scripts,
@@ -14,7 +14,7 @@ pub(crate) enum TextKind {
 }
 
 /// What is wrong with a line of a text, by what the text was read as.
-#[derive(Clone, Copy, Debug, PartialEq, Eq)]
+#[derive(Clone, Copy)]
 pub enum TextFault {
     /// Scripts, as `solo` and `run` read them.
     Scripts(ScriptCause),

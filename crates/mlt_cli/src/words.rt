@@ -10,7 +10,7 @@ use mlt_object_tables::TableName;
 use std::alloc::{AllocError, Global};
 
 /// A hash function of the pages, by its name.
-#[derive(Clone, Copy, Debug, PartialEq, Eq)]
+#[derive(Clone, Copy, Debug)]
 pub enum Hash {
     /// The number of a key, times a large odd number modulo 2^64.
     Mult,
@@ -78,7 +78,7 @@ pub struct Check {
 }
 
 /// How many connections a server takes in all.
-#[derive(Clone, Copy, Debug, PartialEq, Eq)]
+#[derive(Clone, Copy, Debug)]
 pub enum Connections {
     /// So many, from 1 to 1,000,000.
     Limit(u32),
@@ -87,7 +87,7 @@ pub enum Connections {
 }
 
 /// After how many seconds a server gives up, each from 0 to 86,400. 0 is never, also where none is said.
-#[derive(Clone, Copy, Debug, PartialEq, Eq)]
+#[derive(Clone, Copy, Debug)]
 pub struct Times {
     /// After how many seconds an idle connection is closed.
     pub idle: u64,
@@ -133,7 +133,7 @@ pub enum Job {
 }
 
 /// What the words of the command line ask for.
-#[derive(Debug, Drop)]
+#[derive(Drop)]
 pub struct CommandLine {
     /// What is to be done.
     pub job: Job,
@@ -263,10 +263,10 @@ fn solo_found(alloc: Global, found: &ArgMatches<'_>) -> Result<Option<Job>, Allo
 }
 
 fn run_found(alloc: Global, found: &ArgMatches<'_>) -> Result<Option<Run>, AllocError> {
-    let Some(input) = text_found(alloc, found, "input")? else {
+    let Some(hash) = hash_of(found.get_str("hash")) else {
         return Ok(None);
     };
-    let Some(hash) = hash_of(found.get_str("hash")) else {
+    let Some(input) = text_found(alloc, found, "input")? else {
         return Ok(None);
     };
     let trace = text_found(alloc, found, "trace")?;
@@ -296,13 +296,13 @@ fn check_found(alloc: Global, found: &ArgMatches<'_>) -> Result<Option<Job>, All
 fn work_found(alloc: Global, found: &ArgMatches<'_>) -> Result<Option<Job>, AllocError>
     ensures { IfOk result (λ job. IfSome job IsWithinBounds) }
 {
-    let Some(run) = run_found(alloc, found)? else {
-        return Ok(None);
-    };
     let Some(workers) = number_found(found, "workers", 1, 8, 4) else {
         return Ok(None);
     };
     let Some(tries) = tries_found(found) else {
+        return Ok(None);
+    };
+    let Some(run) = run_found(alloc, found)? else {
         return Ok(None);
     };
     Ok(Some(Job::Work(Work {
@@ -315,9 +315,6 @@ fn work_found(alloc: Global, found: &ArgMatches<'_>) -> Result<Option<Job>, Allo
 fn serve_found(alloc: Global, found: &ArgMatches<'_>) -> Result<Option<Job>, AllocError>
     ensures { IfOk result (λ job. IfSome job IsWithinBounds) }
 {
-    let Some(run) = run_found(alloc, found)? else {
-        return Ok(None);
-    };
     let Some(sessions) = number_found(found, "sessions", 1, 64, 8) else {
         return Ok(None);
     };
@@ -331,6 +328,9 @@ fn serve_found(alloc: Global, found: &ArgMatches<'_>) -> Result<Option<Job>, All
         return Ok(None);
     };
     let Some(full) = full_found(found) else {
+        return Ok(None);
+    };
+    let Some(run) = run_found(alloc, found)? else {
         return Ok(None);
     };
     let operating = operating_found(alloc, found)?;
