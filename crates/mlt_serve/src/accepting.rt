@@ -31,7 +31,7 @@ pub(crate) struct Connection {
 }
 
 /// What was accepted, and how that ended.
-#[derive(Clone, Copy, Debug)]
+#[derive(Clone, Copy)]
 pub(crate) struct Accepting {
     /// How many connections were accepted and sent on.
     pub(crate) connections: u64,

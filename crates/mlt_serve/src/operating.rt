@@ -21,7 +21,7 @@ pub trait EndSignal {
 }
 
 /// Tells nothing: a server ends by itself, or by its operator.
-#[derive(Clone, Copy, Debug, Drop)]
+#[derive(Clone, Copy, Drop)]
 pub struct NoSignal;
 
 impl EndSignal for NoSignal {

@@ -5,7 +5,7 @@ use mlt_types::Limits;
 use std::time::Duration;
 
 /// How connections are served.
-#[derive(Clone, Copy, Debug, PartialEq, Eq)]
+#[derive(Clone, Copy)]
 pub struct ServeOptions {
     /// The limits of the manager.
     pub limits: Limits,
