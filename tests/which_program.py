@@ -12,7 +12,7 @@ from collections.abc import Mapping
 from functools import partial
 from pathlib import Path
 
-from harness import PATIENCE, ROOT, VERSION, Program, Ran, each, expect, holds, same, test
+from harness import PATIENCE, ROOT, VERSION, Program, Ran, each, expect, holds, match, same, test
 
 # What of this repository stands in the copy.
 COPIED = ("mltx", "tools/quick-build", "tools/proved-build", "crates.txt", "crates/mltx/src", "crates/mlt_cli/src")
@@ -76,12 +76,15 @@ chmod +x "$made"
 # No check is to be made.
 RATTLE = '#!/bin/sh\necho "rattle $*" >>"$NOTES/asked"\n'
 
-BUILDS = "mltx: building the program without proof, in some two minutes\n"
-BUILT = "mltx: built in T. It is not proved: ./test proves it, and puts the proved one in its place\n"
+BUILDS = "mltx: building the program without proof, in two to three minutes\nmltx: T: compiling\n"
+COMPILED = "mltx: T: optimising\nmltx: T: linking\n"
+BUILT = COMPILED + "mltx: built in T. It is not proved: ./test proves it, and puts the proved one in its place\n"
 NO_TRY = "rt: there is no try\ntools/quick-build: rt try failed\n"
 FAILS = "mltx: that failed, for the reason above, so it has to be proved\n"
 PROVES = "mltx: proving and building the program: from nothing some 40 minutes on four cores, later only what changed\n"
-PROVED = "mltx: proving mlt_types\nmltx: proved and built in T\n"
+PROVED = "mltx: T: proving mlt_types\nmltx: proved and built in T\n"
+NO_RT = "there is no rt on PATH: install Rattle (docs/DEVELOPING.md#the-two-kits), and put its bin on PATH\n"
+OLDER = "mltx: the sources are newer than this program; any other command builds it anew\n"
 TRY, RUN = "try -- --version\n", "run -- --version\n"
 
 
@@ -149,7 +152,11 @@ class Tree:
 def ended(process: subprocess.Popen[bytes]) -> Ran:
     """What a script came to. Times are left out."""
     out, err = process.communicate(b"given\n", PATIENCE)
-    return Ran(process.returncode, out, re.sub(rb"\d+ min \d+ s", b"T", err))
+    return Ran(process.returncode, out, without_times(err))
+
+
+def without_times(told: bytes) -> bytes:
+    return re.sub(rb"(\d+ min )?\b\d+ s\b", b"T", told)
 
 
 def shows(ran: Ran, kind: str, told: str = "", words: str = "solo a  b") -> None:
@@ -183,7 +190,7 @@ def first_run_by_way_of_a_link(mltx: Program) -> None:
     link = mltx.folder / "linked"
     link.symlink_to(tree.top / "mltx")
     ran = subprocess.run([str(link), "solo", "-"], input=b"given\n", capture_output=True, cwd="/", env=tree.env)
-    shows(Ran(ran.returncode, ran.stdout, re.sub(rb"\d+ min \d+ s", b"T", ran.stderr)), "unproved", BUILDS + BUILT, "solo -")
+    shows(Ran(ran.returncode, ran.stdout, without_times(ran.stderr)), "unproved", BUILDS + BUILT, "solo -")
 
 
 @test
@@ -301,11 +308,56 @@ def first_run_with_nothing_to_build_by(mltx: Program) -> None:
     told = BUILDS + NO_TRY + FAILS + PROVES
     told += "error: a clause is not proved\nmltx: it was not built, for the reason above\n"
     expect(tree.run("solo"), status=1, err=told)
-    (mltx.folder / "bin/rt").unlink()
-    ran = tree.run("solo")
-    same((ran.status, ran.out), (1, b""), "without rt")
-    holds(b"tools/quick-build: there is no rt on PATH\n" in ran.err, f"nothing tells of rt: {ran}")
     same(tree.left(), [], "what is left behind")
+
+
+@test
+def first_run_without_a_kit(mltx: Program) -> None:
+    """One line says what to install, also where the program is to be proved."""
+    tree = Tree(mltx)
+    (mltx.folder / "bin/rt").unlink()
+    for words in (["solo"], ["--help"]):
+        expect(tree.run(*words), status=127, err="tools/quick-build: " + NO_RT, what=f"{words}")
+    ran = subprocess.run([tree.top / "tools/proved-build"], env=tree.env, capture_output=True)
+    expect(Ran(ran.returncode, ran.stdout, ran.stderr), status=127, err="tools/proved-build: " + NO_RT, what="proved-build")
+    same(tree.left(), [], "what is left behind")
+
+
+# What is asked that an older program answers as well.
+ASKED = [["--help"], ["-h"], ["--version"], ["-V"], ["tables"], ["tables", "set"], ["help", "solo"], ["solo", "--help"]]
+
+
+@test
+def older_program_answers_what_changes_seldom(mltx: Program) -> None:
+    """Help, version and tables build where nothing is built, and never again, whatever changes."""
+    tree = Tree(mltx)
+    expect(tree.run("--version"), out=f"mltx {VERSION} (not proved)\n", err=BUILDS + BUILT)
+    same(tree.asked(), TRY, "what rt is asked at first")
+    make_old(tree.unproved, 100)
+    for words in ASKED:
+        ran = tree.run(*words)
+        holds(ran.err.startswith(OLDER.encode()), f"{words}: it is not told that the program is older: {ran}")
+        same(tree.asked(), "", f"what rt is asked by {words}")
+    for words in (["solo", "tables"], ["steps", "--hash", "low", "-"]):
+        make_old(tree.unproved, 100)
+        shows(tree.run(*words), "unproved", BUILDS + BUILT, " ".join(words))
+    tree.prove()
+    make_old(tree.unproved, 100)
+    make_old(tree.proved, 50)
+    shows(tree.run("tables", "set"), "proved", OLDER, "tables set")
+
+
+@test
+def program_that_was_run_is_installed(mltx: Program) -> None:
+    """The command of docs/OPERATING.md installs it, after the first run and after a proof."""
+    tree, home = Tree(mltx), mltx.folder / "home"
+    command = match(r"(?m)^    (install .*)$", (ROOT / "docs/OPERATING.md").read_text())[1]
+    for kind in ("unproved", "proved"):
+        tree.run("solo")
+        subprocess.run(["sh", "-c", command], cwd=tree.top, env={**tree.env, "HOME": str(home)}, check=True)
+        ran = subprocess.run([home / ".local/bin/mltx", "solo"], input=b"", capture_output=True)
+        same((ran.stdout, (home / ".local/bin/mltx").is_symlink()), (f"{kind} solo\n".encode(), False), "what is installed")
+        tree.prove()
 
 
 @test
