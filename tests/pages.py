@@ -7,9 +7,10 @@ import shutil
 import subprocess
 from collections.abc import Iterator
 from html.parser import HTMLParser
+from pathlib import Path
 from xml.etree import ElementTree
 
-from harness import PATIENCE, ROOT, Program, Ran, expect, holds, lines, same, test
+from harness import PATIENCE, ROOT, Program, Ran, expect, holds, lines, match, same, test
 from model import Cell, Op, apply, cell_of
 
 TOOL = ROOT / "tools/picture"
@@ -350,6 +351,69 @@ def page_that_is_refused(mltx: Program) -> None:
     expect(make("--program", mltx.path, schedule, answers), status=1, err=fault, what="a comment before all answers")
 
 
+# What docs/ANSWERS.md shows of exercise 2, but for the base.
+ANSWERS_OF_2 = lines(
+    "begun 1|done opened|done done|committed 1|begun 2|done done|begun 3|done done|blocked by 2|blocked by 2|committed 2"
+    "|done short|done done|committed 3"
+).splitlines()
+
+
+def gallery(mltx: Program) -> Path:
+    """The folder of a gallery."""
+    folder = mltx.folder / "gallery"
+    expect(draw("--gallery", folder, "--program", mltx.path), what="the gallery")
+    return folder
+
+
+def asked(section: Section) -> list[tuple[str, str, bool]]:
+    """What is asked after a step, the answer, and whether that is open to see."""
+    found = [it for it in section.element.findall("details") if it.get("class") == "next"]
+    texts = [[" ".join("".join(part.itertext()).split()) for part in it] for it in found]
+    return [(question, answer, "open" in it.attrib) for it, (question, answer) in zip(found, texts)]
+
+
+@test(seconds=6)
+def gallery_has_all_examples_and_exercises(mltx: Program) -> None:
+    """A page of each stands in the list, but for exercise 10e, whose lines are no trace; and each page asks."""
+    folder = gallery(mltx)
+    names = [it.stem for pattern in ("*.txt", "*.trace") for it in (ROOT / "examples").glob(pattern)]
+    numbers = [number for number in map(str, range(1, 13)) if number != "10"] + ["10a", "10b", "10c", "10d", "10f"]
+    wanted = sorted(f"{name}.html" for name in [*names, *(f"exercise-{number}" for number in numbers)])
+    links = re.findall(r'<li><a href="([^"]*)">', (folder / "index.html").read_text())
+    same(sorted(links), wanted, "the list")
+    same(sorted(it.name for it in folder.iterdir()), sorted([*wanted, "index.html"]), "the pages")
+    for name in wanted:
+        made = Page((folder / name).read_text())
+        same({it.get("href") for it in made.root.iter("a") if not it.get("href", "").startswith("#")}, {"index.html"}, name)
+        same([len(asked(it)) for it in made.sections], [1] * (len(made.sections) - 1) + [0], f"{name}: the questions")
+        holds(len(made.sections) > 1, f"{name} has no step")
+        holds(not any(is_open for it in made.sections for _, _, is_open in asked(it)), f"{name}: an answer is not hidden")
+
+
+@test(seconds=6)
+def gallery_asks_before_it_answers(mltx: Program) -> None:
+    """Each question names the next event; the list of events has no answers. Of a trace, the reply is asked."""
+    folder = gallery(mltx)
+    made = Page((folder / "exercise-2.html").read_text())
+    events = match(r"(?ms)^## 2\. .*?\n((?:    [^\n]*\n)+)", (ROOT / "docs/EXERCISES.md").read_text())[1].split("\n")
+    wanted = [(f"{event.strip()}: Which answer is next?", answer, False) for event, answer in zip(events, ANSWERS_OF_2)]
+    same([it for section in made.sections for it in asked(section)], wanted, "what is asked")
+    listed = ["".join(it.itertext()) for it in made.root.findall(".//ol[@class='events']/li")]
+    same(listed, [event.strip() for event in events if event], "the list of events")
+    traced = [it for section in Page((folder / "first-run.html").read_text()).sections for it in asked(section)]
+    ops = ["begin 1", "op 1 open 101", "op 1 deposit 101 500", "op 1 balance 101", "commit 1"]
+    replies = ["begun 1", "opened", "done", "is 500", "committed 1"]
+    same(traced, [(f"{op}: Which answer is next?", reply, False) for op, reply in zip(ops, replies)], "of a trace")
+
+
+@test
+def gallery_with_other_options(mltx: Program) -> None:
+    for words in (["--page"], ["--trace"], ["-o", "x"], [mltx.file("any.txt", "begin\n")]):
+        ran = draw("--gallery", mltx.folder / "none", *words)
+        holds(ran.status == 2 and b"--gallery takes no other option" in ran.err, f"{words}: {ran}")
+    same((mltx.folder / "none").exists(), False, "whether there is a gallery")
+
+
 def browsed(browser: str, mltx: Program, address: str) -> Page:
     """What a browser makes of a page."""
     words = ["--headless", "--no-sandbox", "--disable-gpu", f"--user-data-dir={mltx.folder}/profile"]
@@ -385,6 +449,23 @@ def pages_in_a_browser(mltx: Program) -> None:
             text = file.read_text().replace("</body>", f"<script>{'; '.join(does)}</script></body>")
             moved = mltx.file("moved.html", text)
             _check_shown(browsed(browser, mltx, f"file://{moved}"), step)
+
+
+@test(seconds=20)
+def answer_of_a_gallery_in_a_browser(mltx: Program) -> None:
+    """It is not to be seen before its question is clicked."""
+    browser = next(browsers(), None)
+    if browser is None:
+        print("    no chromium is installed: what a browser makes of a gallery is not looked at", flush=True)
+        return
+    text = (gallery(mltx) / "block-by-reply.html").read_text()
+    sees = "const sees = () => document.querySelector('.state.on .next p').checkVisibility()"
+    clicks = "document.querySelector('.state.on .next summary').click()"
+    script = f"<script>{sees}; const before = sees(); {clicks}; document.title = `${{before}} ${{sees()}}`</script>"
+    seen = browsed(browser, mltx, f"file://{mltx.file('asked.html', text.replace('</body>', script + '</body>'))}#step=11")
+    same(["".join(it.itertext()) for it in seen.root.iter("title")], ["false true"], "whether it is seen, before and after")
+    shown = [asked(it) for it in seen.sections if it.is_shown]
+    same(shown, [[("step 3: Which answer is next?", "blocked by 2", True)]], "what is shown")
 
 
 def _check_shown(seen: Page, step: int) -> None:

@@ -1,6 +1,7 @@
 """Pictures: what tools/picture draws of a schedule or a trace shows each transaction, operation, reply, commit and
 arrow in its place, no label lies on another, and a faulty text is refused. What has to be seen is read from the
 schedule and from the outputs that the documents show. And what tools/crate-map draws of the rooms."""
+import os
 import re
 import shlex
 import subprocess
@@ -315,6 +316,73 @@ def picture_of_little(mltx: Program) -> None:
         seen = picture("--title", "Empty\t\x7f", *words)
         same([seen.said("picture"), seen.said("lane")], [["Empty"], []], f"{words}")
         seen.check_places()
+
+
+# Transactions 1 to 4, of which 2 is open from line 4 to line 12, and 4 at the end.
+LONG = lines(
+    "begin 1|op 1 up 301 10 done|commit 1 1|begin 2|op 2 up 302 20 done|begin 3|op 3 up 303 30 done|op 3 up 301 40 done"
+    "|op 3 up 304 60 done|commit 3 2|op 2 up 301 50 done|commit 2 3|begin 4|op 4 read 305 is 0"
+)
+# Which part of it is asked for, the titles in the lanes that are drawn, and the commits.
+PARTS: dict[str, tuple[list[str], dict[str, list[str]], dict[str, list[str]]]] = {
+    "to": (["--to", "5"], {"1": ["up 301 10"], "2": ["up 302 20"]}, {"1": ["committed 1"]}),
+    "from": (["--from", "11"], {"2": ["up 302 20", "up 301 50"], "4": ["read 305"]}, {"2": ["committed 3"]}),
+    "from-to": (["--from", "9", "--to", "9"], {"3": ["up 303 30", "up 301 40", "up 304 60"]}, {}),
+    "transaction": (["--tx", "2"], {"2": ["up 302 20", "up 301 50"]}, {"2": ["committed 3"]}),
+    "transactions": (
+        ["--tx", "1,3", "--to", "10"], {"1": ["up 301 10"], "3": ["up 303 30", "up 301 40", "up 304 60"]},
+        {"1": ["committed 1"], "3": ["committed 2"]},
+    ),
+}
+
+
+@each({f"picture-of-a-part-of-a-trace-by-{name}": case for name, case in PARTS.items()})
+def picture_of_a_part_of_a_trace(mltx: Program, case: tuple[list[str], dict[str, list[str]], dict[str, list[str]]]) -> None:
+    """The items asked for are drawn, and what their transactions did before."""
+    words, titles, commits = case
+    seen = picture("--trace", *words, mltx.file("long.trace", LONG))
+    same({name.text for name in seen.names}, {f"transaction {number}" for number in titles}, "the lanes")
+    same(seen.in_lanes("title"), {f"transaction {number}": over for number, over in titles.items()}, "the operations")
+    same(seen.in_lanes("committed"), {f"transaction {number}": over for number, over in commits.items()}, "the commits")
+    seen.check_places()
+
+
+@test(seconds=20)
+def picture_of_a_long_trace(mltx: Program) -> None:
+    """One of more than 2,000 items is refused, with the options that choose some; a part of it is drawn."""
+    item = "begin {0}\nop {0} up 301 1 done\ncommit {0} {0}\n"
+    file = mltx.file("long.trace", "".join(item.format(number) for number in range(1, 669)))
+    why = "2,004 items would be drawn, and a picture has at most 2,000: choose some by --from N, --to N or --tx N[,N..]"
+    expect(run("--trace", file), status=1, err=f"tools/picture: {file}: {why}\n")
+    same(picture("--trace", "--to", "2000", file).count("circle", "begin"), 667, "the transactions of 2,000 items")
+    same(picture("--trace", "--from", "2002", file).said("committed")[:1], ["committed 668"], "the last one")
+
+
+@test
+def part_of_a_trace_that_is_not_there(mltx: Program) -> None:
+    """Nothing is asked for, or what is no number; and a page and a schedule have no parts."""
+    file, schedule = mltx.file("long.trace", LONG), mltx.file("schedule.txt", "begin\n")
+    fault = f"tools/picture: {file}: it has 14 items, and none of them is asked for\n"
+    for words in (["--from", "15"], ["--tx", "5"], ["--tx", "1", "--from", "4"], ["--from", "5", "--to", "4"]):
+        expect(run("--trace", *words, file), status=1, err=fault, what=f"{words}")
+    for words in (["--from", "0"], ["--to", "-1"], ["--tx", "1,"], ["--tx", "x"], ["--page", "--to", "2"]):
+        ran = run("--trace", *words, file)
+        holds(ran.status == 2 and not ran.out and b"usage: picture" in ran.err, f"{words}: {ran}")
+    same(run("--from", "1", schedule).status, 2, "a part of a schedule")
+
+
+@test
+def terminal_shows_how_far_a_picture_is(mltx: Program) -> None:
+    """Standard error has a line that is taken away at the end; where it is no terminal, it has none."""
+    file, (terminal, end) = mltx.file("long.trace", LONG), os.openpty()
+    ran = subprocess.run([TOOL, "--trace", file], stdout=subprocess.PIPE, stderr=end)
+    os.close(end)
+    told = os.read(terminal, 100_000).decode()
+    os.close(terminal)
+    for doing in ("reading", "placing", "drawing"):
+        holds(f"\rtools/picture: {doing}, 0 %" in told, f"nothing tells of {doing}: {told!r}")
+    holds(told.endswith("\r\x1b[K"), f"the line stays: {told[-40:]!r}")
+    same(Ran(ran.returncode, ran.stdout, b""), run("--trace", file), "the picture")
 
 
 FAULTS: dict[str, tuple[Text, str | None, str]] = {

@@ -7,6 +7,7 @@ from xml.sax.saxutils import escape
 from . import legend
 from .fonts import FAMILY, wrapped
 from .layout import BEFORE_NOTE, EDGE, MARGIN, MOST_WIDTH, NAME_SIZE, Row, rows
+from .progress import shown
 from .scene import LABEL_SIZE, PILL_SIZE, Arrow, Bar, Label, Lane, Mark, Scene
 
 LEAST_WIDTH = 720
@@ -256,7 +257,7 @@ def picture(scene: Scene, title: str, about: str) -> str:
         heading.append(text(MARGIN, top - 4, part, "about"))
         top += NOTE_LINE
     drawings, between = stacked(scene, placed, left, wide, top)
-    for drawing, later in zip(drawings, between):
+    for drawing, later in shown("drawing", list(zip(drawings, between))):
         drawn += [*later, *drawing.drawn()]
     top = drawings[-1].bottom + ROW_GAP if drawings else top
     notes, top = _paragraphs(scene, top + 12, wide)

@@ -4,6 +4,8 @@ from collections.abc import Iterator
 from dataclasses import dataclass
 from typing import NamedTuple
 
+from .progress import shown
+
 # The most bytes of a line, and of a comment that follows an answer.
 MOST_BYTES, MOST_BYTES_OF_REASON = 200, 4_000
 MOST_STEPS = 1_000
@@ -87,11 +89,12 @@ class Moment:
 
 @dataclass(frozen=True)
 class Story:
-    """All moments, the comments by their numbers, and the lines that tell of the end."""
+    """All moments, the comments by their numbers, and the lines that tell of the end. In a part of a trace, commits may lack."""
 
     moments: list[Moment]
     notes: list[str]
     end: list[str]
+    is_part: bool = False
 
 
 def _lines(name: str, data: bytes, most: int = MOST_BYTES) -> Iterator[tuple[int, bytes]]:
@@ -261,7 +264,7 @@ def _item(words: list[str]) -> Item | None:
 def trace(name: str, data: bytes) -> Story:
     """The story of a trace."""
     moments = []
-    for number, line in _lines(name, data):
+    for number, line in shown("reading", list(_lines(name, data))):
         words = _words(name, number, line)
         item = _item(words) if words else None
         if item is None:

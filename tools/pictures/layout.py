@@ -5,6 +5,7 @@ from itertools import accumulate
 from math import inf
 
 from .fonts import width
+from .progress import shown
 from .scene import LABEL_SIZE, Arrow, Bar, Label, Lane, Mark, Scene
 
 # The most pixels of a picture's width, and what is left free at its edges.
@@ -74,7 +75,7 @@ def _breaks(scene: Scene, room: float) -> list[tuple[int, int]]:
     count, prices = len(scene.note_at), _prices(scene)
     reaches = _Part(scene, 0, count - 1).reaches()
     costs, froms = [0] + [inf] * count, [0] * (count + 1)
-    for end in range(1, count + 1):
+    for end in shown("placing", range(1, count + 1)):
         low, high = reaches[end - 1]
         for begin in range(end - 1, -1, -1):
             low, high = min(low, reaches[begin][0]), max(high, reaches[begin][1])

@@ -106,8 +106,8 @@ def _svg(wide: float, high: float, title: str, shapes: list[str]) -> str:
     return "\n".join([f'<svg viewBox="0 0 {wide:.0f} {high:.0f}" role="img" aria-label="{named}">', *shapes, "</svg>"])
 
 
-def page(story: Story, title: str, about: str, is_trace: bool, program: Program) -> str:
-    """The whole page."""
+def page(story: Story, title: str, about: str, is_trace: bool, program: Program, home: str = "") -> str:
+    """The whole page. One of a gallery, which has that page as its home, asks for each answer before it shows it."""
     if len(story.moments) > MOST_MOMENTS:
         raise Faulty(*story.moments[MOST_MOMENTS].place, f"a page has at most {MOST_MOMENTS} events")
     scene = Scene(story)
@@ -115,16 +115,18 @@ def page(story: Story, title: str, about: str, is_trace: bool, program: Program)
     sections, before = [], None
     for number, state in enumerate(states(story, is_trace, program)):
         lanes.add(state.scene)
-        sections.append("\n".join(_Section(story, number, state, before, is_trace).drawn(lanes.place(state.scene))))
+        section = _Section(story, number, state, before, is_trace, bool(home))
+        sections.append("\n".join(section.drawn(lanes.place(state.scene))))
         before = state
     keys, high = legend.drawn(scene, 12, WIDTH)
-    told = [_told(story, number, is_trace) for number in range(1, len(sections))]
+    told = [_told(story, number, is_trace, not home) for number in range(1, len(sections))]
+    back = f' <a href="{home}">All pictures</a>' if home else ""
     return "\n".join([
         "<!DOCTYPE html>", '<html lang="en">', "<head>", '<meta charset="utf-8">',
         f'<meta http-equiv="Content-Security-Policy" content="{POLICY}">',
         '<meta name="viewport" content="width=device-width, initial-scale=1">',
-        f"<title>{escape(title)}</title>", f"<style>\n{_style()}</style>", "</head>", "<body>",
-        f"<h1>{escape(title)}</h1>", f'<p class="about">{escape(about)}</p>', _bar(),
+        f"<title>{escape(title)}</title>", f"<style>\n{style()}</style>", "</head>", "<body>",
+        f"<h1>{escape(title)}</h1>", f'<p class="about">{escape(about)}{back}</p>', _bar(),
         '<main class="view">', f'<div class="lanes" tabindex="0">{lanes.svg(title)}</div>',
         '<div class="list" aria-live="polite">', *sections, "</div>", "</main>",
         '<details class="key" open><summary>What it means</summary>', *(f"<p>{words}</p>" for words in HELP),
@@ -134,7 +136,7 @@ def page(story: Story, title: str, about: str, is_trace: bool, program: Program)
     ])
 
 
-def _style() -> str:
+def style() -> str:
     """The style of the picture, for what stands inside of one, and that of the page."""
     inside = re.sub(r"(?m)^([^{}\n]+) \{", lambda found: f"svg {found[1].replace(', ', ', svg ')} {{", draw.STYLE)
     return inside + (HERE / "page.css").read_text()
@@ -157,9 +159,11 @@ def _words(comment: str) -> str:
     return re.sub(r"`([^`]+)`", r"<code>\1</code>", escape(comment))
 
 
-def _told(story: Story, number: int, is_trace: bool) -> str:
-    """An event with what it was told, or a line of a trace."""
+def _told(story: Story, number: int, is_trace: bool, has_answer: bool = True) -> str:
+    """An event with what it was told, or a line of a trace; or what is asked alone."""
     moment = story.moments[number - 1]
+    if not has_answer:
+        return _code(f"op {moment.number} {moment.operation}" if is_trace and moment.operation else moment.event())
     if is_trace:
         return _code(trace_line(moment))
     return f'{_code(moment.event())} <span class="told">{escape(moment.answer)}</span>'
@@ -168,13 +172,18 @@ def _told(story: Story, number: int, is_trace: bool) -> str:
 class _Section:
     """What holds after so many events."""
 
-    def __init__(self, story: Story, number: int, state: State, before: State | None, is_trace: bool) -> None:
-        self.story, self.number, self.state, self.before, self.is_trace = story, number, state, before, is_trace
+    def __init__(
+        self, story: Story, number: int, state: State, before: State | None, is_trace: bool, asks: bool
+    ) -> None:
+        self.story, self.number, self.state, self.before = story, number, state, before
+        self.is_trace, self.asks = is_trace, asks
 
     def drawn(self, place: tuple[float, int, int]) -> Iterator[str]:
         x, top, bottom = place
         yield f'<section class="state" data-step="{self.number}" data-x="{x:.0f}" data-top="{top}" data-bottom="{bottom}">'
         yield from self._heading()
+        if self.asks and self.number < len(self.story.moments):
+            yield from self._question()
         yield from self._objects()
         yield from _listed("Open transactions", "open", [_transaction(lane) for lane in self.state.open()])
         circle = self.state.circle()
@@ -194,6 +203,14 @@ class _Section:
             yield f'<p class="reason">{"<br>".join(map(_words, moment.reason.splitlines()))}</p>'
         if moment.note:
             yield f'<p class="note">{_words(self.story.notes[moment.note - 1])}</p>'
+
+    def _question(self) -> Iterator[str]:
+        """The next event, whose answer is hidden until it is asked for."""
+        event = _told(self.story, self.number + 1, self.is_trace, has_answer=False)
+        yield f'<details class="next"><summary>{event}: Which answer is next?</summary>'
+        answer = self.story.moments[self.number].answer
+        is_reply = self.is_trace and answer.startswith("done ")
+        yield f"<p>{escape(answer.partition(' ')[2] if is_reply else answer)}</p></details>"
 
     def _objects(self) -> Iterator[str]:
         state, before = self.state, self.before or self.state

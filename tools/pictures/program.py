@@ -1,5 +1,6 @@
 """Runs the built program."""
 import subprocess
+import tempfile
 from pathlib import Path
 
 
@@ -29,6 +30,12 @@ class Program:
     def check(self, trace: bytes) -> bytes:
         """What `check` writes of a trace."""
         return self._run(["check", "-"], trace)
+
+    def trace_of_scripts(self, scripts: bytes) -> bytes:
+        """The trace that `solo` leaves of them."""
+        with tempfile.NamedTemporaryFile() as trace:
+            self._run(["solo", "--trace", trace.name, "-"], scripts)
+            return trace.read()
 
     def _run(self, words: list[str], given: bytes) -> bytes:
         asked = tuple(words), given

@@ -263,7 +263,8 @@ class Scene:
 
     def _commit(self, lane: Lane, moment: Moment) -> None:
         number = int(moment.answer.split()[1])
-        if lane.bar or lane.undoing or number != self.commits + 1:
+        is_next = number == self.commits + 1 or self.story.is_part and number > self.commits
+        if lane.bar or lane.undoing or not is_next:
             self._fault(moment, f"transaction {lane.number} can't commit, or not under this number")
         self.commits = lane.commit = number
         self._close(lane, self._point(moment, lane), moment.answer, "committed")
