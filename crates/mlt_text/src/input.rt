@@ -1,6 +1,6 @@
 //! All that a reader has.
 
-ghost use Rattle.std.specs.Prelude.{◌≡◌, ◌≤◌, ◌<◌, ◌⊎◌, ℕ, List, length, IfOk, IfErr, IsOkUnless, OnErr, IfSome, IsErr, take, vec_len, true, [], ◌++◌, ◌+◌};
+ghost use Rattle.std.specs.Prelude.{◌≡◌, ◌≤◌, ◌<◌, ◌⊎◌, ℕ, List, length, IfOk, IfErr, IsOkUnless, OnErr, IfSome, IsErr, take, vec_len, true, false, [], ◌++◌, ◌+◌};
 ghost use Rattle.std.specs.Io.{ReadsAtMost};
 ghost use Rattle.std.specs.Io.KnownBytes.{Consumes, IsAtEnd, Keeps, ReadConsumes};
 ghost use Rattle.mlt_text.specs.Failures.{IsWant, ReadsWithinLimit, RefusesLong};
@@ -32,13 +32,14 @@ pub fn read_input<R: Read>(alloc: Global, reader: &mut R) -> Result<Vec<u8>, Ref
 {
     let mut bytes = Vec::new(alloc);
     let mut piece = zeros(alloc, PIECE)?;
-    for _ in 0..u64::MAX {
+    // each read but the last gives a byte at least
+    for _ in 0..MAX_INPUT + 1 {
         let room = PIECE.min(MAX_INPUT + 1 - bytes.len());
         if read_piece(reader, &mut piece[..room], &mut bytes)? {
             return Ok(bytes);
         }
     }
-    Err(Refusal::Io)
+    unreachable!()
 }
 
 // Appends what one read gives, and answers whether the reader was at its end.
@@ -53,6 +54,8 @@ fn read_piece<R: Read>(
         × Consumes (R.remaining reader.old) (R.remaining reader.new) read
         × (ended ≡ true → (read ≡ []) × IsAtEnd (R.remaining reader.new))
         × length bytes.new.items ≤ 16777216) }
+    ensures grows { IfOk result (λ ended.
+        ended ≡ false → length bytes.old.items < length bytes.new.items) }
     ensures err { OnErr result
         ((read : List ℕ) × Consumes (R.remaining reader.old) (R.remaining reader.new) read
         × length bytes.old.items + length read ≤ 16777217) }
