@@ -1,7 +1,7 @@
 //! What all session threads have served, put together.
 
 ghost use Rattle.std.specs.Prelude.{◌≡◌, ◌+◌, ◌-◌, ◌*◌, ◌^◌, ◌≤◌, ◌⊎◌, ◌++◌, [], Err, IfErr, IfOk, IsOk, IsOkUnless, IsPermutation, OnOk, false, min, true, vec_len};
-ghost use Rattle.mlt_work_log.specs.Seats.{IsWriterOf, all_items, id_of};
+ghost use Rattle.mlt_work_log.specs.Seats.{IsWriterOf, id_of, past_of};
 ghost use Rattle.mlt_serve.specs.Clients.{AreOfClients};
 ghost use Rattle.mlt_serve.specs.Endings.{result_of_accepting};
 ghost use Rattle.mlt_serve.specs.Tellings.{TellsOutcomes};
@@ -33,7 +33,7 @@ pub(crate) fn new_threads<P: Pseudo, L: MadeWith<P>, K: Receipts + Drop>(
     requires log { id_of log.now ≡ L.log_id }
     requires writer { IsWriterOf L.log_id writer.old }
     ensures writer { IsWriterOf L.log_id writer.new }
-    ensures items { all_items writer.new ≡ all_items writer.old }
+    ensures past { past_of writer.new ≡ past_of writer.old }
     ensures len { IfOk result (λ threads. vec_len threads ≡ sessions) }
     ensures parts { IfOk result (λ _. all.new.parts + 2 * sessions ≡ 129) }
     ensures amount { IfOk result (λ _. all.new.amount ≡ 0) }

@@ -1,8 +1,8 @@
 //! Sessions over a manager within limits that they meet, and at a desk of answers that refuses what no manager does.
 
-ghost use Rattle.std.specs.Prelude.{◌≡◌, Some, true};
+ghost use Rattle.std.specs.Prelude.{◌≡◌, Some};
 ghost use Rattle.mlt_work_log.specs.Seats.{id_of};
-ghost use Rattle.mlt_work_desk.specs.Makings.{making_of};
+ghost use Rattle.mlt_work_desk.specs.Makings.{making_by};
 
 use crate::gates::EventCounter;
 use mlt_manager::Manager;
@@ -120,64 +120,67 @@ fn talk_at<D: Desk>(alloc: Global, desk: &mut D, input: &[u8]) -> Talk {
     }
 }
 
-// A manager at which transaction 1 has done this, and is open.
-fn manager_of(
-    alloc: Global,
-    limits: Limits,
-    beside: Option<&[ObjOp]>,
-) -> Result<Manager<Mult>, Refusal> {
-    let mut manager = Manager::new(alloc, limits, Mult)?;
-    if let Some(ops) = beside {
-        if let Err(refusal) = begins(&mut manager, ops) {
-            manager.close();
-            return Err(refusal);
-        }
-    }
-    Ok(manager)
-}
-
-fn begins(manager: &mut Manager<Mult>, ops: &[ObjOp]) -> Result<(), Refusal> {
-    let tx = manager.begin()?;
+// Transaction 1 does this, and stays open.
+fn begins<D: Desk>(desk: &mut D, ops: &[ObjOp]) -> Result<(), Refusal> {
+    let tx = desk.begin()?;
     for op in ops {
-        manager.whole(tx, *op)?;
+        desk.operation(tx, *op)?;
     }
     Ok(())
 }
 
-// The events of a desk, and those that its gate was told of.
+// The events of both desks, and those that their gate was told of.
 #[derive(Drop)]
 struct Events {
     made: u64,
     told: u64,
 }
 
-// What came of a session at a desk over this manager, the manager, and the events.
+// What came of a session at a desk over a new manager, after another desk, the manager, and the events.
 fn talk_over<L: MadeWith<Mult>>(
     rt: &impl Wait,
     alloc: Global,
     records: BlankRecords,
-    manager: Manager<Mult>,
-    input: &[u8],
-) -> (Talk, Manager<Mult>, Events)
+    limits: Limits,
+    pseudo: Mult,
+    session: &Session,
+) -> Result<(Talk, Manager<Mult>, Events), Refusal>
     requires name { records.blank.name ≡ L.name }
     requires parts { records.blank.parts ≡ L.parts }
     requires log { id_of records.log ≡ L.log_id }
-    requires made { Some (making_of manager) ≡ L.made_with }
-    requires history { L.hands_out ≡ true }
-    requires two { records.blank.parts ≡ 2 }
+    requires made { Some (making_by limits pseudo) ≡ L.made_with }
+    requires three { records.blank.parts ≡ 3 }
 {
     let BlankRecords { blank, log, writer } = records;
     let (book, mut all) = blank.open::<L>();
+    let beside_share = all.split_off(1, 0);
     let share = all.split_off(1, 0);
-    let state = LockedState::of(manager, book, &mut all, &log, writer);
+    let state = LockedState::new(alloc, limits, pseudo, book, writer)?;
     let shared = Shared::new(log, state);
     let gate = EventCounter::new();
-    let mut desk = LockDesk::new(rt, &shared, &gate, share, Tries::PerOperation(3));
-    let talk = talk_at(alloc, &mut desk, input);
-    let (share, made, _snapshot) = desk.close();
+    let tries = Tries::PerOperation(3);
+    let mut beside = LockDesk::new(rt, &shared, &gate, beside_share, tries);
+    let begun = match session.beside {
+        Some(ops) => begins(&mut beside, ops),
+        None => Ok(()),
+    };
+    // With one desk left, none sleeps: it tries again at once.
+    let (beside_share, made_beside, _) = beside.close();
+    let mut desk = LockDesk::new(rt, &shared, &gate, share, tries);
+    let talk = talk_at(alloc, &mut desk, session.input);
+    let (share, made, _) = desk.close();
     all.merge(share);
-    let told = gate.count();
-    (talk, shared.close(&mut all), Events { made, told })
+    all.merge(beside_share);
+    let events = Events {
+        made: made.saturating_add(made_beside),
+        told: gate.count(),
+    };
+    let manager = shared.close(&mut all);
+    if let Err(refusal) = begun {
+        manager.close();
+        return Err(refusal);
+    }
+    Ok((talk, manager, events))
 }
 
 // The same, with blank records of any name.
@@ -185,12 +188,13 @@ fn talk_over_manager(
     rt: &impl Wait,
     alloc: Global,
     records: BlankRecords,
-    manager: Manager<Mult>,
-    input: &[u8],
-) -> (Talk, Manager<Mult>, Events)
-    requires two { records.blank.parts ≡ 2 }
+    limits: Limits,
+    pseudo: Mult,
+    session: &Session,
+) -> Result<(Talk, Manager<Mult>, Events), Refusal>
+    requires three { records.blank.parts ≡ 3 }
 {
-    talk_over::<Brand>(rt, alloc, records, manager, input)
+    talk_over::<Brand>(rt, alloc, records, limits, pseudo, session)
 }
 
 // The session is what is wanted, and where it was alone its outcomes are those of the manager's history.
@@ -218,15 +222,10 @@ fn sessions_over_managers(rt: HostRuntime) -> Result<(), Fail> {
     for session in SESSIONS {
         let (open, ids, pages, depth, ops) = session.bounds;
         let limits = Limits::checked(open, ids, pages, depth, ops)?;
-        let records = BlankRecords::new(alloc, 2)?;
-        let manager = manager_of(alloc, limits, session.beside)?;
+        let records = BlankRecords::new(alloc, 3)?;
         let (talk, manager, events) = talk_over_manager(
-            &rt,
-            alloc,
-            records,
-            manager,
-            session.input,
-        );
+            &rt, alloc, records, limits, Mult, session,
+        )?;
         let result = is(alloc, &talk, &manager, session);
         manager.close();
         result?;

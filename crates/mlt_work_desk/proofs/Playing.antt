@@ -1,6 +1,7 @@
 -- A manager under a lock has executed one more event.
-use Rattle.std.proofs.Common.{◌≡◌, ◌<◌, ℕ, ◌+◌, ◌-◌, ◌^◌, min, List, [], ◌∷◌, ◌++◌, length, refl, subst, length-append, arith}
+use Rattle.std.proofs.Common.{◌≡◌, ◌<◌, ℕ, ◌+◌, ◌-◌, ◌^◌, min, List, [], ◌∷◌, ◌++◌, length, map, refl, subst, sym, length-append, arith}
 use Rattle.std.proofs.lemmas.Grind.{merely}
+use Rattle.std.proofs.lemmas.List.{map-append}
 use mathlib.Core.Logic.{∥∥₁_map}
 use Rattle.mlt_work_desk.proofs.Names.{Event, Told, counted, Meets, ManagerFields}
 use Rattle.mlt_types.specs.declared.limits.Limits.{Limits}
@@ -10,7 +11,7 @@ use Rattle.mlt_manager.specs.Promises.{KeepsPromises}
 use Rattle.mlt_manager.proofs.Courses.{played_course}
 use Rattle.mlt_manager.proofs.Tolds.{history_told}
 use Rattle.mlt_work_desk.proofs.Counting.{one_event}
-use Rattle.mlt_work_desk.specs.Playing.{HasPlayed, IsPlayed}
+use Rattle.mlt_work_desk.specs.Playing.{ArePlayed, HasPlayed, IsPlayed}
 
 module _ {P : Type 0} (bits_of : P → ℕ → ℕ) (keys : (p : P) (number : ℕ) → bits_of p number < 2 ^ 64) where
   run_on : (old m m' : ManagerFields P) (events : List Event) (tolds : List Told) (e : Event) (t : Told)
@@ -44,14 +45,14 @@ module _ {P : Type 0} (bits_of : P → ℕ → ℕ) (keys : (p : P) (number : �
       }
 
   -- **A new manager has played nothing.**
-  pub new_played : (limits : Limits) (pseudo : P) (m : ManagerFields P) → IsNew m limits pseudo → KeepsPromises bits_of m → IsPlayed bits_of m
+  pub new_played : (limits : Limits) (pseudo : P) (m : ManagerFields P) → IsNew m limits pseudo → KeepsPromises bits_of m → ArePlayed bits_of [] m
   new_played limits pseudo m new promises =
       let none = new.events in
       let count : m.events ≡ min 0 (2 ^ 64 - 1) = omega (arith, none) in
-      merely ([], [], by_run limits pseudo m m [] [] new refl count promises)
+      merely (by_run limits pseudo m m [] [] new refl count promises)
 
   -- **An event is one more.**
-  pub more_played : (events : List Event) (tolds : List Told) (e : Event) (t : Told) (m m' : ManagerFields P) → Meets bits_of e t (counted m) m' → KeepsPromises bits_of m'
+  more_played : (events : List Event) (tolds : List Told) (e : Event) (t : Told) (m m' : ManagerFields P) → Meets bits_of e t (counted m) m' → KeepsPromises bits_of m'
       → HasPlayed bits_of events tolds m → HasPlayed bits_of (events ++ e ∷ []) (tolds ++ t ∷ []) m'
   more_played events tolds e t m m' meets promises h =
       let counts : m'.events ≡ min (m.events + 1) (2 ^ 64 - 1) = one_event bits_of e t m m' meets in
@@ -60,5 +61,15 @@ module _ {P : Type 0} (bits_of : P → ℕ → ℕ) (keys : (p : P) (number : �
       by_run h.limits h.pseudo h.plays.first m' (events ++ e ∷ []) (tolds ++ t ∷ []) h.plays.is_new (run_on h.plays.first m m' events tolds e t h.plays.run meets)
       (omega (arith, counts, before, long)) promises
 
-  pub still_played : (e : Event) (t : Told) (m m' : ManagerFields P) → Meets bits_of e t (counted m) m' → KeepsPromises bits_of m' → IsPlayed bits_of m → IsPlayed bits_of m'
-  still_played e t m m' meets promises played = ∥∥₁_map played (λ h. (h.0 ++ e ∷ [], h.1 ++ t ∷ [], more_played h.0 h.1 e t m m' meets promises h.2))
+  pub still_played : (acts now : List (Event × Told)) (e : Event) (t : Told) (m m' : ManagerFields P) → now ≡ acts ++ (e, t) ∷ [] → Meets bits_of e t (counted m) m' → KeepsPromises bits_of m'
+      → ArePlayed bits_of acts m → ArePlayed bits_of now m'
+  still_played acts now e t m m' is meets promises played =
+      let events = map-append (λ (act : Event × Told). act.0) acts ((e, t) ∷ []) in
+      let tolds = map-append (λ (act : Event × Told). act.1) acts ((e, t) ∷ []) in
+      let longer : ArePlayed bits_of (acts ++ (e, t) ∷ []) m' = ∥∥₁_map played (λ h. subst (λ es. HasPlayed bits_of es (map (λ (act : Event × Told). act.1) (acts ++ (e, t) ∷ [])) m') (sym events)
+      (subst (λ ts. HasPlayed bits_of (map (λ (act : Event × Told). act.0) acts ++ e ∷ []) ts m') (sym tolds) (more_played _ _ e t m m' meets promises h))) in
+      subst (λ xs. ArePlayed bits_of xs m') (sym is) longer
+
+-- there are the events that have led to it
+pub is_played : {P : Type 0} (bits_of : P → ℕ → ℕ) (acts : List (Event × Told)) (m : ManagerFields P) → ArePlayed bits_of acts m → IsPlayed bits_of m
+is_played bits_of acts m played = ∥∥₁_map played (λ h. (map (λ (act : Event × Told). act.0) acts, map (λ (act : Event × Told). act.1) acts, h))

@@ -1,5 +1,5 @@
 -- What the manager under a lock has executed.
-use Rattle.std.specs.Prelude.{ℕ, ◌≡◌, ◌-◌, ◌^◌, List, None, length, min}
+use Rattle.std.specs.Prelude.{ℕ, ◌≡◌, ◌-◌, ◌^◌, List, None, length, map, min}
 use Rattle.mlt_types.specs.declared.limits.Limits.{Limits}
 use Rattle.mlt_event.specs.declared.event.Event.{Event}
 use Rattle.mlt_event.specs.declared.told.Told.{Told}
@@ -19,6 +19,10 @@ pub record HasPlayed {P : Type 0} (bits_of : P → ℕ → ℕ) (events : List E
   pub tells : TellsAll opening_course events tolds course
   pub keeps : KeepsPromiseOver course m
   pub items : AreToldBy events tolds (λ tx. None) m.shared.history.items
+
+-- these events with these answers lead to it
+abbrev pub ArePlayed : {P : Type 0} → (P → ℕ → ℕ) → List (Event × Told) → ManagerFields P → Type 0
+ArePlayed bits_of acts m = ∥ HasPlayed bits_of (map (λ act. act.0) acts) (map (λ act. act.1) acts) m ∥₁
 
 -- some events with some answers lead to it
 abbrev pub IsPlayed : {P : Type 0} → (P → ℕ → ℕ) → ManagerFields P → Type 0

@@ -1,23 +1,24 @@
 //! What contracts know of desks, before it is known of which.
 
-ghost use Rattle.std.specs.Prelude.{◌≡◌, [], IfOk};
-ghost use Rattle.mlt_work_log.specs.Seats.{IsWriterOf, all_items, id_of};
+ghost use Rattle.std.specs.Prelude.{◌≡◌, IfOk};
+ghost use Rattle.mlt_work_log.specs.Prefixes.{no_past};
+ghost use Rattle.mlt_work_log.specs.Seats.{IsWriterOf, id_of, past_of};
 
 use mlt_work_log::{HistoryLog, LogWriter};
 use std::alloc::{AllocError, Global};
 use std::sync::ledger::Blank;
 
-/// A ledger in which no event counts yet, and the log of a history that has no item yet, with its writer.
+/// A ledger in which no event counts yet, and the log of a manager that has done nothing yet, with its writer.
 #[derive(Drop)]
 pub struct BlankRecords {
     /// The ledger of the events.
     pub blank: Blank,
-    /// The log of the history.
+    /// The log of the manager.
     pub log: HistoryLog,
     /// The writer of the log.
     pub writer: LogWriter,
     ghost of_log: { IsWriterOf (id_of log) writer },
-    ghost none: { all_items writer ≡ [] },
+    ghost none: { past_of writer ≡ no_past },
 }
 
 impl BlankRecords {

@@ -7,11 +7,11 @@ ghost use Rattle.mlt_manager.specs.Answers.{counted};
 ghost use Rattle.mlt_manager.specs.Events.{Meets};
 ghost use Rattle.mlt_manager.specs.Managers.{IsManager};
 ghost use Rattle.mlt_work_waits.specs.declared.wait.Waker.{Waker};
-ghost use Rattle.mlt_work_log.specs.Prefixes.{StartsWith};
-ghost use Rattle.mlt_work_log.specs.Seats.{IsOf, IsWriterOf, all_items, first_items, id_of};
-ghost use Rattle.mlt_work_desk.specs.Holds.{EndsWithOp, IfReply, SeesEvent, goes_on};
+ghost use Rattle.mlt_work_log.specs.Prefixes.{HasBegunWith, StartsWith, after_act, no_past};
+ghost use Rattle.mlt_work_log.specs.Seats.{IsOf, IsWriterOf, first_items, id_of, past_of, seen_by};
+ghost use Rattle.mlt_work_desk.specs.Holds.{EndsWithOp, IfReply, SeesEvent};
 ghost use Rattle.mlt_work_desk.specs.Makings.{making_by, making_of};
-ghost use Rattle.mlt_work_desk.specs.Playing.{HasPlayed, IsPlayed};
+ghost use Rattle.mlt_work_desk.specs.Playing.{IsPlayed};
 ghost use Rattle.mlt_work_desk.specs.Waits.{given_back_by, precedence_after, precedence_if, queue_after, queue_if, TurnsIfWaits, wait_if, waits_after, woken_by};
 
 use crate::desks::Desks;
@@ -45,7 +45,7 @@ impl<P: Pseudo, L: MadeWith<P>> LockedState<P, L> {
         requires made { Some (making_by limits pseudo) ≡ L.made_with }
         requires total { book.total ≡ 0 }
         requires of_log { IsWriterOf L.log_id writer }
-        requires none { all_items writer ≡ [] }
+        requires none { past_of writer ≡ no_past }
         ensures refusal { IsOkUnless result Refusal.OutOfMemory }
     {
         let manager = Manager::new(alloc, limits, pseudo)?;
@@ -58,41 +58,9 @@ impl<P: Pseudo, L: MadeWith<P>> LockedState<P, L> {
         })
     }
 
-    /// No desk, over a manager whose events so far count in the share, and of which items may be handed out.
-    pub fn of(
-        manager: Manager<P>,
-        book: Book<L>,
-        share: &mut Share<L>,
-        log: &HistoryLog,
-        writer: LogWriter,
-    ) -> LockedState<P, L>
-        requires log { id_of log.now ≡ L.log_id }
-        requires of_log { IsWriterOf L.log_id writer }
-        requires none { all_items writer ≡ [] }
-        requires made { Some (making_of manager) ≡ L.made_with }
-        requires hands_out { L.hands_out ≡ true }
-        requires total { book.total ≡ 0 }
-        requires part { 0 < share.old.parts }
-        ensures amount { share.new.amount ≡ share.old.amount + manager.events }
-        ensures parts { share.new.parts ≡ share.old.parts }
-    {
-        let mut book = book;
-        let mut writer = writer;
-        book.add(share, manager.events());
-        let mut snapshot = log.snapshot(&mut writer);
-        see_history::<Brand, P>(log, &mut writer, &mut snapshot, &manager);
-        LockedState {
-            manager,
-            book,
-            desks: Desks::new(),
-            writer,
-        }
-    }
-
     /// One event of a desk, which counts in the share. Where it is to wait, and may sleep, it does so as this thread. A desk that
     /// waits for what it released is awake then, and its waker is added. It returns the answer, and what the desk does next. The
-    /// snapshot is one of the history after it then, but where an operation goes on: there nothing that the desk has to look
-    /// after has changed.
+    /// snapshot is one of the past after it.
     #[inline(always)]
     pub(crate) fn act(
         &mut self,
@@ -109,18 +77,15 @@ impl<P: Pseudo, L: MadeWith<P>> LockedState<P, L> {
         requires log { id_of log.now ≡ L.log_id }
         requires of_log { IsOf L.log_id snapshot.old }
         ensures of_log { IsOf L.log_id snapshot.new }
-        ensures seen { goes_on result.0 ≡ false
-            → first_items snapshot.new ≡ self.new.manager.shared.history.items }
+        ensures seen { seen_by snapshot.new ≡ past_of self.new.writer }
         ensures sees { SeesEvent (first_items snapshot.old) event result.0
             (first_items snapshot.new) }
         ensures before { IsManager P.bits_of self.old.manager }
         ensures after { IsManager P.bits_of self.new.manager }
         ensures meets { Meets P.bits_of event result.0
             (counted self.old.manager) self.new.manager }
-        ensures more { (events : List Event) (tolds : List Told)
-            → HasPlayed P.bits_of events tolds self.old.manager
-            → HasPlayed P.bits_of (events ++ event ∷ []) (tolds ++ result.0 ∷ [])
-            self.new.manager }
+        ensures acts { (past_of self.new.writer).acts
+            ≡ (past_of self.old.writer).acts ++ (event, result.0) ∷ [] }
         ensures keeps { IfReply event result.0 (self.new.manager.shared.history.items
             ≢ self.new.manager.shared.history.handed) }
         ensures amount { share.new.amount ≡ share.old.amount + 1 }
@@ -150,10 +115,10 @@ impl<P: Pseudo, L: MadeWith<P>> LockedState<P, L> {
         let told = manager.act(event);
         manager.keeps_its_invariant();
         manager.keeps_its_promises();
+        see_act::<Brand, P>(log, writer, snapshot, manager, &event, &told);
         if goes_on(&told) {
             return (told, Turn::Goes);
         }
-        see_history::<Brand, P>(log, writer, snapshot, manager);
         desks.give_back(given_back(&event, &told), wakers);
         let turn = desks.take_turn(&told, may_sleep, thread, wakers);
         (told, turn)
@@ -182,15 +147,16 @@ impl<P: Pseudo, L: MadeWith<P>> LockedState<P, L> {
         log.snapshot(&mut self.writer)
     }
 
-    /// A snapshot had the first items of the history.
+    /// The past has begun with that of a snapshot.
     pub(crate) fn compare(&mut self, log: &HistoryLog, snapshot: LogSnapshot)
         requires log { id_of log.now ≡ L.log_id }
         requires of_log { IsOf L.log_id snapshot }
         ensures same { self.new.manager ≡ self.old.manager }
-        ensures first { StartsWith self.old.manager.shared.history.items (first_items snapshot) }
+        ensures past { past_of self.new.writer ≡ past_of self.old.writer }
+        ensures first { HasBegunWith (past_of self.old.writer) (seen_by snapshot) }
     {
         let mut snapshot = snapshot;
-        see_history::<Brand, P>(log, &mut self.writer, &mut snapshot, &self.manager);
+        log.see::<Brand>(&mut self.writer, &mut snapshot);
     }
 
     /// The manager, whose events are the amount of the whole share.
@@ -228,24 +194,28 @@ impl<P: Pseudo, L: MadeWith<P>> LockedState<P, L> {
     }
 }
 
-/// The log has the history of the manager from now on, and the snapshot is one of all of it. What that had are the first items of what
-/// the log had before.
+/// The past has one more event from now on, and the items of the manager's history, and the snapshot is one of all of it. The past before
+/// had begun with that of the snapshot.
 #[inline(always)]
-fn see_history<G: Growth, P: Pseudo>(
+fn see_act<G: Growth, P: Pseudo>(
     log: &HistoryLog,
     writer: &mut LogWriter,
     snapshot: &mut LogSnapshot,
     manager: &Manager<P>,
+    event: &Event,
+    told: &Told,
 )
-    requires picked { G.items ≡ manager.now.shared.history.items }
+    requires picked { G.past ≡ after_act (past_of writer.old) event.now told.now
+        manager.now.shared.history.items }
     requires writer { IsWriterOf (id_of log.now) writer.old }
     requires of_log { IsOf (id_of log.now) snapshot.old }
-    requires grows { StartsWith manager.now.shared.history.items (all_items writer.old) }
+    requires grows { StartsWith manager.now.shared.history.items (past_of writer.old).items }
     ensures writer { IsWriterOf (id_of log.now) writer.new }
     ensures of_log { IsOf (id_of log.now) snapshot.new }
-    ensures logged { all_items writer.new ≡ manager.now.shared.history.items }
-    ensures seen { first_items snapshot.new ≡ manager.now.shared.history.items }
-    ensures first { StartsWith (all_items writer.old) (first_items snapshot.old) }
+    ensures past { past_of writer.new ≡ after_act (past_of writer.old) event.now told.now
+        manager.now.shared.history.items }
+    ensures seen { seen_by snapshot.new ≡ past_of writer.new }
+    ensures first { HasBegunWith (past_of writer.old) (seen_by snapshot.old) }
 {
     log.see::<G>(writer, snapshot)
 }

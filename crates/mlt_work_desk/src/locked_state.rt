@@ -2,8 +2,8 @@
 
 ghost use Rattle.std.specs.Prelude.{◌≡◌, ◌-◌, ◌^◌, [], false, Some, min};
 ghost use Rattle.mlt_work_desk.specs.Makings.{making_of};
-ghost use Rattle.mlt_work_desk.specs.Playing.{IsPlayed};
-ghost use Rattle.mlt_work_log.specs.Seats.{IsWriterOf, all_items};
+ghost use Rattle.mlt_work_desk.specs.Playing.{ArePlayed};
+ghost use Rattle.mlt_work_log.specs.Seats.{IsWriterOf, past_of};
 
 use crate::desks::Desks;
 use crate::made_with::MadeWith;
@@ -13,7 +13,7 @@ use mlt_work_log::LogWriter;
 use std::sync::ledger::Book;
 
 /// The manager, a book whose total is the number of its events, the desks, of which not all wait, and the writer of the log that has
-/// its history. Unless items are handed out, the manager is one to which events lead from a new one.
+/// its past. Unless items are handed out, the events of that lead to the manager from a new one.
 pub struct LockedState<P: Pseudo, L: MadeWith<P>> {
     pub(crate) manager: Manager<P>,
     pub(crate) book: Book<L>,
@@ -22,7 +22,7 @@ pub struct LockedState<P: Pseudo, L: MadeWith<P>> {
     ghost counted: { manager.events ≡ min book.total (2 ^ 64 - 1) },
     ghost made: { Some (making_of manager) ≡ L.made_with },
     ghost of_log: { IsWriterOf L.log_id writer },
-    ghost logged: { all_items writer ≡ manager.shared.history.items },
-    ghost played: { L.hands_out ≡ false → IsPlayed P.bits_of manager },
+    ghost logged: { (past_of writer).items ≡ manager.shared.history.items },
+    ghost played: { L.hands_out ≡ false → ArePlayed P.bits_of (past_of writer).acts manager },
     ghost history: { L.hands_out ≡ false → manager.shared.history.handed ≡ [] },
 }

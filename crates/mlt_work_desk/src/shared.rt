@@ -29,7 +29,7 @@ pub struct Shared<P: Pseudo, L: MadeWith<P>> {
     condvars: [Condvar; 256],
     /// How many were blocked at the end of the last hold, for a desk that is to call an operation.
     blocked: AtomicU64,
-    /// The log of the manager's history.
+    /// The log of the manager.
     pub(crate) log: HistoryLog,
     ghost of_log: { id_of log ≡ L.log_id },
 }

@@ -6,65 +6,71 @@ use lib.ListN.{get_elem?}
 use Rattle.atomic_table.specs.Table.{State, Me, Allows, Splits, Joins}
 use Rattle.atomic_table.specs.Table.Act.{keeps}
 use Rattle.atomic_table.proofs.Lists.{at_set, at_snoc, set_else}
-use Rattle.mlt_trace.specs.declared.item.TraceItem.{TraceItem}
 use Rattle.mlt_work_log.specs.declared.view.LogView.{LogView}
-use Rattle.mlt_work_log.specs.Prefixes.{AreKept, HasGrown, Knows, StartsWith, after_join, first_view, snapshot_view, spent_view, writer_view}
+use Rattle.mlt_work_log.specs.declared.view.Past.{Past}
+use Rattle.mlt_work_log.specs.Prefixes.{AreKept, HasBegunWith, HasGrown, Knows, StartsWith, after_join, first_view, no_past, snapshot_view, spent_view, writer_view}
 
-pub starts_with_itself : (items : List TraceItem) → StartsWith items items
-starts_with_itself items = ([], sym (append-nil items))
+itself : {A : Type 0} (xs : List A) → StartsWith xs xs
+itself xs = ([], sym (append-nil xs))
 
-pub starts_with_none : (items : List TraceItem) → StartsWith items []
-starts_with_none items = (items, refl)
+further : {A : Type 0} (xs between first : List A) → StartsWith xs between → StartsWith between first → StartsWith xs first
+further xs between first (more, is) (rest, was) = (rest ++ more, (is ∙ ap (λ ys. ys ++ more) was ∙ append_assoc first rest more))
 
-pub starts_with_first : (items between first : List TraceItem) → StartsWith items between → StartsWith between first → StartsWith items first
-starts_with_first items between first (more, is) (rest, was) = (rest ++ more, (is ∙ ap (λ xs. xs ++ more) was ∙ append_assoc first rest more))
+begun_with_itself : (past : Past) → HasBegunWith past past
+begun_with_itself past = record { acts = itself past.acts; items = itself past.items }
+
+begun_with_none : (past : Past) → HasBegunWith past no_past
+begun_with_none past = record { acts = (past.acts, refl); items = (past.items, refl) }
+
+begun_with_first : (past between first : Past) → HasBegunWith past between → HasBegunWith between first → HasBegunWith past first
+begun_with_first past between first p q = record { acts = further _ _ _ p.acts q.acts; items = further _ _ _ p.items q.items }
 
 -- what each seat knows, after a change of one
-each_set : (items : List TraceItem) (writer : ℕ) (views : List LogView) (seat : ℕ) (w : LogView) → Knows items writer seat w
-    → ((j : ℕ) (u : LogView) → j ≢ seat → get_elem? views j ≡ some u → Knows items writer j u)
-    → (j : ℕ) (u : LogView) → get_elem? (set views seat w) j ≡ some u → Knows items writer j u
-each_set items writer views seat w mine others j u e =
-    ⊎_elim (λ (x : (j ≡ seat) × (w ≡ u)). subst (Knows items writer j) x.1 (subst (λ k. Knows items writer k w) (sym x.0) mine))
+each_set : (past : Past) (writer : ℕ) (views : List LogView) (seat : ℕ) (w : LogView) → Knows past writer seat w
+    → ((j : ℕ) (u : LogView) → j ≢ seat → get_elem? views j ≡ some u → Knows past writer j u)
+    → (j : ℕ) (u : LogView) → get_elem? (set views seat w) j ≡ some u → Knows past writer j u
+each_set past writer views seat w mine others j u e =
+    ⊎_elim (λ (x : (j ≡ seat) × (w ≡ u)). subst (Knows past writer j) x.1 (subst (λ k. Knows past writer k w) (sym x.0) mine))
     (λ (x : (j ≢ seat) × (get_elem? views j ≡ some u)). others j u x.0 x.1) (at_set views seat j w u e)
 
-knows_none : (items : List TraceItem) (writer seat : ℕ) → Knows items writer seat spent_view
-knows_none items writer seat = record { first = starts_with_none items; taken = starts_with_none items; all = λ writes. absurd (false≢true writes) }
+knows_none : (past : Past) (writer seat : ℕ) → Knows past writer seat spent_view
+knows_none past writer seat = record { first = begun_with_none past; taken = begun_with_none past; all = λ writes. absurd (false≢true writes) }
 
--- the history grows
-pub grows : (items : List TraceItem) (slots seat : ℕ) (me : Me (Unit {0}) LogView) → me.0.writes ≡ true → StartsWith items me.0.items
-    → Allows (λ (s : State (Unit {0}) LogView). AreKept s.views) slots seat me 0 (λ n. n) (λ n after. HasGrown items me.0 after.0 × (after.1 ≡ me.1))
-grows items slots seat me writes more s (all, writer, each) homes at small =
+-- the past grows
+pub grows : (past : Past) (slots seat : ℕ) (me : Me (Unit {0}) LogView) → me.0.writes ≡ true → HasBegunWith past me.0.past
+    → Allows (λ (s : State (Unit {0}) LogView). AreKept s.views) slots seat me 0 (λ n. n) (λ n after. HasGrown past me.0 after.0 × (after.1 ≡ me.1))
+grows past slots seat me writes more s (all, writer, each) homes at small =
     let mine = each seat me.0 at in
     let mine_all = mine.all writes in
-    let longer : StartsWith items all = subst (StartsWith items) mine_all.1 more in (
-      writer_view items,
+    let longer : HasBegunWith past all = subst (HasBegunWith past) mine_all.1 more in (
+      writer_view past,
       keeps,
       tt,
       (
-        items,
+        past,
         writer,
-        each_set items writer s.views seat (writer_view items) (record { first = starts_with_itself items; taken = starts_with_none items; all = λ _. (mine_all.0, refl) })
+        each_set past writer s.views seat (writer_view past) (record { first = begun_with_itself past; taken = begun_with_none past; all = λ _. (mine_all.0, refl) })
             (λ j u other there.
             let was = each j u there in
             record {
-              first = starts_with_first items all u.items longer was.first;
-              taken = starts_with_first items all u.taken longer was.taken;
+              first = begun_with_first past all u.past longer was.first;
+              taken = begun_with_first past all u.taken longer was.taken;
               all = λ writes. absurd (other ((was.all writes).0 ∙ sym mine_all.0));
             }),
       ),
-      ((refl, subst (λ xs. StartsWith xs me.0.taken) (sym mine_all.1) mine.taken), refl),
+      ((refl, subst (λ xs. HasBegunWith xs me.0.taken) (sym mine_all.1) mine.taken), refl),
     )
 
 -- a snapshot is made of what a seat knows
-pub splits : (seat : ℕ) (v : LogView) → Splits (λ (s : State (Unit {0}) LogView). AreKept s.views) seat v v (snapshot_view v.items)
+pub splits : (seat : ℕ) (v : LogView) → Splits (λ (s : State (Unit {0}) LogView). AreKept s.views) seat v v (snapshot_view v.past)
 splits seat v s (all, writer, each) at =
     let mine = each seat v at in (
       all,
       writer,
       λ j u e.
           ⊎_elim (λ there. each_set all writer s.views seat v mine (λ k w _ is. each k w is) j u there)
-          (λ (is : snapshot_view v.items ≡ u). subst (Knows all writer j) is (record { first = mine.first; taken = starts_with_none all; all = λ writes. absurd (false≢true writes) }))
-          (at_snoc (set s.views seat v) (snapshot_view v.items) u j e),
+          (λ (is : snapshot_view v.past ≡ u). subst (Knows all writer j) is (record { first = mine.first; taken = begun_with_none all; all = λ writes. absurd (false≢true writes) }))
+          (at_snoc (set s.views seat v) (snapshot_view v.past) u j e),
     )
 
 -- a snapshot is taken in
@@ -79,13 +85,13 @@ joins seat other v w s (all, writer, each) at apart at_other =
           each_set all writer s.views seat (after_join v w) (record { first = mine.first; taken = theirs.first; all = mine.all }) (λ k x _ is. each k x is) j u there),
     )
 
--- the first seat is the writer's, of no items
+-- the first seat is the writer's, of no past
 first_is : (u : LogView) → some first_view ≡ some u → first_view ≡ u
 first_is u is = some-injective first_view u is
 
-first_knows : (j : ℕ) (u : LogView) → get_elem? (first_view ∷ []) j ≡ some u → Knows [] 0 j u
-first_knows zero u is = subst (Knows [] 0 0) (first_is u is) (record { first = starts_with_none []; taken = starts_with_none []; all = λ _. (refl, refl) })
+first_knows : (j : ℕ) (u : LogView) → get_elem? (first_view ∷ []) j ≡ some u → Knows no_past 0 j u
+first_knows zero u is = subst (Knows no_past 0 0) (first_is u is) (record { first = begun_with_none no_past; taken = begun_with_none no_past; all = λ _. (refl, refl) })
 first_knows (suc j) u is = absurd (some-ne-none u (sym is))
 
 pub begins : AreKept (first_view ∷ [])
-begins = ([], 0, first_knows)
+begins = (no_past, 0, first_knows)

@@ -1,51 +1,65 @@
--- What threads have seen of a history that only grows: what a seat knows, the rule, and the kinds of step.
-use Rattle.std.specs.Prelude.{◌≡◌, ℕ, List, [], ◌++◌, Bool, true, false}
+-- What threads have seen of a past that only grows: what a seat knows, the rule, and the kinds of step.
+use Rattle.std.specs.Prelude.{◌≡◌, ℕ, List, [], ◌∷◌, ◌++◌, Bool, true, false}
 use mathlib.Core.Option.{some}
 use lib.ListN.{get_elem?}
+use Rattle.mlt_event.specs.declared.event.Event.{Event}
+use Rattle.mlt_event.specs.declared.told.Told.{Told}
 use Rattle.mlt_trace.specs.declared.item.TraceItem.{TraceItem}
 use Rattle.mlt_work_log.specs.declared.view.LogView.{LogView}
+use Rattle.mlt_work_log.specs.declared.view.Past.{Past}
 
--- these are the first ones of the items
-abbrev pub StartsWith : List TraceItem → List TraceItem → Type 0
-StartsWith items first = (rest : List TraceItem) × (items ≡ first ++ rest)
+-- these are the first ones of a list
+abbrev pub StartsWith : {A : Type 0} → List A → List A → Type 0
+StartsWith {A} all first = (rest : List A) × (all ≡ first ++ rest)
+
+-- nothing was done yet
+abbrev pub no_past : Past
+no_past = record { acts = []; items = [] }
+
+-- after one more event with its answer, where the history has these items
+abbrev pub after_act : Past → Event → Told → List TraceItem → Past
+after_act past event told items = record { acts = past.acts ++ (event, told) ∷ []; items = items }
+
+-- it has begun with the other one: the acts and the items of that are its first ones
+pub record HasBegunWith (past first : Past) : Type 0 where
+  pub acts : StartsWith past.acts first.acts
+  pub items : StartsWith past.items first.items
 
 -- what a seat knows, by its fields in order
-abbrev pub view : Bool → List TraceItem → List TraceItem → LogView
-view writes items taken = record { writes = writes; items = items; taken = taken }
+abbrev pub view : Bool → Past → Past → LogView
+view writes past taken = record { writes = writes; past = past; taken = taken }
 
--- what the writer knows of a history of these items
-abbrev pub writer_view : List TraceItem → LogView
-writer_view items = view true items []
+-- what the writer knows of this past
+abbrev pub writer_view : Past → LogView
+writer_view past = view true past no_past
 
--- what a snapshot of these items knows
-abbrev pub snapshot_view : List TraceItem → LogView
-snapshot_view items = view false items []
+-- what a snapshot of this past knows
+abbrev pub snapshot_view : Past → LogView
+snapshot_view past = view false past no_past
 
--- Of a history of these items, a seat knows the first ones, as does a snapshot that it has taken in. Just one seat is the writer's,
--- and that knows all.
-pub record Knows (items : List TraceItem) (writer seat : ℕ) (v : LogView) : Type 0 where
-  pub first : StartsWith items v.items
-  pub taken : StartsWith items v.taken
-  pub all : v.writes ≡ true → (seat ≡ writer) × (v.items ≡ items)
+-- Of this past, a seat knows the beginning, as does a snapshot that it has taken in. Just one seat is the writer's, and that knows all.
+pub record Knows (past : Past) (writer seat : ℕ) (v : LogView) : Type 0 where
+  pub first : HasBegunWith past v.past
+  pub taken : HasBegunWith past v.taken
+  pub all : v.writes ≡ true → (seat ≡ writer) × (v.past ≡ past)
 
--- the rule of all views: there is such a history, and a writer of it
+-- the rule of all views: there is such a past, and a writer of it
 abbrev pub AreKept : List LogView → Type 0
-AreKept views = (items : List TraceItem) × (writer : ℕ)
-    × ((seat : ℕ) (v : LogView) → get_elem? views seat ≡ some v → Knows items writer seat v)
+AreKept views = (past : Past) × (writer : ℕ)
+    × ((seat : ℕ) (v : LogView) → get_elem? views seat ≡ some v → Knows past writer seat v)
 
--- Table made: the writer knows that there is no item.
+-- Table made: the writer knows that nothing was done.
 abbrev pub first_view : LogView
-first_view = writer_view []
+first_view = writer_view no_past
 
 -- Seat joined: the writer takes in what a snapshot knows.
 abbrev pub after_join : LogView → LogView → LogView
-after_join v w = view v.writes v.items w.items
+after_join v w = view v.writes v.past w.past
 
 -- The view of the seat that was taken in.
 abbrev pub spent_view : LogView
-spent_view = snapshot_view []
+spent_view = snapshot_view no_past
 
--- Word read by the writer: the history has these items from now on. What the writer had taken in were the first ones of those that it
--- had before.
-abbrev pub HasGrown : List TraceItem → LogView → LogView → Type 0
-HasGrown items before after = (after ≡ writer_view items) × StartsWith before.items before.taken
+-- Word read by the writer: this is the past from now on. That before had begun with what the writer had taken in.
+abbrev pub HasGrown : Past → LogView → LogView → Type 0
+HasGrown past before after = (after ≡ writer_view past) × HasBegunWith before.past before.taken

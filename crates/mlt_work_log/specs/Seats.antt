@@ -5,6 +5,7 @@ use Rattle.mlt_trace.specs.declared.item.TraceItem.{TraceItem}
 use Rattle.mlt_work_log.specs.declared.seats.HistoryLog.{HistoryLog}
 use Rattle.mlt_work_log.specs.declared.seats.LogSnapshot.{LogSnapshot}
 use Rattle.mlt_work_log.specs.declared.seats.LogWriter.{LogWriter}
+use Rattle.mlt_work_log.specs.declared.view.Past.{Past}
 
 -- what tells a log from others
 abbrev pub LogId : Type 0
@@ -34,10 +35,14 @@ IsWriterOf id writer = writer.seat.table_id ≡ id
 abbrev pub IsOf : LogId → LogSnapshot → Type 0
 IsOf id snapshot = snapshot.seat.table_id ≡ id
 
--- all items of the history
-abbrev pub all_items : LogWriter → List TraceItem
-all_items writer = writer.seat.me.0.items
+-- all that the manager has done
+abbrev pub past_of : LogWriter → Past
+past_of writer = writer.seat.me.0.past
+
+-- what it had done when it was seen
+abbrev pub seen_by : LogSnapshot → Past
+seen_by snapshot = snapshot.seat.me.0.past
 
 -- the first items of the history, those that it had when it was seen
 abbrev pub first_items : LogSnapshot → List TraceItem
-first_items snapshot = snapshot.seat.me.0.items
+first_items snapshot = (seen_by snapshot).items

@@ -1,8 +1,8 @@
-//! What threads have seen of a history that only grows, as contracts know it: the items of a
-//! snapshot stay the first ones of the history. A thread that adds items has the `LogWriter` of a
-//! `HistoryLog`; a thread that has seen some has a `LogSnapshot`. No item is stored here, and
-//! neither takes memory. That the items are those of a manager's history is proved in
-//! `mlt_work_desk`.
+//! What threads have seen of a manager, as contracts know it: the past that a snapshot has, the
+//! events with their answers and the items of the history, stays the beginning of each later one.
+//! The thread that adds to it has the `LogWriter` of a `HistoryLog`; a thread that has seen some
+//! has a `LogSnapshot`. Nothing is stored here, and neither takes memory. That the past is that
+//! of a manager is proved in `mlt_work_desk`.
 #![tactic(auto)]
 
 mod log;

@@ -1,8 +1,8 @@
 //! The steps of the log.
 
-ghost use Rattle.std.specs.Prelude.{◌≡◌, [], IfOk};
-ghost use Rattle.mlt_work_log.specs.Prefixes.{StartsWith};
-ghost use Rattle.mlt_work_log.specs.Seats.{IsOf, IsWriterOf, all_items, first_items, id_of};
+ghost use Rattle.std.specs.Prelude.{◌≡◌, IfOk};
+ghost use Rattle.mlt_work_log.specs.Prefixes.{HasBegunWith, no_past};
+ghost use Rattle.mlt_work_log.specs.Seats.{IsOf, IsWriterOf, id_of, past_of, seen_by};
 
 use crate::rule::{Grows, Growth, Prefixes};
 use crate::seats::{HistoryLog, LogSnapshot, LogWriter};
@@ -11,25 +11,25 @@ use std::alloc::{AllocError, Global};
 use std::mem;
 
 impl HistoryLog {
-    /// The log of a history that has no item yet, and its writer.
+    /// The log of a manager that has done nothing yet, and its writer.
     ///
     /// # Errors
     /// Where memory for the one word is refused.
     pub fn new(alloc: Global) -> Result<(HistoryLog, LogWriter), AllocError>
         ensures of { IfOk result (λ made. IsWriterOf (id_of made.0) made.1) }
-        ensures none { IfOk result (λ made. all_items made.1 ≡ []) }
+        ensures none { IfOk result (λ made. past_of made.1 ≡ no_past) }
     {
         let (table, seat) = Table::of_words(alloc, &[0], &())?;
         Ok((HistoryLog { table }, LogWriter { seat }))
     }
 
-    /// A snapshot of all items that the history has now.
+    /// A snapshot of the whole past.
     pub fn snapshot(&self, writer: &mut LogWriter) -> LogSnapshot
         requires writer { IsWriterOf (id_of self.now) writer.old }
         ensures writer { IsWriterOf (id_of self.now) writer.new }
-        ensures same { all_items writer.new ≡ all_items writer.old }
+        ensures same { past_of writer.new ≡ past_of writer.old }
         ensures of { IsOf (id_of self.now) result }
-        ensures all { first_items result ≡ all_items writer.old }
+        ensures all { seen_by result ≡ past_of writer.old }
     {
         let seat = self.table.shared.split_seat::<Prefixes>(&mut writer.seat);
         LogSnapshot { seat }
@@ -39,26 +39,26 @@ impl HistoryLog {
     pub fn copy(&self, snapshot: &mut LogSnapshot) -> LogSnapshot
         requires of { IsOf (id_of self.now) snapshot.old }
         ensures of { IsOf (id_of self.now) snapshot.new }
-        ensures same { first_items snapshot.new ≡ first_items snapshot.old }
+        ensures same { seen_by snapshot.new ≡ seen_by snapshot.old }
         ensures copy { IsOf (id_of self.now) result }
-        ensures items { first_items result ≡ first_items snapshot.old }
+        ensures past { seen_by result ≡ seen_by snapshot.old }
     {
         let seat = self.table.shared.split_seat::<Prefixes>(&mut snapshot.seat);
         LogSnapshot { seat }
     }
 
-    /// The history has the picked items from now on, and the snapshot is one of all of them. What that had were the first items of what
-    /// the history was before.
+    /// The past is the picked one from now on, and the snapshot is one of all of it. The past before had begun with that of the
+    /// snapshot.
     #[inline(always)]
     pub fn see<G: Growth>(&self, writer: &mut LogWriter, snapshot: &mut LogSnapshot)
         requires writer { IsWriterOf (id_of self.now) writer.old }
         requires of { IsOf (id_of self.now) snapshot.old }
-        requires grows { StartsWith G.items (all_items writer.old) }
+        requires grows { HasBegunWith G.past (past_of writer.old) }
         ensures writer { IsWriterOf (id_of self.now) writer.new }
         ensures of { IsOf (id_of self.now) snapshot.new }
-        ensures all { all_items writer.new ≡ G.items }
-        ensures seen { first_items snapshot.new ≡ G.items }
-        ensures first { StartsWith (all_items writer.old) (first_items snapshot.old) }
+        ensures all { past_of writer.new ≡ G.past }
+        ensures seen { seen_by snapshot.new ≡ G.past }
+        ensures first { HasBegunWith (past_of writer.old) (seen_by snapshot.old) }
     {
         let fresh = self.snapshot(writer);
         let LogSnapshot { seat } = mem::replace(snapshot, fresh);

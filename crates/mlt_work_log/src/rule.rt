@@ -1,13 +1,13 @@
 //! The rule of the log, and what each kind of step does to what seats know.
 
-ghost use Rattle.std.specs.Prelude.{[], List};
-ghost use Rattle.mlt_trace.specs.declared.item.TraceItem.{TraceItem};
+ghost use Rattle.mlt_work_log.specs.Prefixes.{no_past};
+ghost use Rattle.mlt_work_log.specs.declared.view.Past.{Past};
 
 use crate::view::LogView;
 use atomic_table::{Join, Play, Split, TableRule};
 use std::marker::{Brand, PhantomData};
 
-/// The writer knows all items, and any other seat the first ones.
+/// The writer knows the whole past, and any other seat one that it began with.
 pub struct Prefixes;
 
 impl TableRule<(), LogView, ()> for Prefixes {
@@ -23,7 +23,7 @@ impl Split<LogView> for Prefixes {
 
     ghost left = { λ v. v };
 
-    ghost right = { λ v. snapshot_view v.items };
+    ghost right = { λ v. snapshot_view v.past };
 }
 
 impl Join<LogView> for Prefixes {
@@ -34,16 +34,16 @@ impl Join<LogView> for Prefixes {
     ghost spent = { spent_view };
 }
 
-/// All items that a history has once it has grown. No value of it is made: the caller that adds to the history picks them.
+/// The past once it has grown. No value of it is made: the caller that adds to the past picks it.
 pub trait Growth {
-    ghost items: { List TraceItem };
+    ghost past: { Past };
 }
 
 impl Growth for Brand {
-    ghost items = { [] };
+    ghost past = { no_past };
 }
 
-/// The history has grown. A snapshot that the writer had taken in were the first items of what it had been.
+/// The past has grown. It had begun with that of a snapshot that the writer had taken in.
 pub struct Grows<G> {
     growth: PhantomData<G>,
 }
@@ -52,5 +52,5 @@ impl<G: Growth> Play<(), LogView> for Grows<G> {
     ghost use Rattle.std.specs.Prelude.{◌≡◌};
     ghost use Rattle.mlt_work_log.specs.Prefixes.{HasGrown};
 
-    ghost then = { λ step me word after. HasGrown G.items me.0 after.0 × (after.1 ≡ me.1) };
+    ghost then = { λ step me word after. HasGrown G.past me.0 after.0 × (after.1 ≡ me.1) };
 }

@@ -1,5 +1,5 @@
 use Rattle.std.proofs.Common.{◌≡◌, ◌+◌, ◌*◌, vec_len}
-use Rattle.mlt_work_log.specs.Seats.{IsWriterOf, all_items}
+use Rattle.mlt_work_log.specs.Seats.{IsWriterOf, past_of}
 use Rattle.mlt_serve.proofs.gathering.new_threads.Given as goal
 
 abbrev pub invariant-loop : goal.invariant-loop
@@ -8,5 +8,5 @@ invariant-loop g l = record {
   parts : l.all.parts + 2 * l.counter ≡ 129;
   amount : l.all.amount ≡ 0;
   writer : IsWriterOf g.L.MadeWith.log_id l.writer;
-  items : all_items l.writer ≡ all_items l.initial.writer;
+  past : past_of l.writer ≡ past_of l.initial.writer;
 }

@@ -1,6 +1,6 @@
-use Rattle.std.proofs.Common.{true, Some}
+use Rattle.std.proofs.Common.{false, Some}
 use Rattle.mlt_work_log.specs.Seats.{id_of}
-use Rattle.mlt_work_desk.specs.Makings.{making_of}
+use Rattle.mlt_work_desk.specs.Makings.{making_by}
 use Rattle.mlt_serve_tests.proofs.lock_desks.talk_over_manager.Given as goal
 
 abbrev pub ghosts-talk_over-L-Ledger : goal.ghosts-talk_over-L-Ledger
@@ -8,7 +8,7 @@ ghosts-talk_over-L-Ledger g a = record { name = a.records.blank.name; parts = a.
 
 abbrev pub ghosts-talk_over-L-MadeWith : goal.ghosts-talk_over-L-MadeWith
 ghosts-talk_over-L-MadeWith g a = record {
-  made_with = Some (making_of a.manager);
-  hands_out = true;
+  made_with = Some (making_by a.limits a.pseudo);
+  hands_out = false;
   log_id = id_of a.records.log;
 }

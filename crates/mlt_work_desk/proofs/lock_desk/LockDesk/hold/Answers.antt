@@ -2,6 +2,7 @@ use Rattle.std.proofs.Common.{rules, ◌≡◌, ◌≢◌, ◌∙◌, List, [], 
 use Rattle.mlt_work_desk.proofs.Names.{false≢true, first_items, EndsWithOp, is_done}
 use Rattle.mlt_work_desk.proofs.Cycles.{youngest_of_cycle}
 use Rattle.mlt_work_desk.proofs.Replying.{reply_goes_on, reply_not_done, reply_then}
+use Rattle.mlt_work_log.specs.declared.view.Past.{Past}
 use Rattle.mlt_work_desk.proofs.lock_desk.LockDesk.hold.Goals as goal
 use Rattle.mlt_work_desk.proofs.lock_desk.LockDesk.hold.Goals.{then-is_done, else-is_done, then-not-is_empty, else-not-is_empty}
 
@@ -13,7 +14,7 @@ returns-clause-another g c = λ no_reply.
     elim c.if-is_done.branch [
       | then-is_done w ↦
           let ends_not : w.ends_with.result ≡ false = search rules in
-          let seen : items ≡ history.items = search rules in
+          let seen : items ≡ history.items = ap (λ (past : Past). past.items) c.act-told.ensures.seen ∙ c.act-told.new.self.logged in
           let not_in : history.items ≢ history.handed → EndsWithOp items op → ⊥ = search rules in
           reply_then _ _ c.args.event c.act-told.result.0 not_in c.act-told.ensures.keeps
       | else-is_done w ↦

@@ -1,10 +1,10 @@
 use Rattle.std.proofs.Common.{rules, ◌≡◌, ◌≢◌, ◌∙◌, ◌+◌, ◌-◌, ◌^◌, ◌++◌, Some, true, ap, min, arith, sym}
-use Rattle.mlt_work_desk.proofs.Names.{first_items, goes_on}
+use Rattle.mlt_work_desk.proofs.Names.{goes_on}
 use Rattle.mlt_work_desk.proofs.Adding.{event_adds}
 use Rattle.mlt_work_desk.proofs.Counting.{one_event, same_making}
-use Rattle.mlt_work_desk.proofs.GoingOn.{sees_same}
-use Rattle.mlt_work_desk.proofs.Playing.{more_played, still_played}
+use Rattle.mlt_work_desk.proofs.Playing.{still_played}
 use Rattle.mlt_work_desk.proofs.Replying.{keeps_reply, reply_goes_on}
+use Rattle.mlt_work_log.specs.declared.view.Past.{Past}
 use Rattle.mlt_work_desk.proofs.locked_state.LockedState.act.Goals as goal
 
 pub invariant_of-self-clause-counted : goal.invariant_of-self-clause-counted
@@ -20,19 +20,13 @@ invariant_of-self-clause-made g c =
 
 pub invariant_of-self-clause-played : goal.invariant_of-self-clause-played
 invariant_of-self-clause-played g c = λ stays.
-    still_played g.P.Pseudo.bits_of g.met.P.Pseudo.has_64_bits c.args.event c.act-told.result c.args.self.now.manager c.act-told.new.self c.act-told.ensures.meets c.keeps_its_promises.ensures (c.args.self.now.played stays)
+    still_played g.P.Pseudo.bits_of g.met.P.Pseudo.has_64_bits _ _ c.args.event c.act-told.result c.args.self.now.manager c.act-told.new.self
+    (ap (λ (past : Past). past.acts) c.see_act.ensures.past) c.act-told.ensures.meets c.keeps_its_promises.ensures (c.args.self.now.played stays)
 
 pub invariant_of-self-2-clause-played : goal.invariant_of-self-2-clause-played
 invariant_of-self-2-clause-played g c = λ stays.
-    still_played g.P.Pseudo.bits_of g.met.P.Pseudo.has_64_bits c.args.event c.act-told.result c.args.self.now.manager c.act-told.new.self c.act-told.ensures.meets c.keeps_its_promises.ensures (c.args.self.now.played stays)
-
-pub returns-clause-more : goal.returns-clause-more
-returns-clause-more g c = λ events tolds.
-    more_played g.P.Pseudo.bits_of g.met.P.Pseudo.has_64_bits events tolds c.args.event c.act-told.result c.args.self.now.manager c.act-told.new.self c.act-told.ensures.meets c.keeps_its_promises.ensures
-
-pub returns-then-goes_on-clause-more : goal.returns-then-goes_on-clause-more
-returns-then-goes_on-clause-more g c = λ events tolds.
-    more_played g.P.Pseudo.bits_of g.met.P.Pseudo.has_64_bits events tolds c.args.event c.act-told.result c.args.self.now.manager c.act-told.new.self c.act-told.ensures.meets c.keeps_its_promises.ensures
+    still_played g.P.Pseudo.bits_of g.met.P.Pseudo.has_64_bits _ _ c.args.event c.act-told.result c.args.self.now.manager c.act-told.new.self
+    (ap (λ (past : Past). past.acts) c.see_act.ensures.past) c.act-told.ensures.meets c.keeps_its_promises.ensures (c.args.self.now.played stays)
 
 pub invariant_of-self-2-clause-counted : goal.invariant_of-self-2-clause-counted
 invariant_of-self-2-clause-counted g c =
@@ -45,27 +39,34 @@ pub invariant_of-self-2-clause-made : goal.invariant_of-self-2-clause-made
 invariant_of-self-2-clause-made g c =
     ap Some (same_making g.P.Pseudo.bits_of c.args.event c.act-told.result c.args.self.now.manager c.act-told.new.self c.act-told.ensures.meets) ∙ c.args.self.now.made
 
-pub see_history-requires-clause-grows : goal.see_history-requires-clause-grows
-see_history-requires-clause-grows g c =
+pub see_act-requires-clause-grows : goal.see_act-requires-clause-grows
+see_act-requires-clause-grows g c =
     let adds = event_adds g.P.Pseudo.bits_of c.args.event c.act-told.result c.args.self.now.manager c.act-told.new.self c.act-told.ensures.meets in
     (adds.0, adds.2 ∙ ap (λ xs. xs ++ adds.0) (sym c.args.self.now.logged))
 
 pub returns-clause-sees : goal.returns-clause-sees
 returns-clause-sees g c =
     let adds = event_adds g.P.Pseudo.bits_of c.args.event c.act-told.result c.args.self.now.manager c.act-told.new.self c.act-told.ensures.meets in
-    let first = c.see_history.ensures.first in
+    let first = c.see_act.ensures.first.items in
     record {
       between = first.0;
       here = adds.0;
       called = adds.1;
-      whole = c.see_history.ensures.seen ∙ adds.2 ∙ ap (λ xs. xs ++ adds.0) (sym c.args.self.now.logged ∙ first.1);
+      whole = ap (λ (past : Past). past.items) (c.see_act.ensures.seen ∙ c.see_act.ensures.past) ∙ adds.2 ∙ ap (λ xs. xs ++ adds.0) (sym c.args.self.now.logged ∙ first.1);
       adds = adds.3;
     }
 
 pub returns-then-goes_on-clause-sees : goal.returns-then-goes_on-clause-sees
 returns-then-goes_on-clause-sees g c =
-    let on : goes_on c.act-told.result ≡ true = search rules in
-    sees_same (first_items c.args.snapshot.now) c.args.event c.act-told.result on
+    let adds = event_adds g.P.Pseudo.bits_of c.args.event c.act-told.result c.args.self.now.manager c.act-told.new.self c.act-told.ensures.meets in
+    let first = c.see_act.ensures.first.items in
+    record {
+      between = first.0;
+      here = adds.0;
+      called = adds.1;
+      whole = ap (λ (past : Past). past.items) (c.see_act.ensures.seen ∙ c.see_act.ensures.past) ∙ adds.2 ∙ ap (λ xs. xs ++ adds.0) (sym c.args.self.now.logged ∙ first.1);
+      adds = adds.3;
+    }
 
 pub returns-clause-keeps : goal.returns-clause-keeps
 returns-clause-keeps g c =

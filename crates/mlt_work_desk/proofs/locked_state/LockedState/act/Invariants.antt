@@ -1,4 +1,6 @@
+use Rattle.mlt_work_log.specs.Prefixes.{after_act}
+use Rattle.mlt_work_log.specs.Seats.{past_of}
 use Rattle.mlt_work_desk.proofs.locked_state.LockedState.act.Given as goal
 
-abbrev pub ghosts-see_history : goal.ghosts-see_history
-ghosts-see_history g a = record { items = a.manager.now.shared.history.items }
+abbrev pub ghosts-see_act : goal.ghosts-see_act
+ghosts-see_act g a = record { past = after_act (past_of a.writer.now) a.event.now a.told.now a.manager.now.shared.history.items }

@@ -1,4 +1,5 @@
+use Rattle.mlt_work_log.specs.Seats.{past_of}
 use Rattle.mlt_work_desk.proofs.locked_state.LockedState.compare.Given as goal
 
-abbrev pub ghosts-see_history : goal.ghosts-see_history
-ghosts-see_history g a = record { items = a.manager.now.shared.history.items }
+abbrev pub ghosts-see : goal.ghosts-see
+ghosts-see g a = record { past = past_of a.writer.now }

@@ -1,6 +1,6 @@
 use Rattle.std.proofs.Common.{rules, ◌∙◌, ap, subst, sym}
 use Rattle.mlt_work_log.specs.declared.view.LogView.{LogView}
-use Rattle.mlt_work_log.specs.Prefixes.{StartsWith}
+use Rattle.mlt_work_log.specs.Prefixes.{HasBegunWith}
 use Rattle.mlt_work_log.proofs.Moves.{grows, joins}
 use Rattle.mlt_work_log.proofs.seats.HistoryLog.see.Goals as goal
 
@@ -11,8 +11,8 @@ pub load-requires : goal.load-requires
 load-requires g c =
     let joined = c.join_seat.ensures.2 in
     let writes = ap (λ m. m.0.writes) joined ∙ ap (λ (v : LogView). v.writes) c.snapshot-fresh.new.writer.knows_all in
-    let items = ap (λ m. m.0.items) joined ∙ c.snapshot-fresh.ensures.same in (
+    let past = ap (λ m. m.0.past) joined ∙ c.snapshot-fresh.ensures.same in (
       search rules,
       search rules,
-      grows g.G.Growth.items _ _ _ writes (subst (StartsWith g.G.Growth.items) (sym items) c.requires.grows),
+      grows g.G.Growth.past _ _ _ writes (subst (HasBegunWith g.G.Growth.past) (sym past) c.requires.grows),
     )
