@@ -1,6 +1,7 @@
 mod Names
 pub mod Following
 pub mod Merging
+pub mod Lining
 pub mod Numbering
 pub mod Receiving
 pub mod Sorting

@@ -2,3 +2,4 @@ pub mod Clients
 pub mod Threads
 pub mod Endings
 pub mod Tellings
+pub mod TraceLines

@@ -1,6 +1,6 @@
 //! Connections, as they come.
 
-ghost use Rattle.std.specs.Prelude.{◌≡◌, ◌≤◌, ◌+◌, ◌-◌, ◌^◌, ◌%◌, IfErr, IfSome, false, true};
+ghost use Rattle.std.specs.Prelude.{◌≡◌, ◌≤◌, ◌+◌, ◌-◌, ◌^◌, ◌%◌, IfErr, IfSome, IsOkUnless, false, true};
 ghost use Rattle.mlt_serve.specs.Endings.{is_limit, result_of_accepting};
 
 use crate::door::Door;
@@ -22,12 +22,14 @@ const TOO_MANY: &[u8] = b"error 7 TooManyOpen\n";
 /// A connection that was accepted.
 #[derive(Drop)]
 pub(crate) struct Connection {
-    /// Its number, from 1.
+    /// How many were accepted before.
+    pub(crate) before: u64,
+    /// Its number, from 1: 1, 2, 3 and so on, and 1 again after 4,294,967,295.
     pub(crate) client: u32,
     pub(crate) stream: TcpStream,
     /// When it was accepted, if a clock could say so.
     pub(crate) since: Option<Instant>,
-    ghost numbered: { 1 ≤ client },
+    ghost numbered: { client ≡ before % (2 ^ 32 - 1) + 1 },
 }
 
 /// What was accepted, and how that ended.
@@ -165,20 +167,37 @@ impl<'a, R: Wait + Clock> Acceptor<'a, R> {
                 Ok(stream) => stream,
                 Err(ended) => return (before, ended),
             };
-            let client = number_of(before);
-            self.door.count_accepted();
-            let connection = Connection {
-                client,
-                stream,
-                since: Instant::now(self.rt).ok(),
-            };
-            let sent = connections.send(self.rt, connection);
-            if sent.is_err() {
-                return (before, ListenerEnd::Memory);
+            if let Err(ended) = self.send_on(connections, before, stream) {
+                return (before, ended);
             }
             self.warn(before + 1, limit);
         }
         (limit, ListenerEnd::Limit(limit))
+    }
+
+    /// Sends a connection on, before which so many were accepted.
+    ///
+    /// # Errors
+    /// `Memory`, where the sending was refused.
+    fn send_on(
+        &self,
+        connections: &Sender<Connection, Global>,
+        before: u64,
+        stream: TcpStream,
+    ) -> Result<(), ListenerEnd>
+        ensures { IsOkUnless result ListenerEnd.Memory }
+    {
+        self.door.count_accepted();
+        let connection = Connection {
+            before,
+            client: number_of(before),
+            stream,
+            since: Instant::now(self.rt).ok(),
+        };
+        match connections.send(self.rt, connection) {
+            Ok(()) => Ok(()),
+            Err(_) => Err(ListenerEnd::Memory),
+        }
     }
 
     /// Tells once nine in ten of the connections are taken.

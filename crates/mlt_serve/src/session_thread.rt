@@ -152,6 +152,7 @@ impl<P: Pseudo, L: MadeWith<P>, K: Receipts + Drop> SessionThread<P, L, K> {
             → (self.old.is_short ≡ false) × (result ≡ false) }
     {
         let Connection {
+            before: _,
             client,
             stream,
             since,

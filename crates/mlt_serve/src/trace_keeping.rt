@@ -1,7 +1,8 @@
 //! A trace that is written as the server goes.
 
-ghost use Rattle.std.specs.Prelude.{◌≡◌, ◌≤◌, ◌<◌, true, IfOk, length, take};
+ghost use Rattle.std.specs.Prelude.{◌≡◌, ◌≤◌, ◌<◌, true, IfOk, OnOk, length, take};
 ghost use Rattle.mlt_trace.specs.Lines.{AddsLines};
+ghost use Rattle.mlt_serve.specs.TraceLines.{WritesLines};
 
 use crate::ending::DoneSignal;
 use crate::operating::TraceFile;
@@ -362,12 +363,15 @@ fn pause_after(pause: u64, taken: usize) -> u64 {
 }
 
 /// Writes lines of these items, block by block. Where that fails the file keeps whole lines, as far as it can be cut.
-fn write_lines<T: TraceFile>(file: &mut Counting<T>, items: &[KeptItem]) -> Result<(), Refusal> {
+fn write_lines<T: TraceFile>(file: &mut Counting<T>, items: &[KeptItem]) -> Result<(), Refusal>
+    ensures lines { OnOk result
+        (WritesLines items.now (T.contents file.old.file) (T.contents file.new.file)) }
+{
     let mut rest = items;
     while !rest.is_empty() {
         let count = write_next_block(file, rest)?;
         file.blocks.fetch_add(1, Ordering::SeqCst);
-        rest = rest.get(count..).unwrap_or(&[]);
+        rest = rest.split_at(count).1;
     }
     Ok(())
 }
