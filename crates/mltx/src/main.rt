@@ -13,8 +13,11 @@ mod opened;
 mod output;
 mod streams;
 
-ghost use Rattle.std.specs.Prelude.{◌≡◌, ◌≤◌, ◌<◌, [], IfOk, Ok};
+ghost use Rattle.std.specs.Prelude.{◌≡◌, ◌≤◌, ◌<◌, ◌↔◌, [], true, IfOk, Ok, OnOk};
+ghost use Rattle.std.specs.Io.KnownBytes.{Appends};
+ghost use Rattle.mlt_trace.specs.Items.{trace_text};
 ghost use Rattle.mlt_cli.specs.CommandLine.{IsWithinBounds};
+ghost use Rattle.mltx.specs.Options.{AreLimitsOf, IsTimeOf};
 
 use arguments::words;
 use end_signals::EndSignals;
@@ -42,7 +45,7 @@ use mlt_work::{BeginQueue, RunOptions, run_scripts};
 use opened::Opened;
 use output::Output;
 use std::fs::File;
-use std::io;
+use std::io::{self, Write};
 use std::process::ExitCode;
 use std::sync::Wait;
 use std::thread::Threads;
@@ -274,6 +277,7 @@ fn run_server<P: Pseudo + Drop + Send, T: Threads + Wait + Clock + Sync + Send +
     requires most { serve.now.sessions ≤ 64 }
 {
     let opened = Opened::open(rt, serve)?;
+    let input = InputEnd::new(rt, threads, serve.operating.until_eof)?;
     let unsaid = opened.report(rt, tells_number)?;
     let Opened {
         listener,
@@ -286,7 +290,7 @@ fn run_server<P: Pseudo + Drop + Send, T: Threads + Wait + Clock + Sync + Send +
         notes: rt.stderr(),
         unsaid,
         trace,
-        signal: EndSignals::new(rt, InputEnd::new(rt, serve.operating.until_eof)),
+        signal: EndSignals::new(rt, input),
         admin: match &admin {
             Some(listener) => Some(Admin {
                 listener,
@@ -320,12 +324,15 @@ fn run_server<P: Pseudo + Drop + Send, T: Threads + Wait + Clock + Sync + Send +
 const MOST_CONNECTIONS: u64 = (1 << 63) - 1;
 
 fn serve_options(serve: &Serve) -> ServeOptions
-    ensures { result.sessions ≡ serve.now.sessions }
+    ensures sessions { result.sessions ≡ serve.now.sessions }
+    ensures tries { result.tries ≡ serve.now.tries }
+    ensures limits { AreLimitsOf serve.now.connections result.limits result.connections }
+    ensures idle { IsTimeOf serve.now.times.idle result.idle }
+    ensures wait { IsTimeOf serve.now.times.wait result.wait }
+    ensures open { IsTimeOf serve.now.times.transaction result.open }
+    ensures refuses { (serve.now.full ≡ Full.Refuse) ↔ (result.refuses ≡ true) }
 {
-    let (limits, connections) = match serve.connections {
-        Connections::Limit(limit) => (Limits::program(), u64::from(limit)),
-        Connections::Endless => (Limits::endless(), MOST_CONNECTIONS),
-    };
+    let (limits, connections) = limits_of(&serve.connections);
     ServeOptions {
         limits,
         sessions: serve.sessions,
@@ -338,8 +345,20 @@ fn serve_options(serve: &Serve) -> ServeOptions
     }
 }
 
+// The limits of the manager, and how many connections are accepted.
+fn limits_of(connections: &Connections) -> (Limits, u64)
+    ensures { AreLimitsOf connections.now result.0 result.1 }
+{
+    match connections {
+        Connections::Limit(limit) => (Limits::program(), u64::from(*limit)),
+        Connections::Endless => (Limits::endless(), MOST_CONNECTIONS),
+    }
+}
+
 // So many seconds; 0 is for ever.
-fn seconds(count: u64) -> Option<Duration> {
+fn seconds(count: u64) -> Option<Duration>
+    ensures { IsTimeOf count result }
+{
     match count {
         0 => None,
         _ => Some(Duration::from_secs(count)),
@@ -370,18 +389,27 @@ fn write_history<P: Pseudo>(
     let Some(file) = &run.trace else {
         return Ok(());
     };
+    let mut output = match File::create(rt, file.as_str()) {
+        Ok(created) => Output::new(created),
+        Err(error) => return Err(Failure::of_call(Known::OfTrace(error))),
+    };
+    match (write_items(manager, &mut output), output.failure()) {
+        (Ok(()), _) => Ok(()),
+        (Err(_), Some(error)) => Err(Failure::of_call(Known::OfTrace(error))),
+        (Err(refusal), None) => Err(Failure::from(refusal)),
+    }
+}
+
+// Writes the text of the whole history.
+fn write_items<P: Pseudo, W: Write>(manager: &Manager<P>, writer: &mut W) -> Result<(), Refusal>
+    requires { manager.now.shared.history.handed ≡ [] }
+    ensures ok { OnOk result (Appends (W.contents writer.old) (W.contents writer.new)
+        (trace_text manager.now.shared.history.items)) }
+{
     let Some(items) = manager.history() else {
         unreachable!()
     };
     // The text of every history passes the checker.
     manager.passes_the_checker();
-    let mut output = match File::create(rt, file.as_str()) {
-        Ok(created) => Output::new(created),
-        Err(error) => return Err(Failure::of_call(Known::OfTrace(error))),
-    };
-    match (write_trace(items, &mut output), output.failure()) {
-        (Ok(()), _) => Ok(()),
-        (Err(_), Some(error)) => Err(Failure::of_call(Known::OfTrace(error))),
-        (Err(refusal), None) => Err(Failure::from(refusal)),
-    }
+    write_trace(items, writer)
 }
