@@ -2,6 +2,8 @@
 
 The texts are cut at each place between two writes into a pipe, and given a byte at a time. A program that loses a line that
 two reads share, takes it twice, takes its part for a line, or keeps what was written back until the end, fails here."""
+import fcntl
+import os
 import time
 from collections.abc import Iterable, Iterator
 from contextlib import suppress
@@ -70,6 +72,17 @@ def long_traces_byte_by_byte(mltx: Program) -> None:
     trace, fault, said = FAULTY["a-false-reply"]
     ran = fed(mltx, [bytes([byte]) for byte in trace], pause=0.001)
     expect(ran, status=1, out=lines(said), err=f"mltx: 11 TraceFault {fault}\n")
+
+
+@test(seconds=1)
+def a_trace_of_80_000_reads(mltx: Program) -> None:
+    """Each byte is a packet of the pipe, so that a read brings one byte. No contract says that reads may be as many."""
+    trace = b"".join(b"begin %d\ncommit %d %d\n" % (t, t, t) for t in range(1, 3_001))
+    with mltx.started("check", "--long", "-", bufsize=0) as process:
+        fcntl.fcntl(process.stdin, fcntl.F_SETFL, os.O_DIRECT)
+        for byte in trace:
+            process.stdin.write(bytes([byte]))
+        expect(process.end(), out=model.check(trace))
 
 
 @test
