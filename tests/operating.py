@@ -893,8 +893,8 @@ def operator_stops_the_server(mltx: Program) -> None:
 
 @test(seconds=1)
 def server_is_stopped_as_systemd_does(mltx: Program) -> None:
-    """By the command of the unit in OPERATING, which ends once the server has ended in order."""
-    line = match("(?m)^ *ExecStop=(.*)$", (ROOT / "docs/OPERATING.md").read_text())[1]
+    """By the command of the unit, which ends once the server has ended in order."""
+    line = match("(?m)^ExecStop=(.*)$", (ROOT / "contrib/mltx.service").read_text())[1]
     with operated(mltx) as server, served(server) as peer:
         says(peer, "begin", "begun 1", "up 1 1", "done")
         words = shlex.split(line.replace("127.0.0.1:7001", "%s:%d" % server.admin))
