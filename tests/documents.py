@@ -252,7 +252,7 @@ def the_text_of_the_headline_is_that_of_its_files(_mltx: Program) -> None:
 @test
 def each_definition_that_counts_is_shown_once(_mltx: Program) -> None:
     """In each part of HEADLINE stand just the names that tools/headline-lines counts in it, each once in a block of its file, and
-    as many lines: one that is left out, cut off or shown twice fails."""
+    as many lines, without comments: one that is left out, cut off or shown twice fails."""
     text, counted = (ROOT / "docs/HEADLINE.md").read_text(), output_of("headline-lines")
     starts = {"rt": r"(?m)^(?:pub )?(?:enum|struct|fn) ([\w:]+)",
               "antt": r"(?m)^(?:abbrev |unfoldable )?pub (?:record |data )?([^\s:]+)"}
@@ -260,9 +260,10 @@ def each_definition_that_counts_is_shown_once(_mltx: Program) -> None:
         part = text.partition(f"\n## {title}\n")[2].partition("\n## ")[0]
         wanted = [(path, name) for path, names in re.findall(r"(?m)^ +\d+ (\S+): (.*)$", rows) for name in names.split()]
         blocks = re.findall(r"(?ms)^\[(\S+)\]\(\.\./crates/\1\)\n\n```\w+\n(.*?)^```$", part)
-        shown = [(path, name) for path, code in blocks for name in re.findall(starts[path.rpartition(".")[2]], code)]
-        same(shown, wanted, f"the definitions of {title}")
-        same(len([line for _, code in blocks for line in code.splitlines() if line]), int(lines), f"the lines of {title}")
+        named = [(path, name) for path, code in blocks for name in re.findall(starts[path.rpartition(".")[2]], code)]
+        same(named, wanted, f"the definitions of {title}")
+        code = [line for _, shown in blocks for line in shown.splitlines() if line and not re.match(r"\s*(--|//)", line)]
+        same(len(code), int(lines), f"the lines of {title}")
 
 
 @test
@@ -329,7 +330,7 @@ def protocol_begins_with_a_session(mltx: Program) -> None:
 
 @test
 def numbers_of_an_operator_are_told_of(mltx: Program) -> None:
-    """OPERATING names each number of /status and of /metrics, and alerts by no other."""
+    """OPERATING names each number of /status and of /metrics, and alerts and a dashboard read no other."""
     page, admin = (ROOT / "docs/OPERATING.md").read_text(), free_address()
     with mltx.serve("--endless", limit=None, admin=admin) as server:
         server.connect().ask("quit")
@@ -338,7 +339,8 @@ def numbers_of_an_operator_are_told_of(mltx: Program) -> None:
     same([name for cell, _ in rows for name in re.findall(r"`(\w+)`", cell)], list(json.loads(told["status"])), "the numbers")
     named = [name for _, cell in rows for name in re.findall(r"`(\w+)`", cell)]
     same(named, re.findall(r"(?m)^(mltx_\w+) ", told["metrics"]), "the metrics")
-    same(set(re.findall(r"\bmltx_\w+", page)) - set(named), set(), "names that no metric has")
+    readers = "".join((ROOT / "contrib" / name).read_text() for name in ("alerts.yml", "dashboard.json"))
+    same(set(re.findall(r"\bmltx_\w+", page + readers)) - set(named), set(), "names that no metric has")
 
 
 @test

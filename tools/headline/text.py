@@ -19,8 +19,8 @@ class Section(NamedTuple):
     blocks: list[Block]
 
 
-ABOUT = """The contracts and definitions of the main theorem, as they stand in their files. [THEOREM](THEOREM.md) explains
-it."""
+ABOUT = """The contracts and definitions of the main theorem, as they stand in their files, with their comments.
+[THEOREM](THEOREM.md) explains it."""
 
 # The two sentences, each with what carries its phrases.
 SENTENCES: list[tuple[str, list[tuple[str, str]]]] = [(
@@ -44,16 +44,15 @@ SENTENCES: list[tuple[str, list[tuple[str, str]]]] = [(
     lost. Every history passes the checker of traces, and what `run` and `serve_on` return stands in the history.""", [
         ("The same", "[[HasPlayed]]"),
         ("whenever the lock", "`played` of [[LockedState]]"),
-        ("one event", "`more` of [[LockedState::act]]"),
-        ("none is lost", "`counted` of [[LockedState]], `first` of [[LockedState::compare]]"),
+        ("one event", "`acts` of [[LockedState::act]]"),
+        ("none is lost", "`first` of [[LockedState::compare]]"),
         ("checker", "[[Manager::passes_the_checker]]"),
         ("return", "the [[Outcome]]s of [[run]] and [[serve_on]]"),
         ("in the history", "[[Agrees]]"),
     ]),
 ]
 
-HOW_TO_READ = """`.rt` is Rattle, which is Rust with contracts; `.antt` is its logic. `in part`: fields or clauses are left out.
-Long signatures lack types. Signs of arithmetic and names of Rust are as usual."""
+HOW_TO_READ = """`.rt` is Rattle, Rust with contracts; `.antt` is its logic. `in part`: fields or clauses are left out."""
 NOTATION: list[tuple[str, str]] = [
     ("`A → B → C`", "functions of an `A` and a `B` to a `C`. The first line that fits counts; `_` or a name fits all"),
     ("`Type 0`", "statements; kinds of values"),
@@ -80,38 +79,30 @@ ONE: list[Section] = [
                 Block("mlt_manager/src/manager.rt", "Manager.play():course,refusal"),
             ]),
     Section("The main promise",
-            """`c` is the course that the events tell, `m` the manager after the last. A manager that refused every begin, for
-            want of memory, would keep the promise.""", [
+            """A manager that refused every begin, for want of memory, would keep the promise.""", [
                 Block("mlt_manager/specs/Courses.antt", "IsSerializable KeepsPromiseOver"),
             ]),
     Section("Events and answers",
-            """A step waits for the lock of a page; an operation that conflicts blocks it. `Whole` is a call and its steps,
-            and drops an operation that waits, is blocked or is refused. `WholeUndo` is the steps of an abort, up to one that
-            waits. `Aborting true`: the abort has ended. Not shown: a step touches at most one page.""", [
-                Block("mlt_event/src/event.rt", "Event"),
-                Block("mlt_event/src/told.rt", "Told"),
-                Block("mlt_event/src/answer.rt", "Answer"),
+            """Not shown: a step touches at most one page.""", [
+                Block("mlt_event/src/event.rt", "Event#"),
+                Block("mlt_event/src/told.rt", "Told#"),
+                Block("mlt_event/src/answer.rt", "Answer#"),
             ]),
     Section("The course that events tell",
-            """A [[Course]] has how many transactions have begun; what each did that committed, in commit order; and
-            under each number the [[Life]] of its transaction and what that did and has not undone. `NotOpen`: not begun, or
-            ended. `Undoing`: its abort has begun.
-
-            By [[TellsAll]] the course is serializable behind each event, so a transaction that aborts later got replies of a
-            serial run, too. No line lets an undoing be blocked or refused: it never meets a missing slot. Only in `plays` is why
-            an operation is refused, that a limit is reached, what one waits for, and how much a whole undoing that waits has
-            undone.""", [
+            """A transaction that aborts later got replies of a serial run, too. No line lets an undoing be blocked or refused:
+            it never meets a missing slot. Only in `plays` is why an operation is refused, which limit is reached, what one waits
+            for, and how much a whole undoing that waits has undone.""", [
                 Block("mlt_manager/specs/Courses.antt", "TellsAll Tells MayRefuse Turns Course opening_course IsBusy Life Ops"),
                 Block("mlt_order/specs/Tables.antt", "table_with"),
             ]),
     Section("Commit order",
             """By [[Step]] an operation, its reply and the base after it fix the base before it. So undoing the operations
-            leads from the state to the base. There is such an order, since finitely many transactions have begun.""", [
+            leads from the state to the base.""", [
                 Block("mlt_order/specs/Runs.antt", "IsSerialBase Runs"),
                 Block("mlt_order/specs/Interleavings.antt", "UndoneTo IsInterleaving items_of all_items"),
             ]),
     Section("Bases and steps", "", [
-        Block("mlt_object_kinds/specs/Bases.antt", "Step SameBut TellsSize Base# element_cmp empty_base state_at account_at "
+        Block("mlt_object_kinds/specs/Bases.antt", "Step SameBut TellsSize Base element_cmp empty_base state_at account_at "
               "element_at counter_at counter_value size_at"),
         Block("mlt_object_kinds/specs/Cells.antt", "CellState CellStep"),
         Block("mlt_types/src/cell.rt", "Cell"),
@@ -136,13 +127,13 @@ ONE: list[Section] = [
     Section("First images and clean pages",
             """A *subtransaction* is one operation, or the undoing of one. Until it ends, it keeps the first image
             of each page that it writes: the page as it was, or `None` where there was none. Not shown (field `locks` of
-            [[KeepsPromises]]): this is the page as it was, and the subtransaction has locked it exclusively.""", [
+            [[KeepsPromises]]): it has locked that page exclusively.""", [
                 Block("mlt_manager/specs/Bases.antt", "HasCleanPages"),
                 Block("mlt_tx/specs/Tables.antt", "KeepsImage KeepsNoImage"),
             ]),
     Section("One live slot a key",
             """By [[IsRecordOf]] a key may have two live slots with one value. This contract of every manager excludes
-            that, on the same clean pages: [[HasCleanPages]] fixes each page.""", [
+            that, on the same clean pages.""", [
                 Block("mlt_manager/src/manager.rt", "Manager.keeps_its_promises()"),
                 Block("mlt_manager/specs/Promises.antt", "KeepsPromises:main,file"),
                 Block("mlt_manager/specs/Headline.antt", "KeepsMainPromise:clean,put_back"),
@@ -151,8 +142,8 @@ ONE: list[Section] = [
                 Block("mlt_hash_form/specs/Form.antt", "slot_at"),
             ]),
     Section("Views",
-            """A *view* is the value that the memory of a type stands for. These calls return what the definitions read. Other
-            types are seen by fields or cases, numbers as numbers, arrays, slices and a `Vec` as lists.""", [
+            """A *view* is the value that the memory of a type stands for. Other types are seen by fields or cases, arrays,
+            slices and a `Vec` as lists.""", [
                 Block("mlt_manager/src/manager.rt", "Manager.pages() Manager.first_image()"),
                 Block("mlt_page/src/store.rt", "Store.read()"),
                 Block("mlt_page/src/bucket.rt", "Bucket="),
@@ -163,35 +154,31 @@ ONE: list[Section] = [
 
 TWO: list[Section] = [
     Section("Under the lock",
-            """Threads share a manager behind a mutex. While that is free, the invariants of [[LockedState]] hold. The desk of a
-            client makes each event by [[LockedState::act]], which adds 1 to its share of `book.total`, the sum of all shares. By
-            `more` the manager has executed it after all that it had executed before. A snapshot has the items that the history
-            had then; by `first` they stay its first ones. From one event to the next, only this and the number of events are
-            said to stay. Not shown: nothing else under the lock changes the manager but handing out its history, and a `run` or a
-            server has one lock. Reading is no event.
+            """Threads share a manager behind a mutex. While that is free, the invariants of [[LockedState]] hold. A desk makes
+            each event by [[LockedState::act]], which adds it and its answer to the past. What the desk has then seen of the past
+            stays its beginning for ever. Not shown: nothing else under the lock changes the manager but handing out its history,
+            and a `run` or a server has one lock.
 
             `L.hands_out` is true for `serve --endless` alone. There, `KeepsMainPromise` holds, a like promise over the
             history.""", [
                 Block("mlt_work_desk/src/shared.rt", "Shared:state"),
-                Block("mlt_work_desk/src/locked_state.rt", "LockedState:manager,book,counted,played"),
-                Block("mlt_work_desk/src/holds.rt", "LockedState.act():more,amount,seen LockedState.compare():first"),
-                Block("mlt_work_log/specs/Prefixes.antt", "StartsWith"),
+                Block("mlt_work_desk/src/locked_state.rt", "LockedState:manager,writer,logged,played"),
+                Block("mlt_work_desk/src/holds.rt", "LockedState.act():acts,seen LockedState.compare():first"),
+                Block("mlt_work_log/specs/Prefixes.antt", "StartsWith HasBegunWith"),
             ]),
     Section("What the manager has executed",
-            """[[HasPlayed]] says of events and answers what `play` says of its own. The history has just the items that
-            they tell.""", [
-                Block("mlt_work_desk/specs/Playing.antt", "IsPlayed HasPlayed:count,course,tells,keeps,items"),
+            "", [
+                Block("mlt_work_desk/specs/Playing.antt", "ArePlayed IsPlayed HasPlayed:count,course,tells,keeps,items"),
                 Block("mlt_manager/specs/Tolds.antt", "AreToldBy AddsItems CalledOps called_after"),
                 Block("mlt_trace/src/item.rt", "TraceItem"),
                 Block("mlt_manager/src/manager.rt", "Manager.passes_the_checker()"),
                 Block("mlt_manager/specs/Promises.antt", "PassesTheChecker:base,accepted"),
             ]),
     Section("What run and serve_on return",
-            """An outcome is that of a script, or of a transaction of a session. Either call may return an error
-            instead. A `run` that refused every script would meet its contract, as would a `serve_on` that accepted nobody: no
-            contract knows what comes over a socket, or says that this manager is the one of the sessions. [Another
-            one](../crates/mlt_serve_session/src/sessions.rt) says that a session writes what its outcomes have. Of `serve
-            --endless` [less is proved](THEOREM.md#what-no-contract-says).""", [
+            """Either call may return an error instead. A `run` that refused every script would meet its contract, as would a
+            `serve_on` that accepted nobody: no contract knows what comes over a socket, or says that this manager is the one of
+            the sessions. [Another one](../crates/mlt_serve_session/src/sessions.rt) says that a session writes what its outcomes
+            have. Of `serve --endless` [less is proved](THEOREM.md#what-no-contract-says).""", [
                 Block("mlt_work/src/running.rt", "run():ran,history,played"),
                 Block("mlt_work/specs/Runs.antt", "HasRunAll:outcomes,agrees"),
                 Block("mlt_serve/src/serving.rt", "serve_on():history,played,outcomes,clients,order"),
@@ -202,8 +189,7 @@ TWO: list[Section] = [
                 Block("mlt_script_serial/specs/DeskRuns.antt", "HasEndedAs"),
             ]),
     Section("Outcomes that agree with a history",
-            """Each transaction that the manager began has one outcome, with just its operations, undone ones
-            too, their order, their replies, and its one end.""", [
+            "", [
                 Block("mlt_trace_audit/specs/Agreement.antt", "Agrees AreOfHistory NumbersAgree:once IsOnce CommitsRise"),
                 Block("mlt_trace_audit/specs/Outcomes.antt", "IsOfHistory IsClosedSo ops_of closings_of Closing closing_by "
                       "IsWithoutTx IsRefusedEmpty RisesTo"),
@@ -223,34 +209,20 @@ LIBRARY: list[tuple[str, str]] = [
     ("IsOkUnless", "an error is just this"),
     ("List [] ◌∷◌ ◌++◌", "finite lists; the empty one; an item, or a list, before a list"),
     ("Contains All", "it is an item; the statement holds of each"),
-    ("length count_by replicate", "how many items; how many with a test; so many times an item"),
+    ("length count_by replicate map", "how many items; how many with a test; so many times an item; a function of each"),
     ("slice_index_or", "the item at a place, from 0, or else the last argument"),
     ("nat_cmp ordering_then", "how numbers compare; the second where the first is equal"),
     ("map.FinMap set.FinSet", "finite maps, from keys that the first argument compares; sets. With the same values they are one"),
     ("map.empty map.len map.get map.retain_keys", "no keys; how many; the value at a key, if any; what a test of keys leaves"),
-    ("Book", "of a ledger: its total rises just by what is added to a share"),
 ]
 
-NOT_SHOWN_SAID = """The sentences read no more by these names than this, and by types without a row than their names say."""
-# What stands in what is shown, and is not followed. Types without a meaning have no line.
-NOT_SHOWN: list[tuple[str, str]] = [
-    ("Refusal Limits Manager Store HeadPage DirPage Value Turn HistoryLog LogSnapshot", ""),
-    ("Report Served ScriptForm Done KeptItem", ""),
-    ("TellsNumber", "the reply is a number; [[TellsSize]] says which"),
-    ("ManagerFields Table Transaction", "what contracts see of a manager; its open transactions; one"),
-    ("page_at image_of", "`map.get`, of pages and of first images"),
-    ("SLOTS FilePages buckets_of", "8; pages by number; the bucket there, or one without slots"),
-    ("goes_on", "of `Called` and `Going`, which tell no item"),
-    ("MadeWith Pseudo", "types that a caller picks: a ledger; functions from keys to hashes, `P.bits_of`"),
-    ("first_items", "of a snapshot of the log of a lock"),
-    ("trace_text committed_txs", "the text of a history; its committed transactions"),
-    ("IsAcceptedTrace",
-     "what [`check`](../crates/mlt_trace_check/src/trace_check.rt) accepts: each item is between the one begin and the one end "
-     "of its transaction, commits are 1, 2, 3, and the committed transactions lead to the base"),
-    ("AreOfClients", "clients are numbers of connections, from 1 on"),
-    ("AreNumbered", "outcomes stand by clients, and those of each are 1, 2, 3"),
-    ("scripts_of_clients", "those of each client"),
-    ("Follows IsPartial", "with these replies the script does just these operations and ends so; or these first"),
-    ("IsScriptEnd", "a refusal is for memory, room, a limit, or giving up"),
-    ("Transcript", "operations with replies, as a list"),
-]
+NOT_SHOWN_SAID = """The sentences read no more by these names than this, and by names without a row than the names say."""
+# What is said of names that stand in what is shown and are not followed, where their definitions have no comment that says it.
+NOT_SHOWN: dict[str, str] = {
+    "TellsNumber": "the reply is a number; [[TellsSize]] says which",
+    "SLOTS": "8",
+    "buckets_of": "the bucket there, or one without slots",
+    "MadeWith": "a type that a caller picks, with a ledger",
+    "Pseudo": "a type that a caller picks; `P.bits_of` are functions from keys to hashes",
+    "IsScriptEnd": "a refusal is for memory, room, a limit, or giving up",
+}
