@@ -705,6 +705,23 @@ def server_ends_with_its_input(mltx: Program) -> None:
         expect(server.end(), out="served 4\n", notes=[STOPPING])
 
 
+@test(seconds=2)
+def read_of_standard_input_that_waits_holds_up_nothing(mltx: Program) -> None:
+    """As where another process shares the input and was faster: a wait still ends, and so does the server."""
+    shim = mltx.shim(FAIL="read 1 -1 4096")
+    with mltx.serve("--until-eof", "--wait", 1, limit=2, stdin=subprocess.PIPE, env=shim) as server:
+        server.process.stdin.write(b"for another\n")
+        server.process.stdin.flush()
+        with server.connect() as holder, server.connect() as waiter:
+            says(holder, "begin", "begun 1", "up 1 1", "done")
+            says(waiter, "begin", "begun 2")
+            with takes(0.99, 1.25 + SLACK, "an operation that may wait for a second was answered"):
+                says(waiter, "read 1", "error 14 GaveUp")
+            says(waiter, "commit", "committed 1", "quit", "bye")
+            says(holder, "commit", "committed 2", "quit", "bye")
+        expect(server.end(), out="served 2\n")
+
+
 @test
 def server_without_the_option_goes_on_without_input(mltx: Program) -> None:
     with mltx.serve(stdin=subprocess.PIPE) as server, server.connect() as peer:
