@@ -3,8 +3,8 @@ use Rattle.std.proofs.Common.{◌≡◌, ◌∙◌, ℕ, Bool, List, Option, Non
 use Rattle.mlt_work_desk.proofs.Names.{false≢true, Answer, Told, Waits, Awaited, Waiting, SleepingThread}
 use Rattle.mlt_work_waits.specs.declared.wait.Waker.{Waker}
 use Rattle.mlt_work_desk.specs.Tries.{IsYoungestOfCycle}
-use Rattle.mlt_work_desk.specs.Waits.{TurnsIfWaits, wait_if}
-use Rattle.mlt_work_desk.specs.declared.turn.Turn.{Turn}
+use Rattle.mlt_work_waits.specs.Turns.{TurnsIfWaits, wait_if}
+use Rattle.mlt_work_waits.specs.declared.turn.Turn.{Turn}
 
 gives_up : Turn → Bool
 gives_up Turn.Deadlock = true

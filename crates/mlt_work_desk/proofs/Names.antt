@@ -12,15 +12,13 @@ pub use Rattle.mlt_script_serial.specs.declared.call.DeskAnswer.TheVariants.{Abo
 pub use Rattle.mlt_script_serial.specs.declared.call.DeskCall.{DeskCall}
 pub use Rattle.mlt_trace.specs.declared.item.TraceItem.{TraceItem}
 pub use Rattle.mlt_types.specs.declared.refusal.Refusal.{Refusal}
-pub use Rattle.mlt_work_desk.specs.Holds.{EndsWithOp, IfReply, IsToldTo, SeesAnswer, SeesEvent, goes_on, is_done}
+pub use Rattle.mlt_work_desk.specs.Holds.{EndsWithOp, IfReply, IsToldTo, SeesAnswer, SeesEvent}
 pub use Rattle.mlt_work_desk.specs.Tries.{SpendsByWaits}
-pub use Rattle.mlt_work_desk.specs.Waits.{waiting}
-pub use Rattle.mlt_work_desk.specs.declared.turn.SleepingThread.{SleepingThread}
 pub use Rattle.mlt_work_log.specs.Prefixes.{StartsWith}
 pub use Rattle.mlt_work_log.specs.Seats.{first_items}
-pub use Rattle.mlt_work_waits.specs.Queues.{with_blocked, without}
-pub use Rattle.mlt_work_waits.specs.Waits.{Waits, is_for, others_in, released}
+pub use Rattle.mlt_work_waits.specs.Turns.{is_done}
+pub use Rattle.mlt_work_waits.specs.Waits.{Waits}
+pub use Rattle.mlt_work_waits.specs.declared.turn.SleepingThread.{SleepingThread}
 pub use Rattle.mlt_work_waits.specs.declared.wait.Awaited.{Awaited}
 pub use Rattle.mlt_work_waits.specs.declared.wait.Waiting.{Waiting}
-pub use Rattle.mlt_work_waits.specs.declared.wait.Whose.{Whose}
 pub use Rattle.std.proofs.lemmas.Bool.{false≢true}

@@ -1,6 +1,6 @@
 -- What a step with a reply leaves, and whose reply it is.
 use Rattle.std.proofs.Common.{◌≡◌, ◌≢◌, ◌∙◌, ◌+◌, ℕ, List, ◌++◌, length, false, true, ap, refl, subst, sym, arith, length-append}
-use Rattle.mlt_work_desk.proofs.Names.{false≢true, ObjReply, TraceItem, Answer, Event, Told, counted, Meets, ManagerFields, IfReply, goes_on, is_done}
+use Rattle.mlt_work_desk.proofs.Names.{false≢true, ObjReply, TraceItem, Answer, Event, Told, counted, Meets, ManagerFields, IfReply, is_done}
 use Rattle.mlt_work_desk.proofs.Adding.{event_adds}
 
 -- what is so of each reply to a step
@@ -26,10 +26,7 @@ of_reply X (Event.Step tx) (Told.Answered (Answer.Refused refusal)) so = tt
 of_reply X (Event.Step tx) (Told.Answered Answer.Undone) so = tt
 of_reply X (Event.Step tx) (Told.Answered Answer.Aborted) so = tt
 
--- what goes on, or is not done, is no reply
-pub reply_goes_on : (X : Type 0) (e : Event) (t : Told) → goes_on t ≡ true → IfReply e t X
-reply_goes_on X e t on = of_reply X e t (λ tx reply step was. absurd (false≢true (sym (ap goes_on was) ∙ on)))
-
+-- what is not done is no reply
 pub reply_not_done : (X : Type 0) (e : Event) (t : Told) → is_done t ≡ false → IfReply e t X
 reply_not_done X e t not = of_reply X e t (λ tx reply step was. absurd (false≢true (sym not ∙ ap is_done was)))
 

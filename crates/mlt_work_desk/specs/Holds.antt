@@ -30,17 +30,6 @@ pub record IsToldTo {P : Type 0} (bits_of : P → ℕ → ℕ) (event : Event) (
   pub sound_after : IsManager bits_of after
   pub meets : Meets bits_of event told (counted before) after
 
--- told this, an operation goes on: nothing of the history, of waits or of the queue has changed
-abbrev pub goes_on : Told → Bool
-goes_on Told.Called = true
-goes_on (Told.Answered Answer.Going) = true
-goes_on other = false
-
--- told this, it is done
-abbrev pub is_done : Told → Bool
-is_done (Told.Answered (Answer.Done reply)) = true
-is_done other = false
-
 -- the last item tells that some transaction did this operation
 pub record EndsWithOp (items : List TraceItem) (op : ObjOp) : Type 0 where
   pub front : List TraceItem

@@ -3,5 +3,4 @@ pub mod Statistics
 pub mod Makings
 pub mod Refusals
 pub mod Tries
-pub mod Waits
 pub mod Playing

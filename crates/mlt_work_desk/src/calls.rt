@@ -6,7 +6,7 @@ ghost use Rattle.mlt_work_log.specs.Prefixes.{StartsWith};
 ghost use Rattle.mlt_work_log.specs.Seats.{IsOf, first_items};
 ghost use Rattle.mlt_script_serial.specs.declared.call.DeskCall.TheVariants as call;
 ghost use Rattle.mlt_event.specs.declared.event.Event.TheVariants as event;
-ghost use Rattle.mlt_work_desk.specs.Holds.{EndsWithOp, IfReply, IsToldTo, MayAnswerOperation, SeesAnswer, SeesEvent, desk_view, is_done};
+ghost use Rattle.mlt_work_desk.specs.Holds.{EndsWithOp, IfReply, IsToldTo, MayAnswerOperation, SeesAnswer, SeesEvent, desk_view};
 ghost use Rattle.mlt_work_desk.specs.Tries.{GivesUp, IsYoungestOfCycle, SpendsByWaits, tries_spent};
 
 use crate::called::Called;
@@ -16,13 +16,12 @@ use crate::shared::Shared;
 use crate::timestamp::Timestamp;
 use crate::tries::{Tries, TriesLeft};
 use crate::tuning::WAITS_BEFORE_PRECEDENCE;
-use crate::turn::{SleepingThread, Turn, goes_on, is_done};
 use mlt_event::{Answer, Event, Told};
 use mlt_object_kinds::{ObjOp, ObjReply};
 use mlt_script_serial::{Answering, Desk, DeskAnswer};
 use mlt_types::{Pseudo, Refusal, TxId};
 use mlt_work_log::LogSnapshot;
-use mlt_work_waits::{Gate, Wakers};
+use mlt_work_waits::{Gate, SleepingThread, Turn, Wakers, is_done};
 use std::sync::Wait;
 use std::sync::ledger::Share;
 
@@ -151,14 +150,8 @@ impl<'a, P: Pseudo, L: MadeWith<P>, R: Wait, G: Gate> LockDesk<'a, P, L, R, G> {
         let is_call = matches!(event, Event::Call(..));
         let mut state = shared.enter(*rt, thread, *is_asleep, is_call);
         *is_asleep = false;
-        *is_reply = false;
         let log = &shared.log;
         let (told, turn) = state.act(event, share, may_sleep, thread, log, snapshot, wakers);
-        if goes_on(&told) {
-            drop(state);
-            gate.pause(*client, &told);
-            return (told, turn);
-        }
         *is_reply = is_done(&told) && state.ends_with(&thread.op);
         shared.note_blocked(state.desks.blocked());
         drop(state);

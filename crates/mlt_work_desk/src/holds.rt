@@ -12,18 +12,16 @@ ghost use Rattle.mlt_work_log.specs.Seats.{IsOf, IsWriterOf, first_items, id_of,
 ghost use Rattle.mlt_work_desk.specs.Holds.{EndsWithOp, IfReply, SeesEvent};
 ghost use Rattle.mlt_work_desk.specs.Makings.{making_by, making_of};
 ghost use Rattle.mlt_work_desk.specs.Playing.{IsPlayed};
-ghost use Rattle.mlt_work_desk.specs.Waits.{given_back_by, precedence_after, precedence_if, queue_after, queue_if, TurnsIfWaits, wait_if, waits_after, woken_by};
+ghost use Rattle.mlt_work_waits.specs.Turns.{given_back_by, precedence_after, precedence_if, queue_after, queue_if, TurnsIfWaits, wait_if, waits_after, woken_by};
 
-use crate::desks::Desks;
 use crate::locked_state::LockedState;
 use crate::made_with::MadeWith;
-use crate::turn::{SleepingThread, Turn, given_back, goes_on};
 use mlt_event::{Event, Told};
 use mlt_manager::Manager;
 use mlt_object_kinds::ObjOp;
 use mlt_types::{Limits, Pseudo, Refusal};
 use mlt_work_log::{Growth, HistoryLog, LogSnapshot, LogWriter};
-use mlt_work_waits::Wakers;
+use mlt_work_waits::{Desks, SleepingThread, Turn, Wakers};
 use std::alloc::Global;
 use std::marker::Brand;
 use std::sync::ledger::{Book, Share};
@@ -116,11 +114,7 @@ impl<P: Pseudo, L: MadeWith<P>> LockedState<P, L> {
         manager.keeps_its_invariant();
         manager.keeps_its_promises();
         see_act::<Brand, P>(log, writer, snapshot, manager, &event, &told);
-        if goes_on(&told) {
-            return (told, Turn::Goes);
-        }
-        desks.give_back(given_back(&event, &told), wakers);
-        let turn = desks.take_turn(&told, may_sleep, thread, wakers);
+        let turn = desks.turn_after(&event, &told, may_sleep, thread, wakers);
         (told, turn)
     }
 

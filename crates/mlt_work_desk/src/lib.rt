@@ -8,7 +8,6 @@
 mod blank_records;
 mod called;
 mod calls;
-mod desks;
 mod holds;
 mod lock_desk;
 mod locked_state;
@@ -18,7 +17,6 @@ mod statistics;
 mod timestamp;
 mod tries;
 mod tuning;
-mod turn;
 mod unlocked;
 
 pub use blank_records::BlankRecords;

@@ -8,10 +8,9 @@ use crate::made_with::MadeWith;
 use crate::shared::Shared;
 use crate::timestamp::Timestamp;
 use crate::tries::TriesLeft;
-use crate::turn::SleepingThread;
 use mlt_types::Pseudo;
 use mlt_work_log::LogSnapshot;
-use mlt_work_waits::{Gate, Wakers};
+use mlt_work_waits::{Gate, SleepingThread, Wakers};
 use std::sync::Wait;
 use std::sync::ledger::Share;
 

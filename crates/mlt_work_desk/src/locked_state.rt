@@ -5,11 +5,11 @@ ghost use Rattle.mlt_work_desk.specs.Makings.{making_of};
 ghost use Rattle.mlt_work_desk.specs.Playing.{ArePlayed};
 ghost use Rattle.mlt_work_log.specs.Seats.{IsWriterOf, past_of};
 
-use crate::desks::Desks;
 use crate::made_with::MadeWith;
 use mlt_manager::Manager;
 use mlt_types::Pseudo;
 use mlt_work_log::LogWriter;
+use mlt_work_waits::Desks;
 use std::sync::ledger::Book;
 
 /// The manager, a book whose total is the number of its events, the desks, of which not all wait, and the writer of the log that has

@@ -4,3 +4,5 @@ pub mod Acyclic
 pub mod Ends
 pub mod Youngest
 pub mod Exact
+pub mod Fewer
+pub mod InTurn

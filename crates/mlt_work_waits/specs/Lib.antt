@@ -1,3 +1,4 @@
 pub mod Waits
 pub mod Queues
 pub mod Gates
+pub mod Turns

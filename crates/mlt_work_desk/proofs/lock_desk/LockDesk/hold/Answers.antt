@@ -1,7 +1,7 @@
 use Rattle.std.proofs.Common.{rules, ◌≡◌, ◌≢◌, ◌∙◌, List, [], ◌∷◌, length, false, ap, refl, sym, arith}
 use Rattle.mlt_work_desk.proofs.Names.{false≢true, first_items, EndsWithOp, is_done}
 use Rattle.mlt_work_desk.proofs.Cycles.{youngest_of_cycle}
-use Rattle.mlt_work_desk.proofs.Replying.{reply_goes_on, reply_not_done, reply_then}
+use Rattle.mlt_work_desk.proofs.Replying.{reply_not_done, reply_then}
 use Rattle.mlt_work_log.specs.declared.view.Past.{Past}
 use Rattle.mlt_work_desk.proofs.lock_desk.LockDesk.hold.Goals as goal
 use Rattle.mlt_work_desk.proofs.lock_desk.LockDesk.hold.Goals.{then-is_done, else-is_done, then-not-is_empty, else-not-is_empty}
@@ -27,17 +27,6 @@ returns-clause-youngest g c = λ gives.
     let turns = c.act-told.ensures.turns in
     youngest_of_cycle c.args.may_sleep c.act-told.result.0 c.args.self.now.thread _ _ _ c.act-told.result.1 turns.0 turns.2 gives
 
-pub returns-then-goes_on-clause-told : goal.returns-then-goes_on-clause-told
-returns-then-goes_on-clause-told g c =
-    let act = c.act-told.ensures in
-    record { before = _; after = c.act-told.new.self.manager; sound_before = act.before; sound_after = act.after; meets = act.meets }
-
-pub returns-then-goes_on-clause-sees : goal.returns-then-goes_on-clause-sees
-returns-then-goes_on-clause-sees g c = c.act-told.ensures.sees
-
-pub returns-then-goes_on-clause-one : goal.returns-then-goes_on-clause-one
-returns-then-goes_on-clause-one g c = c.act-told.ensures.amount
-
 pub returns-clause-told : goal.returns-clause-told
 returns-clause-told g c =
     let act = c.act-told.ensures in
@@ -49,29 +38,18 @@ returns-clause-sees g c = c.act-told.ensures.sees
 pub returns-clause-one : goal.returns-clause-one
 returns-clause-one g c = c.act-told.ensures.amount
 
-pub returns-then-goes_on-clause-reply : goal.returns-then-goes_on-clause-reply
-returns-then-goes_on-clause-reply g c = λ is. absurd (false≢true is)
+pub invariant_of-self-clause-part : goal.invariant_of-self-clause-part
+invariant_of-self-clause-part g c = c.act-told.ensures.parts ∙ c.args.self.now.part
 
-pub returns-then-goes_on-clause-another : goal.returns-then-goes_on-clause-another
-returns-then-goes_on-clause-another g c = λ no. reply_goes_on _ c.args.event c.act-told.result.0 (sym c.goes_on.ensures ∙ c.if-goes_on.true)
-
-pub returns-then-goes_on-clause-youngest : goal.returns-then-goes_on-clause-youngest
-returns-then-goes_on-clause-youngest g c = λ gives.
-    let turns = c.act-told.ensures.turns in
-    youngest_of_cycle c.args.may_sleep c.act-told.result.0 c.args.self.now.thread _ _ _ c.act-told.result.1 turns.0 turns.2 gives
-
-pub invariant_of-self-2-clause-part : goal.invariant_of-self-2-clause-part
-invariant_of-self-2-clause-part g c = c.act-told.ensures.parts ∙ c.args.self.now.part
-
-pub invariant_of-self-2-clause-of_log : goal.invariant_of-self-2-clause-of_log
-invariant_of-self-2-clause-of_log g c = c.act-told.ensures.of_log
+pub invariant_of-self-clause-of_log : goal.invariant_of-self-clause-of_log
+invariant_of-self-clause-of_log g c = c.act-told.ensures.of_log
 
 nothing : {X : Type 0} (xs : List X) → length xs ≡ 0 → xs ≡ []
 nothing [] none = refl
 nothing (x ∷ xs) none = absurd (omega (arith, none))
 
-pub invariant_of-self-2-clause-none : goal.invariant_of-self-2-clause-none
-invariant_of-self-2-clause-none g c = elim c.if-not-is_empty.branch [
+pub invariant_of-self-clause-none : goal.invariant_of-self-clause-none
+invariant_of-self-clause-none g c = elim c.if-not-is_empty.branch [
   | then-not-is_empty w ↦ ap (λ s. s.1.1.1.1.1.1.1.1.1.1.1.0.items) w.self-is ∙ w.clear.ensures
   | else-not-is_empty w ↦
       let none : length c.act-told.new.wakers.items ≡ 0 = search rules in

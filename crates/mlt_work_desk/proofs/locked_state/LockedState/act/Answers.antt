@@ -1,9 +1,8 @@
-use Rattle.std.proofs.Common.{rules, ◌≡◌, ◌≢◌, ◌∙◌, ◌+◌, ◌-◌, ◌^◌, ◌++◌, Some, true, ap, min, arith, sym}
-use Rattle.mlt_work_desk.proofs.Names.{goes_on}
+use Rattle.std.proofs.Common.{◌≡◌, ◌∙◌, ◌+◌, ◌-◌, ◌^◌, ◌++◌, Some, ap, min, arith, sym}
 use Rattle.mlt_work_desk.proofs.Adding.{event_adds}
 use Rattle.mlt_work_desk.proofs.Counting.{one_event, same_making}
 use Rattle.mlt_work_desk.proofs.Playing.{still_played}
-use Rattle.mlt_work_desk.proofs.Replying.{keeps_reply, reply_goes_on}
+use Rattle.mlt_work_desk.proofs.Replying.{keeps_reply}
 use Rattle.mlt_work_log.specs.declared.view.Past.{Past}
 use Rattle.mlt_work_desk.proofs.locked_state.LockedState.act.Goals as goal
 
@@ -23,22 +22,6 @@ invariant_of-self-clause-played g c = λ stays.
     still_played g.P.Pseudo.bits_of g.met.P.Pseudo.has_64_bits _ _ c.args.event c.act-told.result c.args.self.now.manager c.act-told.new.self
     (ap (λ (past : Past). past.acts) c.see_act.ensures.past) c.act-told.ensures.meets c.keeps_its_promises.ensures (c.args.self.now.played stays)
 
-pub invariant_of-self-2-clause-played : goal.invariant_of-self-2-clause-played
-invariant_of-self-2-clause-played g c = λ stays.
-    still_played g.P.Pseudo.bits_of g.met.P.Pseudo.has_64_bits _ _ c.args.event c.act-told.result c.args.self.now.manager c.act-told.new.self
-    (ap (λ (past : Past). past.acts) c.see_act.ensures.past) c.act-told.ensures.meets c.keeps_its_promises.ensures (c.args.self.now.played stays)
-
-pub invariant_of-self-2-clause-counted : goal.invariant_of-self-2-clause-counted
-invariant_of-self-2-clause-counted g c =
-    let counts : c.act-told.new.self.events ≡ min (c.args.self.now.manager.events + 1) (2 ^ 64 - 1) = one_event g.P.Pseudo.bits_of c.args.event c.act-told.result c.args.self.now.manager c.act-told.new.self c.act-told.ensures.meets in
-    let before = c.args.self.now.counted in
-    let total = c.add.ensures.total in
-    omega (arith, counts, before, total)
-
-pub invariant_of-self-2-clause-made : goal.invariant_of-self-2-clause-made
-invariant_of-self-2-clause-made g c =
-    ap Some (same_making g.P.Pseudo.bits_of c.args.event c.act-told.result c.args.self.now.manager c.act-told.new.self c.act-told.ensures.meets) ∙ c.args.self.now.made
-
 pub see_act-requires-clause-grows : goal.see_act-requires-clause-grows
 see_act-requires-clause-grows g c =
     let adds = event_adds g.P.Pseudo.bits_of c.args.event c.act-told.result c.args.self.now.manager c.act-told.new.self c.act-told.ensures.meets in
@@ -56,24 +39,6 @@ returns-clause-sees g c =
       adds = adds.3;
     }
 
-pub returns-then-goes_on-clause-sees : goal.returns-then-goes_on-clause-sees
-returns-then-goes_on-clause-sees g c =
-    let adds = event_adds g.P.Pseudo.bits_of c.args.event c.act-told.result c.args.self.now.manager c.act-told.new.self c.act-told.ensures.meets in
-    let first = c.see_act.ensures.first.items in
-    record {
-      between = first.0;
-      here = adds.0;
-      called = adds.1;
-      whole = ap (λ (past : Past). past.items) (c.see_act.ensures.seen ∙ c.see_act.ensures.past) ∙ adds.2 ∙ ap (λ xs. xs ++ adds.0) (sym c.args.self.now.logged ∙ first.1);
-      adds = adds.3;
-    }
-
 pub returns-clause-keeps : goal.returns-clause-keeps
 returns-clause-keeps g c =
     keeps_reply g.P.Pseudo.bits_of c.args.event c.act-told.result c.args.self.now.manager c.act-told.new.self c.kept_history.result.now c.kept_history.ensures c.act-told.ensures.handed c.act-told.ensures.meets
-
-pub returns-then-goes_on-clause-keeps : goal.returns-then-goes_on-clause-keeps
-returns-then-goes_on-clause-keeps g c =
-    let on : goes_on c.act-told.result ≡ true = search rules in
-    let history = c.act-told.new.self.shared.history in
-    reply_goes_on (history.items ≢ history.handed) c.args.event c.act-told.result on

@@ -1,35 +1,43 @@
 //! The desks over a lock, which of them wait, who is blocked, and which has precedence.
 
 ghost use Rattle.std.specs.Prelude.{ℕ, ◌≡◌, ◌++◌, ◌+◌, ◌-◌, ◌<◌, ◌≤◌, ◌^◌, ◌⊎◌, [], List, true, false, None, Some, length, min, IfSome};
-ghost use Rattle.mlt_work_waits.specs.Waits.{joined};
+ghost use Rattle.mlt_work_waits.specs.Waits.{IsAwake, IsFor, joined, nobody_waits};
 ghost use Rattle.mlt_work_waits.specs.Queues.{last_before};
-ghost use Rattle.mlt_work_desk.specs.Waits.{AreInTurn, CanSleep, CantSleep, ObjectTurns, PageTurns, precedence_after, precedence_if, precedence_with, queue_after, queue_if, queue_with, turn_behind, TurnsIfWaits, wait_for, wait_if, waiting, waits_after, waits_in_turn, waits_of_others, waits_without, woken_by, woken_by_end, woken_of};
+ghost use Rattle.mlt_work_waits.specs.Turns.{AreInTurn, CanSleep, CantSleep, given_back_by, ObjectTurns, PageTurns, precedence_after, precedence_if, precedence_with, queue_after, queue_if, queue_with, turn_behind, TurnsIfWaits, wait_for, wait_if, waiting, waits_after, waits_in_turn, waits_of_others, waits_without, woken_by, woken_by_end, woken_of};
 
-use crate::turn::{GivenBack, SleepingThread, Turn, wait_for, wait_of};
-use mlt_event::{Answer, Told};
+use crate::blocked_queue::BlockedQueue;
+use crate::turn::{GivenBack, SleepingThread, Turn, given_back, goes_on, wait_for, wait_of};
+use crate::wait::{Awaited, Waiting, Waker, Wakers, Whose};
+use crate::waits::WaitsFor;
+use mlt_event::{Answer, Event, Told};
 use mlt_object_kinds::ObjOp;
 use mlt_types::TxId;
-use mlt_work_waits::{Awaited, BlockedQueue, Waiting, WaitsFor, Waker, Wakers, Whose};
 
-/// How many desks there are, and whose transactions wait for which. Not all wait, and none in a cycle.
+/// How many desks there are, and whose transactions wait for which. Not all wait, and none in a cycle. Contracts name its fields, and
+/// only its calls change them.
 #[derive(Drop)]
-pub(crate) struct Desks {
-    count: u64,
+pub struct Desks {
+    pub count: u64,
     /// Which of the wakers 0 to 63 desks have, a bit for each.
     taken: u64,
     /// The transactions of the desks that sleep.
-    waits: WaitsFor,
+    pub waits: WaitsFor,
     /// The transactions that were blocked in the operation that they are in. Others wait for their turn behind them.
-    queue: BlockedQueue,
+    pub queue: BlockedQueue,
     /// The transaction that has precedence: others yield to it before they call an operation.
-    precedence: Option<TxId>,
+    pub precedence: Option<TxId>,
     ghost awake: { waiting waits ≤ count - 1 },
     ghost turns: { AreInTurn waits.objects queue },
 }
 
 impl Desks {
     /// No desk.
-    pub(crate) fn new() -> Desks {
+    pub fn new() -> Desks
+        ensures count { result.count ≡ 0 }
+        ensures waits { result.waits ≡ nobody_waits }
+        ensures queue { result.queue ≡ [] }
+        ensures precedence { result.precedence ≡ None }
+    {
         Desks {
             count: 0,
             taken: 0,
@@ -40,7 +48,7 @@ impl Desks {
     }
 
     /// A desk comes, and is given a waker: one of its own, where there are no more than 64 desks.
-    pub(crate) fn enter(&mut self) -> Waker
+    pub fn enter(&mut self) -> Waker
         ensures count { self.new.count ≡ min (self.old.count + 1) (2 ^ 64 - 1) }
         ensures waits { self.new.waits ≡ self.old.waits }
         ensures precedence { self.new.precedence ≡ self.old.precedence }
@@ -54,7 +62,7 @@ impl Desks {
 
     /// A desk ends, and gives its waker back. Where all others wait, all are woken.
     #[tactic(auto, using(crate::proofs::Fewer::fewer_wait, crate::proofs::Fewer::nobody_left))]
-    pub(crate) fn leave(&mut self, waker: Waker, wakers: &mut Wakers)
+    pub fn leave(&mut self, waker: Waker, wakers: &mut Wakers)
         requires { wakers.old.items ≡ [] }
         ensures count { self.new.count ≡ self.old.count - 1 }
         ensures waits { self.new.waits ≡ waits_of_others self.old.count self.old.waits }
@@ -73,23 +81,58 @@ impl Desks {
     }
 
     /// Whether no desk waits for this transaction.
-    pub(crate) fn is_awake(&self, tx: TxId) -> bool {
+    #[inline]
+    pub fn is_awake(&self, tx: TxId) -> bool
+        ensures awake { result ≡ true → IsAwake self.now.waits tx }
+        ensures waits { result ≡ false → (y : ℕ) × IsFor self.now.waits tx y }
+    {
         self.waits.is_awake(tx)
     }
 
     /// How many are blocked, 0 to 64.
     #[inline(always)]
-    pub(crate) fn blocked(&self) -> u64
+    pub fn blocked(&self) -> u64
         ensures { result ≡ length self.now.queue }
     {
         self.queue.count()
+    }
+
+    /// What a desk does after an event that was told this. It may sleep or not; where it is to wait, and may sleep, it does so as this
+    /// thread. Each desk that waits for what the event has given back is awake then, and its waker is added.
+    #[inline(always)]
+    pub fn turn_after(
+        &mut self,
+        event: &Event,
+        told: &Told,
+        may_sleep: bool,
+        thread: &SleepingThread,
+        wakers: &mut Wakers,
+    ) -> Turn
+        requires { wakers.old.items ≡ [] }
+        ensures turns { (woken : List Waker) × (wakers.new.items
+            ≡ woken_by (given_back_by event.now told.now) self.old.waits ++ woken)
+            × TurnsIfWaits self.old.count (wait_if may_sleep told.now thread.now)
+            (waits_after (given_back_by event.now told.now) self.old.waits)
+            result self.new.waits woken }
+        ensures queue { self.new.queue ≡ queue_if may_sleep told.now thread.now
+            (queue_after (given_back_by event.now told.now) self.old.queue) }
+        ensures precedence { self.new.precedence
+            ≡ precedence_if may_sleep told.now thread.now
+            (precedence_after (given_back_by event.now told.now) self.old.precedence) }
+        ensures count { self.new.count ≡ self.old.count }
+    {
+        if goes_on(told) {
+            return Turn::Goes;
+        }
+        self.give_back(given_back(event, told), wakers);
+        self.take_turn(told, may_sleep, thread, wakers)
     }
 
     /// Locks were released: each desk that waits for them is awake, and its waker is added. A desk whose operation has ended leaves
     /// the queue, and each desk that waits for its turn behind it is awake too.
     #[inline(always)]
     #[tactic(auto, using(crate::proofs::Fewer::fewer_wait, crate::proofs::Fewer::nobody_left))]
-    pub(crate) fn give_back(&mut self, given: GivenBack, wakers: &mut Wakers)
+    fn give_back(&mut self, given: GivenBack, wakers: &mut Wakers)
         requires { wakers.old.items ≡ [] }
         ensures waits { self.new.waits ≡ waits_after given self.old.waits }
         ensures wakes { wakers.new.items ≡ woken_by given self.old.waits }
@@ -117,7 +160,7 @@ impl Desks {
     }
 
     /// A transaction waits no longer, if it does: its desk tries again, and its waker is added.
-    pub(crate) fn wake_waiter(&mut self, tx: TxId, wakers: &mut Wakers)
+    pub fn wake_waiter(&mut self, tx: TxId, wakers: &mut Wakers)
         requires { wakers.old.items ≡ [] }
         ensures waits { self.new.waits ≡ waits_without tx self.old.waits }
         ensures wakes { wakers.new.items ≡ woken_of tx self.old.waits }
@@ -130,7 +173,8 @@ impl Desks {
     }
 
     /// Who waits for whom.
-    pub(crate) fn waits(&self) -> &WaitsFor
+    #[inline]
+    pub fn waits(&self) -> &WaitsFor
         ensures { result.now ≡ self.now.waits }
     {
         &self.waits
@@ -138,7 +182,7 @@ impl Desks {
 
     /// What a desk does that was told this, which may sleep or not. Where it is to wait, and may sleep, it does so as this thread.
     #[inline(always)]
-    pub(crate) fn take_turn(
+    fn take_turn(
         &mut self,
         told: &Told,
         may_sleep: bool,
@@ -163,7 +207,7 @@ impl Desks {
 
     /// What a desk does that is to wait so, if it is to.
     #[inline(always)]
-    pub(crate) fn turn(&mut self, to_wait: Option<(Awaited, Waiting)>, wakers: &mut Wakers) -> Turn
+    fn turn(&mut self, to_wait: Option<(Awaited, Waiting)>, wakers: &mut Wakers) -> Turn
         requires few { length wakers.old.items ≤ 128 }
         requires turn { IfSome to_wait (λ wait. waits_in_turn self.old.queue wait.1 ≡ true) }
         ensures turns { (woken : List Waker) × (wakers.new.items ≡ wakers.old.items ++ woken)
@@ -232,7 +276,7 @@ impl Desks {
     /// A sleeping thread was told this. If it is blocked it stands in the queue from now on. If it waits for pages and takes precedence
     /// it has it, unless another does.
     #[inline(always)]
-    pub(crate) fn note(&mut self, told: &Told, thread: &SleepingThread)
+    fn note(&mut self, told: &Told, thread: &SleepingThread)
         ensures queue { self.new.queue ≡ queue_with told.now thread.now self.old.queue }
         ensures precedence { self.new.precedence
             ≡ precedence_with told.now thread.now self.old.precedence }
@@ -250,7 +294,8 @@ impl Desks {
 
     /// One is about to call an operation. Where another has precedence it yields, that is it waits for the pages of that one, if
     /// another desk is awake and its wait can join. It answers whether it does.
-    pub(crate) fn yields(&mut self, thread: &SleepingThread) -> bool
+    #[inline]
+    pub fn yields(&mut self, thread: &SleepingThread) -> bool
         ensures yields { result ≡ true → (y : ℕ) × (self.old.precedence ≡ Some y)
             × CanSleep self.old.count Awaited.Pages (wait_for thread.now y) self.old.waits
             × (self.new.waits ≡ joined Awaited.Pages (wait_for thread.now y) self.old.waits) }
@@ -268,7 +313,8 @@ impl Desks {
 
     /// One is about to call an operation. Where others are blocked in operations that may clash with it, it waits for its turn
     /// behind the last of them, if another desk is awake and its wait can join. It answers whether it does.
-    pub(crate) fn queues(&mut self, thread: &SleepingThread, op: &ObjOp) -> bool
+    #[inline]
+    pub fn queues(&mut self, thread: &SleepingThread, op: &ObjOp) -> bool
         ensures queues { result ≡ true → (y : ℕ) × (last_before op.now self.old.queue ≡ Some y)
             × CanSleep self.old.count Awaited.Objects (turn_behind thread.now y) self.old.waits
             × (self.new.waits ≡ joined Awaited.Objects (turn_behind thread.now y) self.old.waits) }

@@ -1,17 +1,16 @@
 //! What a desk does that would wait, and what wakes it.
 
 ghost use Rattle.std.specs.Prelude.{◌≡◌};
-ghost use Rattle.mlt_work_desk.specs.Holds.{goes_on, is_done};
-ghost use Rattle.mlt_work_desk.specs.Waits.{given_back_by, given_back_by_step, wait_for, wait_of};
+ghost use Rattle.mlt_work_waits.specs.Turns.{given_back_by, given_back_by_step, goes_on, is_done, wait_for, wait_of};
 
+use crate::wait::{Awaited, Waiting, Waker};
 use mlt_event::{Answer, Event, Told};
 use mlt_object_kinds::ObjOp;
 use mlt_types::TxId;
-use mlt_work_waits::{Awaited, Waiting, Waker};
 
 /// What a desk does after an event.
 #[derive(Clone, Copy, PartialEq, Eq)]
-pub(crate) enum Turn {
+pub enum Turn {
     /// It goes on, and tries at once where it was to wait.
     Goes,
     /// It sleeps before its next event, and is counted as one that waits.
@@ -36,7 +35,7 @@ pub(crate) enum GivenBack {
 /// One that may sleep: its transaction and the timestamp of that, what wakes it, whether it has waited so often for pages that it
 /// takes precedence, and the operation that it is in, or was in last.
 #[derive(Clone, Copy)]
-pub(crate) struct SleepingThread {
+pub struct SleepingThread {
     pub tx: TxId,
     pub timestamp: u64,
     pub waker: Waker,
@@ -45,6 +44,7 @@ pub(crate) struct SleepingThread {
 }
 
 /// Whose locks an event that was told this has given back. Desks make no others.
+#[inline]
 pub(crate) fn given_back(event: &Event, told: &Told) -> GivenBack
     ensures { result ≡ given_back_by event.now told.now }
 {
@@ -79,13 +79,14 @@ pub(crate) fn goes_on(told: &Told) -> bool
 
 /// Whether an operation is done that was told this.
 #[inline(always)]
-pub(crate) fn is_done(told: &Told) -> bool
+pub fn is_done(told: &Told) -> bool
     ensures { result ≡ is_done told.now }
 {
     matches!(told, Told::Answered(Answer::Done(_)))
 }
 
 /// The wait of a sleeping thread that was told this, if it is to wait.
+#[inline]
 pub(crate) fn wait_of(told: &Told, thread: &SleepingThread) -> Option<(Awaited, Waiting)>
     ensures { result ≡ wait_of told.now thread.now }
 {
@@ -99,6 +100,7 @@ pub(crate) fn wait_of(told: &Told, thread: &SleepingThread) -> Option<(Awaited, 
 }
 
 /// The wait of a sleeping thread for a lock of this transaction.
+#[inline]
 pub(crate) fn wait_for(thread: &SleepingThread, holder: TxId) -> Waiting
     ensures { result ≡ wait_for thread.now holder }
 {

@@ -1,7 +1,7 @@
 use Rattle.std.proofs.Common.{refl}
-use Rattle.mlt_work_desk.proofs.Names.{with_blocked}
-use Rattle.mlt_work_desk.proofs.InTurn.{same_turns, turns_with}
-use Rattle.mlt_work_desk.proofs.desks.Desks.note.Goals as goal
+use Rattle.mlt_work_waits.specs.Queues.{with_blocked}
+use Rattle.mlt_work_waits.proofs.InTurn.{same_turns, turns_with}
+use Rattle.mlt_work_waits.proofs.desks.Desks.note.Goals as goal
 
 pub invariant_of-self : goal.invariant_of-self
 invariant_of-self c =

@@ -1,12 +1,14 @@
 use Rattle.std.proofs.Common.{rules, ◌≡◌, ◌∙◌, [], None, Some, refl, sym, subst, ap, arith, eq-eqb}
-use Rattle.mlt_work_desk.proofs.Names.{false≢true, Awaited, Whose, Waits, others_in, waiting}
-use Rattle.mlt_work_waits.specs.Waits.{wakers_in}
-use Rattle.mlt_work_desk.specs.declared.desks.Desks.{Desks}
-use Rattle.mlt_work_desk.specs.Waits.{CantSleep}
-use Rattle.mlt_work_desk.proofs.Fewer.{fewer_wait}
-use Rattle.mlt_work_desk.proofs.InTurn.{same_turns, stay_in_turn}
-use Rattle.mlt_work_desk.proofs.desks.Desks.wait_for_object.Goals.{in-Some+else-eq, in_default}
-use Rattle.mlt_work_desk.proofs.desks.Desks.wait_for_object.Goals as goal
+use Rattle.mlt_work_waits.specs.Turns.{waiting, CantSleep}
+use Rattle.mlt_work_waits.specs.Waits.{Waits, others_in, wakers_in}
+use Rattle.mlt_work_waits.specs.declared.wait.Awaited.{Awaited}
+use Rattle.mlt_work_waits.specs.declared.wait.Whose.{Whose}
+use Rattle.std.proofs.lemmas.Bool.{false≢true}
+use Rattle.mlt_work_waits.specs.declared.desks.Desks.{Desks}
+use Rattle.mlt_work_waits.proofs.Fewer.{fewer_wait}
+use Rattle.mlt_work_waits.proofs.InTurn.{same_turns, stay_in_turn}
+use Rattle.mlt_work_waits.proofs.desks.Desks.wait_for_object.Goals.{in-Some+else-eq, in_default}
+use Rattle.mlt_work_waits.proofs.desks.Desks.wait_for_object.Goals as goal
 
 pub invariant_of-self : goal.invariant_of-self
 invariant_of-self c =

@@ -11,9 +11,20 @@ use Rattle.mlt_work_waits.specs.declared.wait.Waiting.{Waiting}
 use Rattle.mlt_work_waits.specs.declared.wait.Whose.{Whose}
 use Rattle.mlt_work_waits.specs.declared.blocked_queue.Blocked.{Blocked}
 use Rattle.mlt_work_waits.specs.Queues.{stands, with_blocked, without}
-use Rattle.mlt_work_desk.specs.declared.turn.GivenBack.{GivenBack}
-use Rattle.mlt_work_desk.specs.declared.turn.SleepingThread.{SleepingThread}
-use Rattle.mlt_work_desk.specs.declared.turn.Turn.{Turn}
+use Rattle.mlt_work_waits.specs.declared.turn.GivenBack.{GivenBack}
+use Rattle.mlt_work_waits.specs.declared.turn.SleepingThread.{SleepingThread}
+use Rattle.mlt_work_waits.specs.declared.turn.Turn.{Turn}
+
+-- told this, an operation goes on: nothing of the history, of waits or of the queue has changed
+abbrev pub goes_on : Told → Bool
+goes_on Told.Called = true
+goes_on (Told.Answered Answer.Going) = true
+goes_on other = false
+
+-- told this, it is done
+abbrev pub is_done : Told → Bool
+is_done (Told.Answered (Answer.Done reply)) = true
+is_done other = false
 
 -- whose locks a step of x has given back, by its answer
 abbrev pub given_back_by_step : ℕ → Answer → GivenBack

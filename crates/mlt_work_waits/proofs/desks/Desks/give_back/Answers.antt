@@ -1,8 +1,12 @@
 use Rattle.std.proofs.Common.{◌∙◌, refl, ap, arith}
-use Rattle.mlt_work_desk.proofs.Names.{Awaited, Whose, Waits, others_in, released, without, waiting}
-use Rattle.mlt_work_desk.proofs.Fewer.{fewer_wait}
-use Rattle.mlt_work_desk.proofs.InTurn.{holder_is_left, same_turns, turn_is_left}
-use Rattle.mlt_work_desk.proofs.desks.Desks.give_back.Goals as goal
+use Rattle.mlt_work_waits.specs.Queues.{without}
+use Rattle.mlt_work_waits.specs.Turns.{waiting}
+use Rattle.mlt_work_waits.specs.Waits.{Waits, others_in, released}
+use Rattle.mlt_work_waits.specs.declared.wait.Awaited.{Awaited}
+use Rattle.mlt_work_waits.specs.declared.wait.Whose.{Whose}
+use Rattle.mlt_work_waits.proofs.Fewer.{fewer_wait}
+use Rattle.mlt_work_waits.proofs.InTurn.{holder_is_left, same_turns, turn_is_left}
+use Rattle.mlt_work_waits.proofs.desks.Desks.give_back.Goals as goal
 
 pub invariant_of-self : goal.invariant_of-self
 invariant_of-self c =
