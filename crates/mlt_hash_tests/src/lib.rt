@@ -10,6 +10,4 @@ mod hash_files;
 #[cfg(test)]
 mod page_locks;
 #[cfg(test)]
-mod scanned;
-#[cfg(test)]
 mod stores;

@@ -33,11 +33,6 @@ impl Desk {
     pub fn release_all(&mut self, tx: u64) {
         self.locks.release_all(TxId(tx));
     }
-
-    /// The mode in which the transaction holds the page.
-    pub fn mode_of(&self, tx: u64, page: u32) -> Option<Mode> {
-        self.locks.mode_of(TxId(tx), PageNo(page))
-    }
 }
 
 // Whether a number is below 16, or at most 15 above 4,096.

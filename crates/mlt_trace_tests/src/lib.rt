@@ -1,12 +1,10 @@
-//! Tests of limits, reservations, locks, scripts, command lines, histories and audits, where the
-//! built program does not show the result. Whether outcomes agree with a history was worked out by
-//! hand. The tests are in a crate of their own because a crate with tests is proved twice.
+//! Tests of limits, reservations, locks, scripts, histories and audits, where the built program does
+//! not show the result. Whether outcomes agree with a history was worked out by hand. The tests are
+//! in a crate of their own because a crate with tests is proved twice.
 #![tactic(auto)]
 
 #[cfg(test)]
 mod audits;
-#[cfg(test)]
-mod command_lines;
 #[cfg(test)]
 mod flushes;
 #[cfg(test)]
@@ -17,7 +15,5 @@ mod limits;
 mod lines;
 #[cfg(test)]
 mod locks;
-#[cfg(test)]
-mod scanned;
 #[cfg(test)]
 mod scripts;
