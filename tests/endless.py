@@ -104,6 +104,56 @@ def memory_stays_flat_on_a_full_disk(mltx: Program) -> None:
             mltx.accepted(trace)
 
 
+def writable(pid: int) -> Iterator[tuple[int, int]]:
+    """Where the memory of a process begins and ends that it may write."""
+    with open(f"/proc/{pid}/maps") as told:
+        for line in told:
+            place, rights = line.split()[:2]
+            if rights.startswith("rw"):
+                begin, _, end = place.partition("-")
+                yield int(begin, 16), int(end, 16)
+
+
+def places_of(memory: int, pid: int, number: int) -> list[int]:
+    """Where a process has this number, as one of 64 bits."""
+    bits, found = number.to_bytes(8, "little"), []
+    for begin, end in writable(pid):
+        held = os.pread(memory, end - begin, begin)
+        at = held.find(bits)
+        while at >= 0:
+            found += [begin + at] if at % 8 == 0 else []
+            at = held.find(bits, at + 1)
+    return found
+
+
+@test(seconds=1)
+def numbers_of_transactions_have_63_bits(mltx: Program) -> None:
+    """None is refused before the last. So many can't begin in a test: the number of the last one that began is found in the
+    memory of a server that waits, by its rise, and changed there."""
+    with endless(mltx) as server, server.connect() as peer:
+        def begun(times: int = 1) -> str:
+            """The answer to the last of so many begins, each with an abort behind it."""
+            peer.send(lines("begin|abort") * times)
+            told = [peer.line() for _ in range(2 * times)]
+            return told[-2]
+
+        pid, number = server.process.pid, 4_099
+        memory = os.open(f"/proc/{pid}/mem", os.O_RDWR)
+        same(begun(number), f"begun {number}", "the first ones")
+        places = places_of(memory, pid, number)
+        for more in (1, 3, 5):
+            number += more
+            begun(more)
+            places = [place for place in places if os.pread(memory, 8, place) == number.to_bytes(8, "little")]
+        holds(len(places) > 0, "its number is found nowhere")
+        for last in (2**31 - 1, 2**32 - 1, 2**63 - 3):
+            for place in places:
+                os.pwrite(memory, last.to_bytes(8, "little"), place)
+            same([begun(), begun()], [f"begun {last + 1}", f"begun {last + 2}"], f"behind number {last}")
+        same(begun(), "error 9 IdsSpent", "behind the greatest number")
+        os.close(memory)
+
+
 def refused(server: Server, begins: int) -> int:
     """How many of so many begins of a client, each with an abort behind it, were refused."""
     told = server.talk(lines("begin|abort") * begins).decode().splitlines()
