@@ -87,6 +87,7 @@ OF_OPTIONS = {
     "-v, --verbose": "After an error, print a second line with the file or address, the reason and what was expected",
     "--hash <HASH>": "Hash function of the pages [default: mult] [possible values: mult, low]",
     "--trace <FILE>": "Write a trace of the transactions to FILE",
+    "--echo": "Print each line of FILE, and its answer beside it",
     "--explain": "After each event that is blocked or waits, print the reason in lines that begin with `#`",
     "--workers <N>": "Run the scripts in N threads, 1 to 8 [default: 4]",
     "--tries <N>": "Answer GaveUp after N waits for other transactions, 1 to 1000000 [default: 10000]",
@@ -109,15 +110,15 @@ OF_A_RUN = ("-v, --verbose", "--hash <HASH>", "--trace <FILE>")
 HELP = {
     "solo": (
         "Run the scripts of FILE one after another, and print the replies",
-        *("<FILE>", OF_A_RUN, "solo scripts.txt"),
+        *("<FILE>", (*OF_A_RUN, "--echo"), "solo scripts.txt"),
     ),
     "steps": (
         "Replay a schedule of interleaved transactions step by step; print each answer and the committed state",
-        *("<FILE>", (*OF_A_RUN, "--explain"), "steps schedule.txt"),
+        *("<FILE>", (*OF_A_RUN, "--echo", "--explain"), "steps schedule.txt"),
     ),
     "run": (
         "Run the scripts of FILE side by side in threads; print the replies and the committed state",
-        *("<FILE>", (*OF_A_RUN, "--workers <N>", "--tries <N>"), "run scripts.txt --workers 2 --trace trace.txt"),
+        *("<FILE>", (*OF_A_RUN, "--echo", "--workers <N>", "--tries <N>"), "run scripts.txt --workers 2 --trace trace.txt"),
     ),
     "check": (
         "Check a trace: run its committed transactions again, in commit order, and compare every reply",
@@ -189,6 +190,8 @@ def help_of_all(mltx: Program) -> None:
     begin += f"Usage: mltx [OPTIONS] <COMMAND>\n\nCommands:\n{commands}\n"
     begin += options_text(("-v, --verbose", "-h, --help", "-V, --version"))
     begin += "\nWithout arguments, `mltx` reads scripts from standard input, like `mltx solo -`.\n\n"
+    begin += "A prompt for a server comes with the Python client: `mltx-shell 127.0.0.1:7000`, or `./mltx shell\n"
+    begin += "127.0.0.1:7000` in the source tree.\n\n"
     begin += "Example: mltx solo scripts.txt\n"
     same(is_help(mltx, [("--help",), ("-h",), ("help",)], begin), begin)
 

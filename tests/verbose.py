@@ -115,6 +115,12 @@ PRINTED = "expected: only tabs and bytes from 0x20 to 0x7e"
 IN_COMMENTS = ", except in comment lines"
 ALL_ENDED = "expected: a `begin` before it, and an `end` for each `if`"
 OPEN_IF = "expected: an open `if` before it, and before an `else` one that has none yet"
+OPEN_SINCE_2 = "the `if` in line 2 has no `end`; expected: an `end` for each `if`"
+TOO_LARGE = "is too large: numbers have at most 20 digits, and are below 2^64"
+SIGNED = "has a sign: numbers have none"
+WHOLE = "`whole T OP`, such as `whole 3 deposit 101 30`"
+LET = "`let v = balance A`, `let v = read C` or `let v = size S`"
+IN_COMMIT_ORDER = "which the operation gets if the transactions run one after another, in commit order"
 UNFINISHED = "the text ends inside a script; expected: a `commit` or an `abort`"
 OPEN_TX = "expected: an open transaction "
 # A subcommand, its text, the line and the cause of the fault, the line as it is shown, and what is said of it.
@@ -139,25 +145,81 @@ FAULTY: Mapping[str, tuple[str, str | bytes, int, str, str, str]] = {
     ),
     "number-too-large": (
         "solo", "begin\nopen 1\ndeposit 1 12345678901234567890123\ncommit\n", 3, "Words", "deposit 1 12345678901234567890123",
-        f"numbers have at most 20 digits, and are below 2^64; expected: {DEPOSIT}",
+        f"`12345678901234567890123` {TOO_LARGE}; expected: {DEPOSIT}",
     ),
     "number-of-2-to-64": (
         "steps", "begin\nwhole 1 deposit 1 18446744073709551616\n", 2, "Words", "whole 1 deposit 1 18446744073709551616",
-        "numbers have at most 20 digits, and are below 2^64; expected: `whole T OP`, such as `whole 3 deposit 101 30`",
+        f"`18446744073709551616` {TOO_LARGE}; expected: {WHOLE}",
     ),
     "negative-number": (
-        "solo", "begin\nwithdraw 1 -5\ncommit\n", 2, "Words", "withdraw 1 -5", f"numbers have no sign; expected: {WITHDRAW}"
+        "solo", "begin\nwithdraw 1 -5\ncommit\n", 2, "Words", "withdraw 1 -5", f"`-5` {SIGNED}; expected: {WITHDRAW}"
     ),
     "number-with-a-plus": (
-        "check", "begin +1\n", 1, "Words", "begin +1", "numbers have no sign; expected: `begin T`, T at least 1"
+        "check", "begin +1\n", 1, "Words", "begin +1", f"`+1` {SIGNED}; expected: `begin T`, T at least 1"
     ),
     "comment-behind-a-statement": (
         "solo", "begin\nopen 1 # c\ncommit\n", 2, "Words", "open 1 # c",
-        "comments have lines of their own, and traces have none; expected: `open A`, A below 2^32",
+        "`#` begins a comment: comments have lines of their own, and traces have none; expected: `open A`, A below 2^32",
     ),
-    "unknown-keyword": ("solo", "begin\nopn 1\ncommit\n", 2, "Words", "opn 1", f"expected: {BEGINNINGS['solo']}"),
-    "keyword-in-capitals": ("steps", "Begin\n", 1, "Words", "Begin", f"expected: {BEGINNINGS['steps']}"),
-    "unknown-keyword-of-a-trace": ("check", "start 1\n", 1, "Words", "start 1", f"expected: {BEGINNINGS['check']}"),
+    "comment-in-a-trace": ("check", "# c\n", 1, "Words", "# c", f"traces have no comments; expected: {BEGINNINGS['check']}"),
+    "unknown-keyword": (
+        "solo", "begin\nopn 1\ncommit\n", 2, "Words", "opn 1", f"did you mean `open`? expected: {BEGINNINGS['solo']}"
+    ),
+    "swapped-letters": (
+        "solo", "begin\nblaance 1\n", 2, "Words", "blaance 1", f"did you mean `balance`? expected: {BEGINNINGS['solo']}"
+    ),
+    "keyword-in-capitals": ("steps", "Begin\n", 1, "Words", "Begin", f"words are in lower case; expected: {BEGINNINGS['steps']}"),
+    "unknown-keyword-of-a-trace": (
+        "check", "start 1\n", 1, "Words", "start 1", f"`start` is written as `begin`; expected: {BEGINNINGS['check']}"
+    ),
+    "word-of-another-system": (
+        "solo", "begin\nrollback\n", 2, "Words", "rollback", f"`rollback` is written as `abort`; expected: {BEGINNINGS['solo']}"
+    ),
+    "word-that-is-near-none": (
+        "solo", "begin\nhello 1\n", 2, "Words", "hello 1", f"`hello` begins no line here; expected: {BEGINNINGS['solo']}"
+    ),
+    "two-operations-in-one": (
+        "solo", "begin\ntransfer 1 2 50\n", 2, "Words", "transfer 1 2 50",
+        f"`transfer` is written as `withdraw` and `deposit`; expected: {BEGINNINGS['solo']}",
+    ),
+    "amount-with-a-point": (
+        "solo", "begin\ndeposit 1 10.50\n", 2, "Words", "deposit 1 10.50", f"`10.50` is no whole number; expected: {DEPOSIT}"
+    ),
+    "name-of-an-account": (
+        "solo", "begin\nopen alice\n", 2, "Words", "open alice", "`alice` is no number; expected: `open A`, A below 2^32"
+    ),
+    "comparison-by-greater": (
+        "solo", "begin\nif balance 1 > 5\n", 2, "Words", "if balance 1 > 5",
+        "`>` is not used: compare replies by `is`; expected: `if OP is REPLY`, such as `if withdraw 101 30 is done`",
+    ),
+    "comparison-by-equals": (
+        "solo", "begin\nneed deposit 1 5 = done\n", 2, "Words", "need deposit 1 5 = done",
+        "`=` is not used: compare replies by `is`; expected: `need OP is REPLY`, such as `need withdraw 101 30 is done`",
+    ),
+    "word-that-is-no-reply": (
+        "solo", "begin\nif open 1 is opend\n", 2, "Words", "if open 1 is opend",
+        "`opend` is no reply: `open` gets opened or exists; expected: `if OP is REPLY`, such as `if withdraw 101 30 is done`",
+    ),
+    "word-that-is-no-reply-of-a-trace": (
+        "check", "begin 1\nop 1 open 1 opend\n", 2, "Words", "op 1 open 1 opend",
+        "`opend` is no reply: `open` gets opened or exists; expected: `op T OP REPLY`, such as `op 3 balance 101 is 70`",
+    ),
+    "variable-of-five-letters": (
+        "solo", "begin\nlet total = balance 1\n", 2, "Words", "let total = balance 1",
+        f"`total` is no variable: variables are single letters; expected: {LET}",
+    ),
+    "arithmetic": (
+        "solo", "begin\nlet w = v + 5\n", 2, "Words", "let w = v + 5", f"there is no arithmetic; expected: {LET}"
+    ),
+    "number-of-a-transaction-with-a-letter": (
+        "steps", "begin\nwhole T1 open 1\n", 2, "Words", "whole T1 open 1", f"`T1` is no number; expected: {WHOLE}"
+    ),
+    "unknown-operation": (
+        "steps", "begin\nwhole 1 opn 1\n", 2, "Words", "whole 1 opn 1", f"did you mean `open`? expected: {WHOLE}"
+    ),
+    "operation-that-is-near-none": (
+        "steps", "begin\nwhole 1 begin 1\n", 2, "Words", "whole 1 begin 1", f"`begin` is no operation; expected: {WHOLE}"
+    ),
     "missing-argument": ("solo", "begin\r\ndeposit 1\r\ncommit\r\n", 2, "Words", "deposit 1", f"expected: {DEPOSIT}"),
     "missing-operation": (
         "steps", "begin\ncall 1\n", 2, "Words", "call 1", "expected: `call T OP`, such as `call 3 deposit 101 30`"
@@ -170,8 +232,14 @@ FAULTY: Mapping[str, tuple[str, str | bytes, int, str, str, str]] = {
         "run", "begin 1000\n", 1, "Words", "begin 1000", "expected: `begin`, or `begin K` with K from 0 to 999"
     ),
     "line-of-201-bytes": ("solo", "begin\n" + "x" * 201 + "\n", 2, "Line", "x" * 60 + "..", "expected: at most 200 bytes"),
-    "line-of-200-bytes": ("solo", "begin\n" + "x" * 200 + "\n", 2, "Words", "x" * 60 + "..", f"expected: {BEGINNINGS['solo']}"),
-    "line-of-60-bytes": ("solo", "begin\n" + "x" * 60, 2, "Words", "x" * 60, f"expected: {BEGINNINGS['solo']}"),
+    "line-of-200-bytes": (
+        "solo", "begin\n" + "x" * 200 + "\n", 2, "Words", "x" * 60 + "..",
+        f"`{'x' * 60}..` begins no line here; expected: {BEGINNINGS['solo']}",
+    ),
+    "line-of-60-bytes": (
+        "solo", "begin\n" + "x" * 60, 2, "Words", "x" * 60,
+        f"`{'x' * 60}` begins no line here; expected: {BEGINNINGS['solo']}",
+    ),
     "bytes-that-are-not-printed": (
         "solo", b"begin\nopen\t1\x1b[2J\xe9\r\n", 2, "Line", "open\\t1\\x1b[2J\\xe9\\x0d", PRINTED + IN_COMMENTS
     ),
@@ -184,8 +252,13 @@ FAULTY: Mapping[str, tuple[str, str | bytes, int, str, str, str]] = {
     "byte-of-a-trace": ("check", b"begin 1\n# \xc3\xa4\n", 2, "Line", "# \\xc3\\xa4", PRINTED),
     "statement-outside-a-script": ("solo", "open 1\n", 1, "Place", "open 1", "expected: a `begin` before it"),
     "begin-inside-a-script": ("solo", "begin\nbegin\n", 2, "Place", "begin", "expected: a `commit` or an `abort` before it"),
-    "commit-inside-an-if": ("solo", "begin\nif has 1 1 is yes\ncommit\n", 3, "Place", "commit", ALL_ENDED),
-    "abort-inside-an-if": ("run", "begin\nif has 1 1 is yes\nabort\n", 3, "Place", "abort", ALL_ENDED),
+    "commit-inside-an-if": ("solo", "begin\nif has 1 1 is yes\ncommit\n", 3, "Place", "commit", OPEN_SINCE_2),
+    "abort-inside-an-if": ("run", "begin\nif has 1 1 is yes\nabort\n", 3, "Place", "abort", OPEN_SINCE_2),
+    "commit-inside-the-second-if": (
+        "solo", "begin\nif has 1 1 is yes\nend\nif has 1 2 is yes\nelse\nif has 1 3 is no\nend\ncommit\n", 8, "Place", "commit",
+        "the `if` in line 4 has no `end`; expected: an `end` for each `if`",
+    ),
+    "commit-outside-a-script": ("solo", "commit\n", 1, "Place", "commit", ALL_ENDED),
     "else-without-an-if": ("solo", "begin\nelse\n", 2, "Place", "else", OPEN_IF),
     "end-without-an-if": ("solo", "begin\nend\n", 2, "Place", "end", OPEN_IF),
     "ifs-in-one-another": (
@@ -217,7 +290,16 @@ FAULTY: Mapping[str, tuple[str, str | bytes, int, str, str, str]] = {
     ),
     "reply-that-is-not-right": (
         "check", "begin 1\nop 1 open 1 exists\ncommit 1 1\n", 2, "Reply", "op 1 open 1 exists",
-        "expected: the reply that the operation gets if the transactions run one after another, in commit order",
+        f"its transaction begins in line 1; expected: `opened`, {IN_COMMIT_ORDER}",
+    ),
+    # Account 7 has 9 coins by the commit of transaction 3, before which transaction 2 began; what it took back does not count.
+    "reply-that-is-not-right-behind-another-commit": (
+        "check",
+        "begin 1\nop 1 up 7 1 done\ncommit 1 1\nbegin 2\nop 2 deposit 7 5 missing\nback 2\nabort 2\n"
+        "begin 3\nbegin 4\nop 3 open 7 opened\nop 3 deposit 7 9 done\nop 3 deposit 7 1 done\ncommit 3 2\n"
+        "op 4 balance 7 is 10\nop 4 withdraw 7 4 done\nop 4 balance 7 is 5\ncommit 4 3\n",
+        16, "Reply", "op 4 balance 7 is 5",
+        f"its transaction begins in line 9; expected: `is 6`, {IN_COMMIT_ORDER}",
     ),
 }
 
@@ -299,7 +381,8 @@ def faulty_text(mltx: Program, case: tuple[str, str | bytes, int, str, str, str]
 def writes_of_the_second_line_fail(mltx: Program) -> None:
     """From whichever write on they fail, what went out before is a front of both lines, and the status tells of the fault."""
     file = mltx.file("text", "opn\n")
-    said = f"mltx: 10 ScriptFault line 1 Words\nmltx: {file}, line 1: `opn`: expected: {BEGINNINGS['solo']}\n"
+    second = f"mltx: {file}, line 1: `opn`: did you mean `open`? expected: {BEGINNINGS['solo']}\n"
+    said = "mltx: 10 ScriptFault line 1 Words\n" + second
     for number in range(1, len(said) + 1):
         ran = mltx.run("solo", "-v", file, env=mltx.shim(FAIL=f"write-error {number} {errno.EIO} 1 1000000"))
         expect(ran, status=1, err=said[: number - 1], what=f"write {number} fails")
@@ -312,7 +395,7 @@ def name_is_shown_in_one_line(mltx: Program) -> None:
     expect(mltx.run("solo", "-v", name), status=1, err=f"{IO}mltx: a\\x0ab\\tc\\xc3\\xa4: {of_system(errno.ENOENT)}\n")
     (Path(mltx.folder) / name).write_text("opn\n")
     fault = "mltx: 10 ScriptFault line 1 Words\n"
-    second = f"mltx: a\\x0ab\\tc\\xc3\\xa4, line 1: `opn`: expected: {BEGINNINGS['solo']}\n"
+    second = f"mltx: a\\x0ab\\tc\\xc3\\xa4, line 1: `opn`: did you mean `open`? expected: {BEGINNINGS['solo']}\n"
     expect(mltx.run("solo", "-v", name), status=1, err=fault + second)
 
 

@@ -20,11 +20,16 @@ const ABOUT: &str = "Run transactions on accounts, sets and counters, and check 
 const NO_WORDS: &str =
     "Without arguments, `mltx` reads scripts from standard input, like `mltx solo -`.
 
+A prompt for a server comes with the Python client: `mltx-shell 127.0.0.1:7000`, or `./mltx shell
+127.0.0.1:7000` in the source tree.
+
 Example: mltx solo scripts.txt";
 
 const HASH_HELP: &str = "Hash function of the pages [default: mult]";
 
 const TRACE_HELP: &str = "Write a trace of the transactions to FILE";
+
+const ECHO_HELP: &str = "Print each line of FILE, and its answer beside it";
 
 const SOLO_ABOUT: &str = "Run the scripts of FILE one after another, and print the replies";
 
@@ -202,7 +207,7 @@ struct InputHelp {
 // The program's description.
 pub(crate) fn mltx_command<'a>(alloc: Global) -> Result<Command<'a>, AllocError> {
     let command = bare_command(alloc)?;
-    let solo = run_command(alloc, "solo", FILE, SOLO_ABOUT, SOLO_EXAMPLE);
+    let solo = echo_command(alloc, "solo", SOLO_ABOUT, SOLO_EXAMPLE);
     let command = with_subcommand(command, solo)?;
     let command = with_subcommand(command, steps_command(alloc))?;
     let command = with_subcommand(command, work_command(alloc))?;
@@ -276,8 +281,18 @@ fn run_command<'a>(
         .arg(text_option(alloc, "trace", "FILE", TRACE_HELP))
 }
 
+// A subcommand that runs a file, and can print it beside the answers.
+fn echo_command<'a>(
+    alloc: Global,
+    name: &'a str,
+    about: &'a str,
+    example: &'a str,
+) -> Result<Command<'a>, AllocError> {
+    run_command(alloc, name, FILE, about, example)?.arg(flag_option(alloc, "echo", ECHO_HELP))
+}
+
 fn steps_command<'a>(alloc: Global) -> Result<Command<'a>, AllocError> {
-    run_command(alloc, "steps", FILE, STEPS_ABOUT, STEPS_EXAMPLE)?.arg(flag_option(
+    echo_command(alloc, "steps", STEPS_ABOUT, STEPS_EXAMPLE)?.arg(flag_option(
         alloc,
         "explain",
         EXPLAIN_HELP,
@@ -355,7 +370,7 @@ fn tries_option<'a>(alloc: Global) -> Arg<'a> {
 }
 
 fn work_command<'a>(alloc: Global) -> Result<Command<'a>, AllocError> {
-    run_command(alloc, "run", FILE, RUN_ABOUT, RUN_EXAMPLE)?
+    echo_command(alloc, "run", RUN_ABOUT, RUN_EXAMPLE)?
         .arg(number_option(alloc, "workers", "N", WORKERS_HELP, 1, 8))?
         .arg(tries_option(alloc))
 }

@@ -27,6 +27,8 @@ pub struct Run {
     pub hash: Hash,
     /// The file for the trace as it stands on the command line, if there is one.
     pub trace: Option<String>,
+    /// Whether answers are printed beside the input.
+    pub echoes: bool,
 }
 
 /// A schedule that is to be run.
@@ -190,6 +192,7 @@ fn standard_input(alloc: Global) -> Result<Job, AllocError>
         input: String::from_str(alloc, "-")?,
         hash: Hash::Mult,
         trace: None,
+        echoes: false,
     }))
 }
 
@@ -270,7 +273,12 @@ fn run_found(alloc: Global, found: &ArgMatches<'_>) -> Result<Option<Run>, Alloc
         return Ok(None);
     };
     let trace = text_found(alloc, found, "trace")?;
-    Ok(Some(Run { input, hash, trace }))
+    Ok(Some(Run {
+        input,
+        hash,
+        trace,
+        echoes: flag_found(found, "echo"),
+    }))
 }
 
 fn schedule_found(alloc: Global, found: &ArgMatches<'_>) -> Result<Option<Job>, AllocError>

@@ -12,3 +12,7 @@ questions_of c = run (drop c.at c.lines.now) Nowhere c.variables c.ending
 -- how many lines are left, of which each asks at most one operation
 abbrev pub left_of : Cursor → ℕ
 left_of c = length c.lines.now - c.at
+
+-- which line of the script asks next, or how many there are at its end
+abbrev pub line_of : Cursor → ℕ
+line_of c = c.at

@@ -137,7 +137,7 @@ pub struct Cursor<'a> {
 }
 
 impl<'a> Cursor<'a> {
-    ghost use Rattle.mlt_script_serial.specs.Cursors.{left_of, questions_of};
+    ghost use Rattle.mlt_script_serial.specs.Cursors.{left_of, line_of, questions_of};
 
     /// A cursor at the begin of the script.
     pub fn new(script: &'a Script) -> Cursor<'a>
@@ -168,6 +168,13 @@ impl<'a> Cursor<'a> {
             Ending::Commit => Next::Commit,
             Ending::Abort => Next::Abort,
         }
+    }
+
+    /// The line of the script that asks what `next` returns, from 0; at the end how many lines there are.
+    pub fn line(&self) -> usize
+        ensures { result ≡ line_of self.now }
+    {
+        self.at
     }
 
     /// Goes on with the reply to the operation that `next` told.

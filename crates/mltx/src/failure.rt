@@ -1,7 +1,8 @@
 //! A fault, and what else is known of it.
 
 use crate::input::Input;
-use mlt_cli::{Detail, Job, Run, TextFault, report_verbose};
+use mlt_cli::{Job, Run};
+use mlt_script_texts::{Detail, TextFault, report_verbose};
 use mlt_text::MAX_INPUT;
 use mlt_types::{Refusal, ScriptCause};
 use std::alloc::AllocError;
@@ -97,11 +98,16 @@ fn of_streams(input: &Input, written: Option<io::Error>) -> Known {
 }
 
 /// Writes the second line of a fault of this job on standard error. The line that a refusal names is shown where the text
-/// is there.
+/// is there, with a caret below if it points.
 ///
 /// # Errors
 /// `OutOfMemory` where memory runs out, and `Io` where it can't be written.
-pub(crate) fn explain(rt: &HostRuntime, job: &Job, failure: &Failure) -> Result<(), Refusal> {
+pub(crate) fn explain(
+    rt: &HostRuntime,
+    job: &Job,
+    failure: &Failure,
+    points: bool,
+) -> Result<(), Refusal> {
     let subject = input_name(job);
     match &failure.known {
         Known::Nothing => {
@@ -119,7 +125,7 @@ pub(crate) fn explain(rt: &HostRuntime, job: &Job, failure: &Failure) -> Result<
         Known::OfAdmin(error) => say_of_address(rt, admin_name(job), *error),
         Known::Text(text) => match fault_of(job, failure.refusal) {
             Some((fault, line)) => {
-                let detail = Detail::Faulty(fault, line, text.as_slice());
+                let detail = Detail::Faulty(fault, line, text.as_slice(), points);
                 report_verbose(rt.alloc(), subject, &detail, &mut rt.stderr())
             }
             None => Ok(()),

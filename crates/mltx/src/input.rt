@@ -65,6 +65,14 @@ impl Input {
         self.kept
     }
 
+    /// What was read; no bytes, if it was not kept.
+    pub(crate) fn bytes(&self) -> &[u8] {
+        match &self.kept {
+            Some(text) => text.as_slice(),
+            None => &[],
+        }
+    }
+
     fn keep(&mut self, bytes: &[u8]) {
         self.length = self.length.saturating_add(bytes.len());
         if let Some(mut kept) = self.kept.take() {

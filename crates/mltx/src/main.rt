@@ -11,6 +11,7 @@ mod input;
 mod input_end;
 mod opened;
 mod output;
+mod screen;
 mod streams;
 
 ghost use Rattle.std.specs.Prelude.{◌≡◌, ◌≤◌, ◌<◌, ◌↔◌, [], true, IfOk, Ok, OnOk};
@@ -20,6 +21,7 @@ ghost use Rattle.mlt_cli.specs.CommandLine.{IsWithinBounds};
 ghost use Rattle.mltx.specs.Options.{AreLimitsOf, IsTimeOf};
 
 use arguments::words;
+use clap::error::ErrorKind;
 use end_signals::EndSignals;
 use failure::{Failure, Known, explain};
 use input::Input;
@@ -36,6 +38,7 @@ use mlt_manager_laws::{
 use mlt_manager_solo::solo;
 use mlt_manager_steps::steps;
 use mlt_object_tables::{TableName, write_tables};
+use mlt_script_texts::Echoed;
 use mlt_serve::{Admin, Operating, ServeOptions, serve_endless, serve_on};
 use mlt_text::write_text;
 use mlt_trace::{KeptItem, write_trace};
@@ -44,13 +47,15 @@ use mlt_types::{Limits, Low, Mult, Pseudo, Refusal};
 use mlt_work::{BeginQueue, RunOptions, run_scripts};
 use opened::Opened;
 use output::Output;
+use screen::{Screen, look_of};
+use std::fs;
 use std::fs::File;
-use std::io::{self, Write};
+use std::io::{self, Printer, Write};
 use std::process::ExitCode;
 use std::sync::Wait;
 use std::thread::Threads;
 use std::time::{Clock, Duration};
-use streams::Streams;
+use streams::{STDERR, STDIN, Streams, is_terminal};
 
 fn main(rt: HostRuntime) -> ExitCode {
     let _streams = Streams::open(&rt);
@@ -65,10 +70,19 @@ fn run<T: Threads + Wait + Clock + Sync + Send + Copy + 'static>(
 ) -> u8 {
     let outcome = match words(rt) {
         Ok(words) => match read_words(rt.alloc(), words.as_slice()) {
-            Ok(line) => return do_line(rt, threads, &line),
+            Ok(line) => {
+                if words.is_empty() && is_terminal(rt, STDIN) {
+                    // A hint, without which all works.
+                    let _ = write_text(&mut rt.stderr(), WAITS.as_bytes());
+                }
+                return do_line(rt, threads, &line);
+            }
             Err(error) => {
                 match report_command_line(&error, &mut io::writer(rt), &mut rt.stderr()) {
-                    Ok(status) => return status,
+                    Ok(status) => {
+                        suggest(rt, &error, words.as_slice());
+                        return status;
+                    }
                     Err(refusal) => refusal,
                 }
             }
@@ -78,6 +92,27 @@ fn run<T: Threads + Wait + Clock + Sync + Send + Copy + 'static>(
     told_status(rt, outcome)
 }
 
+// What is told at a terminal where the program is called without words.
+const WAITS: &str =
+    "mltx: reading scripts from the terminal until Ctrl-D; `mltx --help` lists the commands\n";
+
+// Where the first word is no command but a file, tells which command runs that.
+fn suggest(rt: &HostRuntime, error: &clap::Error, words: &[String]) {
+    let Some(file) = words.first() else {
+        return;
+    };
+    let is_file = fs::metadata(rt, file.as_str()).is_ok_and(|found| found.is_file());
+    if error.kind() != ErrorKind::InvalidSubcommand || !is_file {
+        return;
+    }
+    // A hint, as above.
+    if let Ok(text) = format!(in rt.alloc();
+        "\n  tip: to run the scripts of a file: mltx solo {file}\n"
+    ) {
+        let _ = write_text(&mut rt.stderr(), text.as_bytes());
+    }
+}
+
 // The status of a fault, of which the line is written.
 fn told_status(rt: &HostRuntime, refusal: Refusal) -> u8 {
     // The status tells of the fault also where its line can't be written.
@@ -85,7 +120,8 @@ fn told_status(rt: &HostRuntime, refusal: Refusal) -> u8 {
     status(&Err(refusal))
 }
 
-// Does what the command line asks for. The second line of a fault comes behind the first.
+// Does what the command line asks for. The second line of a fault comes behind the first, where that is asked for, or standard error is
+// a terminal.
 fn do_line<T: Threads + Wait + Clock + Sync + Send + Copy + 'static>(
     rt: &HostRuntime,
     threads: &T,
@@ -93,12 +129,13 @@ fn do_line<T: Threads + Wait + Clock + Sync + Send + Copy + 'static>(
 ) -> u8
     requires { IsWithinBounds line.now.job }
 {
-    match do_job(rt, threads, line) {
+    let points = is_terminal(rt, STDERR);
+    match do_job(rt, threads, line, line.verbose || points) {
         Ok(()) => status(&Ok(())),
         Err(failure) => {
             let status = told_status(rt, failure.refusal);
-            if line.verbose {
-                let _ = explain(rt, &line.job, &failure);
+            if line.verbose || points {
+                let _ = explain(rt, &line.job, &failure, points);
             }
             status
         }
@@ -109,10 +146,10 @@ fn do_job<T: Threads + Wait + Clock + Sync + Send + Copy + 'static>(
     rt: &HostRuntime,
     threads: &T,
     line: &CommandLine,
+    keeps: bool,
 ) -> Result<(), Failure>
     requires { IsWithinBounds line.now.job }
 {
-    let keeps = line.verbose;
     match &line.job {
         Job::Solo(run) => match run.hash {
             Hash::Mult => run_solo(rt, run, keeps, Mult),
@@ -129,8 +166,8 @@ fn do_job<T: Threads + Wait + Clock + Sync + Send + Copy + 'static>(
         Job::Check(check) if check.is_long => run_long_check(rt, check.input.as_str()),
         Job::Check(check) => run_check(rt, check.input.as_str(), keeps),
         Job::Serve(serve) => match serve.run.hash {
-            Hash::Mult => run_server(rt, threads, serve, keeps, Mult),
-            Hash::Low => run_server(rt, threads, serve, keeps, Low),
+            Hash::Mult => run_server(rt, threads, serve, line.verbose, Mult),
+            Hash::Low => run_server(rt, threads, serve, line.verbose, Low),
         },
         Job::Tables(name) => run_tables(rt, *name),
     }
@@ -144,17 +181,34 @@ fn open(rt: &HostRuntime, file: &str, keeps: bool) -> Result<Input, Failure> {
     }
 }
 
-// What a run of this input gave, and else why it was refused.
-fn run_outcome<V>(
-    told: Result<V, Refusal>,
+// The screen of a run, of which this is to stand beside the answers if that is asked for.
+fn open_screen<'a>(
+    rt: &'a HostRuntime,
+    run: &Run,
+    echoed: Echoed,
+) -> Screen<Printer<'a, HostRuntime>> {
+    let echoed = if run.echoes { echoed } else { Echoed::Nothing };
+    Screen::new(rt.alloc(), io::writer(rt), echoed, look_of(rt))
+}
+
+// The manager of a run of this input, once all is shown, and else why it was refused.
+fn run_outcome<P: Pseudo + Drop, W: Write>(
+    rt: &HostRuntime,
+    told: Result<Manager<P>, Refusal>,
     input: Input,
-    written: Option<io::Error>,
-) -> Result<V, Failure>
+    screen: &mut Screen<W>,
+) -> Result<Manager<P>, Failure>
     ensures { IfOk result (λ value. told ≡ Ok value) }
 {
     match told {
-        Ok(value) => Ok(value),
-        Err(refusal) => Err(Failure::of_run(refusal, input, written)),
+        Ok(manager) => match screen.show(rt.alloc(), input.bytes()) {
+            Ok(()) => Ok(manager),
+            Err(refusal) => {
+                manager.close();
+                Err(Failure::of_run(refusal, input, screen.failure()))
+            }
+        },
+        Err(refusal) => Err(Failure::of_run(refusal, input, screen.failure())),
     }
 }
 
@@ -164,16 +218,16 @@ fn run_solo<P: Pseudo + Drop>(
     keeps: bool,
     pseudo: P,
 ) -> Result<(), Failure> {
-    let mut input = open(rt, run.input.as_str(), keeps)?;
-    let mut output = Output::new(io::writer(rt));
+    let mut input = open(rt, run.input.as_str(), keeps || run.echoes)?;
+    let mut screen = open_screen(rt, run, Echoed::Scripts);
     let told = solo(
         rt.alloc(),
         &mut input,
-        &mut output,
+        &mut screen,
         Limits::program(),
         pseudo,
     );
-    let manager = run_outcome(told, input, output.failure())?;
+    let manager = run_outcome(rt, told, input, &mut screen)?;
     let written = write_history(rt, &manager, run);
     manager.close();
     written
@@ -185,18 +239,22 @@ fn run_steps<P: Pseudo + Drop>(
     keeps: bool,
     pseudo: P,
 ) -> Result<(), Failure> {
-    let mut input = open(rt, schedule.run.input.as_str(), keeps)?;
-    let mut output = Output::new(io::writer(rt));
+    let mut input = open(
+        rt,
+        schedule.run.input.as_str(),
+        keeps || schedule.run.echoes,
+    )?;
+    let mut screen = open_screen(rt, &schedule.run, Echoed::Schedule);
     let limits = Limits::program();
     let told = steps(
         rt.alloc(),
         &mut input,
-        &mut output,
+        &mut screen,
         limits,
         pseudo,
         schedule.explains,
     );
-    let manager = run_outcome(told, input, output.failure())?;
+    let manager = run_outcome(rt, told, input, &mut screen)?;
     // What held between any two events, and how many steps its operations took, and its aborts.
     managers_of_a_run_keep_their_promises::<P>();
     operations_of_a_run_take_few_steps::<P>();
@@ -209,8 +267,10 @@ fn run_steps<P: Pseudo + Drop>(
 fn run_check(rt: &HostRuntime, file: &str, keeps: bool) -> Result<(), Failure> {
     let mut input = open(rt, file, keeps)?;
     let mut output = Output::new(io::writer(rt));
-    let told = check_trace(rt.alloc(), &mut input, &mut output);
-    run_outcome(told, input, output.failure())
+    match check_trace(rt.alloc(), &mut input, &mut output) {
+        Ok(()) => Ok(()),
+        Err(refusal) => Err(Failure::of_run(refusal, input, output.failure())),
+    }
 }
 
 // Nothing is kept of an input of any length, also where a fault is to have its second line.
@@ -244,8 +304,8 @@ fn run_work<P: Pseudo + Drop + Send, T: Threads + Wait + Clock + Sync>(
     requires some { 0 < work.now.workers }
     requires most { work.now.workers ≤ 8 }
 {
-    let mut input = open(rt, work.run.input.as_str(), keeps)?;
-    let mut output = Output::new(io::writer(rt));
+    let mut input = open(rt, work.run.input.as_str(), keeps || work.run.echoes)?;
+    let mut screen = open_screen(rt, &work.run, Echoed::Clients);
     let options = RunOptions {
         limits: Limits::program(),
         workers: work.workers,
@@ -255,12 +315,12 @@ fn run_work<P: Pseudo + Drop + Send, T: Threads + Wait + Clock + Sync>(
         threads,
         rt.alloc(),
         &mut input,
-        &mut output,
+        &mut screen,
         pseudo,
         &options,
         &BeginQueue::new(threads),
     );
-    let manager = run_outcome(told, input, output.failure())?;
+    let manager = run_outcome(rt, told, input, &mut screen)?;
     let written = write_history(rt, &manager, &work.run);
     manager.close();
     written

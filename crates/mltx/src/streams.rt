@@ -2,8 +2,10 @@
 
 use libc::net::poll;
 use libc::types::pollfd;
+use std::fs;
 use std::fs::File;
 use std::os::fd::AsRawFd;
+use std::os::unix::fs::{FileTypeExt, MetadataExt};
 
 /// Whether a file is ready for these events, or fails, for which it is waited for so many milliseconds.
 pub(crate) fn is_ready<F: AsRawFd>(file: &F, events: i16, milliseconds: i32) -> bool {
@@ -13,6 +15,21 @@ pub(crate) fn is_ready<F: AsRawFd>(file: &F, events: i16, milliseconds: i32) -> 
         revents: 0,
     }];
     poll(&mut fds, milliseconds) > 0
+}
+
+/// The standard streams as paths.
+pub(crate) const STDIN: &str = "/proc/self/fd/0";
+
+pub(crate) const STDOUT: &str = "/proc/self/fd/1";
+
+pub(crate) const STDERR: &str = "/proc/self/fd/2";
+
+/// Whether a file of this path is a terminal: a character device with one of the major numbers that Linux keeps for these.
+pub(crate) fn is_terminal(rt: &HostRuntime, path: &str) -> bool {
+    fs::metadata(rt, path).is_ok_and(|found| {
+        let major = found.rdev() >> 8 & 0xfff;
+        found.file_type().is_char_device() && matches!(major, 4 | 5 | 136..=143)
+    })
 }
 
 /// What stands in the place of standard streams that were closed as the program began.

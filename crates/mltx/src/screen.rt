@@ -1,0 +1,89 @@
+//! Where `solo`, `steps` and `run` print.
+
+use crate::output::Output;
+use crate::streams::{STDOUT, is_terminal};
+use mlt_script_texts::{Echoed, Look, write_shown};
+use mlt_types::Refusal;
+use std::alloc::Global;
+use std::io::{ErrorKind, Write};
+use std::{env, io};
+
+/// Standard output. What is to stand beside the input, or in colours, is kept until the run is over.
+#[derive(Drop)]
+pub(crate) struct Screen<W> {
+    output: Output<W>,
+    echoed: Echoed,
+    look: Look,
+    kept: Option<Vec<u8>>,
+}
+
+impl<W: Write> Screen<W> {
+    pub(crate) fn new(alloc: Global, writer: W, echoed: Echoed, look: Look) -> Screen<W> {
+        let is_plain = echoed == Echoed::Nothing && look == Look::Plain;
+        Screen {
+            output: Output::new(writer),
+            echoed,
+            look,
+            kept: if is_plain {
+                None
+            } else {
+                Some(Vec::new(alloc))
+            },
+        }
+    }
+
+    /// Why a write or a flush failed, if one did.
+    pub(crate) fn failure(&self) -> Option<io::Error> {
+        self.output.failure()
+    }
+
+    /// Writes what was kept, if anything was, of a run of this input.
+    ///
+    /// # Errors
+    /// `OutOfMemory` where memory runs out, and `Io` where a write fails.
+    pub(crate) fn show(&mut self, alloc: Global, input: &[u8]) -> Result<(), Refusal> {
+        match self.kept.take() {
+            Some(text) => {
+                let (echoed, look) = (self.echoed, self.look);
+                write_shown(
+                    alloc,
+                    echoed,
+                    look,
+                    input,
+                    text.as_slice(),
+                    &mut self.output,
+                )
+            }
+            None => Ok(()),
+        }
+    }
+}
+
+impl<W: Write> Write for Screen<W> {
+    fn write(&mut self, buf: &[u8]) -> io::Result<usize> {
+        match &mut self.kept {
+            Some(text) => match text.extend_from_slice(buf) {
+                Ok(()) => Ok(buf.len()),
+                Err(_) => Err(ErrorKind::OutOfMemory.into()),
+            },
+            None => self.output.write(buf),
+        }
+    }
+
+    fn flush(&mut self) -> io::Result<()> {
+        match self.kept {
+            Some(_) => Ok(()),
+            None => self.output.flush(),
+        }
+    }
+}
+
+/// How answers look: in colours at a terminal, unless the environment has a `NO_COLOR` that is not empty (no-color.org).
+pub(crate) fn look_of(rt: &HostRuntime) -> Look {
+    let has_no_color = env::var(rt, "NO_COLOR").is_ok_and(|value| !value.is_empty());
+    if is_terminal(rt, STDOUT) && !has_no_color {
+        Look::Coloured
+    } else {
+        Look::Plain
+    }
+}
