@@ -88,6 +88,8 @@ OF_OPTIONS = {
     "--hash <HASH>": "Hash function of the pages [default: mult] [possible values: mult, low]",
     "--trace <FILE>": "Write a trace of the transactions to FILE",
     "--echo": "Print each line of FILE, and its answer beside it",
+    "--load <FILE>": "Begin with the accounts, elements and counters of FILE, which are lines as `run` prints them",
+    "--save <FILE>": "When the server exits, write its accounts, elements and counters to FILE, for --load",
     "--explain": "After each event that is blocked or waits, print the reason in lines that begin with `#`",
     "--workers <N>": "Run the scripts in N threads, 1 to 8 [default: 4]",
     "--tries <N>": "Answer GaveUp after N waits for other transactions, 1 to 1000000 [default: 10000]",
@@ -110,7 +112,7 @@ OF_A_RUN = ("-v, --verbose", "--hash <HASH>", "--trace <FILE>")
 HELP = {
     "solo": (
         "Run the scripts of FILE one after another, and print the replies",
-        *("<FILE>", (*OF_A_RUN, "--echo"), "solo scripts.txt"),
+        *("<FILE>", (*OF_A_RUN, "--echo", "--load <FILE>"), "solo scripts.txt"),
     ),
     "steps": (
         "Replay a schedule of interleaved transactions step by step; print each answer and the committed state",
@@ -118,7 +120,8 @@ HELP = {
     ),
     "run": (
         "Run the scripts of FILE side by side in threads; print the replies and the committed state",
-        *("<FILE>", (*OF_A_RUN, "--echo", "--workers <N>", "--tries <N>"), "run scripts.txt --workers 2 --trace trace.txt"),
+        *("<FILE>", (*OF_A_RUN, "--echo", "--load <FILE>", "--workers <N>", "--tries <N>")),
+        "run scripts.txt --workers 2 --trace trace.txt",
     ),
     "check": (
         "Check a trace: run its committed transactions again, in commit order, and compare every reply",
@@ -126,7 +129,7 @@ HELP = {
     ),
     "serve": (
         "Listen on ADDR and serve clients, which send lines and get an answer to each",
-        *("<ADDR>", OF_A_RUN, "serve 127.0.0.1:7000 --limit 2"),
+        *("<ADDR>", (*OF_A_RUN, "--load <FILE>", "--save <FILE>"), "serve 127.0.0.1:7000 --limit 2"),
     ),
     "tables": (
         "Print which operations conflict, with an example of each conflict",

@@ -30,6 +30,9 @@ NUMBERS = [
     *("operations", "commits", "aborts", "gave_up", "deadlocks", "no_room", "events", "items", "bytes", "pages", "most_pages"),
     *("depth", "room", "trace", "trace_failed", "stopping"),
 ]
+TIMES = ("transaction_times", "wait_times")
+# The greatest time of each bucket but the last, in microseconds.
+BOUNDS = [step * 10**power for power in range(1, 8) for step in (1, 2, 5) if 50 <= step * 10**power <= 10**7]
 # The header, 256 pages of a directory of depth 16, and a bucket for each of its 65,536 entries. A bucket has room for eight.
 MOST_PAGES, ROOM = 1 + 256 + 65_536, 8 * 65_536
 NO_MEMORY = "the first operation was refused for lack of memory (OutOfMemory)"
@@ -37,7 +40,7 @@ NO_ROOM, DEEPEST = "the first operation was refused for lack of room (NoRoom)", 
 
 
 @contextmanager
-def operated(mltx: Program, *options: object, limit: int = 1_000) -> Iterator[Server]:
+def operated(mltx: Program, *options: object, limit: int | None = 1_000) -> Iterator[Server]:
     """A server with an operator, which is killed at the end of the block where it has not ended."""
     with mltx.serve(*options, limit=limit, admin=free_address()) as server:
         server.first_line()
@@ -64,6 +67,11 @@ def asked(server: Server, path: str) -> Any:
     status, kind, body = answer(server, path)
     same((status, kind, body.count(b"\n"), body[-1:]), (200, JSON, 1, b"\n"), path)
     return json.loads(body)
+
+
+def version(mltx: Program) -> str:
+    """The version of the program."""
+    return mltx.run("--version").out.decode().removeprefix("mltx ").rstrip("\n")
 
 
 def counts(server: Server, *names: str) -> dict[str, int]:
@@ -105,8 +113,11 @@ def status_of_a_server_without_clients(mltx: Program) -> None:
     with operated(mltx, "--sessions", 5, limit=77) as server:
         comes(server, "/status", lambda told: told["session_threads"] == 5, "all session threads run")
         told = asked(server, "/status")
-        same(list(told), NUMBERS, "the names")
-        holds(all(type(value) is int for value in told.values()), f"{told}")
+        same(list(told), [NUMBERS[0], "version", "address", *NUMBERS[1:], *TIMES], "the names")
+        holds(all(type(told[name]) is int for name in NUMBERS), f"{told}")
+        same((told["version"], told["address"]), (version(mltx), "%s:%d" % server.address), "the program, and where it listens")
+        no_times = {"bounds": BOUNDS, "counts": 18 * [0], "microseconds": 0}
+        same([told[name] for name in TIMES], 2 * [no_times], "the times at the start")
         most = {"limit": 77, "most_begun": 2**32, "most_pages": MOST_PAGES, "room": ROOM}
         others = ("server", "seconds", "session_threads", "bytes", "pages", *most)
         nothing = {name: 0 for name in NUMBERS if name not in others}
@@ -271,11 +282,13 @@ def note_on_pages_that_get_few(mltx: Program) -> None:
 
 # What a server tells once `busy` has made these numbers, each another one but for zeros. Words in capitals are not known.
 STATUS_TEXT = (
-    '{"server":SERVER,"seconds":SECONDS,"sessions":6,"session_threads":7,"queued":0,"connections":8,"limit":77,"open":5,'
+    '{"server":SERVER,"version":"VERSION","address":"ADDRESS","seconds":SECONDS,'
+    '"sessions":6,"session_threads":7,"queued":0,"connections":8,"limit":77,"open":5,'
     '"begun":24,"most_begun":4294967296,"operations":14,"commits":10,"aborts":9,"gave_up":3,"deadlocks":2,"no_room":0,'
     '"events":EVENTS,"items":59,"bytes":3744,"pages":4,"most_pages":65793,"depth":1,"room":524288,"trace":0,'
-    '"trace_failed":0,"stopping":0}\n'
+    '"trace_failed":0,"stopping":0,"transaction_times":TIMES,"wait_times":TIMES}\n'
 )
+TIMES_TEXT = f'{{"bounds":[{",".join(map(str, BOUNDS))}],"counts":[COUNTS],"microseconds":SUM}}'
 
 METRICS_TEXT = """\
 # HELP mltx_server A number that the server drew at random when it started.
@@ -356,7 +369,21 @@ mltx_trace_failed 0
 # HELP mltx_stopping 1 if the server is shutting down, else 0.
 # TYPE mltx_stopping gauge
 mltx_stopping 0
+# HELP mltx_transaction_seconds Seconds from the answer to begin to the end of the transaction.
+# TYPE mltx_transaction_seconds histogram
+TRANSACTION_TIMES
+# HELP mltx_wait_seconds Seconds for which an operation waited for other transactions.
+# TYPE mltx_wait_seconds histogram
+WAIT_TIMES
 """
+
+
+def histogram_text(name: str, times: Row) -> str:
+    """The lines of a histogram, as Prometheus reads them."""
+    sums = list(itertools.accumulate(times["counts"]))
+    rows = [f'_bucket{{le="{bound / 10**6:.6f}"}} {count}' for bound, count in zip(BOUNDS, sums)]
+    rows += [f'_bucket{{le="+Inf"}} {sums[-1]}', f"_sum {times['microseconds'] / 10**6:.6f}", f"_count {sums[-1]}"]
+    return "\n".join(f"mltx_{name}_seconds{row}" for row in rows)
 
 
 @contextmanager
@@ -399,7 +426,18 @@ def numbers_as_texts(mltx: Program) -> None:
     holds(2 <= told["seconds"] <= 4 * SLACK, f"{told['seconds']} seconds")
     # Each transaction has a begin, 19 an end, and each operation at least a call and a step.
     holds(told["events"] > 24 + 19 + 2 * 14, f"{told['events']} events")
-    for name, body, text in (("/status", json_text, STATUS_TEXT), ("/metrics", metrics_text, METRICS_TEXT)):
+    # 19 transactions have ended, and four operations have waited: two that ended a circle, one of each of these, or none that was
+    # given up at once, and one for two seconds.
+    transactions, waits = (told[name] for name in TIMES)
+    same(sum(transactions["counts"]), 19, "the transactions that have ended")
+    holds(3 <= sum(waits["counts"]) <= 5 and sum(waits["counts"][14:]) == 1, f"{waits}")
+    holds(2 * 10**6 <= waits["microseconds"] <= 10**6 * SLACK * 4, f"{waits}")
+    status_text = STATUS_TEXT.replace("TIMES", re.sub("COUNTS|SUM", "N", TIMES_TEXT))
+    json_text = re.sub(rb'("counts":\[)[0-9,]+(\],"microseconds":)[0-9]+', rb"\1N\2N", json_text)
+    status_text = status_text.replace("VERSION", version(mltx)).replace("ADDRESS", "%s:%d" % server.address)
+    metrics_wanted = METRICS_TEXT.replace("TRANSACTION_TIMES", histogram_text("transaction", transactions))
+    metrics_wanted = metrics_wanted.replace("WAIT_TIMES", histogram_text("wait", waits))
+    for name, body, text in (("/status", json_text, status_text), ("/metrics", metrics_text, metrics_wanted)):
         found = match('("seconds":|\nmltx_uptime_seconds )([0-9]+)', body.decode())
         holds(told["seconds"] <= int(found[2]) <= most_seconds, f"{name} tells {found} as seconds")
         wanted = text.replace("SECONDS", found[2])
@@ -488,7 +526,8 @@ def session_rows(server: Server) -> dict[int, Row | None]:
         holds(row["client"] not in rows, f"client {row['client']} comes twice")
         within = row["transaction"]
         holds(within is None or within["milliseconds"] <= row["milliseconds"], f"{row}")
-        same(list(at_rest([row])[0]), ["client", "transaction"], "the names")
+        same(list(at_rest([row])[0]), ["client", "address", "transaction"], "the names")
+        match(r"^127\.0\.0\.1:[0-9]+$", row["address"])
         rows[row["client"]] = within and at_rest([within])[0]
     return rows
 
@@ -528,11 +567,14 @@ WAIT_TEXTS = [
     '{"waiter":3,"client":2,"holder":2,"for":"turn","operation":"up 7171 9","milliseconds":N}',
 ]
 SESSION_TEXTS = [
-    '{"client":1,"milliseconds":N,"transaction":null}',
-    '{"client":2,"milliseconds":N,"transaction":{"number":3,"milliseconds":N,"operations":0,"did":[],"calls":"up 7171 9"}}',
-    '{"client":3,"milliseconds":N,"transaction":{"number":2,"milliseconds":N,"operations":1,"did":["add 33 4444 added"],'
+    '{"client":1,"address":"A","milliseconds":N,"transaction":null}',
+    '{"client":2,"address":"A","milliseconds":N,'
+    '"transaction":{"number":3,"milliseconds":N,"operations":0,"did":[],"calls":"up 7171 9"}}',
+    '{"client":3,"address":"A","milliseconds":N,'
+    '"transaction":{"number":2,"milliseconds":N,"operations":1,"did":["add 33 4444 added"],'
     '"calls":"read 7171"}}',
-    '{"client":4,"milliseconds":N,"transaction":{"number":1,"milliseconds":N,"operations":3,"did":["deposit 4242 5 missing",'
+    '{"client":4,"address":"A","milliseconds":N,'
+    '"transaction":{"number":1,"milliseconds":N,"operations":3,"did":["deposit 4242 5 missing",'
     '"up 7171 3 done","size 34 is 0"],"calls":null}}',
 ]
 
@@ -542,6 +584,7 @@ def rows_as_text(server: Server, path: str, before: str, rows: list[str]) -> Non
     status, kind, body = answer(server, path)
     same((status, kind), (200, JSON), path)
     text = re.sub('"milliseconds":[0-9]+', '"milliseconds":N', body.decode())
+    text = re.sub('"address":"127[0-9.:]+"', '"address":"A"', text)
     holds(text in [f'{{"{before}":[{",".join(some)}]}}\n' for some in itertools.permutations(rows)], f"{path} tells {text}")
 
 
@@ -988,7 +1031,8 @@ def page_asks_nobody_else(mltx: Program) -> None:
     named = re.findall(r"""(?:src|href|action)\s*=\s*["']?([^"'\s>]*)|url\(([^)]*)\)|(@import|https?:|//[a-z]+\.)""", page)
     holds(all("".join(found).startswith(("data:", "#")) for found in named), f"the page names {named}")
     same([path for path in ("/status", "/sessions", "/waits") if path not in page], [], "what the page does not ask for")
-    same(words_of(page), "mltx mltx … Stop the server Waiting transactions Sessions No client is connected.", "the words")
+    words = "mltx mltx … Stop the server Waiting transactions Sessions No client is connected. Numbers"
+    same(words_of(page), words, "the words")
 
 
 @test(seconds=8)
@@ -1009,5 +1053,8 @@ def page_in_a_browser(mltx: Program) -> None:
         says(holder, "commit", "committed 1")
         same(waiter.line(), "is 3", "the one that waited")
     shown = words_of(ran.stdout.decode(errors="replace"))
-    for text in ("read 7171", "deposit 4242 5 missing", "up 7171 3 done", "add 33 4444 added", "Trace none"):
+    name = f"mltx {version(mltx)} at %s:%d" % server.address
+    figures = ("Commits per second 0", "Half and 99 % of transactions within – / –", "Waiting operations 1")
+    operations = ("read 7171", "deposit 4242 5 missing", "up 7171 3 done", "add 33 4444 added")
+    for text in (name, *figures, "GaveUp answers in a minute 0", *operations, "T1 of client 2", "T2 of client 3", "Trace none"):
         holds(text in shown, f"the page does not show {text!r}: {shown[-1500:]}")

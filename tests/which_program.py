@@ -22,7 +22,7 @@ kit=$(dirname "$(dirname "$(readlink -f "$0")")")
 echo "$*" >>"$NOTES/asked"
 cat >/dev/null
 program() {
-    version=$(sed -n 's/^const VERSION: &str = "\(.*\)";/\1/p' ../mlt_cli/src/commands.rt)
+    version=$(sed -n 's/^pub const VERSION: &str = "\(.*\)";/\1/p' ../mlt_cli/src/commands.rt)
     printf '#!/bin/sh\n[ "$1" = --version ] && { echo "mltx %s"; exit; }\n' "$version"
     printf 'echo %s "$@"\ncat\necho told >&2\nexit 3\n' "$1"
 }

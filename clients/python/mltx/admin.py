@@ -68,9 +68,21 @@ class Operator:
     def status(self) -> dict[str, int]:
         """The server's numbers by their names, as `commits`, which the table of formats lists."""
         told = self._told("GET", "/status")
-        if not isinstance(told, dict) or not all(type(number) is int for number in told.values()):
+        numbers = {name: it for name, it in told.items() if type(it) is int} if isinstance(told, dict) else {}
+        if "server" not in numbers:
             raise UnexpectedAnswer(f"the answer to /status is {told!r}")
-        return told
+        return numbers
+
+    def objects(self, kind: str, of: Optional[int] = None) -> Iterator[tuple[int, Optional[int]]]:
+        """By the `kind` "account" or "counter" the numbers of all of these, each with what it holds, and by the kind "set" the
+        elements of the set `of`, each with None. Changes of open transactions count."""
+        start: Optional[int] = 0
+        while start is not None:
+            path = f"/base?kind={kind}&from={start}" + ("" if of is None else f"&of={of}")
+            with self._understood(path):
+                told = self._told("GET", path)
+                listed, start = [(it["number"], it.get("value")) for it in told["objects"]], told["next"]
+            yield from listed
 
     def waits(self) -> list[Wait]:
         """Which transaction waits for which."""

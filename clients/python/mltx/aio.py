@@ -295,6 +295,9 @@ class Operator:
     async def sessions(self) -> list[admin.ServedSession]:
         return await asyncio.to_thread(self._operator.sessions)
 
+    async def objects(self, kind: str, of: Optional[int] = None) -> list[tuple[int, Optional[int]]]:
+        return await asyncio.to_thread(lambda: list(self._operator.objects(kind, of)))
+
     async def end_session(self, client: int) -> None:
         await asyncio.to_thread(self._operator.end_session, client)
 

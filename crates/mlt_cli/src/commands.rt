@@ -13,7 +13,8 @@ static TABLE_NAMES: [&str; 3] = ["account", "set", "counter"];
 // What a new client may find while all sessions are taken.
 static FULL_NAMES: [&str; 2] = ["wait", "refuse"];
 
-const VERSION: &str = "0.1.0";
+/// The version of the program.
+pub const VERSION: &str = "0.1.0";
 
 const ABOUT: &str = "Run transactions on accounts, sets and counters, and check traces of them";
 
@@ -30,6 +31,12 @@ const HASH_HELP: &str = "Hash function of the pages [default: mult]";
 const TRACE_HELP: &str = "Write a trace of the transactions to FILE";
 
 const ECHO_HELP: &str = "Print each line of FILE, and its answer beside it";
+
+const LOAD_HELP: &str =
+    "Begin with the accounts, elements and counters of FILE, which are lines as `run` prints them";
+
+const SAVE_HELP: &str =
+    "When the server exits, write its accounts, elements and counters to FILE, for --load";
 
 const SOLO_ABOUT: &str = "Run the scripts of FILE one after another, and print the replies";
 
@@ -207,8 +214,7 @@ struct InputHelp {
 // The program's description.
 pub(crate) fn mltx_command<'a>(alloc: Global) -> Result<Command<'a>, AllocError> {
     let command = bare_command(alloc)?;
-    let solo = echo_command(alloc, "solo", SOLO_ABOUT, SOLO_EXAMPLE);
-    let command = with_subcommand(command, solo)?;
+    let command = with_subcommand(command, solo_command(alloc))?;
     let command = with_subcommand(command, steps_command(alloc))?;
     let command = with_subcommand(command, work_command(alloc))?;
     let command = with_subcommand(command, check_command(alloc))?;
@@ -291,6 +297,15 @@ fn echo_command<'a>(
     run_command(alloc, name, FILE, about, example)?.arg(flag_option(alloc, "echo", ECHO_HELP))
 }
 
+fn solo_command<'a>(alloc: Global) -> Result<Command<'a>, AllocError> {
+    echo_command(alloc, "solo", SOLO_ABOUT, SOLO_EXAMPLE)?.arg(load_option(alloc))
+}
+
+// The option of a base to begin with.
+fn load_option<'a>(alloc: Global) -> Arg<'a> {
+    text_option(alloc, "load", "FILE", LOAD_HELP)
+}
+
 fn steps_command<'a>(alloc: Global) -> Result<Command<'a>, AllocError> {
     echo_command(alloc, "steps", STEPS_ABOUT, STEPS_EXAMPLE)?.arg(flag_option(
         alloc,
@@ -371,12 +386,15 @@ fn tries_option<'a>(alloc: Global) -> Arg<'a> {
 
 fn work_command<'a>(alloc: Global) -> Result<Command<'a>, AllocError> {
     echo_command(alloc, "run", RUN_ABOUT, RUN_EXAMPLE)?
+        .arg(load_option(alloc))?
         .arg(number_option(alloc, "workers", "N", WORKERS_HELP, 1, 8))?
         .arg(tries_option(alloc))
 }
 
 fn serve_command<'a>(alloc: Global) -> Result<Command<'a>, AllocError> {
-    let command = run_command(alloc, "serve", ADDRESS, SERVE_ABOUT, SERVE_EXAMPLE)?;
+    let command = run_command(alloc, "serve", ADDRESS, SERVE_ABOUT, SERVE_EXAMPLE)?
+        .arg(load_option(alloc))?
+        .arg(text_option(alloc, "save", "FILE", SAVE_HELP))?;
     let command = with_connections(alloc, command.next_help_heading("Connections"))?;
     let command = with_waits(alloc, command.next_help_heading("Waits and timeouts"))?;
     command

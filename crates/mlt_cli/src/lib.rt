@@ -9,6 +9,7 @@ mod fault;
 mod report;
 mod words;
 
+pub use commands::VERSION;
 pub use fault::{FaultLine, report_fault, status};
 pub use report::{command_line_status, report_command_line};
 pub use words::{

@@ -29,6 +29,8 @@ pub struct Run {
     pub trace: Option<String>,
     /// Whether answers are printed beside the input.
     pub echoes: bool,
+    /// The file of the base to begin with as it stands on the command line, if there is one.
+    pub load: Option<String>,
 }
 
 /// A schedule that is to be run.
@@ -115,6 +117,8 @@ pub struct OperatorOptions {
     pub admin: Option<String>,
     /// Whether the server ends in order at the end of standard input.
     pub until_eof: bool,
+    /// The file for the base at the end as it stands on the command line, if there is one.
+    pub save: Option<String>,
 }
 
 /// What the program is asked to do.
@@ -193,6 +197,7 @@ fn standard_input(alloc: Global) -> Result<Job, AllocError>
         hash: Hash::Mult,
         trace: None,
         echoes: false,
+        load: None,
     }))
 }
 
@@ -278,6 +283,7 @@ fn run_found(alloc: Global, found: &ArgMatches<'_>) -> Result<Option<Run>, Alloc
         hash,
         trace,
         echoes: flag_found(found, "echo"),
+        load: text_found(alloc, found, "load")?,
     }))
 }
 
@@ -388,7 +394,12 @@ fn full_found(found: &ArgMatches<'_>) -> Option<Full> {
 fn operating_found(alloc: Global, found: &ArgMatches<'_>) -> Result<OperatorOptions, AllocError> {
     let admin = text_found(alloc, found, "admin")?;
     let until_eof = flag_found(found, "until-eof");
-    Ok(OperatorOptions { admin, until_eof })
+    let save = text_found(alloc, found, "save")?;
+    Ok(OperatorOptions {
+        admin,
+        until_eof,
+        save,
+    })
 }
 
 fn tables_found(found: &ArgMatches<'_>) -> Option<Job>

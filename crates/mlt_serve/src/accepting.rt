@@ -153,7 +153,7 @@ impl<'a, R: Wait + Clock> Acceptor<'a, R> {
         self.is_pausing = self.is_pausing || is_want;
     }
 
-    /// Accepts as many as the limit says, and sends each on as it comes.
+    /// Accepts as many as the limit says, with those that were accepted before, and sends each on as it comes.
     fn accept_all(
         &mut self,
         connections: &Sender<Connection, Global>,
@@ -162,7 +162,8 @@ impl<'a, R: Wait + Clock> Acceptor<'a, R> {
         ensures few { result.0 ≤ limit }
         ensures whole { is_limit result.1 ≡ true → result.0 ≡ limit }
     {
-        for before in 0..limit {
+        let loaded = self.door.accepted();
+        for before in loaded..limit {
             let stream = match self.next() {
                 Ok(stream) => stream,
                 Err(ended) => return (before, ended),
@@ -170,9 +171,9 @@ impl<'a, R: Wait + Clock> Acceptor<'a, R> {
             if let Err(ended) = self.send_on(connections, before, stream) {
                 return (before, ended);
             }
-            self.warn(before + 1, limit);
+            self.warn(before + 1 - loaded, limit - loaded);
         }
-        (limit, ListenerEnd::Limit(limit))
+        (limit, ListenerEnd::Limit(limit.saturating_sub(loaded)))
     }
 
     /// Sends a connection on, before which so many were accepted.

@@ -1,7 +1,7 @@
 //! Where connections come in.
 
 use mlt_serve_connections::{Accepted, accept, refuse_all};
-use std::net::TcpListener;
+use std::net::{SocketAddr, TcpListener};
 use std::sync::atomic::{AtomicBool, AtomicU64, Ordering};
 
 /// The listener, and how many have come in by it.
@@ -31,6 +31,11 @@ impl<'a> Door<'a> {
             taken: AtomicU64::new(0),
             ended: AtomicU64::new(0),
         }
+    }
+
+    /// The address of the listener, if the system could say so.
+    pub(crate) fn address(&self) -> Option<SocketAddr> {
+        self.listener.local_addr().ok()
     }
 
     /// The next connection, once there is one.

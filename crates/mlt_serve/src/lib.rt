@@ -28,6 +28,6 @@ mod trace_keeping;
 mod tuning;
 
 pub use endless::{ServedEndless, serve_endless};
-pub use operating::{Admin, EndSignal, NoSignal, Operating, TraceFile};
+pub use operating::{Admin, EndSignal, Load, NoSignal, Operating, TraceFile};
 pub use options::ServeOptions;
 pub use serving::{Served, serve_on};

@@ -30,6 +30,13 @@ impl EndSignal for NoSignal {
     }
 }
 
+/// A base to begin with: the lines of a session that make it, and what they are answered.
+#[derive(Clone, Copy)]
+pub struct Load<'a> {
+    pub lines: &'a [u8],
+    pub answers: &'a [u8],
+}
+
 /// What a server has beside its clients.
 #[derive(Drop)]
 pub struct Operating<'a, N, T, S> {
@@ -43,6 +50,8 @@ pub struct Operating<'a, N, T, S> {
     pub signal: S,
     /// Where an operator connects, if one may.
     pub admin: Option<Admin<'a>>,
+    /// The base that it begins with, if that is not the empty one.
+    pub load: Option<Load<'a>>,
 }
 
 /// Where an operator connects.
@@ -53,4 +62,6 @@ pub struct Admin<'a> {
     pub keys: RandomState,
     /// The number of the server.
     pub number: u64,
+    /// The version of the program.
+    pub version: &'static str,
 }

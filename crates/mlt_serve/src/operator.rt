@@ -2,13 +2,15 @@
 
 use crate::service::Service;
 use mlt_object_kinds::Done;
+use mlt_page::{Page, Slot};
 use mlt_script_serial::Outcome;
 use mlt_serve_admin::{
-    Counts, Operated, ServerView, SessionView, TransactionView, WaitReason, WaitView,
+    Counts, KeyRange, ObjectView, Operated, ServerView, SessionView, TimesView, TransactionView,
+    WaitReason, WaitView,
 };
-use mlt_serve_seats::{Cut, OpenTransaction, SessionState};
+use mlt_serve_seats::{BOUNDS, Cut, Histogram, OpenTransaction, SessionState};
 use mlt_trace::KeptItem;
-use mlt_types::{Pseudo, TxId};
+use mlt_types::{PageNo, Pseudo, TxId};
 use mlt_work_desk::{DeskStatistics, MadeWith};
 use mlt_work_waits::Waiting;
 use std::alloc::{AllocError, Global};
@@ -24,6 +26,9 @@ const OUTCOME_BYTES: u64 = size_of::<Outcome>() as u64;
 
 const OPERATION_BYTES: u64 = size_of::<Done>() as u64;
 
+/// How many objects are held at most before the first are looked for.
+const MOST_FOUND: usize = 4_096;
+
 /// What an operator sees, and can do.
 #[derive(Drop)]
 pub(crate) struct Operator<'a, 'b, 'c, P: Pseudo, L: MadeWith<P>, R: Wait + Clock> {
@@ -33,20 +38,24 @@ pub(crate) struct Operator<'a, 'b, 'c, P: Pseudo, L: MadeWith<P>, R: Wait + Cloc
     since: Option<Instant>,
     /// The number of the server.
     number: u64,
+    /// The version of the program.
+    version: &'static str,
 }
 
 impl<'a, 'b, 'c, P: Pseudo, L: MadeWith<P>, R: Wait + Clock> Operator<'a, 'b, 'c, P, L, R> {
-    /// One of a server with this number, which listens from now on.
+    /// One of a server with this number, of this version of the program, which listens from now on.
     pub(crate) fn new(
         rt: &'a R,
         service: &'b Service<'c, P, L>,
         number: u64,
+        version: &'static str,
     ) -> Operator<'a, 'b, 'c, P, L, R> {
         Operator {
             rt,
             service,
             since: Instant::now(rt).ok(),
             number,
+            version,
         }
     }
 
@@ -60,8 +69,11 @@ impl<'a, 'b, 'c, P: Pseudo, L: MadeWith<P>, R: Wait + Clock> Operator<'a, 'b, 'c
             ..
         } = self.service;
         let totals = seats.totals(self.rt);
+        let times = seats.times();
         Counts {
             server: self.number,
+            version: self.version,
+            address: door.address(),
             seconds: milliseconds(self.since, now) / 1_000,
             sessions: sessions as u64,
             session_threads: running.load(Ordering::SeqCst),
@@ -87,6 +99,8 @@ impl<'a, 'b, 'c, P: Pseudo, L: MadeWith<P>, R: Wait + Clock> Operator<'a, 'b, 'c
             has_trace: self.service.has_trace,
             trace_failed: notes.has_trace_failed(),
             is_stopping: door.stops(),
+            transaction_times: times_view(&times.transactions),
+            wait_times: times_view(&times.waits),
         }
     }
 
@@ -128,6 +142,28 @@ impl<P: Pseudo, L: MadeWith<P>, R: Wait + Clock> Operated for Operator<'_, '_, '
         })
     }
 
+    fn objects(
+        &self,
+        alloc: Global,
+        range: &KeyRange,
+        most: usize,
+    ) -> Result<Vec<ObjectView>, AllocError> {
+        let pages = u32::try_from(self.service.shared.statistics(self.rt).pages);
+        let mut found = Vec::new(alloc);
+        // A record moves only to a page that is made then, so that none is missed.
+        for number in 0..pages.unwrap_or(u32::MAX) {
+            let page = self.service.shared.clean_page(self.rt, PageNo(number));
+            if let Some(page) = &page {
+                push_objects(&mut found, page, range)?;
+            }
+            if found.len() >= MOST_FOUND.max(most) {
+                keep_first(&mut found, most);
+            }
+        }
+        keep_first(&mut found, most);
+        Ok(found)
+    }
+
     fn stop(&self) {
         self.service.door.stop();
     }
@@ -142,6 +178,41 @@ impl<P: Pseudo, L: MadeWith<P>, R: Wait + Clock> Operated for Operator<'_, '_, '
     }
 }
 
+/// Adds the objects of a page that are in the range.
+fn push_objects(
+    found: &mut Vec<ObjectView>,
+    page: &Page,
+    range: &KeyRange,
+) -> Result<(), AllocError> {
+    let Page::Bucket(bucket) = page else {
+        return Ok(());
+    };
+    for slot in &bucket.slots {
+        if let Slot::Live(key, value) = *slot {
+            let key = key.number();
+            if range.first <= key && key <= range.last {
+                found.push(ObjectView { key, value })?;
+            }
+        }
+    }
+    Ok(())
+}
+
+/// Keeps the first objects by their keys, as many as that, each once.
+fn keep_first(found: &mut Vec<ObjectView>, most: usize) {
+    found.sort_unstable_by_key(|object| object.key);
+    found.dedup_by_key(|object| object.key);
+    found.truncate(most);
+}
+
+fn times_view(times: &Histogram) -> TimesView {
+    TimesView {
+        bounds: BOUNDS,
+        counts: times.counts,
+        microseconds: times.microseconds,
+    }
+}
+
 fn session_view(
     alloc: Global,
     state: &SessionState,
@@ -149,6 +220,7 @@ fn session_view(
 ) -> Result<SessionView, AllocError> {
     Ok(SessionView {
         client: state.client,
+        address: state.address,
         milliseconds: milliseconds(state.since, now),
         transaction: match &state.activity.transaction {
             Some(transaction) => Some(transaction_view(alloc, transaction, state, now)?),

@@ -8,10 +8,11 @@ ghost use Rattle.mlt_work_log.specs.Seats.{IsOf, first_items};
 
 use crate::accepting::Connection;
 use crate::guarded_desk::GuardedDesk;
+use crate::operating::Load;
 use crate::service::Service;
-use crate::talking::talk;
+use crate::talking::{Source, hear};
 use crossbeam_channel::Receiver;
-use mlt_serve_connections::{Admission, Socket, lingering_close};
+use mlt_serve_connections::{Admission, lingering_close};
 use mlt_serve_seats::{Cut, Note, Seat, Sitting};
 use mlt_serve_session::Receipts;
 use mlt_types::Pseudo;
@@ -78,8 +79,8 @@ impl<P: Pseudo, L: MadeWith<P>, K: Receipts + Drop> SessionThread<P, L, K> {
         }
     }
 
-    /// Serves a connection by a session at a desk of its own, so that no desk is counted while there is nothing to serve. It answers
-    /// why the session was cut, if it was.
+    /// Serves a client by a session at a desk of its own, so that no desk is counted while there is nothing to serve. It answers
+    /// why the session was cut, if it was: `Memory` where a base was not loaded.
     fn serve<R: Wait + Clock>(
         &mut self,
         rt: &R,
@@ -87,7 +88,7 @@ impl<P: Pseudo, L: MadeWith<P>, K: Receipts + Drop> SessionThread<P, L, K> {
         service: &Service<'_, P, L>,
         seat: &Seat,
         client: u32,
-        stream: &TcpStream,
+        source: &Source<'_>,
     ) -> Option<Cut>
         requires { 1 ≤ client }
         ensures outcomes { GrowsFor (first_items self.new.snapshot) client
@@ -118,9 +119,16 @@ impl<P: Pseudo, L: MadeWith<P>, K: Receipts + Drop> SessionThread<P, L, K> {
             desk,
             refuses_begins: service.refuses_begins,
         };
-        let socket = Socket::new(rt, stream, service.spin_policy, service.options.idle);
-        let cut = talk(alloc, &socket, &admission, &mut guarded, client, outcomes);
-        socket.close();
+        let cut = hear(
+            rt,
+            alloc,
+            service,
+            source,
+            &admission,
+            &mut guarded,
+            client,
+            outcomes,
+        );
         let GuardedDesk {
             desk,
             refuses_begins: _,
@@ -167,7 +175,8 @@ impl<P: Pseudo, L: MadeWith<P>, K: Receipts + Drop> SessionThread<P, L, K> {
             return true;
         };
         seat.enter(rt, client, handle);
-        let cut = self.serve(rt, alloc, service, seat, client, &stream);
+        let source = Source::Connection(&stream);
+        let cut = self.serve(rt, alloc, service, seat, client, &source);
         let refused = cut == Some(Cut::Memory);
         if let Some(cut) = seat.leave(rt).or(cut) {
             service.notes.tell(rt, Note::SessionCut(client, cut));
@@ -175,6 +184,22 @@ impl<P: Pseudo, L: MadeWith<P>, K: Receipts + Drop> SessionThread<P, L, K> {
         lingering_close(rt, &stream);
         self.is_short = self.is_short || refused;
         refused
+    }
+
+    /// Loads a base, as connection 1, before any other is accepted. It answers whether that was done.
+    pub(crate) fn load<R: Wait + Clock>(
+        &mut self,
+        rt: &R,
+        alloc: Global,
+        service: &Service<'_, P, L>,
+        base: Load<'_>,
+    ) -> bool {
+        service.door.count_accepted();
+        service.door.count_taken();
+        let seat = service.seats.seat(0);
+        let cut = self.serve(rt, alloc, service, seat, 1, &Source::Base(base));
+        service.door.count_ended();
+        cut.is_none()
     }
 
     /// Serves one connection after the other at a seat, until no more come. Where memory is refused no more are let in.

@@ -18,6 +18,7 @@ use mlt_serve_session::Receipts;
 use mlt_types::Pseudo;
 use mlt_work_desk::MadeWith;
 use std::alloc::Global;
+use std::hash::RandomState;
 use std::io::Write;
 use std::net::{SocketAddr, TcpListener};
 use std::sync::Wait;
@@ -65,8 +66,8 @@ fn open_address(listener: &TcpListener) -> Option<SocketAddr> {
 }
 
 impl<'a, P: Pseudo + Send, L: MadeWith<P> + Send + Sync> Service<'a, P, L> {
-    /// Serves connections with a thread beside them that writes notes, one that writes the trace, and the others. Where one of these is
-    /// refused, nothing is accepted.
+    /// Loads a base, if there is one, and serves connections with a thread beside them that writes notes, one that writes the trace, and
+    /// the others. Where one of these is refused, or the base is not loaded, nothing is accepted.
     pub(crate) fn serve_with_notes<
         K: Receipts + Send + Drop,
         R: Threads + Wait + Clock + Sync + Send + Copy + 'static,
@@ -89,7 +90,13 @@ impl<'a, P: Pseudo + Send, L: MadeWith<P> + Send + Sync> Service<'a, P, L> {
             trace,
             signal,
             admin,
+            load,
         } = operating;
+        if let Some(base) = load {
+            if !threads[0].load(rt, alloc, self, base) {
+                return Ran::none();
+            }
+        }
         if !starts_to_write(rt, alloc, outlet, unsaid, notes) {
             return Ran::none();
         }
@@ -198,9 +205,15 @@ impl<'a, P: Pseudo + Send, L: MadeWith<P> + Send + Sync> Service<'a, P, L> {
         if let Some(address) = open_address(admin.listener) {
             self.notes.tell(rt, Note::OpenAdmin(address));
         }
-        let operator = Operator::new(rt, self, admin.number);
+        let Admin {
+            listener,
+            keys,
+            number,
+            version,
+        } = admin;
+        let operator = Operator::new(rt, self, number, version);
         let is_over = AtomicBool::new(false);
-        self.serve_beside_operator(rt, alloc, admin, &operator, &is_over, threads)
+        self.serve_beside_operator(rt, alloc, listener, keys, &operator, &is_over, threads)
     }
 
     /// Serves connections with two threads beside them that answer this operator, until it is over.
@@ -212,7 +225,8 @@ impl<'a, P: Pseudo + Send, L: MadeWith<P> + Send + Sync> Service<'a, P, L> {
         &self,
         rt: &R,
         alloc: Global,
-        admin: Admin<'_>,
+        listener: &TcpListener,
+        keys: RandomState,
         operator: &O,
         is_over: &AtomicBool,
         threads: &mut [SessionThread<P, L, K>],
@@ -220,7 +234,6 @@ impl<'a, P: Pseudo + Send, L: MadeWith<P> + Send + Sync> Service<'a, P, L> {
         requires { 0 < length threads.old }
     {
         let service = self;
-        let Admin { listener, keys, .. } = admin;
         thread::scope(
             thread::scope_env(),
             rt,

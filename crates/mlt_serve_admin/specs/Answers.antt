@@ -7,7 +7,7 @@ use Rattle.http.specs.FieldValue.{FieldValue}
 use Rattle.http.specs.Uri.{uri_path}
 use Rattle.http_server.specs.declared.response.Response.{Response}
 use Rattle.mlt_serve_admin.specs.declared.resources.Resource.{Resource}
-use Rattle.mlt_serve_admin.specs.declared.resources.Resource.TheVariants.{Page, Status, Metrics, Waits, Sessions, Stop, SessionEnd}
+use Rattle.mlt_serve_admin.specs.declared.resources.Resource.TheVariants.{Page, Status, Metrics, Waits, Sessions, Base, Stop, SessionEnd}
 use Rattle.mlt_serve_admin.specs.declared.replies.Content.{Content}
 use Rattle.mlt_serve_admin.specs.declared.routes.Route.{Route}
 use Rattle.mlt_serve_admin.specs.Resources.{methods_of}
@@ -23,6 +23,8 @@ IsAnswerAt stopped cut Status response = IsReply 200 Content.Json response
 IsAnswerAt stopped cut Metrics response = IsReply 200 Content.Metrics response
 IsAnswerAt stopped cut Waits response = IsReply 200 Content.Json response
 IsAnswerAt stopped cut Sessions response = IsReply 200 Content.Json response
+IsAnswerAt stopped cut Base response =
+    IsReply 200 Content.Json response ⊎ IsReply 400 Content.Line response
 IsAnswerAt stopped cut Stop response = stopped × IsReply 200 Content.Json response
 IsAnswerAt stopped cut (SessionEnd client) response =
     (cut client × IsReply 200 Content.Json response) ⊎ IsReply 404 Content.Line response

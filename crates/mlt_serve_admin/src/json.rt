@@ -5,6 +5,7 @@ use mlt_object_kinds::{Done, ObjOp};
 use mlt_types::TxId;
 use serde::{Serialize, Serializer};
 use std::alloc::{AllocError, Global};
+use std::net::SocketAddr;
 
 /// Who waits for whom, as /waits tells it.
 #[derive(Clone, Copy, Serialize)]
@@ -16,6 +17,22 @@ pub(crate) struct Waits<'a> {
 #[derive(Clone, Copy, Serialize)]
 pub(crate) struct Sessions<'a> {
     pub(crate) sessions: &'a [SessionView],
+}
+
+/// The objects that are listed, as /base tells them.
+#[derive(Clone, Copy, Serialize)]
+pub(crate) struct Objects<'a> {
+    pub(crate) objects: &'a [NumberedObject],
+    /// The number from which the next ones are listed, if there are more.
+    pub(crate) next: Option<u64>,
+}
+
+/// An object of a kind.
+#[derive(Clone, Copy, Serialize)]
+pub(crate) struct NumberedObject {
+    pub(crate) number: u64,
+    #[serde(skip_serializing_if = "Option::is_none")]
+    pub(crate) value: Option<u64>,
 }
 
 /// A value as a line of JSON. It fails for want of memory alone.
@@ -35,6 +52,16 @@ pub(crate) fn flag<S: Serializer>(is_so: &bool, out: &mut S) -> Result<(), S::Er
 
 pub(crate) fn number<S: Serializer>(tx: &TxId, out: &mut S) -> Result<(), S::Error> {
     out.u64(u64::from(tx.0))
+}
+
+pub(crate) fn address<S: Serializer>(
+    address: &Option<SocketAddr>,
+    out: &mut S,
+) -> Result<(), S::Error> {
+    match address {
+        Some(address) => out.collect_str(address),
+        None => out.unit(),
+    }
 }
 
 pub(crate) fn operation<S: Serializer>(op: &Option<ObjOp>, out: &mut S) -> Result<(), S::Error> {

@@ -7,6 +7,7 @@
 
 mod hosts;
 mod json;
+mod listing;
 mod metrics;
 mod operated;
 mod page;
@@ -19,4 +20,7 @@ mod view;
 
 pub use operated::Operated;
 pub use serving::serve_admin;
-pub use view::{Counts, ServerView, SessionView, TransactionView, WaitReason, WaitView};
+pub use view::{
+    Counts, KeyRange, ObjectView, ServerView, SessionView, TimesView, TransactionView, WaitReason,
+    WaitView,
+};

@@ -1,6 +1,6 @@
 //! The numbers of a server, in the text format of Prometheus, version 0.0.4.
 
-use crate::view::Counts;
+use crate::view::{Counts, TimesView};
 use std::alloc::{AllocError, Global};
 
 /// One of the numbers of a server.
@@ -74,5 +74,47 @@ pub(crate) fn metrics_text(alloc: Global, counts: &Counts) -> Result<String, All
         write!(text, "# TYPE mltx_{name} {kind}\n")?;
         write!(text, "mltx_{name} {value}\n")?;
     }
+    push_times(
+        &mut text,
+        "transaction",
+        "Seconds from the answer to begin to the end of the transaction.",
+        &counts.transaction_times,
+    )?;
+    push_times(
+        &mut text,
+        "wait",
+        "Seconds for which an operation waited for other transactions.",
+        &counts.wait_times,
+    )?;
     Ok(text)
+}
+
+// The lines of a histogram.
+fn push_times(
+    text: &mut String,
+    name: &str,
+    words: &str,
+    times: &TimesView,
+) -> Result<(), AllocError> {
+    write!(text, "# HELP mltx_{name}_seconds {words}\n")?;
+    write!(text, "# TYPE mltx_{name}_seconds histogram\n")?;
+    let mut sum: u64 = 0;
+    for (count, bound) in times.counts.iter().zip(times.bounds.iter()) {
+        sum = sum.wrapping_add(*count);
+        let (seconds, rest) = (bound / 1_000_000, bound % 1_000_000);
+        write!(
+            text,
+            "mltx_{name}_seconds_bucket{{le=\"{seconds}.{rest:06}\"}} {sum}\n"
+        )?;
+    }
+    for count in times.counts.iter().skip(times.bounds.len()) {
+        sum = sum.wrapping_add(*count);
+    }
+    write!(text, "mltx_{name}_seconds_bucket{{le=\"+Inf\"}} {sum}\n")?;
+    let (seconds, rest) = (
+        times.microseconds / 1_000_000,
+        times.microseconds % 1_000_000,
+    );
+    write!(text, "mltx_{name}_seconds_sum {seconds}.{rest:06}\n")?;
+    write!(text, "mltx_{name}_seconds_count {sum}\n")
 }

@@ -2,7 +2,7 @@
 
 ghost use Rattle.std.specs.Prelude.{ℕ, IsTrue, ⊤};
 
-use crate::view::ServerView;
+use crate::view::{KeyRange, ObjectView, ServerView};
 use std::alloc::{AllocError, Global};
 
 /// A server that is looked at, and told to end.
@@ -18,6 +18,18 @@ pub trait Operated {
     /// # Errors
     /// Where a growth was refused.
     fn view(&self, alloc: Global) -> Result<ServerView, AllocError>;
+
+    /// The first objects of this range by their keys, as the operations left them that are done, also those of open transactions; as
+    /// many as that, or all of them.
+    ///
+    /// # Errors
+    /// Where a growth was refused.
+    fn objects(
+        &self,
+        alloc: Global,
+        range: &KeyRange,
+        most: usize,
+    ) -> Result<Vec<ObjectView>, AllocError>;
 
     /// Tells the server to end in order. It may go on for a while; told again, it ends as it does.
     fn stop(&self)

@@ -29,6 +29,12 @@ h2{font-size:1rem;margin:1.4rem 0 .5rem}
 #state.gone{color:var(--stop);font-weight:600}
 button{font:inherit;padding:.3rem .7rem;color:var(--stop);background:none;border:1px solid;border-radius:.4rem;cursor:pointer}
 button:disabled{opacity:.4;cursor:default}
+#figures{display:grid;grid-template-columns:repeat(auto-fit,minmax(12rem,1fr));gap:.5rem;margin:1rem 0 0}
+#figures div{background:var(--card);border:1px solid var(--line);border-radius:.5rem;padding:.6rem .8rem}
+#figures span{color:var(--dim);font-size:.82rem}
+#figures strong{display:block;font-size:1.7rem;line-height:1.3;font-variant-numeric:tabular-nums;white-space:nowrap}
+#figures svg{width:100%;height:2.2rem}
+#figures path{stroke:var(--good);vector-effect:non-scaling-stroke}
 dl{display:grid;grid-template-columns:repeat(auto-fill,minmax(9rem,1fr));gap:.5rem;margin:1rem 0 0}
 dl div,li{background:var(--card);border:1px solid var(--line);border-radius:.5rem;padding:.45rem .7rem}
 dt{color:var(--dim);font-size:.82rem}
@@ -39,6 +45,7 @@ li button{margin-left:auto;font-size:.85rem;padding:.1rem .55rem}
 li code{display:block;margin-top:.3rem;color:var(--dim);font:13px/1.5 ui-monospace,monospace;overflow-wrap:anywhere}
 li code:empty,li span:empty{display:none}
 li .calls{color:var(--wait)}
+li:target{border-color:var(--wait)}
 .age{color:var(--dim);font-variant-numeric:tabular-nums}
 .none{color:var(--dim);margin:0}
 [hidden]{display:none}
@@ -48,6 +55,7 @@ svg{display:block;margin:0 auto}
 svg text{font:13px system-ui,sans-serif;fill:var(--ink);text-anchor:middle}
 svg .small{font-size:11px;fill:var(--dim);paint-order:stroke;stroke:var(--card);stroke-width:4px}
 svg rect{fill:var(--card);stroke:var(--good);stroke-width:1.5}
+svg a:hover rect{stroke-width:3}
 svg .waits{stroke:var(--wait)}
 svg path{fill:none;stroke:var(--wait);stroke-width:1.5}
 svg marker path{fill:var(--wait);stroke:none}
@@ -56,17 +64,19 @@ svg marker path{fill:var(--wait);stroke:none}
 </head>
 <body>
 <header>
-<h1>mltx</h1>
+<h1 id="name">mltx</h1>
 <span id="state" role="status">…</span>
 <button id="stop">Stop the server</button>
 </header>
 <main>
-<dl id="counts"></dl>
+<div id="figures"></div>
 <h2>Waiting transactions</h2>
 <div id="graph"><p class="none"></p></div>
 <h2>Sessions</h2>
 <ul id="sessions"></ul>
 <p id="nobody" class="none" hidden>No client is connected.</p>
+<h2>Numbers</h2>
+<dl id="counts"></dl>
 </main>
 <script>
 "use strict";
@@ -97,14 +107,59 @@ const time = ms => {
 // Nodes remain and only changed text is replaced, so that a button does not vanish during a click.
 const put = (node, text) => { if (node.textContent !== text) node.textContent = text; };
 
-const past = [];
+// What the last minute was: a sample for each look.
+const samples = [];
 
-function commitsPerSecond(commits) {
-  const now = performance.now() / 1000;
-  past.push([now, commits]);
-  if (past.length > 10) past.shift();
-  const [then, before] = past[0];
-  return now > then && commits >= before ? (commits - before) / (now - then) : 0;
+// By how much a count grew in a second, up to a sample, over two seconds and more.
+function rate(last, value) {
+  const sample = samples[last], first = samples.find(one => one.at > sample.at - 2.2);
+  const passed = sample.at - first.at;
+  return passed > 0 ? Math.max(0, value(sample) - value(first)) / passed : 0;
+}
+
+// The bound of the bucket that has this share of the transactions which ended between two samples, in milliseconds.
+function quantile(first, last, share) {
+  const counts = last.times.counts.map((count, i) => count - first.times.counts[i]);
+  const total = counts.reduce((sum, count) => sum + count, 0);
+  if (!total) return null;
+  let sum = 0;
+  const at = counts.findIndex(count => (sum += count) >= total * share);
+  return (at < last.times.bounds.length ? last.times.bounds[at] : 2 * last.times.bounds[at - 1]) / 1000;
+}
+
+const atMost = ms => ms === null ? "–" : ms < 1 ? ms * 1000 + " µs" : time(ms);
+
+function showFigure(name, text, series) {
+  let figure = document.getElementById(name);
+  if (!figure) {
+    figure = make("div");
+    figure.id = name;
+    const line = svg("svg", {viewBox: "0 0 60 10", preserveAspectRatio: "none", "aria-hidden": "true"});
+    line.append(svg("path", {}), svg("title", {}, "The last minute"));
+    figure.append(make("span", name), make("strong"), line);
+    at("figures").append(figure);
+  }
+  put(figure.querySelector("strong"), text);
+  const most = Math.max(...series, 1e-9), end = samples[samples.length - 1].at;
+  const points = series.map((value, i) => `${(60 - end + samples[i].at).toFixed(2)} ${(9.5 - 9 * value / most).toFixed(2)}`);
+  figure.querySelector("path").setAttribute("d", "M" + points.join("L"));
+}
+
+function showFigures(now, waits) {
+  const sample = {at: performance.now() / 1000, commits: now.commits, gaveUp: now.gave_up, blocked: waits.length,
+    server: now.server, times: now.transaction_times};
+  if (samples.length && samples[0].server !== now.server) samples.length = 0;
+  samples.push(sample);
+  while (samples[0].at < sample.at - 60) samples.shift();
+  const each = value => samples.map((_, i) => value(i)), last = samples.length - 1;
+  const recent = samples.find(one => one.at > sample.at - 10.2);
+  const commits = each(i => rate(i, one => one.commits));
+  showFigure("Commits per second", count(Math.round(commits[last])), commits);
+  showFigure("Half and 99 % of transactions within",
+    atMost(quantile(recent, sample, .5)) + " / " + atMost(quantile(recent, sample, .99)),
+    each(i => quantile(samples[Math.max(0, i - 4)], samples[i], .99) || 0));
+  showFigure("Waiting operations", count(sample.blocked), each(i => samples[i].blocked));
+  showFigure("GaveUp answers in a minute", count(sample.gaveUp - samples[0].gaveUp), each(i => rate(i, one => one.gaveUp)));
 }
 
 function showCounts(now) {
@@ -115,7 +170,6 @@ function showCounts(now) {
     "Open transactions": count(now.open),
     "Transactions begun": of(now.begun, now.most_begun),
     "Committed": count(now.commits),
-    "Commits per second": count(Math.round(commitsPerSecond(now.commits))),
     "Aborted": count(now.aborts),
     "Operations": count(now.operations),
     "GaveUp answers": count(now.gave_up),
@@ -130,6 +184,8 @@ function showCounts(now) {
     "Trace": now.trace_failed ? "could not be written" : now.trace ? "no fault" : "none",
     "Server": count(now.server),
   };
+  put(at("name"), "mltx " + now.version + (now.address ? " at " + now.address : ""));
+  document.title = at("name").textContent;
   for (const name in rows) {
     let value = document.getElementById(name);
     if (!value) {
@@ -150,6 +206,7 @@ const shown = new Map();
 function newRow(client) {
   const row = {
     item: make("li"),
+    address: make("span", "", "age"),
     age: make("span", "", "age"),
     tx: make("span"),
     txAge: make("span", "", "age"),
@@ -158,7 +215,8 @@ function newRow(client) {
   };
   const line = make("p"), end = make("button", "End session");
   end.onclick = () => act("End the session of client " + client + "?", "/sessions/" + client + "/end");
-  line.append(make("strong", "Client " + client), row.age, row.tx, row.txAge, end);
+  row.item.id = "client-" + client;
+  line.append(make("strong", "Client " + client), row.address, row.age, row.tx, row.txAge, end);
   row.item.append(line, row.did, row.calls);
   return row;
 }
@@ -171,13 +229,14 @@ function showSessions(sessions) {
     row.item.remove();
     shown.delete(client);
   }
-  for (const {client, milliseconds, transaction: tx} of sessions) {
+  for (const {client, address, milliseconds, transaction: tx} of sessions) {
     if (!shown.has(client)) {
       const row = newRow(client);
       shown.set(client, row);
       at("sessions").append(row.item);
     }
     const row = shown.get(client);
+    put(row.address, address || "");
     put(row.age, time(milliseconds));
     put(row.tx, tx ? "transaction " + tx.number : "no open transaction");
     const operations = tx && count(tx.operations) + (tx.operations === 1 ? " operation" : " operations");
@@ -188,7 +247,7 @@ function showSessions(sessions) {
   at("nobody").hidden = sessions.length > 0;
 }
 
-// A waiting transaction is drawn above the one that it waits for, except in cycles.
+// A waiting transaction is drawn above the one that it waits for, except in cycles. A row is no wider than the page.
 function rowsOf(waits) {
   const rows = new Map();
   for (const wait of waits) for (const tx of [wait.waiter, wait.holder]) rows.set(tx, 0);
@@ -198,20 +257,25 @@ function rowsOf(waits) {
         rows.set(holder, Math.min(rows.get(waiter) + 1, rows.size - 1));
   const levels = [];
   for (const [tx, row] of [...rows].sort((a, b) => a[0] - b[0])) (levels[row] = levels[row] || []).push(tx);
-  return levels.filter(level => level);
+  const most = Math.max(1, Math.floor(at("graph").clientWidth / 200));
+  return levels.flatMap(level => level ? level.map((_, i) => level.slice(i, i + most)).filter((_, i) => i % most === 0) : []);
 }
 
 function showWaits(waits, sessions) {
   if (!waits.length) return at("graph").replaceChildren(make("p", "No transaction waits.", "none"));
-  const levels = rowsOf(waits), place = new Map(), halfWidth = 74, halfHeight = 22;
-  const width = Math.max(...levels.map(level => level.length)) * 164, height = levels.length * 96;
+  const levels = rowsOf(waits), place = new Map(), halfWidth = 92, halfHeight = 22;
+  const width = Math.max(...levels.map(level => level.length)) * 200, height = levels.length * 96;
   levels.forEach((level, row) => level.forEach((tx, i) => place.set(tx, [width * (i + .5) / level.length, 48 + row * 96])));
   const picture = svg("svg", {width, height, role: "img", "aria-label": "Which transaction waits for which"});
   const tip = svg("marker", {id: "tip", refX: 7, refY: 4, markerWidth: 8, markerHeight: 8, orient: "auto"});
   tip.append(svg("path", {d: "M0 0 8 4 0 8z"}));
   picture.append(tip);
-  const labels = [], waiting = new Map(), clients = new Map();
-  for (const {client, transaction: tx} of sessions) if (tx) clients.set(tx.number, client);
+  const labels = [], waiting = new Map(), clients = new Map(), held = new Map();
+  for (const {client, transaction: tx} of sessions) {
+    if (!tx) continue;
+    clients.set(tx.number, client);
+    held.set(tx.number, tx.did);
+  }
   for (const wait of waits) {
     waiting.set(wait.waiter, wait);
     clients.set(wait.waiter, wait.client);
@@ -231,13 +295,15 @@ function showWaits(waits, sessions) {
   for (const [tx, [x, y]] of place) {
     const wait = waiting.get(tx), corner = {x: x - halfWidth, y: y - halfHeight, rx: 8};
     const size = {width: 2 * halfWidth, height: 2 * halfHeight};
-    picture.append(svg("rect", {class: wait ? "waits" : "", ...corner, ...size}));
-    const name = "T" + tx + (clients.has(tx) ? " of client " + clients.get(tx) : "");
-    picture.append(svg("text", {x, y: wait ? y - 3 : y + 5}, name));
-    if (!wait) continue;
-    const text = wait.operation || "no operation";
-    const short = text.length > 16 ? text.slice(0, 15) + "…" : text;
-    picture.append(svg("text", {class: "small", x, y: y + 14}, short + ", " + time(wait.milliseconds)));
+    const node = clients.has(tx) ? svg("a", {href: '#client-' + clients.get(tx)}) : svg("g", {});
+    const did = held.get(tx) || [];
+    const text = wait ? (wait.operation || "no operation") + ", " + time(wait.milliseconds) : did[did.length - 1] || "";
+    const short = text.length > 28 ? text.slice(0, 27) + "…" : text;
+    node.append(svg("title", {}, [...did, ...(wait ? [text] : [])].join("\n") || "no operation"));
+    node.append(svg("rect", {class: wait ? "waits" : "", ...corner, ...size}));
+    node.append(svg("text", {x, y: short ? y - 3 : y + 5}, "T" + tx + (clients.has(tx) ? " of client " + clients.get(tx) : "")));
+    node.append(svg("text", {class: "small", x, y: y + 14}, short));
+    picture.append(node);
   }
   picture.append(...labels);
   at("graph").replaceChildren(picture);
@@ -258,6 +324,7 @@ async function look() {
       return answer.json();
     }));
     at("state").className = document.querySelector("main").className = "";
+    showFigures(answers[0], answers[2].waits);
     showCounts(answers[0]);
     showSessions(answers[1].sessions);
     showWaits(answers[2].waits, answers[1].sessions);

@@ -20,6 +20,8 @@ pub(crate) enum Resource {
     Waits,
     /// The sessions that are served.
     Sessions,
+    /// The objects, page by page.
+    Base,
     /// The end of the server.
     Stop,
     /// The end of the session of this client.
@@ -80,6 +82,8 @@ fn fixed_resource(path: &str) -> Option<Resource>
         Some(Resource::Waits)
     } else if path == "/sessions" {
         Some(Resource::Sessions)
+    } else if path == "/base" {
+        Some(Resource::Base)
     } else if path == "/stop" {
         Some(Resource::Stop)
     } else {

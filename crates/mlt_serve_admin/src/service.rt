@@ -10,6 +10,7 @@ ghost use Rattle.mlt_serve_admin.specs.Resources.{methods_of};
 
 use crate::hosts::is_direct;
 use crate::json::{Sessions, Waits, json_line};
+use crate::listing::Listing;
 use crate::metrics::metrics_text;
 use crate::operated::Operated;
 use crate::page::page;
@@ -40,20 +41,26 @@ impl<O: Operated> Service for OperatorService<'_, O> {
         response: &mut Response,
     ) -> Result<(), AllocError> {
         let route = route_for(self.alloc, request)?;
-        self.answer_by(route, response)?;
+        let query = request.uri().query().unwrap_or("");
+        self.answer_by(route, query, response)?;
         Ok(())
     }
 }
 
 impl<O: Operated> OperatorService<'_, O> {
-    // Answers by this route.
-    fn answer_by(&self, route: Route, response: &mut Response) -> Result<(), AllocError>
+    // Answers by this route a request with this query.
+    fn answer_by(
+        &self,
+        route: Route,
+        query: &str,
+        response: &mut Response,
+    ) -> Result<(), AllocError>
         requires { IsBlank response.old }
         ensures { OnOk result (IsAnswerBy (O.is_stopped self.now.operated.now)
             (O.is_cut self.now.operated.now) route response.new) }
     {
         match route {
-            Route::Open(resource) => self.answer_at(resource, response),
+            Route::Open(resource) => self.answer_at(resource, query, response),
             Route::NotFound => {
                 fill(
                     response,
@@ -79,7 +86,12 @@ impl<O: Operated> OperatorService<'_, O> {
     }
 
     // Shows what stands there, or does it.
-    fn answer_at(&self, resource: Resource, response: &mut Response) -> Result<(), AllocError>
+    fn answer_at(
+        &self,
+        resource: Resource,
+        query: &str,
+        response: &mut Response,
+    ) -> Result<(), AllocError>
         requires { IsBlank response.old }
         ensures { OnOk result (IsAnswerAt (O.is_stopped self.now.operated.now)
             (O.is_cut self.now.operated.now) resource response.new) }
@@ -90,6 +102,7 @@ impl<O: Operated> OperatorService<'_, O> {
             Resource::Metrics => self.show_metrics(response),
             Resource::Waits => self.show_waits(response),
             Resource::Sessions => self.show_sessions(response),
+            Resource::Base => self.show_base(query, response),
             Resource::Stop => self.stop(response),
             Resource::SessionEnd(client) => self.end_session(client, response),
         }
@@ -135,6 +148,23 @@ impl<O: Operated> OperatorService<'_, O> {
         let text = json_line(self.alloc, &Sessions { sessions })?;
         fill(response, StatusCode::OK, Content::Json, text.as_str())?;
         Ok(())
+    }
+
+    fn show_base(&self, query: &str, response: &mut Response) -> Result<(), AllocError>
+        requires { IsBlank response.old }
+        ensures { OnOk result (IsReply 200 content.Json response.new
+            ⊎ IsReply 400 content.Line response.new) }
+    {
+        let Some(listing) = Listing::read(query) else {
+            return fill(
+                response,
+                StatusCode::BAD_REQUEST,
+                Content::Line,
+                "Expected /base?kind=account, kind=counter or kind=set&of=SET, and from=NUMBER.\n",
+            );
+        };
+        let text = listing.text(self.alloc, self.operated)?;
+        fill(response, StatusCode::OK, Content::Json, text.as_str())
     }
 
     fn stop(&self, response: &mut Response) -> Result<(), AllocError>

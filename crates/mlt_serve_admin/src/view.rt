@@ -1,9 +1,10 @@
 //! What a server is at one moment.
 
-use crate::json::{all_done, flag, number, operation};
+use crate::json::{address, all_done, flag, number, operation};
 use mlt_object_kinds::{Done, ObjOp};
 use mlt_types::TxId;
 use serde::Serialize;
+use std::net::SocketAddr;
 
 /// What a server is at one moment.
 #[derive(Drop)]
@@ -16,11 +17,45 @@ pub struct ServerView {
     pub waits: Vec<WaitView>,
 }
 
+/// How many times fell into each bucket of a histogram.
+#[derive(Clone, Copy, Debug, PartialEq, Eq, Serialize)]
+pub struct TimesView {
+    /// The greatest time of each bucket but the last, in microseconds.
+    pub bounds: [u64; 17],
+    /// How many times are in each bucket.
+    pub counts: [u64; 18],
+    /// The sum of all times, in microseconds.
+    pub microseconds: u64,
+}
+
+/// Which objects are to be listed, by the numbers of their keys.
+#[derive(Clone, Copy, Debug, PartialEq, Eq)]
+pub struct KeyRange {
+    /// The first.
+    pub first: u64,
+    /// The last.
+    pub last: u64,
+}
+
+/// The record of an object.
+#[derive(Clone, Copy, Debug, PartialEq, Eq)]
+pub struct ObjectView {
+    /// The number of its key.
+    pub key: u64,
+    /// The balance of an account, or the value of a counter. That of an element says nothing.
+    pub value: u64,
+}
+
 /// The numbers of a whole server. What is counted is counted since the server began.
 #[derive(Clone, Copy, Debug, PartialEq, Eq, Serialize)]
 pub struct Counts {
     /// A number that was drawn at random when the server began.
     pub server: u64,
+    /// The version of the program.
+    pub version: &'static str,
+    /// Where clients connect, if the system could say so.
+    #[serde(serialize_with = "address")]
+    pub address: Option<SocketAddr>,
     /// For how many seconds the server has listened.
     pub seconds: u64,
     /// How many connections are served.
@@ -74,6 +109,10 @@ pub struct Counts {
     /// Whether the server was told to end.
     #[serde(rename = "stopping", serialize_with = "flag")]
     pub is_stopping: bool,
+    /// How long transactions took.
+    pub transaction_times: TimesView,
+    /// How long operations waited.
+    pub wait_times: TimesView,
 }
 
 /// A session that is served.
@@ -81,6 +120,9 @@ pub struct Counts {
 pub struct SessionView {
     /// The number of its client.
     pub client: u32,
+    /// The address of its client, if the system could say so.
+    #[serde(serialize_with = "address")]
+    pub address: Option<SocketAddr>,
     /// For how many thousandths of a second it has been served.
     pub milliseconds: u64,
     /// Its transaction, where one is open.

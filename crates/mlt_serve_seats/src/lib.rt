@@ -5,6 +5,7 @@
 //! cut and written is only tested.
 #![tactic(auto)]
 
+mod histogram;
 mod note;
 mod notes;
 mod presence;
@@ -14,10 +15,11 @@ mod sitting;
 mod totals;
 mod writing;
 
+pub use histogram::{BOUNDS, Histogram};
 pub use note::{Cut, ListenerEnd, Note};
 pub use notes::{Notes, Outlet};
 pub use presence::{is_broken, is_closed};
-pub use seat::{Patience, Seat, Seats, SessionState};
+pub use seat::{Patience, Seat, Seats, SessionState, Times};
 pub use session::{Activity, OpenTransaction, WaitState};
 pub use sitting::Sitting;
 pub use totals::Totals;

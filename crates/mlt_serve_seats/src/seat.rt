@@ -1,13 +1,14 @@
 //! Seats: what others see of a session, and how they end it.
 
+use crate::histogram::{Histogram, SharedHistogram};
 use crate::note::Cut;
 use crate::presence::{is_broken, is_read_out};
-use crate::session::Activity;
+use crate::session::{Activity, Ended};
 use crate::totals::Totals;
 use mlt_types::TxId;
 use std::alloc::{AllocError, Global};
 use std::array;
-use std::net::{Shutdown, TcpStream};
+use std::net::{Shutdown, SocketAddr, TcpStream};
 use std::sync::atomic::{AtomicBool, AtomicU64, Ordering};
 use std::sync::{Arc, Mutex, Wait};
 use std::time::{Clock, Duration, Instant};
@@ -29,6 +30,8 @@ pub struct Patience {
 pub struct SessionState {
     /// The number of its connection.
     pub client: u32,
+    /// The address of its client, if the system could say so.
+    pub address: Option<SocketAddr>,
     /// When it began, if a clock could say so.
     pub since: Option<Instant>,
     /// The number of the transaction that it has begun last, whether or not that is shown; 0 before the first.
@@ -56,6 +59,22 @@ struct Record {
     session: Option<Session>,
 }
 
+/// How long the transactions of sessions took, and their waits.
+#[derive(Clone, Copy, Debug, Default, PartialEq, Eq)]
+pub struct Times {
+    /// From when others first saw a transaction, which is the first answer behind its begin, to its end; 0, where they did not.
+    pub transactions: Histogram,
+    /// From when an operation was first told to wait to when it was told something else.
+    pub waits: Histogram,
+}
+
+/// The times of one session thread, which others read.
+#[derive(Drop)]
+struct SharedTimes {
+    transactions: SharedHistogram,
+    waits: SharedHistogram,
+}
+
 /// What one session thread does, for others to see, and the session that it serves. There are 64 unused bytes on each side, so that
 /// a thread that notes something at another seat does not take the cache lines of this one.
 #[derive(Drop)]
@@ -67,6 +86,7 @@ pub struct Seat {
     /// The number of the transaction that the session has begun last.
     last: AtomicU64,
     record: Mutex<Record>,
+    times: SharedTimes,
     _after: [u64; 8],
 }
 
@@ -80,6 +100,10 @@ impl Seat {
                 activity: Activity::new(Totals::default()),
                 session: None,
             }),
+            times: SharedTimes {
+                transactions: SharedHistogram::new(),
+                waits: SharedHistogram::new(),
+            },
             _after: [0; 8],
         }
     }
@@ -113,10 +137,33 @@ impl Seat {
         let session = record.session.as_ref()?;
         Some(SessionState {
             client: session.client,
+            address: session.stream.peer_addr().ok(),
             since: session.since,
             last: self.last(),
             activity: record.activity,
         })
+    }
+
+    /// Adds the time of a wait, or of a transaction, that has ended. A transaction that others have not seen has taken none.
+    #[inline(always)]
+    pub(crate) fn time<R: Wait + Clock>(&self, rt: &R, ended: &Ended) {
+        if ended.wait.is_some() || ended.transaction.is_some() {
+            self.time_slowly(rt, ended);
+        }
+    }
+
+    fn time_slowly<R: Wait + Clock>(&self, rt: &R, ended: &Ended) {
+        let now = if ended.is_seen() {
+            Instant::now(rt).ok()
+        } else {
+            None
+        };
+        if let Some(wait) = &ended.wait {
+            self.times.waits.add(wait.since, now);
+        }
+        if let Some(since) = ended.transaction {
+            self.times.transactions.add(since, now);
+        }
     }
 
     /// What the thread has shown.
@@ -281,6 +328,16 @@ impl Seats {
             totals.add(&seat.activity(rt).totals);
         }
         totals
+    }
+
+    /// The times at all seats.
+    pub fn times(&self) -> Times {
+        let mut times = Times::default();
+        for seat in self.all() {
+            times.transactions.add(&seat.times.transactions.read());
+            times.waits.add(&seat.times.waits.read());
+        }
+        times
     }
 
     /// The states of all sessions.

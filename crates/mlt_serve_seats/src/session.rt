@@ -71,6 +71,21 @@ pub struct WaitState {
     pub(crate) is_last: bool,
 }
 
+/// A wait, or a transaction, that has ended.
+#[derive(Clone, Copy)]
+pub(crate) struct Ended {
+    pub(crate) wait: Option<WaitState>,
+    /// Since when others have seen the transaction, if they have.
+    pub(crate) transaction: Option<Option<Instant>>,
+}
+
+impl Ended {
+    /// Whether others see one of them.
+    pub(crate) fn is_seen(&self) -> bool {
+        self.wait.is_some() || matches!(self.transaction, Some(Some(_)))
+    }
+}
+
 /// What a session thread does. It alone changes this, and shows it to others.
 #[derive(Clone, Copy, Debug)]
 pub struct Activity {
@@ -103,10 +118,10 @@ impl Activity {
         }));
     }
 
-    /// An event that begins or ends something was told this. It answers whether others see a wait, or a transaction, that has ended so.
-    pub(crate) fn note(&mut self, told: &Told, is_watched: bool) -> bool {
-        let has_waited = self.wait.take().is_some();
-        let was_seen = self.is_seen();
+    /// An event that begins or ends something was told this. It answers what has ended so.
+    pub(crate) fn note(&mut self, told: &Told, is_watched: bool) -> Ended {
+        let wait = self.wait.take();
+        let since = self.transaction_since();
         let op = self.op.take();
         match told {
             Told::Begun(tx) => self.begin(*tx, is_watched),
@@ -127,7 +142,14 @@ impl Activity {
             }
             _ => (),
         }
-        has_waited || was_seen && self.transaction.is_none()
+        Ended {
+            wait,
+            transaction: if self.transaction.is_none() {
+                since
+            } else {
+                None
+            },
+        }
     }
 
     fn begin(&mut self, tx: TxId, is_watched: bool) {
@@ -144,15 +166,18 @@ impl Activity {
         }
     }
 
-    /// Whether others see its open transaction.
-    fn is_seen(&self) -> bool {
-        matches!(&self.transaction, Some(transaction) if transaction.since.is_some())
+    /// Since when others see its open transaction, if there is one, and they do.
+    fn transaction_since(&self) -> Option<Option<Instant>> {
+        match &self.transaction {
+            Some(transaction) => Some(transaction.since),
+            None => None,
+        }
     }
 
     /// Whether others are to see a wait, or a transaction, which they do not see yet.
     pub(crate) fn is_undated(&self) -> bool {
         matches!(&self.wait, Some(wait) if wait.since.is_none())
-            || (self.transaction.is_some() && !self.is_seen())
+            || matches!(self.transaction_since(), Some(None))
     }
 
     /// Others see the wait, or the transaction, from now on.

@@ -91,14 +91,15 @@ impl<'a, R: Wait + Clock> Sitting<'a, R> {
         let Some(mut activity) = self.activity() else {
             return;
         };
-        let is_seen = activity.note(told, self.is_watched);
+        let ended = activity.note(told, self.is_watched);
         drop(activity);
         if let Told::Begun(tx) = told {
             self.seat.begin(*tx);
         }
-        if is_seen {
+        if ended.is_seen() {
             self.show();
         }
+        self.seat.time(self.rt, &ended);
     }
 
     /// Shows what it has done until now. It is called before the client hears of it, and before the session waits for what comes next, or

@@ -31,8 +31,13 @@ fn text_within<T: Threads + Wait + Sync, G: Gate + Sync>(
         limits,
         workers,
         tries,
+        first: 0,
     };
-    run_scripts(rt, alloc, &mut input, &mut text, Mult, &options, gate)?.close();
+    let loaded = Vec::new(alloc);
+    run_scripts(
+        rt, alloc, &mut input, &mut text, Mult, loaded, &options, gate,
+    )?
+    .close();
     Ok(text)
 }
 

@@ -1,30 +1,47 @@
 //! Scripts from a reader, run side by side, and their text to a writer.
 
-ghost use Rattle.std.specs.Prelude.{◌≡◌, ◌≤◌, ◌<◌, ◌⊎◌, ℕ, List, [], Err, IfErr, IfOk};
+ghost use Rattle.std.specs.Prelude.{◌≡◌, ◌≤◌, ◌<◌, ◌⊎◌, ◌++◌, ℕ, List, [], Err, IfErr, IfOk};
 ghost use Rattle.std.specs.Io.KnownBytes.{Appends};
 ghost use Rattle.mlt_types.specs.declared.refusal.ScriptCause.{ScriptCause};
 ghost use Rattle.mlt_text.specs.Failures.{FailsCleanly, IsScriptFault, IsWant};
 ghost use Rattle.mlt_text.specs.Inputs.{GivesWhole};
 ghost use Rattle.mlt_script.specs.Grammar.{IsFirstFault};
+ghost use Rattle.mlt_work_clients.specs.Places.{scripts_of_clients};
 ghost use Rattle.mlt_work.specs.RunTexts.{IsRunOf, IsRunText};
 
 use crate::options::RunOptions;
 use crate::running::run;
 use mlt_manager::Manager;
-use mlt_script::{by_client, parse};
+use mlt_script::{Script, by_client, parse};
 use mlt_script_serial::{ReportForm, write_report};
 use mlt_text::read_input;
 use mlt_types::{Pseudo, Refusal};
 use mlt_work_desk::Gate;
-use std::alloc::Global;
+use std::alloc::{AllocError, Global};
 use std::io::{Read, Write};
 use std::mem;
 use std::sync::Wait;
 use std::thread::Threads;
 
+/// These clients, with the loaded ones before them.
+///
+/// # Errors
+/// Where a growth is refused.
+fn with_loaded(
+    loaded: Vec<Vec<Script>>,
+    clients: Vec<Vec<Script>>,
+) -> Result<Vec<Vec<Script>>, AllocError>
+    ensures { IfOk result (λ all. all.items ≡ loaded.items ++ clients.items) }
+{
+    let (mut all, mut more) = (loaded, clients);
+    all.append(&mut more)?;
+    Ok(all)
+}
+
 /// Reads scripts to the end of the input, runs those of each client one after another and the clients side by side on a
 /// new manager, with these options, and writes for each script its client, its number, the texts of its replies and how it
-/// ended, and then the base. It answers the manager.
+/// ended, and then the base. It answers the manager. The loaded clients stand before all others; where the options say
+/// so, their scripts are executed before any other.
 ///
 /// # Errors
 /// `ScriptFault` exactly for an input that is no list of scripts, with its first fault; `Io` where a read or a write
@@ -43,15 +60,17 @@ pub fn run_scripts<
     reader: &mut R,
     writer: &mut W,
     pseudo: P,
+    loaded: Vec<Vec<Script>>,
     options: &RunOptions,
     gate: &G,
 ) -> Result<Manager<P>, Refusal>
     requires some { 0 < options.now.workers }
     requires most { options.now.workers ≤ 8 }
-    // what is written is the text of what became of the scripts read, which agrees with what the manager has done
+    // what is written is the text of what became of the loaded scripts and those read, which agrees with what the manager has
+    // done
     ensures text { IfOk result (λ manager. (input text : List ℕ)
-        × IsRunOf options.now.limits pseudo (R.remaining reader.old) (R.remaining reader.new)
-        input text manager
+        × IsRunOf options.now.limits pseudo (scripts_of_clients loaded.items) (R.remaining reader.old)
+        (R.remaining reader.new) input text manager
         × Appends (W.contents writer.old) (W.contents writer.new) text) }
     // all of the history is there
     ensures history { IfOk result (λ manager. manager.shared.history.handed ≡ []) }
@@ -62,13 +81,14 @@ pub fn run_scripts<
     // where it fails, nothing was written, or a prefix of such a text; and too long an input is not read on
     ensures failure { FailsCleanly (R.remaining reader.old) (R.remaining reader.new)
         (W.contents writer.old) (W.contents writer.new) result
-        (IsRunText options.now.limits pseudo) }
+        (IsRunText options.now.limits pseudo (scripts_of_clients loaded.items)) }
     ensures refusals { IfErr result
         (λ refusal. IsWant refusal ⊎ (refusal ≡ Refusal.Audit) ⊎ IsScriptFault refusal) }
 {
     let input = read_input(alloc, reader)?;
     let scripts = parse(alloc, input.as_slice())?;
-    let clients = by_client(alloc, scripts)?;
+    let parts = by_client(alloc, scripts)?;
+    let clients = with_loaded(loaded, parts)?;
     let (report, manager) = run(rt, alloc, pseudo, clients.as_slice(), options, gate)?;
     let written = write_report(alloc, &report, ReportForm::Run, writer);
     // The program ends behind a run, and the system takes its memory back: to free each list would take 100 instructions an operation.

@@ -6,6 +6,7 @@
 #![tactic(auto)]
 
 mod begin_queue;
+mod client_order;
 mod engine;
 mod options;
 mod reporting;

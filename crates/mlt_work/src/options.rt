@@ -11,4 +11,6 @@ pub struct RunOptions {
     pub workers: usize,
     /// How often a script may be told to wait, or that it is blocked, 1 to 1,000,000. Then it is aborted.
     pub tries: u64,
+    /// How many clients are the first ones: their scripts are executed one client after another, before those of all others.
+    pub first: u64,
 }

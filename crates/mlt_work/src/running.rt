@@ -7,6 +7,7 @@ ghost use Rattle.mlt_work_desk.specs.Playing.{IsPlayed};
 ghost use Rattle.mlt_work_clients.specs.Places.{scripts_of_clients};
 ghost use Rattle.mlt_work.specs.Runs.{HasRunAll};
 
+use crate::client_order::ClientOrder;
 use crate::options::RunOptions;
 use crate::reporting::report_of;
 use crate::worker::RunContext;
@@ -70,6 +71,7 @@ fn run_with<
         gate,
         counter: &counter,
         clients,
+        order: &ClientOrder::new(options.first),
         tries: options.tries,
     };
     let results = match work_all(rt, alloc, &context, jobs) {
@@ -99,7 +101,7 @@ fn run_with<
 }
 
 /// Runs the scripts of all clients on a new manager, with these options. Each worker claims a client, runs
-/// its scripts in order, and claims the next; each call of the manager is one event, under one lock. A script that
+/// its scripts in order, after those of the clients that the options have come first, and claims the next; each call of the manager is one event, under one lock. A script that
 /// waits or is blocked more often than it has tries is aborted, as is one of which an operation is refused; its outcome says
 /// why.
 ///

@@ -1,16 +1,40 @@
 //! One worker.
 
-ghost use Rattle.std.specs.Prelude.{◌≡◌, [], length};
+ghost use Rattle.std.specs.Prelude.{◌≡◌, IfOk, [], length};
+ghost use Rattle.mlt_script_serial.specs.Clients.{AreOutcomes, AreRunsAt};
 ghost use Rattle.mlt_work_clients.specs.Places.{scripts_of_clients};
 ghost use Rattle.mlt_work_clients.specs.Workers.{HasWorked, IsFresh};
 
+use crate::client_order::ClientOrder;
 use mlt_script::Script;
-use mlt_script_serial::run_client;
-use mlt_types::Pseudo;
+use mlt_script_serial::{Desk, Outcome, run_client};
+use mlt_types::{Pseudo, Refusal};
 use mlt_work_clients::{ClaimHandle, ClientCounter, ClientRun, Worked, WorkerJob};
 use mlt_work_desk::{Gate, LockDesk, MadeWith, Shared, Tries};
 use std::alloc::Global;
 use std::sync::Wait;
+
+/// Runs the scripts of the client in this place in its order.
+///
+/// # Errors
+/// As those of `run_client`.
+fn run_in_order<D: Desk, R: Wait>(
+    rt: &R,
+    alloc: Global,
+    desk: &mut D,
+    scripts: &[Script],
+    place: u64,
+    order: &ClientOrder,
+) -> Result<Vec<Outcome>, Refusal>
+    ensures outcomes { IfOk result (λ outcomes. AreOutcomes 0 scripts.now outcomes.items) }
+    ensures runs { IfOk result (λ outcomes.
+        AreRunsAt D.moves scripts.now desk.old outcomes.items desk.new) }
+{
+    order.wait(rt, place);
+    let outcomes = run_client(alloc, desk, scripts);
+    order.end(rt, place);
+    outcomes
+}
 
 /// Claims clients until none is left, and runs the scripts of each at the desk. It answers whether a growth was refused.
 /// There is room for a client's outcomes before anything is asked for it.
@@ -20,6 +44,7 @@ fn run_claimed<P: Pseudo, L: MadeWith<P>, R: Wait, G: Gate>(
     desk: &mut LockDesk<'_, P, L, R, G>,
     counter: &ClientCounter,
     clients: &[Vec<Script>],
+    order: &ClientOrder,
     claim_handle: &mut ClaimHandle,
     runs: &mut Vec<ClientRun>,
 ) -> bool
@@ -41,7 +66,7 @@ fn run_claimed<P: Pseudo, L: MadeWith<P>, R: Wait, G: Gate>(
         if let Some(script) = scripts.first() {
             desk.serve(u32::from(script.client()));
         }
-        let Ok(outcomes) = run_client(alloc, desk, scripts) else {
+        let Ok(outcomes) = run_in_order(rt, alloc, desk, scripts, number, order) else {
             return true;
         };
         runs.push_reserved(ClientRun { place, outcomes });
@@ -56,6 +81,7 @@ pub(crate) struct RunContext<'a, P: Pseudo, L: MadeWith<P>, G: Gate> {
     pub(crate) gate: &'a G,
     pub(crate) counter: &'a ClientCounter,
     pub(crate) clients: &'a [Vec<Script>],
+    pub(crate) order: &'a ClientOrder,
     /// How often a script may be told to wait, 1 to 1,000,000.
     pub(crate) tries: u64,
 }
@@ -84,9 +110,14 @@ pub(crate) fn work<P: Pseudo, L: MadeWith<P>, R: Wait, G: Gate>(
         &mut desk,
         context.counter,
         context.clients,
+        context.order,
         &mut claim_handle,
         &mut runs,
     );
+    if failed {
+        // It may have claimed one of the first clients.
+        context.order.release(rt);
+    }
     let (share, events, _) = desk.close();
     Worked {
         claim_handle,

@@ -11,8 +11,9 @@ use crate::statistics::DeskStatistics;
 use crate::tuning::{LOCK_SPINS, PAUSES_PER_LOCK_SPIN};
 use crate::unlocked::Unlocked;
 use mlt_manager::Manager;
+use mlt_page::Page;
 use mlt_trace::KeptItem;
-use mlt_types::{Pseudo, Refusal, TxId};
+use mlt_types::{PageNo, Pseudo, Refusal, TxId};
 use mlt_work_log::{HistoryLog, LogSnapshot};
 use mlt_work_waits::{SleepingThread, Waker, Wakers};
 use std::alloc::AllocError;
@@ -131,6 +132,12 @@ impl<P: Pseudo, L: MadeWith<P>> Shared<P, L> {
     pub fn statistics<R: Wait>(&self, rt: &R) -> DeskStatistics {
         let state = self.lock(rt);
         state.statistics()
+    }
+
+    /// A page, as running operations found it, if there is one. It takes the lock once, and is no event.
+    pub fn clean_page<R: Wait>(&self, rt: &R, number: PageNo) -> Option<Page> {
+        let state = self.lock(rt);
+        state.clean_page(number)
     }
 
     /// Adds the items of the history that are kept, from this place among them on, at most so many. It takes the lock once, and is no

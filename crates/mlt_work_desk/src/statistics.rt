@@ -4,13 +4,14 @@ ghost use Rattle.std.specs.Prelude.{◌≡◌, ◌≤◌, ◌+◌, ◌++◌, tru
 ghost use Rattle.std.specs.FinMap as map;
 ghost use Rattle.mlt_manager.specs.Bases.{HasDepth};
 ghost use Rattle.mlt_manager.specs.HandingOut.{HandsOut};
-ghost use Rattle.mlt_work_desk.specs.Statistics.{AddsKept};
+ghost use Rattle.mlt_work_desk.specs.Statistics.{AddsKept, IsCleanCopy};
 
 use crate::locked_state::LockedState;
 use crate::made_with::MadeWith;
 use arrayvec::ArrayVec;
+use mlt_page::Page;
 use mlt_trace::KeptItem;
-use mlt_types::{Pseudo, Refusal};
+use mlt_types::{PageNo, Pseudo, Refusal};
 use mlt_work_waits::Waiting;
 use std::alloc::AllocError;
 
@@ -50,6 +51,16 @@ impl<P: Pseudo, L: MadeWith<P>> LockedState<P, L> {
             depth: self.manager.depth(),
             for_objects: copied(waits.objects()),
             for_pages: copied(waits.pages()),
+        }
+    }
+
+    /// A page, as running operations found it, if there is one.
+    pub(crate) fn clean_page(&self, number: PageNo) -> Option<Page>
+        ensures { IsCleanCopy self.now.manager number result }
+    {
+        match self.manager.first_image(number) {
+            Some(first) => *first,
+            None => self.manager.pages().read(number).copied(),
         }
     }
 

@@ -31,6 +31,12 @@ pub(crate) enum Known {
     OfTrace(io::Error),
     /// What the system says of the operator's address.
     OfAdmin(io::Error),
+    /// What the system says of the file of the base to begin with.
+    OfBase(io::Error),
+    /// This line of that was not loaded.
+    BaseLine(u64),
+    /// What the system says of the file for the base at the end.
+    OfSave(io::Error),
     /// The input's text, in which the refusal names a line.
     Text(Vec<u8>),
 }
@@ -46,6 +52,7 @@ impl Failure {
 
     /// A run of this input that was refused, where this is what the system said of standard output.
     pub(crate) fn of_run(refusal: Refusal, input: Input, written: Option<io::Error>) -> Failure {
+        let refusal = input.placed(refusal);
         let known = match refusal {
             Refusal::ScriptFault { .. } | Refusal::TraceFault { .. } => match input.text() {
                 Some(text) => Known::Text(text),
@@ -123,6 +130,13 @@ pub(crate) fn explain(
         Known::OfOutput(error) => say_error(rt, "standard output", *error),
         Known::OfTrace(error) => say_error(rt, trace_name(job), *error),
         Known::OfAdmin(error) => say_of_address(rt, admin_name(job), *error),
+        Known::OfBase(error) => say_error(rt, base_name(job), *error),
+        Known::BaseLine(line) => {
+            let words = base_words(failure.refusal);
+            let words = format!(in rt.alloc(); "line {line}: {words}")?;
+            say(rt, base_name(job), words.as_str())
+        }
+        Known::OfSave(error) => say_error(rt, save_name(job), *error),
         Known::Text(text) => match fault_of(job, failure.refusal) {
             Some((fault, line)) => {
                 let detail = Detail::Faulty(fault, line, text.as_slice(), points);
@@ -159,6 +173,48 @@ fn say_of_address(rt: &HostRuntime, address: &str, error: io::Error) -> Result<(
         "{error}; expected: an IP address or host name, a colon, and a port from 0 to 65535, such as 127.0.0.1:7000"
     )?;
     say(rt, address, words.as_str())
+}
+
+// Why a line of a base was not loaded.
+fn base_words(refusal: Refusal) -> &'static str {
+    match refusal {
+        Refusal::ScriptFault { cause, .. } => match cause {
+            ScriptCause::Line => "a line has at most 200 bytes, of ASCII alone",
+            ScriptCause::Place => {
+                "accounts come first, then elements, then counters, each by rising numbers"
+            }
+            _ => "expected: account A b, element S e or counter C v, as run prints them",
+        },
+        Refusal::NoRoom => "there is no room for this object",
+        _ => "memory ran out",
+    }
+}
+
+// The file of the base to begin with, as it stands on the command line.
+fn base_name(job: &Job) -> &str {
+    match job {
+        Job::Solo(run) => load_of(run),
+        Job::Work(work) => load_of(&work.run),
+        Job::Serve(serve) => load_of(&serve.run),
+        _ => "",
+    }
+}
+
+fn load_of(run: &Run) -> &str {
+    match &run.load {
+        Some(file) => file_name(file.as_str()),
+        None => "",
+    }
+}
+
+fn save_name(job: &Job) -> &str {
+    match job {
+        Job::Serve(serve) => match &serve.operating.save {
+            Some(file) => file.as_str(),
+            None => "",
+        },
+        _ => "",
+    }
 }
 
 fn admin_name(job: &Job) -> &str {

@@ -1,6 +1,7 @@
 //! What the program reads: a file or standard input.
 
 use mlt_text::MAX_INPUT;
+use mlt_types::Refusal;
 use std::fs::File;
 use std::io;
 use std::io::{Read, Stdin};
@@ -18,6 +19,9 @@ enum InputSource {
 #[derive(Drop)]
 pub(crate) struct Input {
     source: InputSource,
+    // What comes before it, and how much of that has come.
+    front: String,
+    at: usize,
     // How many bytes came.
     length: usize,
     // These bytes, where they are kept.
@@ -40,6 +44,8 @@ impl Input {
         };
         Ok(Input {
             source,
+            front: String::new(rt.alloc()),
+            at: 0,
             length: 0,
             kept: if keeps {
                 Some(Vec::new(rt.alloc()))
@@ -48,6 +54,25 @@ impl Input {
             },
             failed: None,
         })
+    }
+
+    /// The same, behind this text, which is not kept.
+    pub(crate) fn behind(self, front: String) -> Input {
+        Input { front, ..self }
+    }
+
+    /// A refusal that names a line names that of the input itself.
+    pub(crate) fn placed(&self, refusal: Refusal) -> Refusal {
+        match refusal {
+            Refusal::ScriptFault { line, cause } => {
+                let before = self.front.bytes().filter(|byte| *byte == b'\n').count();
+                Refusal::ScriptFault {
+                    line: line.saturating_sub(before as u64),
+                    cause,
+                }
+            }
+            other => other,
+        }
     }
 
     /// Why a read failed, if one did.
@@ -85,6 +110,13 @@ impl Input {
 
 impl Read for Input {
     fn read(&mut self, buf: &mut [u8]) -> io::Result<usize> {
+        let mut rest = self.front.as_bytes().get(self.at..).unwrap_or(&[]);
+        if !rest.is_empty() {
+            let count = rest.read(buf)?;
+            self.at = self.at.saturating_add(count);
+            self.length = self.length.saturating_add(count);
+            return Ok(count);
+        }
         let told = match &mut self.source {
             InputSource::Standard(stdin) => stdin.read(buf),
             InputSource::Opened(file) => file.read(buf),

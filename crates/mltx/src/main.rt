@@ -9,26 +9,27 @@ mod end_signals;
 mod failure;
 mod input;
 mod input_end;
+mod loading;
 mod opened;
 mod output;
+mod saving;
 mod screen;
+mod server;
 mod streams;
 
 ghost use Rattle.std.specs.Prelude.{◌≡◌, ◌≤◌, ◌<◌, ◌↔◌, [], true, IfOk, Ok, OnOk};
 ghost use Rattle.std.specs.Io.KnownBytes.{Appends};
 ghost use Rattle.mlt_trace.specs.Items.{trace_text};
 ghost use Rattle.mlt_cli.specs.CommandLine.{IsWithinBounds};
-ghost use Rattle.mltx.specs.Options.{AreLimitsOf, IsTimeOf};
 
 use arguments::words;
 use clap::error::ErrorKind;
-use end_signals::EndSignals;
 use failure::{Failure, Known, explain};
 use input::Input;
-use input_end::InputEnd;
+use loading::{Loading, read_base};
 use mlt_cli::{
-    CommandLine, Connections, Full, Hash, Job, Run, Schedule, Serve, Work, read_words,
-    report_command_line, report_fault, status,
+    CommandLine, Hash, Job, Run, Schedule, Work, read_words, report_command_line, report_fault,
+    status,
 };
 use mlt_manager::Manager;
 use mlt_manager_laws::{
@@ -38,23 +39,25 @@ use mlt_manager_laws::{
 use mlt_manager_solo::solo;
 use mlt_manager_steps::steps;
 use mlt_object_tables::{TableName, write_tables};
+use mlt_script::{Script, parse};
+use mlt_script_load::Form;
 use mlt_script_texts::Echoed;
-use mlt_serve::{Admin, Operating, ServeOptions, serve_endless, serve_on};
 use mlt_text::write_text;
 use mlt_trace::{KeptItem, write_trace};
 use mlt_trace_check::{check_long_trace, check_trace};
 use mlt_types::{Limits, Low, Mult, Pseudo, Refusal};
 use mlt_work::{BeginQueue, RunOptions, run_scripts};
-use opened::Opened;
 use output::Output;
 use screen::{Screen, look_of};
+use server::run_server;
+use std::alloc::Global;
 use std::fs;
 use std::fs::File;
 use std::io::{self, Printer, Write};
 use std::process::ExitCode;
 use std::sync::Wait;
 use std::thread::Threads;
-use std::time::{Clock, Duration};
+use std::time::Clock;
 use streams::{STDERR, STDIN, Streams, is_terminal};
 
 fn main(rt: HostRuntime) -> ExitCode {
@@ -181,14 +184,21 @@ fn open(rt: &HostRuntime, file: &str, keeps: bool) -> Result<Input, Failure> {
     }
 }
 
-// The screen of a run, of which this is to stand beside the answers if that is asked for.
+// The screen of a run with this base, of which this is to stand beside the answers if that is asked for.
 fn open_screen<'a>(
     rt: &'a HostRuntime,
     run: &Run,
+    loading: Loading,
     echoed: Echoed,
 ) -> Screen<Printer<'a, HostRuntime>> {
     let echoed = if run.echoes { echoed } else { Echoed::Nothing };
-    Screen::new(rt.alloc(), io::writer(rt), echoed, look_of(rt))
+    Screen::new(rt.alloc(), io::writer(rt), loading, echoed, look_of(rt))
+}
+
+// The base that a run begins with, in this form.
+fn loading_of(rt: &HostRuntime, run: &Run, form: Form) -> Result<Loading, Failure> {
+    let text = read_base(rt, &run.load)?;
+    Loading::new(rt.alloc(), text.as_slice(), form)
 }
 
 // The manager of a run of this input, once all is shown, and else why it was refused.
@@ -208,7 +218,10 @@ fn run_outcome<P: Pseudo + Drop, W: Write>(
                 Err(Failure::of_run(refusal, input, screen.failure()))
             }
         },
-        Err(refusal) => Err(Failure::of_run(refusal, input, screen.failure())),
+        Err(refusal) => Err(match screen.load_failure() {
+            Some(failure) => failure,
+            None => Failure::of_run(refusal, input, screen.failure()),
+        }),
     }
 }
 
@@ -218,8 +231,10 @@ fn run_solo<P: Pseudo + Drop>(
     keeps: bool,
     pseudo: P,
 ) -> Result<(), Failure> {
-    let mut input = open(rt, run.input.as_str(), keeps || run.echoes)?;
-    let mut screen = open_screen(rt, run, Echoed::Scripts);
+    let mut loading = loading_of(rt, run, Form::Solo)?;
+    let input = open(rt, run.input.as_str(), keeps || run.echoes)?;
+    let mut input = input.behind(loading.take_text(rt.alloc()));
+    let mut screen = open_screen(rt, run, loading, Echoed::Scripts);
     let told = solo(
         rt.alloc(),
         &mut input,
@@ -244,7 +259,8 @@ fn run_steps<P: Pseudo + Drop>(
         schedule.run.input.as_str(),
         keeps || schedule.run.echoes,
     )?;
-    let mut screen = open_screen(rt, &schedule.run, Echoed::Schedule);
+    let loading = loading_of(rt, &schedule.run, Form::Solo)?;
+    let mut screen = open_screen(rt, &schedule.run, loading, Echoed::Schedule);
     let limits = Limits::program();
     let told = steps(
         rt.alloc(),
@@ -294,6 +310,17 @@ fn run_tables(rt: &HostRuntime, name: Option<TableName>) -> Result<(), Failure> 
     }
 }
 
+// The scripts of a text, each as that of a client.
+fn clients_of(alloc: Global, text: &[u8]) -> Result<Vec<Vec<Script>>, Refusal> {
+    let mut clients = Vec::new(alloc);
+    for script in parse(alloc, text)? {
+        let mut scripts = Vec::new(alloc);
+        scripts.push(script)?;
+        clients.push(scripts)?;
+    }
+    Ok(clients)
+}
+
 fn run_work<P: Pseudo + Drop + Send, T: Threads + Wait + Clock + Sync>(
     rt: &HostRuntime,
     threads: &T,
@@ -304,12 +331,15 @@ fn run_work<P: Pseudo + Drop + Send, T: Threads + Wait + Clock + Sync>(
     requires some { 0 < work.now.workers }
     requires most { work.now.workers ≤ 8 }
 {
+    let mut loading = loading_of(rt, &work.run, Form::Run)?;
+    let loaded = clients_of(rt.alloc(), loading.take_text(rt.alloc()).as_bytes())?;
     let mut input = open(rt, work.run.input.as_str(), keeps || work.run.echoes)?;
-    let mut screen = open_screen(rt, &work.run, Echoed::Clients);
+    let mut screen = open_screen(rt, &work.run, loading, Echoed::Clients);
     let options = RunOptions {
         limits: Limits::program(),
         workers: work.workers,
         tries: work.tries,
+        first: loaded.len() as u64,
     };
     let told = run_scripts(
         threads,
@@ -317,6 +347,7 @@ fn run_work<P: Pseudo + Drop + Send, T: Threads + Wait + Clock + Sync>(
         &mut input,
         &mut screen,
         pseudo,
+        loaded,
         &options,
         &BeginQueue::new(threads),
     );
@@ -324,118 +355,6 @@ fn run_work<P: Pseudo + Drop + Send, T: Threads + Wait + Clock + Sync>(
     let written = write_history(rt, &manager, &work.run);
     manager.close();
     written
-}
-
-fn run_server<P: Pseudo + Drop + Send, T: Threads + Wait + Clock + Sync + Send + Copy + 'static>(
-    rt: &HostRuntime,
-    threads: &T,
-    serve: &Serve,
-    tells_number: bool,
-    pseudo: P,
-) -> Result<(), Failure>
-    requires some { 0 < serve.now.sessions }
-    requires most { serve.now.sessions ≤ 64 }
-{
-    let opened = Opened::open(rt, serve)?;
-    let input = InputEnd::new(rt, threads, serve.operating.until_eof)?;
-    let unsaid = opened.report(rt, tells_number)?;
-    let Opened {
-        listener,
-        admin,
-        trace,
-        keys,
-        number,
-    } = opened;
-    let operating = Operating {
-        notes: rt.stderr(),
-        unsaid,
-        trace,
-        signal: EndSignals::new(rt, input),
-        admin: match &admin {
-            Some(listener) => Some(Admin {
-                listener,
-                keys,
-                number,
-            }),
-            None => None,
-        },
-    };
-    let options = serve_options(serve);
-    let (connections, trace_failure) = match serve.connections {
-        Connections::Limit(_) => {
-            let served = serve_on(threads, rt.alloc(), &listener, pseudo, &options, operating)?;
-            served.manager.close();
-            (served.connections, served.trace_failure)
-        }
-        Connections::Endless => {
-            let told = serve_endless(threads, rt.alloc(), &listener, pseudo, &options, operating)?;
-            told.manager.close();
-            (told.connections, told.trace_failure)
-        }
-    };
-    write_served(rt, connections)?;
-    match trace_failure {
-        Some(error) => Err(Failure::of_call(Known::OfTrace(error))),
-        None => Ok(()),
-    }
-}
-
-// How many connections a server without an end accepts, as many as it has numbers of transactions.
-const MOST_CONNECTIONS: u64 = (1 << 63) - 1;
-
-fn serve_options(serve: &Serve) -> ServeOptions
-    ensures sessions { result.sessions ≡ serve.now.sessions }
-    ensures tries { result.tries ≡ serve.now.tries }
-    ensures limits { AreLimitsOf serve.now.connections result.limits result.connections }
-    ensures idle { IsTimeOf serve.now.times.idle result.idle }
-    ensures wait { IsTimeOf serve.now.times.wait result.wait }
-    ensures open { IsTimeOf serve.now.times.transaction result.open }
-    ensures refuses { (serve.now.full ≡ Full.Refuse) ↔ (result.refuses ≡ true) }
-{
-    let (limits, connections) = limits_of(&serve.connections);
-    ServeOptions {
-        limits,
-        sessions: serve.sessions,
-        connections,
-        tries: serve.tries,
-        idle: seconds(serve.times.idle),
-        wait: seconds(serve.times.wait),
-        open: seconds(serve.times.transaction),
-        refuses: serve.full == Full::Refuse,
-    }
-}
-
-// The limits of the manager, and how many connections are accepted.
-fn limits_of(connections: &Connections) -> (Limits, u64)
-    ensures { AreLimitsOf connections.now result.0 result.1 }
-{
-    match connections {
-        Connections::Limit(limit) => (Limits::program(), u64::from(*limit)),
-        Connections::Endless => (Limits::endless(), MOST_CONNECTIONS),
-    }
-}
-
-// So many seconds; 0 is for ever.
-fn seconds(count: u64) -> Option<Duration>
-    ensures { IsTimeOf count result }
-{
-    match count {
-        0 => None,
-        _ => Some(Duration::from_secs(count)),
-    }
-}
-
-// Writes how many connections were served.
-fn write_served(rt: &HostRuntime, connections: u64) -> Result<(), Failure> {
-    let text = format!(in rt.alloc(); "served {connections}\n")?;
-    let mut output = Output::new(io::writer(rt));
-    match write_text(&mut output, text.as_bytes()) {
-        Ok(()) => Ok(()),
-        Err(refusal) => Err(match output.failure() {
-            Some(error) => Failure::of_call(Known::OfOutput(error)),
-            None => Failure::from(refusal),
-        }),
-    }
 }
 
 // Writes the trace of what the transactions did, where a file for it is named.

@@ -2,6 +2,7 @@
 
 use crate::failure::{Failure, Known};
 use crate::output::Output;
+use crate::saving::SaveFile;
 use crate::streams::is_ready;
 use libc::net::POLLOUT;
 use mlt_cli::Serve;
@@ -31,6 +32,8 @@ pub(crate) struct Opened {
     pub(crate) admin: Option<TcpListener>,
     /// The file for the trace, if there is one.
     pub(crate) trace: Option<Output<File>>,
+    /// The file for the base at the end, if there is one.
+    pub(crate) save: Option<SaveFile>,
     /// The seed of the operator's maps.
     pub(crate) keys: RandomState,
     /// The number of the server, which is drawn at random.
@@ -38,7 +41,7 @@ pub(crate) struct Opened {
 }
 
 impl Opened {
-    /// Opens what is asked for: first the address for clients, then that for an operator, then the file.
+    /// Opens what is asked for: first the address for clients, then that for an operator, then the files.
     ///
     /// # Errors
     /// The first that can't be had.
@@ -55,6 +58,10 @@ impl Opened {
             Some(file) => Some(create(rt, file.as_str())?),
             None => None,
         };
+        let save = match &serve.operating.save {
+            Some(file) => Some(SaveFile::open(rt, file.as_str())?),
+            None => None,
+        };
         let keys = match RandomState::new(rt) {
             Ok(keys) => keys,
             Err(_) => return Err(Failure::from(Refusal::Io)),
@@ -63,6 +70,7 @@ impl Opened {
             listener,
             admin,
             trace,
+            save,
             keys,
             number: keys.hash_one(0_u64) >> UNUSED_BITS,
         })

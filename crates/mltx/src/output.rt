@@ -26,6 +26,11 @@ impl<W: Write> Output<W> {
 }
 
 impl Output<File> {
+    /// All that was written is on its disk.
+    pub(crate) fn sync(&self) -> io::Result<()> {
+        self.writer.sync_all()
+    }
+
     /// Cuts so many bytes off the end of the file.
     pub(crate) fn cut(&self, count: u64) -> io::Result<()> {
         let length = self.writer.metadata()?.len();

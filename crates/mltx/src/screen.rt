@@ -1,5 +1,7 @@
 //! Where `solo`, `steps` and `run` print.
 
+use crate::failure::Failure;
+use crate::loading::Loading;
 use crate::output::Output;
 use crate::streams::{STDOUT, is_terminal};
 use mlt_script_texts::{Echoed, Look, write_shown};
@@ -8,9 +10,10 @@ use std::alloc::Global;
 use std::io::{ErrorKind, Write};
 use std::{env, io};
 
-/// Standard output. What is to stand beside the input, or in colours, is kept until the run is over.
+/// Standard output. The answers that make the base of the run are not shown. What is to stand beside the input, or in colours, is kept until the run is over.
 #[derive(Drop)]
 pub(crate) struct Screen<W> {
+    loading: Loading,
     output: Output<W>,
     echoed: Echoed,
     look: Look,
@@ -18,9 +21,16 @@ pub(crate) struct Screen<W> {
 }
 
 impl<W: Write> Screen<W> {
-    pub(crate) fn new(alloc: Global, writer: W, echoed: Echoed, look: Look) -> Screen<W> {
+    pub(crate) fn new(
+        alloc: Global,
+        writer: W,
+        loading: Loading,
+        echoed: Echoed,
+        look: Look,
+    ) -> Screen<W> {
         let is_plain = echoed == Echoed::Nothing && look == Look::Plain;
         Screen {
+            loading,
             output: Output::new(writer),
             echoed,
             look,
@@ -30,6 +40,11 @@ impl<W: Write> Screen<W> {
                 Some(Vec::new(alloc))
             },
         }
+    }
+
+    /// Why the base was not loaded, if it was not.
+    pub(crate) fn load_failure(&self) -> Option<Failure> {
+        self.loading.failure()
     }
 
     /// Why a write or a flush failed, if one did.
@@ -61,6 +76,9 @@ impl<W: Write> Screen<W> {
 
 impl<W: Write> Write for Screen<W> {
     fn write(&mut self, buf: &[u8]) -> io::Result<usize> {
+        if !self.loading.is_done() {
+            return self.loading.write(buf);
+        }
         match &mut self.kept {
             Some(text) => match text.extend_from_slice(buf) {
                 Ok(()) => Ok(buf.len()),

@@ -1,6 +1,6 @@
 use Rattle.std.proofs.Common.{ℕ, List, Option, Some, None, IfNone}
 use Rattle.mlt_serve_admin.specs.declared.resources.Resource.{Resource}
-use Rattle.mlt_serve_admin.specs.declared.resources.Resource.TheVariants.{Page, Status, Metrics, Waits, Sessions, Stop, SessionEnd}
+use Rattle.mlt_serve_admin.specs.declared.resources.Resource.TheVariants.{Page, Status, Metrics, Waits, Sessions, Base, Stop, SessionEnd}
 use Rattle.mlt_serve_admin.specs.Resources.{IsAt, IsAtNoFixedPath}
 use Rattle.mlt_serve_admin.proofs.resources.resource_at.Goals as goal
 
@@ -13,6 +13,7 @@ is_at_none path fixed ends Status = fixed.status
 is_at_none path fixed ends Metrics = fixed.metrics
 is_at_none path fixed ends Waits = fixed.waits
 is_at_none path fixed ends Sessions = fixed.sessions
+is_at_none path fixed ends Base = fixed.base
 is_at_none path fixed ends Stop = fixed.stop
 is_at_none path fixed ends (SessionEnd client) = ends client
 

@@ -1,4 +1,4 @@
-use Rattle.std.proofs.Common.{Err, ap}
+use Rattle.std.proofs.Common.{◌∙◌, Err, ap}
 use Rattle.std.proofs.KnownBytes.{Keeps-refl}
 use Rattle.std.proofs.lemmas.Result.{err_from_is_err_and}
 use Rattle.mlt_text.proofs.Failing.{finished, unfinished, unread, unwritten}
@@ -11,8 +11,8 @@ pub returns-in-Ok-clause-text : goal.returns-in-Ok-clause-text
 returns-in-Ok-clause-text g c =
     let input = c.in_ok-input.input.items in
     let report = c.in_ok-report.report in
-    let text = run_text c.args.options.now.limits c.args.pseudo c.as_slice.result.now input c.as_slice-2.result.now c.in_ok-clients.clients.items c.in_ok-scripts.scripts.items report c.in_ok-report.manager
-    c.as_slice.ensures.value c.as_slice-2.ensures.value c.in_ok-scripts.ensures.spelled c.in_ok-clients.ensures.parts c.in_ok-report.ensures.ran in
+    let text = run_text c.args.options.now.limits c.args.pseudo c.as_slice.result.now input c.as_slice-2.result.now c.in_ok-parts.parts.items c.args.loaded.items c.in_ok-scripts.scripts.items report c.in_ok-report.manager
+    c.as_slice.ensures.value (c.as_slice-2.ensures.value ∙ c.in_ok-clients.ensures) c.in_ok-scripts.ensures.spelled c.in_ok-parts.ensures.parts c.in_ok-report.ensures.ran in
     (input, report_text Run report.outcomes report.base, (c.in_ok-input.ensures.ok, text), c.in-Ok.ensures.ok)
 
 pub returns-in_err-input-clause-failure : goal.returns-in_err-input-clause-failure
@@ -22,6 +22,9 @@ returns-in_err-input-clause-failure g c =
 
 pub returns-in_err-scripts-clause-failure : goal.returns-in_err-scripts-clause-failure
 returns-in_err-scripts-clause-failure g c = unwritten _ _ _ _ _ c.from_residual-in_err-scripts.result c.in_ok-input.input.items c.in_ok-input.ensures.ok (Keeps-refl _)
+
+pub returns-in_err-parts-clause-failure : goal.returns-in_err-parts-clause-failure
+returns-in_err-parts-clause-failure g c = unwritten _ _ _ _ _ c.from_residual-in_err-parts.result c.in_ok-input.input.items c.in_ok-input.ensures.ok (Keeps-refl _)
 
 pub returns-in_err-clients-clause-failure : goal.returns-in_err-clients-clause-failure
 returns-in_err-clients-clause-failure g c = unwritten _ _ _ _ _ c.from_residual-in_err-clients.result c.in_ok-input.input.items c.in_ok-input.ensures.ok (Keeps-refl _)
@@ -36,7 +39,7 @@ pub returns-clause-failure : goal.returns-clause-failure
 returns-clause-failure g c =
     let input = c.in_ok-input.input.items in
     let report = c.in_ok-report.report in
-    let text = run_text c.args.options.now.limits c.args.pseudo c.as_slice.result.now input c.as_slice-2.result.now c.in_ok-clients.clients.items c.in_ok-scripts.scripts.items report c.in_ok-report.manager
-    c.as_slice.ensures.value c.as_slice-2.ensures.value c.in_ok-scripts.ensures.spelled c.in_ok-clients.ensures.parts c.in_ok-report.ensures.ran in
+    let text = run_text c.args.options.now.limits c.args.pseudo c.as_slice.result.now input c.as_slice-2.result.now c.in_ok-parts.parts.items c.args.loaded.items c.in_ok-scripts.scripts.items report c.in_ok-report.manager
+    c.as_slice.ensures.value (c.as_slice-2.ensures.value ∙ c.in_ok-clients.ensures) c.in_ok-scripts.ensures.spelled c.in_ok-parts.ensures.parts c.in_ok-report.ensures.ran in
     unfinished _ _ _ _ _ c.in-Err.refusal input (report_text Run report.outcomes report.base) c.in_ok-report.manager c.in_ok-input.ensures.ok text c.in-Err.ensures.refusal
     (λ memory. c.in-Err.ensures.memory (ap Err memory)) (λ io. c.in-Err.ensures.io (ap Err io))

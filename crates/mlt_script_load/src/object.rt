@@ -1,0 +1,65 @@
+//! The lines of a base.
+
+use mlt_text_words::{has_word, next_number, next_raw_word};
+
+/// The most coins that an account holds.
+const MOST_COINS: u64 = 1_000_000_000_000_000_000;
+
+/// An object, with what it holds.
+#[derive(Clone, Copy)]
+pub(crate) enum Object {
+    /// An account, and its balance.
+    Account(u32, u64),
+    /// An element of a set: the set, and the element.
+    Element(u16, u32),
+    /// A counter, and its value.
+    Counter(u32, u64),
+}
+
+impl Object {
+    /// The object that a line says, if it is one.
+    pub(crate) fn read(line: &[u8]) -> Option<Object> {
+        let (kind, rest) = next_raw_word(line)?;
+        let (first, rest) = next_number(rest)?;
+        let (second, rest) = next_number(rest)?;
+        if has_word(rest) {
+            return None;
+        }
+        if kind == b"account".as_slice() {
+            account_of(first, second)
+        } else if kind == b"element".as_slice() {
+            element_of(first, second)
+        } else if kind == b"counter".as_slice() {
+            counter_of(first, second)
+        } else {
+            None
+        }
+    }
+
+    /// Where it stands in the text of a base: that of a later object is greater.
+    pub(crate) fn place(self) -> u64 {
+        match self {
+            Object::Account(account, _) => u64::from(account),
+            Object::Element(set, element) => {
+                (1 << 60) + (u64::from(set) << 32) + u64::from(element)
+            }
+            Object::Counter(counter, _) => (1 << 61) + u64::from(counter),
+        }
+    }
+}
+
+fn account_of(account: u64, balance: u64) -> Option<Object> {
+    let account = u32::try_from(account).ok()?;
+    (balance <= MOST_COINS).then_some(Object::Account(account, balance))
+}
+
+fn element_of(set: u64, element: u64) -> Option<Object> {
+    let set = u16::try_from(set).ok()?;
+    let element = u32::try_from(element).ok()?;
+    Some(Object::Element(set, element))
+}
+
+fn counter_of(counter: u64, value: u64) -> Option<Object> {
+    let counter = u32::try_from(counter).ok()?;
+    (value > 0).then_some(Object::Counter(counter, value))
+}

@@ -1,0 +1,80 @@
+//! How long transactions and waits take.
+
+ghost use Rattle.std.specs.Prelude.{◌≤◌};
+
+use std::array;
+use std::sync::atomic::{AtomicU64, Ordering};
+use std::time::{Duration, Instant};
+
+/// How many buckets a histogram has: one for each bound, and one above them.
+const BUCKETS: usize = 18;
+
+/// The greatest time of each bucket but the last, in microseconds.
+pub const BOUNDS: [u64; BUCKETS - 1] = [
+    50, 100, 200, 500, 1_000, 2_000, 5_000, 10_000, 20_000, 50_000, 100_000, 200_000, 500_000,
+    1_000_000, 2_000_000, 5_000_000, 10_000_000,
+];
+
+/// How many times fell into each bucket, and their sum in microseconds. Each count is modulo 2^64.
+#[derive(Clone, Copy, Debug, Default, PartialEq, Eq)]
+pub struct Histogram {
+    /// How many times there were above the bound of the bucket before, and not above that of their own.
+    pub counts: [u64; BUCKETS],
+    /// The sum of all times.
+    pub microseconds: u64,
+}
+
+impl Histogram {
+    /// Adds what another thread has counted.
+    pub(crate) fn add(&mut self, other: &Histogram) {
+        for (count, more) in self.counts.iter_mut().zip(other.counts.iter()) {
+            *count = count.wrapping_add(*more);
+        }
+        self.microseconds = self.microseconds.wrapping_add(other.microseconds);
+    }
+}
+
+/// A histogram that one thread adds to, and others read.
+#[derive(Drop)]
+pub(crate) struct SharedHistogram {
+    counts: [AtomicU64; BUCKETS],
+    microseconds: AtomicU64,
+}
+
+impl SharedHistogram {
+    pub(crate) fn new() -> SharedHistogram {
+        SharedHistogram {
+            counts: array::from_fn(|_| AtomicU64::new(0)),
+            microseconds: AtomicU64::new(0),
+        }
+    }
+
+    /// Adds the time that has passed; none, where a clock could not say when it began or ended.
+    pub(crate) fn add(&self, since: Option<Instant>, now: Option<Instant>) {
+        let elapsed = match (since, now) {
+            (Some(since), Some(now)) => now.saturating_duration_since(since),
+            _ => Duration::ZERO,
+        };
+        let microseconds = u64::try_from(elapsed.as_micros()).unwrap_or(u64::MAX);
+        self.counts[bucket_of(microseconds)].fetch_add(1, Ordering::Relaxed);
+        self.microseconds.fetch_add(microseconds, Ordering::Relaxed);
+    }
+
+    /// What was added.
+    pub(crate) fn read(&self) -> Histogram {
+        Histogram {
+            counts: array::from_fn(|at| self.counts[at % BUCKETS].load(Ordering::Relaxed)),
+            microseconds: self.microseconds.load(Ordering::Relaxed),
+        }
+    }
+}
+
+/// The bucket of a time.
+fn bucket_of(microseconds: u64) -> usize
+    ensures { result ≤ 17 }
+{
+    BOUNDS
+        .iter()
+        .position(|bound| microseconds <= *bound)
+        .unwrap_or(BUCKETS - 1)
+}
