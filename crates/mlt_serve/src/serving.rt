@@ -118,7 +118,7 @@ where
         spin_policy: &SpinPolicy::new(rt),
         options,
         door: &Door::new(listener),
-        seats: &Seats::new(),
+        seats: &Seats::default(),
         notes: &notes,
         running: &AtomicU64::new(0),
         is_watched: operating.admin.is_some() || options.open.is_some(),

@@ -2,7 +2,6 @@
 
 ghost use Rattle.std.specs.Prelude.{◌≤◌};
 
-use std::array;
 use std::sync::atomic::{AtomicU64, Ordering};
 use std::time::{Duration, Instant};
 
@@ -16,7 +15,7 @@ pub const BOUNDS: [u64; BUCKETS - 1] = [
 ];
 
 /// How many times fell into each bucket, and their sum in microseconds. Each count is modulo 2^64.
-#[derive(Clone, Copy, Debug, Default, PartialEq, Eq)]
+#[derive(Clone, Copy, Default)]
 pub struct Histogram {
     /// How many times there were above the bound of the bucket before, and not above that of their own.
     pub counts: [u64; BUCKETS],
@@ -24,31 +23,14 @@ pub struct Histogram {
     pub microseconds: u64,
 }
 
-impl Histogram {
-    /// Adds what another thread has counted.
-    pub(crate) fn add(&mut self, other: &Histogram) {
-        for (count, more) in self.counts.iter_mut().zip(other.counts.iter()) {
-            *count = count.wrapping_add(*more);
-        }
-        self.microseconds = self.microseconds.wrapping_add(other.microseconds);
-    }
-}
-
 /// A histogram that one thread adds to, and others read.
-#[derive(Drop)]
+#[derive(Default, Drop)]
 pub(crate) struct SharedHistogram {
     counts: [AtomicU64; BUCKETS],
     microseconds: AtomicU64,
 }
 
 impl SharedHistogram {
-    pub(crate) fn new() -> SharedHistogram {
-        SharedHistogram {
-            counts: array::from_fn(|_| AtomicU64::new(0)),
-            microseconds: AtomicU64::new(0),
-        }
-    }
-
     /// Adds the time that has passed; none, where a clock could not say when it began or ended.
     pub(crate) fn add(&self, since: Option<Instant>, now: Option<Instant>) {
         let elapsed = match (since, now) {
@@ -60,12 +42,13 @@ impl SharedHistogram {
         self.microseconds.fetch_add(microseconds, Ordering::Relaxed);
     }
 
-    /// What was added.
-    pub(crate) fn read(&self) -> Histogram {
-        Histogram {
-            counts: array::from_fn(|at| self.counts[at % BUCKETS].load(Ordering::Relaxed)),
-            microseconds: self.microseconds.load(Ordering::Relaxed),
+    /// Adds what it has to the sum of several.
+    pub(crate) fn add_to(&self, sum: &mut Histogram) {
+        for (count, more) in sum.counts.iter_mut().zip(self.counts.iter()) {
+            *count = count.wrapping_add(more.load(Ordering::Relaxed));
         }
+        let microseconds = self.microseconds.load(Ordering::Relaxed);
+        sum.microseconds = sum.microseconds.wrapping_add(microseconds);
     }
 }
 

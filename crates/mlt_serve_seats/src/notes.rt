@@ -17,7 +17,7 @@ const LOST_SECONDS: u64 = 1;
 const LAST_WRITES_SECONDS: u64 = 5;
 
 /// A note with its time.
-#[derive(Clone, Copy, Debug, Drop)]
+#[derive(Clone, Copy)]
 pub(crate) struct TimedNote {
     pub(crate) note: Note,
     /// How many seconds after the start of 1970 it was sent, if a clock could say so.
@@ -39,7 +39,8 @@ pub struct Notes {
 #[derive(Drop)]
 pub struct Outlet {
     from: Receiver<TimedNote, Global>,
-    lost: Arc<AtomicU64>,
+    /// How many were lost since this was written last.
+    pub(crate) lost: Arc<AtomicU64>,
     _here: Sender<(), Global>,
 }
 
@@ -87,9 +88,8 @@ impl Notes {
     pub fn end<R: Wait + Clock>(self, rt: &R) {
         let Notes {
             to,
-            lost: _,
-            has_trace_failed: _,
             outlet_is_gone,
+            ..
         } = self;
         drop(to);
         // It fails, since the outlet is gone or the time is over.
@@ -111,16 +111,6 @@ impl Outlet {
         self.from
             .recv(rt)
             .map_err(|_| RecvTimeoutError::Disconnected)
-    }
-
-    /// One more is lost.
-    pub(crate) fn lose(&self) {
-        self.lost.fetch_add(1, Ordering::SeqCst);
-    }
-
-    /// How many were lost since this was asked last.
-    pub(crate) fn take_lost(&self) -> u64 {
-        self.lost.swap(0, Ordering::SeqCst)
     }
 }
 

@@ -5,9 +5,9 @@ use crate::note::Cut;
 use crate::presence::{is_broken, is_read_out};
 use crate::session::{Activity, Ended};
 use crate::totals::Totals;
+use crossbeam_utils::CachePadded;
 use mlt_types::TxId;
 use std::alloc::{AllocError, Global};
-use std::array;
 use std::net::{Shutdown, SocketAddr, TcpStream};
 use std::sync::atomic::{AtomicBool, AtomicU64, Ordering};
 use std::sync::{Arc, Mutex, Wait};
@@ -17,7 +17,7 @@ use std::time::{Clock, Duration, Instant};
 const LAST_WRITES_SECONDS: u64 = 5;
 
 /// For how long others bear with a session.
-#[derive(Clone, Copy, Debug)]
+#[derive(Clone, Copy)]
 pub struct Patience {
     /// For how long an operation may wait, if that has an end.
     pub wait: Option<Duration>,
@@ -26,7 +26,7 @@ pub struct Patience {
 }
 
 /// What others see of a session.
-#[derive(Clone, Copy, Debug)]
+#[derive(Clone, Copy)]
 pub struct SessionState {
     /// The number of its connection.
     pub client: u32,
@@ -53,14 +53,14 @@ struct Session {
 }
 
 /// What a session thread has shown, and the session that it serves.
-#[derive(Drop)]
+#[derive(Default, Drop)]
 struct Record {
     activity: Activity,
     session: Option<Session>,
 }
 
 /// How long the transactions of sessions took, and their waits.
-#[derive(Clone, Copy, Debug, Default, PartialEq, Eq)]
+#[derive(Clone, Copy, Default)]
 pub struct Times {
     /// From when others first saw a transaction, which is the first answer behind its begin, to its end; 0, where they did not.
     pub transactions: Histogram,
@@ -68,53 +68,29 @@ pub struct Times {
     pub waits: Histogram,
 }
 
-/// The times of one session thread, which others read.
-#[derive(Drop)]
-struct SharedTimes {
-    transactions: SharedHistogram,
-    waits: SharedHistogram,
-}
-
-/// What one session thread does, for others to see, and the session that it serves. There are 64 unused bytes on each side, so that
-/// a thread that notes something at another seat does not take the cache lines of this one.
-#[derive(Drop)]
-#[repr(C)]
+/// What one session thread does, for others to see, and the session that it serves.
+#[derive(Default, Drop)]
 pub struct Seat {
-    _before: [u64; 8],
     /// Whether an operation of the session that is to wait is given up.
     hurries: AtomicBool,
     /// The number of the transaction that the session has begun last.
     last: AtomicU64,
     record: Mutex<Record>,
-    times: SharedTimes,
-    _after: [u64; 8],
+    transaction_times: SharedHistogram,
+    wait_times: SharedHistogram,
 }
 
 impl Seat {
-    fn new() -> Seat {
-        Seat {
-            _before: [0; 8],
-            hurries: AtomicBool::new(false),
-            last: AtomicU64::new(0),
-            record: Mutex::new(Record {
-                activity: Activity::new(Totals::default()),
-                session: None,
-            }),
-            times: SharedTimes {
-                transactions: SharedHistogram::new(),
-                waits: SharedHistogram::new(),
-            },
-            _after: [0; 8],
-        }
-    }
-
     /// A session with this client begins.
     pub fn enter<R: Wait + Clock>(&self, rt: &R, client: u32, stream: Arc<TcpStream>) {
         let since = Instant::now(rt).ok();
         self.hurries.store(false, Ordering::Relaxed);
         self.last.store(0, Ordering::Relaxed);
         let mut record = self.record.lock(rt);
-        record.activity = Activity::new(record.activity.totals);
+        record.activity = Activity {
+            totals: record.activity.totals,
+            ..Activity::default()
+        };
         record.session = Some(Session {
             client,
             since,
@@ -145,24 +121,13 @@ impl Seat {
     }
 
     /// Adds the time of a wait, or of a transaction, that has ended. A transaction that others have not seen has taken none.
-    #[inline(always)]
     pub(crate) fn time<R: Wait + Clock>(&self, rt: &R, ended: &Ended) {
-        if ended.wait.is_some() || ended.transaction.is_some() {
-            self.time_slowly(rt, ended);
-        }
-    }
-
-    fn time_slowly<R: Wait + Clock>(&self, rt: &R, ended: &Ended) {
-        let now = if ended.is_seen() {
-            Instant::now(rt).ok()
-        } else {
-            None
-        };
-        if let Some(wait) = &ended.wait {
-            self.times.waits.add(wait.since, now);
+        let now = ended.is_seen().then(|| Instant::now(rt).ok()).flatten();
+        if let Some(wait) = ended.wait {
+            self.wait_times.add(wait.since, now);
         }
         if let Some(since) = ended.transaction {
-            self.times.transactions.add(since, now);
+            self.transaction_times.add(since, now);
         }
     }
 
@@ -241,51 +206,31 @@ impl Seat {
         let mut record = self.record.lock(rt);
         let Record { activity, session } = &mut *record;
         let session = session.as_mut()?;
-        if is_open_for(activity, patience.open, now) {
+        let open = activity.transaction.as_ref();
+        if has_passed(patience.open, open.and_then(|open| open.since), now) {
             self.cut(session, Cut::Open, now);
         }
-        if session.is_cut_for(Duration::from_secs(LAST_WRITES_SECONDS), now) {
+        let last_writes = Some(Duration::from_secs(LAST_WRITES_SECONDS));
+        if has_passed(last_writes, session.cut.and_then(|(_, since)| since), now) {
             let _ = session.stream.shutdown(Shutdown::Both);
         }
         let wait = activity.wait?;
-        if is_broken(&session.stream) || (wait.is_last && session.is_left()) {
+        let is_heard = wait.is_last && session.hears;
+        if is_broken(&session.stream) || (is_heard && is_read_out(&session.stream)) {
             self.cut(session, Cut::Connection, now);
         }
         if has_passed(patience.wait, wait.since, now) {
             self.hurries.store(true, Ordering::Relaxed);
         }
-        if self.hurries() {
-            Some(self.last())
-        } else {
-            None
-        }
+        self.hurries().then_some(self.last())
     }
 }
 
 impl Session {
-    /// Whether its client has left, and has sent nothing more.
-    fn is_left(&self) -> bool {
-        self.hears && is_read_out(&self.stream)
-    }
-
     fn hear_no_more(&mut self) {
         self.hears = false;
         // It fails only where the connection is gone.
         let _ = self.stream.shutdown(Shutdown::Read);
-    }
-
-    fn is_cut_for(&self, limit: Duration, now: Option<Instant>) -> bool {
-        match self.cut {
-            Some((_, since)) => has_passed(Some(limit), since, now),
-            None => false,
-        }
-    }
-}
-
-fn is_open_for(activity: &Activity, limit: Option<Duration>, now: Option<Instant>) -> bool {
-    match &activity.transaction {
-        Some(transaction) => has_passed(limit, transaction.since, now),
-        None => false,
     }
 }
 
@@ -297,27 +242,20 @@ fn has_passed(limit: Option<Duration>, since: Option<Instant>, now: Option<Insta
     }
 }
 
-/// The seats of all sessions.
-#[derive(Drop)]
+/// The seats of all sessions. A thread that notes something at its seat does not take the cache lines of another.
+#[derive(Default, Drop)]
 pub struct Seats {
-    seats: [Seat; 64],
+    seats: [CachePadded<Seat>; 64],
 }
 
 impl Seats {
-    /// Nobody is served yet.
-    pub fn new() -> Seats {
-        Seats {
-            seats: array::from_fn(|_| Seat::new()),
-        }
-    }
-
     /// The seat of the thread with this number, from 0 to 63.
     pub fn seat(&self, number: usize) -> &Seat {
         &self.seats[number % 64]
     }
 
     /// All seats.
-    pub fn all(&self) -> &[Seat] {
+    pub fn all(&self) -> &[CachePadded<Seat>] {
         self.seats.as_slice()
     }
 
@@ -334,8 +272,8 @@ impl Seats {
     pub fn times(&self) -> Times {
         let mut times = Times::default();
         for seat in self.all() {
-            times.transactions.add(&seat.times.transactions.read());
-            times.waits.add(&seat.times.waits.read());
+            seat.transaction_times.add_to(&mut times.transactions);
+            seat.wait_times.add_to(&mut times.waits);
         }
         times
     }

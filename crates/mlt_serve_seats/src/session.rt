@@ -13,7 +13,7 @@ use std::time::Instant;
 const RECENT_OPS: usize = 16;
 
 /// The open transaction of a session.
-#[derive(Clone, Copy, Debug)]
+#[derive(Clone, Copy)]
 pub struct OpenTransaction {
     pub number: TxId,
     /// Since when others see it, if a clock could say so: since its session first waited after it began, for its client or for others.
@@ -63,7 +63,7 @@ impl OpenTransaction {
 }
 
 /// A wait of an operation.
-#[derive(Clone, Copy, Debug)]
+#[derive(Clone, Copy)]
 pub struct WaitState {
     /// Since when it was first told to wait, if a clock could say so.
     pub since: Option<Instant>,
@@ -87,7 +87,7 @@ impl Ended {
 }
 
 /// What a session thread does. It alone changes this, and shows it to others.
-#[derive(Clone, Copy, Debug)]
+#[derive(Clone, Copy, Default)]
 pub struct Activity {
     /// What the thread has counted, in all its sessions.
     pub totals: Totals,
@@ -100,16 +100,6 @@ pub struct Activity {
 }
 
 impl Activity {
-    /// A session begins, of a thread that has counted this.
-    pub(crate) fn new(totals: Totals) -> Activity {
-        Activity {
-            totals,
-            transaction: None,
-            op: None,
-            wait: None,
-        }
-    }
-
     /// Its operation is to wait. It is told whether nothing was read behind the line of that.
     pub(crate) fn wait(&mut self, is_last: bool) {
         self.wait = self.wait.or(Some(WaitState {
@@ -124,7 +114,12 @@ impl Activity {
         let since = self.transaction_since();
         let op = self.op.take();
         match told {
-            Told::Begun(tx) => self.begin(*tx, is_watched),
+            Told::Begun(tx) => {
+                add_one(&mut self.totals.begun);
+                if is_watched {
+                    self.transaction = Some(OpenTransaction::new(*tx));
+                }
+            }
             Told::Answered(Answer::Done(reply)) => self.finish(op, *reply),
             Told::Answered(Answer::Refused(Refusal::NoRoom)) => add_one(&mut self.totals.no_room),
             Told::Refused(Refusal::OutOfMemory)
@@ -142,21 +137,8 @@ impl Activity {
             }
             _ => (),
         }
-        Ended {
-            wait,
-            transaction: if self.transaction.is_none() {
-                since
-            } else {
-                None
-            },
-        }
-    }
-
-    fn begin(&mut self, tx: TxId, is_watched: bool) {
-        add_one(&mut self.totals.begun);
-        if is_watched {
-            self.transaction = Some(OpenTransaction::new(tx));
-        }
+        let transaction = since.filter(|_| self.transaction.is_none());
+        Ended { wait, transaction }
     }
 
     fn finish(&mut self, op: Option<ObjOp>, reply: ObjReply) {
@@ -168,10 +150,7 @@ impl Activity {
 
     /// Since when others see its open transaction, if there is one, and they do.
     fn transaction_since(&self) -> Option<Option<Instant>> {
-        match &self.transaction {
-            Some(transaction) => Some(transaction.since),
-            None => None,
-        }
+        self.transaction.as_ref().map(|open| open.since)
     }
 
     /// Whether others are to see a wait, or a transaction, which they do not see yet.

@@ -99,7 +99,9 @@ impl<'a, R: Wait + Clock> Sitting<'a, R> {
         if ended.is_seen() {
             self.show();
         }
-        self.seat.time(self.rt, &ended);
+        if ended.wait.is_some() || ended.transaction.is_some() {
+            self.seat.time(self.rt, &ended);
+        }
     }
 
     /// Shows what it has done until now. It is called before the client hears of it, and before the session waits for what comes next, or

@@ -8,13 +8,14 @@ use mlt_text::write_text;
 use std::alloc::{AllocError, Global};
 use std::io::Write;
 use std::sync::Wait;
+use std::sync::atomic::Ordering;
 use std::time::Clock;
 
 /// How many notes of one kind are written in a second. The others are lost.
 const MOST_IN_A_SECOND: u64 = 50;
 
 /// How many notes of each kind came in one second.
-#[derive(Drop)]
+#[derive(Default, Drop)]
 struct NoteRate {
     second: Option<u64>,
     come: [u64; NOTE_KINDS],
@@ -44,10 +45,7 @@ pub fn write_notes<R: Wait + Clock, W: Write>(
     writer: &mut W,
 ) {
     let _ = write_text(writer, unsaid.as_bytes());
-    let mut rate = NoteRate {
-        second: None,
-        come: [0; NOTE_KINDS],
-    };
+    let mut rate = NoteRate::default();
     for _ in rt.forever() {
         match outlet.next(rt) {
             Ok(told) => match rate.count(&told) {
@@ -56,7 +54,9 @@ pub fn write_notes<R: Wait + Clock, W: Write>(
                     write_note(alloc, &told, writer);
                 }
                 count if count <= MOST_IN_A_SECOND => write_note(alloc, &told, writer),
-                _ => outlet.lose(),
+                _ => {
+                    outlet.lost.fetch_add(1, Ordering::SeqCst);
+                }
             },
             Err(why) => {
                 write_lost(alloc, outlet, writer);
@@ -77,7 +77,7 @@ fn write_note<W: Write>(alloc: Global, told: &TimedNote, writer: &mut W) {
 
 /// Writes how many notes were lost, if any were.
 fn write_lost<W: Write>(alloc: Global, outlet: &Outlet, writer: &mut W) {
-    let lost = outlet.take_lost();
+    let lost = outlet.lost.swap(0, Ordering::SeqCst);
     if lost == 0 {
         return;
     }
