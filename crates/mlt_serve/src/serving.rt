@@ -114,7 +114,7 @@ where
     let shared = Shared::new(log, state);
     let service = Service {
         shared: &shared,
-        admission_queue: &AdmissionQueue::new(),
+        admission_queue: &AdmissionQueue::default(),
         spin_policy: &SpinPolicy::new(rt),
         options,
         door: &Door::new(listener),

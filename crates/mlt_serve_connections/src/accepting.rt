@@ -4,27 +4,12 @@ use std::io;
 use std::net::{TcpListener, TcpStream};
 use std::os::fd::AsRawFd;
 
-// Errors of accept(2) that Linux has from the network, or from a client that is gone.
-const EPROTO: i32 = 71;
+/// The errors of accept(2) that Linux has from the network: ENONET, EPROTO, ENOPROTOOPT, EOPNOTSUPP, ENETDOWN, ENETUNREACH, EHOSTDOWN
+/// and EHOSTUNREACH.
+const NETWORK_ERRORS: [i32; 8] = [64, 71, 92, 95, 100, 101, 112, 113];
 
-const ENONET: i32 = 64;
-
-const ENOPROTOOPT: i32 = 92;
-
-const EOPNOTSUPP: i32 = 95;
-
-const ENETDOWN: i32 = 100;
-
-const ENETUNREACH: i32 = 101;
-
-const EHOSTDOWN: i32 = 112;
-
-const EHOSTUNREACH: i32 = 113;
-
-// Those of a process, or a system, that has no descriptors or buffers left.
-const ENFILE: i32 = 23;
-
-const ENOBUFS: i32 = 105;
+/// Those of a system that has no descriptors or buffers left: ENFILE and ENOBUFS.
+const SYSTEM_ERRORS: [i32; 2] = [23, 105];
 
 /// What became of an accept.
 #[derive(Drop)]
@@ -54,25 +39,12 @@ pub fn accept(listener: &TcpListener) -> Accepted {
 
 /// Whether an accept that failed so is to be tried again at once.
 fn is_tried_again(code: i32) -> bool {
-    matches!(
-        code,
-        libc::EPERM
-            | libc::EINTR
-            | libc::ECONNABORTED
-            | ENONET
-            | EPROTO
-            | ENOPROTOOPT
-            | EOPNOTSUPP
-            | ENETDOWN
-            | ENETUNREACH
-            | EHOSTDOWN
-            | EHOSTUNREACH
-    )
+    NETWORK_ERRORS.contains(&code) || matches!(code, libc::EPERM | libc::EINTR | libc::ECONNABORTED)
 }
 
 /// Whether an accept that failed so is to be tried again after a pause.
 fn does_pause(code: i32) -> bool {
-    matches!(code, libc::ENOMEM | libc::EMFILE | ENFILE | ENOBUFS)
+    SYSTEM_ERRORS.contains(&code) || matches!(code, libc::ENOMEM | libc::EMFILE)
 }
 
 /// From now on the listener accepts no connection: a thread that waits in an accept of it fails, and clients are refused.

@@ -3,11 +3,10 @@
 use crate::tuning::{MOST_ADMITTED, MOST_BYPASSING, RESTART_MICROSECONDS};
 use std::sync::atomic::{AtomicU64, Ordering};
 use std::sync::{Condvar, Mutex, Wait};
+use std::thread;
 use std::time::{Clock, Duration};
-use std::{array, thread};
 
 /// With it a session is at work. It can't be dropped: the queue takes it back.
-#[derive(Debug)]
 pub(crate) enum Pass {
     /// Of a session that bypassed the queue.
     Bypassing,
@@ -18,7 +17,7 @@ pub(crate) enum Pass {
 /// Lets a few sessions go to work at once, and admits the others in the order in which they come, so that few are at work at a time
 /// and the others sleep. With more at work than there are processors, the thread that has the lock over the manager may not be
 /// running, and all others wait for it.
-#[derive(Drop)]
+#[derive(Default, Drop)]
 pub struct AdmissionQueue {
     /// How many have queued. Each has as its number how many did before it; numbers do not run out: at a million a second they last
     /// for half a million years.
@@ -34,18 +33,6 @@ pub struct AdmissionQueue {
 }
 
 impl AdmissionQueue {
-    /// Nobody is at work yet.
-    pub fn new() -> AdmissionQueue {
-        AdmissionQueue {
-            come: AtomicU64::new(0),
-            left: AtomicU64::new(0),
-            lock: Mutex::new(()),
-            condvars: array::from_fn(|_| Condvar::new()),
-            bypassing: AtomicU64::new(0),
-            pausing: AtomicU64::new(0),
-        }
-    }
-
     /// Goes to work, at once where few do so at the moment, and else in its turn.
     pub(crate) fn enter<R: Wait>(&self, rt: &R) -> Pass {
         if self.bypassing.fetch_add(1, Ordering::SeqCst) < MOST_BYPASSING {
@@ -93,11 +80,8 @@ impl AdmissionQueue {
 
     // Whether the one of this number is admitted.
     fn is_admitted(&self, number: u64) -> bool {
-        number
-            < self
-                .left
-                .load(Ordering::SeqCst)
-                .saturating_add(MOST_ADMITTED)
+        let left = self.left.load(Ordering::SeqCst);
+        number < left.saturating_add(MOST_ADMITTED)
     }
 
     // What wakes the one of this number. No more than 64 sessions wait, and their numbers follow one another.

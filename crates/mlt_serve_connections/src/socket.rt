@@ -15,7 +15,7 @@ use std::net::TcpStream;
 use std::time::{Clock, Duration, Instant};
 
 /// How a read or a write failed.
-#[derive(Clone, Copy, Debug, PartialEq, Eq)]
+#[derive(Clone, Copy)]
 pub enum Failure {
     /// No whole line came, or nothing could go, for the idle time.
     Idle,
@@ -78,16 +78,10 @@ impl<'a, C: Clock> Socket<'a, C> {
         self.failed.get()
     }
 
-    /// What a read or a write gave. Where it failed, this is noted.
-    fn noted(&self, done: io::Result<usize>) -> io::Result<usize>
-        ensures { result ≡ done }
-    {
-        match done {
-            Ok(count) => Ok(count),
-            Err(error) => {
-                self.failed.set(Some(failure_of(error.kind())));
-                Err(error)
-            }
+    /// Notes how a read or a write failed, if it did.
+    fn note(&self, done: &io::Result<usize>) {
+        if let Err(error) = done {
+            self.failed.set(Some(failure_of(error.kind())));
         }
     }
 
@@ -131,7 +125,8 @@ impl<'a, C: Clock> Socket<'a, C> {
         } else {
             self.read_first(buf)
         };
-        self.noted(read)
+        self.note(&read);
+        read
     }
 
     /// Reads until an LF has come, or more bytes than a line may have, or the end of the input.
@@ -164,29 +159,19 @@ impl<'a, C: Clock> Socket<'a, C> {
             }
         }
         self.put_waits(true)?;
+        let mut stream = self.stream;
         if self.since.get().is_none() {
             self.since.set(self.now()?);
-            let mut stream = self.stream;
             let read = stream.read(buf);
             if !is_interrupted(&read) {
                 return read;
             }
         }
-        let read = self.read_again(self.since.get(), buf);
-        // Where this fails, the next wait is as short as the rest of this one.
-        let _ = set_timeouts(self.stream, self.idle);
-        read
-    }
-
-    /// Reads bytes in what is left of a wait that began then, once there are some.
-    fn read_again(&self, start: Option<Instant>, buf: &mut [u8]) -> io::Result<usize>
-        ensures { ReadsAtMost result buf.new }
-    {
-        let mut stream = self.stream;
         for _ in 0..u64::MAX {
-            self.put_rest(start)?;
+            self.put_rest(self.since.get())?;
             let read = stream.read(buf);
             if !is_interrupted(&read) {
+                self.restore_timeouts();
                 return read;
             }
         }
@@ -199,10 +184,11 @@ impl<'a, C: Clock> Socket<'a, C> {
     {
         let written = self.write_some(buf);
         self.since.set(None);
+        self.note(&written);
         if let Ok(0) = written {
             self.failed.set(Some(Failure::Broken));
         }
-        self.noted(written)
+        written
     }
 
     fn write_some(&self, buf: &[u8]) -> io::Result<usize>
@@ -221,21 +207,11 @@ impl<'a, C: Clock> Socket<'a, C> {
         if !is_interrupted(&written) {
             return written;
         }
-        let written = self.write_again(start, buf);
-        // Where this fails, the next wait is as short as the rest of this one.
-        let _ = set_timeouts(self.stream, self.idle);
-        written
-    }
-
-    /// Writes bytes after an interruption, once some can be taken.
-    fn write_again(&self, start: Option<Instant>, buf: &[u8]) -> io::Result<usize>
-        ensures { WritesAtMost result buf.now }
-    {
-        let mut stream = self.stream;
         for _ in 0..u64::MAX {
             self.put_rest(start)?;
             let written = stream.write(buf);
             if !is_interrupted(&written) {
+                self.restore_timeouts();
                 return written;
             }
         }
@@ -262,6 +238,12 @@ impl<'a, C: Clock> Socket<'a, C> {
         }
         set_timeouts(self.stream, Some(rest))
     }
+
+    /// From now on a read or a write waits for the whole idle time again.
+    fn restore_timeouts(&self) {
+        // Where this fails, the next wait is as short as the rest of this one.
+        let _ = set_timeouts(self.stream, self.idle);
+    }
 }
 
 /// How one failed of this kind.
@@ -280,17 +262,10 @@ fn set_timeouts(stream: &TcpStream, timeout: Option<Duration>) -> io::Result<()>
 }
 
 fn is_interrupted(done: &io::Result<usize>) -> bool {
-    match done {
-        Ok(_) => false,
-        Err(error) => error.kind() == ErrorKind::Interrupted,
-    }
+    matches!(done, Err(error) if error.kind() == ErrorKind::Interrupted)
 }
 
 /// Whether a read or a write that does not wait has nothing to tell yet.
 fn comes_later(done: &io::Result<usize>) -> bool {
-    match done {
-        Ok(_) => false,
-        Err(error) => error.kind() == ErrorKind::WouldBlock
-            || error.kind() == ErrorKind::Interrupted,
-    }
+    is_interrupted(done) || matches!(done, Err(error) if error.kind() == ErrorKind::WouldBlock)
 }
