@@ -1,28 +1,27 @@
 //! What a server is, in JSON.
 
 use crate::view::{SessionView, WaitView};
-use mlt_object_kinds::{Done, ObjOp};
+use mlt_object_kinds::Done;
 use mlt_types::TxId;
 use serde::{Serialize, Serializer};
-use std::alloc::{AllocError, Global};
-use std::net::SocketAddr;
+use std::fmt::Display;
 
 /// Who waits for whom, as /waits tells it.
-#[derive(Clone, Copy, Serialize)]
-pub(crate) struct Waits<'a> {
-    pub(crate) waits: &'a [WaitView],
+#[derive(Drop, Serialize)]
+pub(crate) struct Waits {
+    pub(crate) waits: Vec<WaitView>,
 }
 
 /// The sessions that are served, as /sessions tells them.
-#[derive(Clone, Copy, Serialize)]
-pub(crate) struct Sessions<'a> {
-    pub(crate) sessions: &'a [SessionView],
+#[derive(Drop, Serialize)]
+pub(crate) struct Sessions {
+    pub(crate) sessions: Vec<SessionView>,
 }
 
 /// The objects that are listed, as /base tells them.
-#[derive(Clone, Copy, Serialize)]
-pub(crate) struct Objects<'a> {
-    pub(crate) objects: &'a [NumberedObject],
+#[derive(Drop, Serialize)]
+pub(crate) struct Objects {
+    pub(crate) objects: Vec<NumberedObject>,
     /// The number from which the next ones are listed, if there are more.
     pub(crate) next: Option<u64>,
 }
@@ -35,38 +34,22 @@ pub(crate) struct NumberedObject {
     pub(crate) value: Option<u64>,
 }
 
-/// A value as a line of JSON. It fails for want of memory alone.
-pub(crate) fn json_line<T: Serialize>(alloc: Global, value: &T) -> Result<String, AllocError> {
-    let Ok(mut text) = serde_json::to_string(alloc, value) else {
-        return Err(AllocError);
-    };
-    text.push('\n')?;
-    Ok(text)
-}
-
-// How fields are written whose types are not those of this crate: a flag is 1 or 0, and an operation is as a script has it, or null.
+// How fields are written whose types are not those of this crate: a flag is 1 or 0, and what is missing is null.
 
 pub(crate) fn flag<S: Serializer>(is_so: &bool, out: &mut S) -> Result<(), S::Error> {
     out.u64(u64::from(*is_so))
 }
 
 pub(crate) fn number<S: Serializer>(tx: &TxId, out: &mut S) -> Result<(), S::Error> {
-    out.u64(u64::from(tx.0))
+    out.u64(tx.0)
 }
 
-pub(crate) fn address<S: Serializer>(
-    address: &Option<SocketAddr>,
+pub(crate) fn text_or_null<T: Display, S: Serializer>(
+    value: &Option<T>,
     out: &mut S,
 ) -> Result<(), S::Error> {
-    match address {
-        Some(address) => out.collect_str(address),
-        None => out.unit(),
-    }
-}
-
-pub(crate) fn operation<S: Serializer>(op: &Option<ObjOp>, out: &mut S) -> Result<(), S::Error> {
-    match op {
-        Some(op) => out.collect_str(op),
+    match value {
+        Some(value) => out.collect_str(value),
         None => out.unit(),
     }
 }

@@ -1,10 +1,14 @@
 //! Which objects a request lists.
 
-use crate::json::{NumberedObject, Objects, json_line};
+use crate::json::{NumberedObject, Objects};
 use crate::operated::Operated;
 use crate::view::KeyRange;
 use mlt_types::{Cell, Key};
 use std::alloc::{AllocError, Global};
+
+/// What is said where a query asks for none.
+pub(crate) const LISTINGS: &str =
+    "Expected /base?kind=account, kind=counter or kind=set&of=SET, and from=NUMBER.\n";
 
 /// How many objects are listed at most.
 const MOST_OBJECTS: usize = 1_000;
@@ -25,11 +29,6 @@ enum Kind {
 }
 
 impl Kind {
-    /// Whether its objects hold something.
-    fn has_values(self) -> bool {
-        !matches!(self, Kind::Elements(_))
-    }
-
     /// The number of the key of this object.
     fn key(self, number: u32) -> u64 {
         let cell = match self {
@@ -45,49 +44,43 @@ impl Listing {
     /// What a query asks for: `kind=account`, `kind=counter`, or `kind=set&of=SET`, each with `from=NUMBER` where the list is to
     /// begin later. `None`, where it is none of these.
     pub(crate) fn read(query: &str) -> Option<Listing> {
-        let kind = value_of(query, "kind=")?;
-        let kind = if kind == "account" {
-            Kind::Accounts
-        } else if kind == "counter" {
-            Kind::Counters
-        } else if kind == "set" {
-            Kind::Elements(value_of(query, "of=")?.parse::<u16>().ok()?)
-        } else {
-            return None;
+        let kind = match value_of(query, "kind=")?.as_bytes() {
+            b"account" => Kind::Accounts,
+            b"counter" => Kind::Counters,
+            b"set" => Kind::Elements(value_of(query, "of=")?.parse::<u16>().ok()?),
+            _ => return None,
         };
-        let from = match value_of(query, "from=") {
-            Some(number) => number.parse::<u32>().ok()?,
-            None => 0,
-        };
+        let from = value_of(query, "from=").unwrap_or("0");
+        let from = from.parse::<u32>().ok()?;
         Some(Listing { kind, from })
     }
 
-    /// The objects, in JSON.
+    /// The objects.
     ///
     /// # Errors
     /// Where a growth was refused.
-    pub(crate) fn text<O: Operated>(
+    pub(crate) fn objects<O: Operated>(
         &self,
         alloc: Global,
         operated: &O,
-    ) -> Result<String, AllocError> {
+    ) -> Result<Objects, AllocError> {
         let zero = self.kind.key(0);
         let range = KeyRange {
             first: self.kind.key(self.from),
             last: self.kind.key(u32::MAX),
         };
+        let has_values = !matches!(self.kind, Kind::Elements(_));
         let found = operated.objects(alloc, &range, MOST_OBJECTS + 1)?;
         let mut objects = Vec::new(alloc);
         for object in found.iter().take(MOST_OBJECTS) {
             objects.push(NumberedObject {
                 number: object.key.saturating_sub(zero),
-                value: self.kind.has_values().then_some(object.value),
+                value: has_values.then_some(object.value),
             })?;
         }
-        let objects = objects.as_slice();
         let next = found.get(MOST_OBJECTS);
         let next = next.map(|object| object.key.saturating_sub(zero));
-        json_line(alloc, &Objects { objects, next })
+        Ok(Objects { objects, next })
     }
 }
 

@@ -3,28 +3,14 @@
 use crate::view::{Counts, TimesView};
 use std::alloc::{AllocError, Global};
 
-/// One of the numbers of a server.
-#[derive(Clone, Copy)]
-struct Metric {
-    /// Its name, behind `mltx_`.
-    name: &'static str,
-    /// `counter` where it never falls, and else `gauge`.
-    kind: &'static str,
-    /// What it is.
-    words: &'static str,
-    /// How much it is.
-    value: u64,
-}
+/// One of the numbers of a server: its name behind `mltx_`, `counter` where it never falls and else `gauge`, what it is, and how
+/// much it is.
+type Metric = (&'static str, &'static str, &'static str, u64);
 
 // The rows of a table as an array.
 macro_rules! metrics {
     ($($name:ident $kind:ident $words:literal $value:expr;)*) => {
-        [$(Metric {
-            name: stringify!($name),
-            kind: stringify!($kind),
-            words: $words,
-            value: $value,
-        }),*]
+        [$((stringify!($name), stringify!($kind), $words, $value)),*]
     };
 }
 
@@ -63,29 +49,17 @@ fn metrics(counts: &Counts) -> [Metric; 26] {
 /// The numbers, as /metrics tells them.
 pub(crate) fn metrics_text(alloc: Global, counts: &Counts) -> Result<String, AllocError> {
     let mut text = String::new(alloc);
-    for metric in &metrics(counts) {
-        let Metric {
-            name,
-            kind,
-            words,
-            value,
-        } = metric;
-        write!(text, "# HELP mltx_{name} {words}\n")?;
-        write!(text, "# TYPE mltx_{name} {kind}\n")?;
+    for (name, kind, words, value) in &metrics(counts) {
+        write!(
+            text,
+            "# HELP mltx_{name} {words}\n# TYPE mltx_{name} {kind}\n"
+        )?;
         write!(text, "mltx_{name} {value}\n")?;
     }
-    push_times(
-        &mut text,
-        "transaction",
-        "Seconds from the answer to begin to the end of the transaction.",
-        &counts.transaction_times,
-    )?;
-    push_times(
-        &mut text,
-        "wait",
-        "Seconds for which an operation waited for other transactions.",
-        &counts.wait_times,
-    )?;
+    let words = "Seconds from the answer to begin to the end of the transaction.";
+    push_times(&mut text, "transaction", words, &counts.transaction_times)?;
+    let words = "Seconds for which an operation waited for other transactions.";
+    push_times(&mut text, "wait", words, &counts.wait_times)?;
     Ok(text)
 }
 
@@ -107,14 +81,10 @@ fn push_times(
             "mltx_{name}_seconds_bucket{{le=\"{seconds}.{rest:06}\"}} {sum}\n"
         )?;
     }
-    for count in times.counts.iter().skip(times.bounds.len()) {
-        sum = sum.wrapping_add(*count);
-    }
+    sum = sum.wrapping_add(times.counts[times.bounds.len()]);
+    let microseconds = times.microseconds;
+    let (seconds, rest) = (microseconds / 1_000_000, microseconds % 1_000_000);
     write!(text, "mltx_{name}_seconds_bucket{{le=\"+Inf\"}} {sum}\n")?;
-    let (seconds, rest) = (
-        times.microseconds / 1_000_000,
-        times.microseconds % 1_000_000,
-    );
     write!(text, "mltx_{name}_seconds_sum {seconds}.{rest:06}\n")?;
     write!(text, "mltx_{name}_seconds_count {sum}\n")
 }

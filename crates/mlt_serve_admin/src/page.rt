@@ -1,12 +1,8 @@
 //! The page for a browser.
 
-/// A page in HTML that needs nothing else: it asks for the numbers, the sessions and the waits, and shows them.
-pub(crate) fn page() -> &'static str {
-    PAGE
-}
-
-// It asks twice a second. It puts the answers into the page as text alone, never as HTML.
-const PAGE: &str = r#"<!doctype html>
+/// A page in HTML that needs nothing else: it asks for the numbers, the sessions and the waits, twice a second, and puts the answers
+/// into the page as text alone, never as HTML.
+pub(crate) const PAGE: &str = r#"<!doctype html>
 <html lang="en">
 <head>
 <meta charset="utf-8">
@@ -31,13 +27,12 @@ button{font:inherit;padding:.3rem .7rem;color:var(--stop);background:none;border
 button:disabled{opacity:.4;cursor:default}
 #figures{display:grid;grid-template-columns:repeat(auto-fit,minmax(12rem,1fr));gap:.5rem;margin:1rem 0 0}
 #figures div{background:var(--card);border:1px solid var(--line);border-radius:.5rem;padding:.6rem .8rem}
-#figures span{color:var(--dim);font-size:.82rem}
 #figures strong{display:block;font-size:1.7rem;line-height:1.3;font-variant-numeric:tabular-nums;white-space:nowrap}
 #figures svg{width:100%;height:2.2rem}
 #figures path{stroke:var(--good);vector-effect:non-scaling-stroke}
 dl{display:grid;grid-template-columns:repeat(auto-fill,minmax(9rem,1fr));gap:.5rem;margin:1rem 0 0}
 dl div,li{background:var(--card);border:1px solid var(--line);border-radius:.5rem;padding:.45rem .7rem}
-dt{color:var(--dim);font-size:.82rem}
+#figures span,dt{color:var(--dim);font-size:.82rem}
 dd{margin:0;font-size:1.05rem;font-variant-numeric:tabular-nums;overflow-wrap:anywhere}
 ul{list-style:none;margin:0;padding:0;display:grid;gap:.5rem}
 li p{margin:0;display:flex;flex-wrap:wrap;gap:.1rem .8rem;align-items:baseline}
@@ -81,18 +76,13 @@ svg marker path{fill:var(--wait);stroke:none}
 <script>
 "use strict";
 const at = id => document.getElementById(id);
-const make = (tag, text, name) => {
-  const node = document.createElement(tag);
-  if (text !== undefined) node.textContent = text;
-  if (name) node.className = name;
-  return node;
-};
-const svg = (tag, attributes, text) => {
-  const node = document.createElementNS("http://www.w3.org/2000/svg", tag);
+const make = (tag, attributes, text, node = document.createElement(tag)) => {
   for (const name in attributes) node.setAttribute(name, attributes[name]);
   if (text !== undefined) node.textContent = text;
   return node;
 };
+const svg = (tag, attributes, text) =>
+  make(tag, attributes, text, document.createElementNS("http://www.w3.org/2000/svg", tag));
 const count = n => n.toLocaleString("en");
 const of = (n, most) => count(n) + (most < 2 ** 53 ? " of " + count(most) : "");
 const bytes = n => n < 1e4 ? n + " B" : n < 1e7 ? Math.round(n / 1e3) + " kB" : Math.round(n / 1e6) + " MB";
@@ -130,19 +120,17 @@ function quantile(first, last, share) {
 const atMost = ms => ms === null ? "–" : ms < 1 ? ms * 1000 + " µs" : time(ms);
 
 function showFigure(name, text, series) {
-  let figure = document.getElementById(name);
-  if (!figure) {
-    figure = make("div");
-    figure.id = name;
+  if (!at(name)) {
+    const figure = make("div", {id: name});
     const line = svg("svg", {viewBox: "0 0 60 10", preserveAspectRatio: "none", "aria-hidden": "true"});
-    line.append(svg("path", {}), svg("title", {}, "The last minute"));
-    figure.append(make("span", name), make("strong"), line);
+    line.append(svg("path"), svg("title", {}, "The last minute"));
+    figure.append(make("span", {}, name), make("strong"), line);
     at("figures").append(figure);
   }
-  put(figure.querySelector("strong"), text);
+  put(at(name).querySelector("strong"), text);
   const most = Math.max(...series, 1e-9), end = samples[samples.length - 1].at;
   const points = series.map((value, i) => `${(60 - end + samples[i].at).toFixed(2)} ${(9.5 - 9 * value / most).toFixed(2)}`);
-  figure.querySelector("path").setAttribute("d", "M" + points.join("L"));
+  at(name).querySelector("path").setAttribute("d", "M" + points.join("L"));
 }
 
 function showFigures(now, waits) {
@@ -187,62 +175,42 @@ function showCounts(now) {
   put(at("name"), "mltx " + now.version + (now.address ? " at " + now.address : ""));
   document.title = at("name").textContent;
   for (const name in rows) {
-    let value = document.getElementById(name);
-    if (!value) {
+    if (!at(name)) {
       const row = make("div");
-      value = make("dd");
-      value.id = name;
-      row.append(make("dt", name), value);
+      row.append(make("dt", {}, name), make("dd", {id: name}));
       at("counts").append(row);
     }
-    put(value, rows[name]);
+    put(at(name), rows[name]);
   }
   at("stop").disabled = now.stopping === 1;
   put(at("state"), (now.stopping ? "shutting down, after " : "up for ") + time(now.seconds * 1000));
 }
 
-const shown = new Map();
-
 function newRow(client) {
-  const row = {
-    item: make("li"),
-    address: make("span", "", "age"),
-    age: make("span", "", "age"),
-    tx: make("span"),
-    txAge: make("span", "", "age"),
-    did: make("code"),
-    calls: make("code", "", "calls"),
-  };
-  const line = make("p"), end = make("button", "End session");
+  const row = make("li", {id: "client-" + client}), line = make("p"), end = make("button", {}, "End session");
+  const text = (tag, name) => make(tag, {class: name});
   end.onclick = () => act("End the session of client " + client + "?", "/sessions/" + client + "/end");
-  row.item.id = "client-" + client;
-  line.append(make("strong", "Client " + client), row.address, row.age, row.tx, row.txAge, end);
-  row.item.append(line, row.did, row.calls);
+  line.append(make("strong", {}, "Client " + client), text("span", "age address"), text("span", "age since"));
+  line.append(text("span", "tx"), text("span", "age work"), end);
+  row.append(line, text("code", "did"), text("code", "calls"));
+  at("sessions").append(row);
   return row;
 }
 
 function showSessions(sessions) {
   sessions.sort((a, b) => a.client - b.client);
-  const clients = new Set(sessions.map(session => session.client));
-  for (const [client, row] of shown) {
-    if (clients.has(client)) continue;
-    row.item.remove();
-    shown.delete(client);
-  }
+  const clients = new Set(sessions.map(session => "client-" + session.client));
+  for (const row of [...at("sessions").children]) if (!clients.has(row.id)) row.remove();
   for (const {client, address, milliseconds, transaction: tx} of sessions) {
-    if (!shown.has(client)) {
-      const row = newRow(client);
-      shown.set(client, row);
-      at("sessions").append(row.item);
-    }
-    const row = shown.get(client);
-    put(row.address, address || "");
-    put(row.age, time(milliseconds));
-    put(row.tx, tx ? "transaction " + tx.number : "no open transaction");
+    const row = at("client-" + client) || newRow(client);
+    const show = (name, text) => put(row.querySelector("." + name), text);
     const operations = tx && count(tx.operations) + (tx.operations === 1 ? " operation" : " operations");
-    put(row.txAge, tx ? time(tx.milliseconds) + ", " + operations : "");
-    put(row.did, tx ? (tx.operations > tx.did.length ? "… " : "") + tx.did.join(" · ") : "");
-    put(row.calls, tx && tx.calls ? tx.calls + " …" : "");
+    show("address", address || "");
+    show("since", time(milliseconds));
+    show("tx", tx ? "transaction " + tx.number : "no open transaction");
+    show("work", tx ? time(tx.milliseconds) + ", " + operations : "");
+    show("did", tx ? (tx.operations > tx.did.length ? "… " : "") + tx.did.join(" · ") : "");
+    show("calls", tx && tx.calls ? tx.calls + " …" : "");
   }
   at("nobody").hidden = sessions.length > 0;
 }
@@ -262,7 +230,7 @@ function rowsOf(waits) {
 }
 
 function showWaits(waits, sessions) {
-  if (!waits.length) return at("graph").replaceChildren(make("p", "No transaction waits.", "none"));
+  if (!waits.length) return at("graph").replaceChildren(make("p", {class: "none"}, "No transaction waits."));
   const levels = rowsOf(waits), place = new Map(), halfWidth = 92, halfHeight = 22;
   const width = Math.max(...levels.map(level => level.length)) * 200, height = levels.length * 96;
   levels.forEach((level, row) => level.forEach((tx, i) => place.set(tx, [width * (i + .5) / level.length, 48 + row * 96])));
@@ -270,14 +238,11 @@ function showWaits(waits, sessions) {
   const tip = svg("marker", {id: "tip", refX: 7, refY: 4, markerWidth: 8, markerHeight: 8, orient: "auto"});
   tip.append(svg("path", {d: "M0 0 8 4 0 8z"}));
   picture.append(tip);
-  const labels = [], waiting = new Map(), clients = new Map(), held = new Map();
-  for (const {client, transaction: tx} of sessions) {
-    if (!tx) continue;
-    clients.set(tx.number, client);
-    held.set(tx.number, tx.did);
-  }
+  const labels = [], waiting = new Map(waits.map(wait => [wait.waiter, wait]));
+  const open = sessions.filter(session => session.transaction);
+  const held = new Map(open.map(session => [session.transaction.number, session.transaction.did]));
+  const clients = new Map(open.map(session => [session.transaction.number, session.client]));
   for (const wait of waits) {
-    waiting.set(wait.waiter, wait);
     clients.set(wait.waiter, wait.client);
     const [x1, y1] = place.get(wait.waiter), [x2, y2] = place.get(wait.holder);
     const dx = x2 - x1, dy = y2 - y1, far = Math.hypot(dx, dy) || 1;
@@ -295,7 +260,7 @@ function showWaits(waits, sessions) {
   for (const [tx, [x, y]] of place) {
     const wait = waiting.get(tx), corner = {x: x - halfWidth, y: y - halfHeight, rx: 8};
     const size = {width: 2 * halfWidth, height: 2 * halfHeight};
-    const node = clients.has(tx) ? svg("a", {href: '#client-' + clients.get(tx)}) : svg("g", {});
+    const node = clients.has(tx) ? svg("a", {href: '#client-' + clients.get(tx)}) : svg("g");
     const did = held.get(tx) || [];
     const text = wait ? (wait.operation || "no operation") + ", " + time(wait.milliseconds) : did[did.length - 1] || "";
     const short = text.length > 28 ? text.slice(0, 27) + "…" : text;

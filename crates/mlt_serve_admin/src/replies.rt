@@ -5,7 +5,10 @@ ghost use Rattle.http_server.specs.Response.{IsBlank};
 ghost use Rattle.mlt_serve_admin.specs.Replies.{content_type_of, headers_of, IsReply, security_policy};
 
 use bytes::BufMut;
-use http::{HeaderName, HeaderValue, StatusCode};
+use http::header::{
+    CACHE_CONTROL, CONNECTION, CONTENT_SECURITY_POLICY, CONTENT_TYPE, X_FRAME_OPTIONS,
+};
+use http::{HeaderValue, StatusCode};
 use http_server::Response;
 use std::alloc::AllocError;
 
@@ -53,22 +56,23 @@ pub(crate) fn fill(
     ensures { OnOk result (IsReply status content response.new) }
 {
     response.status = status;
-    response.add_header(
-        HeaderName::from_static("connection"),
-        HeaderValue::from_static("close"),
-    )?;
-    response.add_header(HeaderName::from_static("content-type"), content.header())?;
-    response.add_header(
-        HeaderName::from_static("cache-control"),
-        HeaderValue::from_static("no-store"),
-    )?;
-    response.add_header(
-        HeaderName::from_static("content-security-policy"),
-        HeaderValue::from_static(SECURITY_POLICY),
-    )?;
-    response.add_header(
-        HeaderName::from_static("x-frame-options"),
-        HeaderValue::from_static("DENY"),
-    )?;
+    response.add_header(CONNECTION, HeaderValue::from_static("close"))?;
+    response.add_header(CONTENT_TYPE, content.header())?;
+    response.add_header(CACHE_CONTROL, HeaderValue::from_static("no-store"))?;
+    let policy = HeaderValue::from_static(SECURITY_POLICY);
+    response.add_header(CONTENT_SECURITY_POLICY, policy)?;
+    response.add_header(X_FRAME_OPTIONS, HeaderValue::from_static("DENY"))?;
     response.body.put_slice(body.as_bytes())
+}
+
+/// Makes a response a refusal, which says why.
+pub(crate) fn refuse(
+    response: &mut Response,
+    status: StatusCode,
+    why: &str,
+) -> Result<(), AllocError>
+    requires { IsBlank response.old }
+    ensures { OnOk result (IsReply status Content.Line response.new) }
+{
+    fill(response, status, Content::Line, why)
 }

@@ -72,22 +72,15 @@ fn fixed_resource(path: &str) -> Option<Resource>
     ensures some { IfSome result (IsAt path.now) }
     ensures none { IfNone result (IsAtNoFixedPath path.now) }
 {
-    if path == "/" {
-        Some(Resource::Page)
-    } else if path == "/status" {
-        Some(Resource::Status)
-    } else if path == "/metrics" {
-        Some(Resource::Metrics)
-    } else if path == "/waits" {
-        Some(Resource::Waits)
-    } else if path == "/sessions" {
-        Some(Resource::Sessions)
-    } else if path == "/base" {
-        Some(Resource::Base)
-    } else if path == "/stop" {
-        Some(Resource::Stop)
-    } else {
-        None
+    match path.as_bytes() {
+        b"/" => Some(Resource::Page),
+        b"/status" => Some(Resource::Status),
+        b"/metrics" => Some(Resource::Metrics),
+        b"/waits" => Some(Resource::Waits),
+        b"/sessions" => Some(Resource::Sessions),
+        b"/base" => Some(Resource::Base),
+        b"/stop" => Some(Resource::Stop),
+        _ => None,
     }
 }
 

@@ -9,17 +9,20 @@ ghost use Rattle.mlt_serve_admin.specs.Answers.{IsAnswerAt, IsAnswerBy, IsMarked
 ghost use Rattle.mlt_serve_admin.specs.Resources.{methods_of};
 
 use crate::hosts::is_direct;
-use crate::json::{Sessions, Waits, json_line};
-use crate::listing::Listing;
+use crate::json::{Sessions, Waits};
+use crate::listing::{LISTINGS, Listing};
 use crate::metrics::metrics_text;
 use crate::operated::Operated;
-use crate::page::page;
-use crate::replies::{Content, fill};
+use crate::page::PAGE;
+use crate::replies::{Content, fill, refuse};
 use crate::resources::Resource;
 use crate::routes::{Route, route_of};
+use crate::view::ServerView;
 use bytes::Bytes;
-use http::{HeaderName, HeaderValue, Request, StatusCode};
+use http::header::ALLOW;
+use http::{HeaderValue, Request, StatusCode};
 use http_server::{Response, Service};
+use serde::Serialize;
 use std::alloc::{AllocError, Global};
 
 /// The service of a server that is operated.
@@ -61,27 +64,16 @@ impl<O: Operated> OperatorService<'_, O> {
     {
         match route {
             Route::Open(resource) => self.answer_at(resource, query, response),
-            Route::NotFound => {
-                fill(
-                    response,
-                    StatusCode::NOT_FOUND,
-                    Content::Line,
-                    "Not found.\n",
-                )
-            }
+            Route::NotFound => refuse(response, StatusCode::NOT_FOUND, "Not found.\n"),
             Route::MethodNotAllowed(resource) => refuse_method(resource, response),
-            Route::Forbidden => fill(
-                response,
-                StatusCode::FORBIDDEN,
-                Content::Line,
-                "The header X-Mltx: 1 is required.\n",
-            ),
-            Route::ForeignHost => fill(
-                response,
-                StatusCode::FORBIDDEN,
-                Content::Line,
-                "The host in Host and Origin must be an IP address or localhost.\n",
-            ),
+            Route::Forbidden => {
+                let why = "The header X-Mltx: 1 is required.\n";
+                refuse(response, StatusCode::FORBIDDEN, why)
+            }
+            Route::ForeignHost => {
+                let why = "The host in Host and Origin must be an IP address or localhost.\n";
+                refuse(response, StatusCode::FORBIDDEN, why)
+            }
         }
     }
 
@@ -97,88 +89,50 @@ impl<O: Operated> OperatorService<'_, O> {
             (O.is_cut self.now.operated.now) resource response.new) }
     {
         match resource {
-            Resource::Page => fill(response, StatusCode::OK, Content::Page, page()),
-            Resource::Status => self.show_status(response),
-            Resource::Metrics => self.show_metrics(response),
-            Resource::Waits => self.show_waits(response),
-            Resource::Sessions => self.show_sessions(response),
-            Resource::Base => self.show_base(query, response),
-            Resource::Stop => self.stop(response),
+            Resource::Page => fill(response, StatusCode::OK, Content::Page, PAGE),
+            Resource::Status => {
+                let view = self.operated.view(self.alloc)?;
+                self.show(&view.counts, response)
+            }
+            Resource::Metrics => {
+                let view = self.operated.view(self.alloc)?;
+                let text = metrics_text(self.alloc, &view.counts)?;
+                fill(response, StatusCode::OK, Content::Metrics, text.as_str())
+            }
+            Resource::Waits => {
+                let ServerView { waits, .. } = self.operated.view(self.alloc)?;
+                self.show(&Waits { waits }, response)
+            }
+            Resource::Sessions => {
+                let ServerView { sessions, .. } = self.operated.view(self.alloc)?;
+                self.show(&Sessions { sessions }, response)
+            }
+            Resource::Base => {
+                let Some(listing) = Listing::read(query) else {
+                    return refuse(response, StatusCode::BAD_REQUEST, LISTINGS);
+                };
+                let objects = listing.objects(self.alloc, self.operated)?;
+                self.show(&objects, response)
+            }
+            Resource::Stop => {
+                self.operated.stop();
+                let text = "{\"stopping\":true}\n";
+                fill(response, StatusCode::OK, Content::Json, text)
+            }
             Resource::SessionEnd(client) => self.end_session(client, response),
         }
     }
 
-    fn show_status(&self, response: &mut Response) -> Result<(), AllocError>
+    // Shows a value, as a line of JSON.
+    fn show<T: Serialize>(&self, value: &T, response: &mut Response) -> Result<(), AllocError>
         requires { IsBlank response.old }
         ensures { OnOk result (IsReply 200 content.Json response.new) }
     {
-        let view = self.operated.view(self.alloc)?;
-        let text = json_line(self.alloc, &view.counts)?;
-        fill(response, StatusCode::OK, Content::Json, text.as_str())?;
-        Ok(())
-    }
-
-    fn show_metrics(&self, response: &mut Response) -> Result<(), AllocError>
-        requires { IsBlank response.old }
-        ensures { OnOk result (IsReply 200 content.Metrics response.new) }
-    {
-        let view = self.operated.view(self.alloc)?;
-        let text = metrics_text(self.alloc, &view.counts)?;
-        fill(response, StatusCode::OK, Content::Metrics, text.as_str())?;
-        Ok(())
-    }
-
-    fn show_waits(&self, response: &mut Response) -> Result<(), AllocError>
-        requires { IsBlank response.old }
-        ensures { OnOk result (IsReply 200 content.Json response.new) }
-    {
-        let view = self.operated.view(self.alloc)?;
-        let waits = view.waits.as_slice();
-        let text = json_line(self.alloc, &Waits { waits })?;
-        fill(response, StatusCode::OK, Content::Json, text.as_str())?;
-        Ok(())
-    }
-
-    fn show_sessions(&self, response: &mut Response) -> Result<(), AllocError>
-        requires { IsBlank response.old }
-        ensures { OnOk result (IsReply 200 content.Json response.new) }
-    {
-        let view = self.operated.view(self.alloc)?;
-        let sessions = view.sessions.as_slice();
-        let text = json_line(self.alloc, &Sessions { sessions })?;
-        fill(response, StatusCode::OK, Content::Json, text.as_str())?;
-        Ok(())
-    }
-
-    fn show_base(&self, query: &str, response: &mut Response) -> Result<(), AllocError>
-        requires { IsBlank response.old }
-        ensures { OnOk result (IsReply 200 content.Json response.new
-            ⊎ IsReply 400 content.Line response.new) }
-    {
-        let Some(listing) = Listing::read(query) else {
-            return fill(
-                response,
-                StatusCode::BAD_REQUEST,
-                Content::Line,
-                "Expected /base?kind=account, kind=counter or kind=set&of=SET, and from=NUMBER.\n",
-            );
+        let Ok(mut text) = serde_json::to_string(self.alloc, value) else {
+            return Err(AllocError);
         };
-        let text = listing.text(self.alloc, self.operated)?;
+        text.push('\n')?;
         fill(response, StatusCode::OK, Content::Json, text.as_str())
-    }
-
-    fn stop(&self, response: &mut Response) -> Result<(), AllocError>
-        requires { IsBlank response.old }
-        ensures { OnOk result (O.is_stopped self.now.operated.now
-            × IsReply 200 content.Json response.new) }
-    {
-        self.operated.stop();
-        fill(
-            response,
-            StatusCode::OK,
-            Content::Json,
-            "{\"stopping\":true}\n",
-        )
     }
 
     // Cuts the session of this client.
@@ -192,12 +146,8 @@ impl<O: Operated> OperatorService<'_, O> {
             let text = format!(in self.alloc; "{{\"ended\":{client}}}\n")?;
             fill(response, StatusCode::OK, Content::Json, text.as_str())
         } else {
-            fill(
-                response,
-                StatusCode::NOT_FOUND,
-                Content::Line,
-                "There is no session of this client.\n",
-            )
+            let why = "There is no session of this client.\n";
+            refuse(response, StatusCode::NOT_FOUND, why)
         }
     }
 }
@@ -219,13 +169,9 @@ fn refuse_method(resource: Resource, response: &mut Response) -> Result<(), Allo
     requires { IsBlank response.old }
     ensures { OnOk result (IsRefusedMethod resource response.new) }
 {
-    fill(
-        response,
-        StatusCode::METHOD_NOT_ALLOWED,
-        Content::Line,
-        "Method not allowed.\n",
-    )?;
-    response.add_header(HeaderName::from_static("allow"), allow(resource))
+    let why = "Method not allowed.\n";
+    refuse(response, StatusCode::METHOD_NOT_ALLOWED, why)?;
+    response.add_header(ALLOW, allow(resource))
 }
 
 fn allow(resource: Resource) -> HeaderValue

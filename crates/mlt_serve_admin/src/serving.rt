@@ -90,12 +90,6 @@ fn limit_accepts(listener: &TcpListener) -> io::Result<()> {
     TcpStream::from(socket).set_read_timeout(Some(Duration::from_millis(PAUSE)))
 }
 
-fn config() -> Config {
-    let mut config = Config::default();
-    config.max_body_len = MAX_BODY;
-    config
-}
-
 /// A connection that is not done.
 #[derive(Drop)]
 struct Visit {
@@ -113,7 +107,11 @@ impl Visit {
         stream: TcpStream,
     ) -> io::Result<Visit> {
         let since = Instant::now(clock)?;
-        let mut connection = Connection::new(alloc, keys, config());
+        let config = Config {
+            max_body_len: MAX_BODY,
+            ..Config::default()
+        };
+        let mut connection = Connection::new(alloc, keys, config);
         stream.set_read_timeout(Some(Duration::from_millis(FIRST_READ)))?;
         let mut socket = &stream;
         // If nothing has come, or this failed, the next read says so.

@@ -1,6 +1,6 @@
 //! What a server is at one moment.
 
-use crate::json::{address, all_done, flag, number, operation};
+use crate::json::{all_done, flag, number, text_or_null};
 use mlt_object_kinds::{Done, ObjOp};
 use mlt_types::TxId;
 use serde::Serialize;
@@ -18,7 +18,7 @@ pub struct ServerView {
 }
 
 /// How many times fell into each bucket of a histogram.
-#[derive(Clone, Copy, Debug, PartialEq, Eq, Serialize)]
+#[derive(Clone, Copy, Serialize)]
 pub struct TimesView {
     /// The greatest time of each bucket but the last, in microseconds.
     pub bounds: [u64; 17],
@@ -29,7 +29,7 @@ pub struct TimesView {
 }
 
 /// Which objects are to be listed, by the numbers of their keys.
-#[derive(Clone, Copy, Debug, PartialEq, Eq)]
+#[derive(Clone, Copy)]
 pub struct KeyRange {
     /// The first.
     pub first: u64,
@@ -38,7 +38,7 @@ pub struct KeyRange {
 }
 
 /// The record of an object.
-#[derive(Clone, Copy, Debug, PartialEq, Eq)]
+#[derive(Clone, Copy)]
 pub struct ObjectView {
     /// The number of its key.
     pub key: u64,
@@ -47,14 +47,14 @@ pub struct ObjectView {
 }
 
 /// The numbers of a whole server. What is counted is counted since the server began.
-#[derive(Clone, Copy, Debug, PartialEq, Eq, Serialize)]
+#[derive(Clone, Copy, Serialize)]
 pub struct Counts {
     /// A number that was drawn at random when the server began.
     pub server: u64,
     /// The version of the program.
     pub version: &'static str,
     /// Where clients connect, if the system could say so.
-    #[serde(serialize_with = "address")]
+    #[serde(serialize_with = "text_or_null")]
     pub address: Option<SocketAddr>,
     /// For how many seconds the server has listened.
     pub seconds: u64,
@@ -121,7 +121,7 @@ pub struct SessionView {
     /// The number of its client.
     pub client: u32,
     /// The address of its client, if the system could say so.
-    #[serde(serialize_with = "address")]
+    #[serde(serialize_with = "text_or_null")]
     pub address: Option<SocketAddr>,
     /// For how many thousandths of a second it has been served.
     pub milliseconds: u64,
@@ -143,12 +143,12 @@ pub struct TransactionView {
     #[serde(serialize_with = "all_done")]
     pub did: Vec<Done>,
     /// The operation that it has called and that is not done, if there is one.
-    #[serde(serialize_with = "operation")]
+    #[serde(serialize_with = "text_or_null")]
     pub calls: Option<ObjOp>,
 }
 
 /// A transaction that waits for another one.
-#[derive(Clone, Copy, Debug, PartialEq, Eq, Serialize)]
+#[derive(Clone, Copy, Serialize)]
 pub struct WaitView {
     /// The transaction that waits.
     #[serde(serialize_with = "number")]
@@ -162,14 +162,14 @@ pub struct WaitView {
     #[serde(rename = "for")]
     pub awaited: WaitReason,
     /// The operation that it has called, if there is one.
-    #[serde(serialize_with = "operation")]
+    #[serde(serialize_with = "text_or_null")]
     pub operation: Option<ObjOp>,
     /// For how many thousandths of a second it has waited.
     pub milliseconds: u64,
 }
 
 /// What a transaction waits for.
-#[derive(Clone, Copy, Debug, PartialEq, Eq, Serialize)]
+#[derive(Clone, Copy, Serialize)]
 #[serde(rename_all = "lowercase")]
 pub enum WaitReason {
     /// An operation of the other one conflicts with its own: the end of the other transaction.
