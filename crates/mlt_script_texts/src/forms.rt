@@ -1,12 +1,40 @@
 //! The forms of lines, by their first words.
 
-use crate::kind::TextKind;
 use std::alloc::{AllocError, Global};
-use std::str;
 use strsim::osa_distance;
 
+/// Words, each with what is said of it.
+pub(crate) type WordTable = &'static [(&'static str, &'static str)];
+
+/// What a text is read as.
+#[derive(Clone, Copy)]
+pub(crate) enum TextKind {
+    /// Scripts.
+    Scripts,
+    /// A schedule of events.
+    Schedule,
+    /// A trace.
+    Trace,
+}
+
+impl TextKind {
+    /// How lines of a text of this kind begin, each with the form of the whole line.
+    pub(crate) fn forms(self) -> WordTable {
+        match self {
+            TextKind::Scripts => SCRIPT_FORMS,
+            TextKind::Schedule => SCHEDULE_FORMS,
+            TextKind::Trace => TRACE_FORMS,
+        }
+    }
+
+    /// The form of the lines that begin with this word, where a text of this kind has such.
+    pub(crate) fn find_form(self, word: &[u8]) -> Option<&'static str> {
+        find_row(self.forms(), word)
+    }
+}
+
 // The first words of the lines of scripts, each with the form of the lines that begin so.
-static SCRIPT_FORMS: &[(&str, &str)] = &[
+static SCRIPT_FORMS: WordTable = &[
     ("begin", "`begin`, or `begin K` with K from 0 to 999"),
     ("commit", "`commit`"),
     ("abort", "`abort`"),
@@ -47,7 +75,7 @@ static SCRIPT_FORMS: &[(&str, &str)] = &[
     ("end", "`end`"),
 ];
 
-static SCHEDULE_FORMS: &[(&str, &str)] = &[
+static SCHEDULE_FORMS: WordTable = &[
     ("begin", "`begin`"),
     ("call", "`call T OP`, such as `call 3 deposit 101 30`"),
     ("step", "`step T`, or `step T N` with N from 1 to 1000"),
@@ -58,7 +86,7 @@ static SCHEDULE_FORMS: &[(&str, &str)] = &[
     ("undo", "`undo T`"),
 ];
 
-static TRACE_FORMS: &[(&str, &str)] = &[
+static TRACE_FORMS: WordTable = &[
     ("begin", "`begin T`, T at least 1"),
     ("op", "`op T OP REPLY`, such as `op 3 balance 101 is 70`"),
     ("back", "`back T`, T at least 1"),
@@ -66,77 +94,48 @@ static TRACE_FORMS: &[(&str, &str)] = &[
     ("abort", "`abort T`, T at least 1"),
 ];
 
-// The operations, each with the replies that it can have.
-static OPERATIONS: &[(&str, &str)] = &[
-    ("open", "opened or exists"),
-    ("close", "closed, notempty or missing"),
-    ("deposit", "done, over or missing"),
-    ("withdraw", "done, short or missing"),
-    ("balance", "is N or missing"),
-    ("add", "added or present"),
-    ("remove", "removed or absent"),
-    ("has", "yes or no"),
-    ("size", "is N"),
-    ("up", "done"),
-    ("down", "done"),
-    ("read", "is N"),
+/// The operations, each with the replies that it gets.
+pub(crate) static OPERATIONS: WordTable = &[
+    ("open", "`open` gets opened or exists"),
+    ("close", "`close` gets closed, notempty or missing"),
+    ("deposit", "`deposit` gets done, over or missing"),
+    ("withdraw", "`withdraw` gets done, short or missing"),
+    ("balance", "`balance` gets is N or missing"),
+    ("add", "`add` gets added or present"),
+    ("remove", "`remove` gets removed or absent"),
+    ("has", "`has` gets yes or no"),
+    ("size", "`size` gets is N"),
+    ("up", "`up` gets done"),
+    ("down", "`down` gets done"),
+    ("read", "`read` gets is N"),
 ];
 
-// Words of other systems, and what is written for them.
-static OTHER_NAMES: &[(&str, &str)] = &[
-    ("rollback", "`abort`"),
-    ("start", "`begin`"),
-    ("insert", "`add`"),
-    ("delete", "`remove`"),
-    ("contains", "`has`"),
-    ("count", "`size`"),
-    ("increment", "`up`"),
-    ("decrement", "`down`"),
-    ("get", "`balance`, `has` or `read`"),
-    ("transfer", "`withdraw` and `deposit`"),
+/// Words of other systems, each with what is said of it.
+pub(crate) static OTHER_NAMES: WordTable = &[
+    ("rollback", "is written as `abort`"),
+    ("start", "is written as `begin`"),
+    ("insert", "is written as `add`"),
+    ("delete", "is written as `remove`"),
+    ("contains", "is written as `has`"),
+    ("count", "is written as `size`"),
+    ("increment", "is written as `up`"),
+    ("decrement", "is written as `down`"),
+    ("get", "is written as `balance`, `has` or `read`"),
+    ("transfer", "is written as `withdraw` and `deposit`"),
 ];
 
-// How lines of a text of this kind begin, each with the form of the whole line.
-fn forms_of(kind: TextKind) -> &'static [(&'static str, &'static str)] {
-    match kind {
-        TextKind::Scripts => SCRIPT_FORMS,
-        TextKind::Schedule => SCHEDULE_FORMS,
-        TextKind::Trace => TRACE_FORMS,
-    }
-}
-
-// What a table has for a word.
-fn find_row(table: &[(&'static str, &'static str)], word: &[u8]) -> Option<&'static str> {
+/// What a table says of a word.
+pub(crate) fn find_row(table: WordTable, word: &[u8]) -> Option<&'static str> {
     let (_, text) = table.iter().find(|row| row.0.as_bytes() == word)?;
     Some(*text)
 }
 
-/// The form of the lines that begin with this word, where a text of this kind has such.
-pub(crate) fn find_form(kind: TextKind, word: &[u8]) -> Option<&'static str> {
-    find_row(forms_of(kind), word)
-}
-
-/// The replies of the operation that has this name, if one has it.
-pub(crate) fn find_replies(word: &[u8]) -> Option<&'static str> {
-    find_row(OPERATIONS, word)
-}
-
-/// What is written for this word of another system, if it is one.
-pub(crate) fn find_other_name(word: &[u8]) -> Option<&'static str> {
-    find_row(OTHER_NAMES, word)
-}
-
-/// The word nearest to this one with which lines of a text of this kind begin, or the operation if no kind is given, if it is at most
-/// two edits away and has more letters than that.
+/// The word of a table that is nearest to this one, if it is at most two edits away and has more letters than that.
 pub(crate) fn find_nearest(
     alloc: Global,
-    kind: Option<TextKind>,
-    word: &[u8],
+    table: WordTable,
+    word: &str,
 ) -> Result<Option<&'static str>, AllocError> {
-    let table = kind.map_or(OPERATIONS, forms_of);
-    let Ok(word) = str::from_utf8(word) else {
-        return Ok(None);
-    };
     let mut nearest = None;
     let mut least = word.len().min(3);
     for (name, _) in table {

@@ -3,20 +3,16 @@
 //! print beside their input, or in colours. What these texts say is only tested.
 #![tactic(auto)]
 
-mod columns;
 mod expected;
 mod forms;
 mod hint;
-mod kind;
-mod pieces;
-mod schedule_rows;
+mod rows;
 mod script_rows;
 mod shown;
 mod truth;
 mod verbose;
 mod words;
 
-pub use columns::Look;
-pub use kind::TextFault;
+pub use rows::Look;
 pub use script_rows::{Echoed, write_shown};
-pub use verbose::{Detail, report_verbose};
+pub use verbose::{Detail, TextFault, report_verbose};

@@ -4,9 +4,7 @@ ghost use Rattle.std.specs.Prelude.{◌≡◌, ℕ, List, Err, IfErr};
 ghost use Rattle.std.specs.Io.KnownBytes.{Appends, Keeps};
 ghost use Rattle.mlt_text.specs.Failures.{IsWant};
 
-use crate::columns::{Columns, Look};
-use crate::pieces::{Answers, lines_of};
-use crate::schedule_rows::push_schedule;
+use crate::rows::{Look, Rows, lines_of};
 use crate::words::{first_word, is_remark};
 use mlt_script::{Line, Script, parse, read_reply};
 use mlt_script_serial::{Cursor, Next};
@@ -16,7 +14,7 @@ use std::alloc::{AllocError, Global};
 use std::io::Write;
 
 /// What stands beside the answers.
-#[derive(Clone, Copy, Debug, PartialEq, Eq)]
+#[derive(Clone, Copy, PartialEq)]
 pub enum Echoed {
     /// Nothing.
     Nothing,
@@ -26,73 +24,6 @@ pub enum Echoed {
     Clients,
     /// The schedule that `steps` executed.
     Schedule,
-}
-
-// A script, and its lines in the text with the comments before it: from the first, up to this one.
-#[derive(Clone, Copy)]
-struct Part<'a> {
-    script: &'a Script,
-    first: usize,
-    end: usize,
-}
-
-// The script that is being shown, and how far it is.
-#[derive(Drop)]
-struct Follower<'a> {
-    cursor: Cursor<'a>,
-    body: &'a [Line],
-    // How many lines of the body were shown; none before the `begin`.
-    shown: Option<usize>,
-    is_refused: bool,
-}
-
-impl<'a> Follower<'a> {
-    fn new(script: &'a Script) -> Follower<'a> {
-        Follower {
-            cursor: Cursor::new(script),
-            body: script.lines(),
-            shown: None,
-            is_refused: false,
-        }
-    }
-
-    // The answer to the next line of the script, of those that are left; no bytes where it has none.
-    fn answer<'b>(
-        &mut self,
-        line: &[u8],
-        names_script: bool,
-        answers: &mut Answers<'b>,
-    ) -> &'b [u8] {
-        let Some(shown) = self.shown else {
-            self.shown = Some(0);
-            return if names_script { answers.take() } else { &[] };
-        };
-        let at = self.line_at(shown, line);
-        self.shown = Some(at.saturating_add(1));
-        if at >= self.body.len() {
-            return answers.take();
-        }
-        match self.cursor.next() {
-            Next::Op(_) if !self.is_refused && self.cursor.line() == at => {
-                let answer = answers.take();
-                match read_reply(answer) {
-                    Some((reply, _)) => self.cursor.tell(reply),
-                    None => self.is_refused = true,
-                }
-                answer
-            }
-            _ => &[],
-        }
-    }
-
-    // Which line of the body this one is. An `else` that the text leaves out is one of them.
-    fn line_at(&self, shown: usize, line: &[u8]) -> usize {
-        let is_end = first_word(line) == b"end".as_slice();
-        match self.body.get(shown) {
-            Some(Line::Else) if is_end => shown.saturating_add(1),
-            _ => shown,
-        }
-    }
 }
 
 /// Writes the output of a run of this input beside it, and flushes. Without an echo it writes the output alone. Else there is a row for
@@ -115,70 +46,71 @@ pub fn write_shown<W: Write>(
         → Keeps (W.contents writer.old) (W.contents writer.new) }
     ensures refusal { IfErr result IsWant }
 {
-    match rows_of(alloc, echoed, look, input, output) {
-        Ok(columns) => write_text(writer, columns.text()),
+    match text_of(alloc, echoed, look, input, output) {
+        Ok(text) => write_text(writer, text.as_slice()),
         Err(_) => Err(Refusal::OutOfMemory),
     }
 }
 
-// The rows. The input is one that was run.
-fn rows_of(
+// The text of the rows. The input is one that was run.
+fn text_of(
     alloc: Global,
     echoed: Echoed,
     look: Look,
     input: &[u8],
     output: &[u8],
-) -> Result<Columns, Refusal> {
+) -> Result<Vec<u8>, Refusal> {
     let input = match echoed {
         Echoed::Nothing => &[],
         _ => input,
     };
     let lines = lines_of(alloc, input)?;
-    let mut columns = Columns::new(alloc, lines.as_slice(), look);
-    let mut answers = Answers::new(alloc, output)?;
+    let answers = lines_of(alloc, output)?;
+    let mut rows = Rows::new(alloc, lines.as_slice(), answers.as_slice(), look);
     match echoed {
         Echoed::Nothing => (),
-        Echoed::Schedule => push_schedule(alloc, &mut columns, lines.as_slice(), &mut answers)?,
+        Echoed::Schedule => rows.push_schedule(lines.as_slice())?,
         Echoed::Scripts | Echoed::Clients => {
             let scripts = parse(alloc, input)?;
             let is_by_client = echoed == Echoed::Clients;
-            let mut parts = parts_of(alloc, scripts.as_slice(), lines.as_slice())?;
-            let behind = parts.last().map_or(0, |part| part.end);
-            if is_by_client {
-                parts.sort_by_key(|part| part.script.client())?;
-            }
-            for part in &parts {
-                let lines = lines.get(part.first..part.end).unwrap_or(&[]);
-                push_part(&mut columns, part.script, lines, is_by_client, &mut answers)?;
-            }
-            for line in lines.get(behind..).unwrap_or(&[]) {
-                columns.push(line, &[])?;
-            }
+            push_scripts(
+                alloc,
+                &mut rows,
+                scripts.as_slice(),
+                lines.as_slice(),
+                is_by_client,
+            )?;
         }
     }
-    columns.push_rest(&mut answers)?;
-    Ok(columns)
+    rows.push_rest()?;
+    Ok(rows.text)
 }
 
-// Where the lines of each script stand.
-fn parts_of<'a>(
+// Adds the rows of all scripts, those of each client one after another if they go by client, and of the lines behind them.
+fn push_scripts(
     alloc: Global,
-    scripts: &'a [Script],
+    rows: &mut Rows<'_>,
+    scripts: &[Script],
     lines: &[&[u8]],
-) -> Result<Vec<Part<'a>>, AllocError> {
+    is_by_client: bool,
+) -> Result<(), AllocError> {
+    let mut texts = lines.split_inclusive(|line| ends_script(line));
     let mut parts = Vec::new(alloc);
-    let mut left = scripts.iter();
-    let mut first = 0;
-    for (at, line) in lines.iter().enumerate() {
-        if ends_script(line) {
-            let end = at.saturating_add(1);
-            if let Some(script) = left.next() {
-                parts.push(Part { script, first, end })?;
-            }
-            first = end;
+    for script in scripts {
+        if let Some(text) = texts.next() {
+            parts.push((script, text))?;
         }
     }
-    Ok(parts)
+    if is_by_client {
+        parts.sort_by_key(|part| part.0.client())?;
+    }
+    for (script, text) in &parts {
+        push_script(rows, script, text, is_by_client)?;
+    }
+    for line in texts.next().unwrap_or(&[]) {
+        rows.push(line)?;
+    }
+    Ok(())
 }
 
 fn ends_script(line: &[u8]) -> bool {
@@ -186,26 +118,46 @@ fn ends_script(line: &[u8]) -> bool {
     word == b"commit".as_slice() || word == b"abort".as_slice()
 }
 
-// Adds the rows of a script. What is told of it behind its last line has a row of its own.
-fn push_part(
-    columns: &mut Columns,
+// Adds the rows of a script, whose lines come behind comments. What is told of it behind its last line has a row of its own.
+fn push_script(
+    rows: &mut Rows<'_>,
     script: &Script,
     lines: &[&[u8]],
     names_script: bool,
-    answers: &mut Answers<'_>,
 ) -> Result<(), AllocError> {
-    let mut follower = Follower::new(script);
-    let mut last: &[u8] = &[];
+    let mut cursor = Cursor::new(script);
+    // Which line of the script is next. An `else` that the text leaves out is one of them.
+    let mut at: usize = 0;
     for line in lines {
-        if is_remark(line) {
-            columns.push(line, &[])?;
-            continue;
+        match first_word(line) {
+            _ if is_remark(line) => rows.push(line)?,
+            b"begin" if names_script => {
+                rows.push_answered(line)?;
+            }
+            b"begin" => rows.push(line)?,
+            b"commit" | b"abort" => {
+                if rows.push_answered(line)?.starts_with(b"refused ") {
+                    rows.push_answered(&[])?;
+                }
+            }
+            word => {
+                let is_end = word == b"end".as_slice();
+                if is_end && matches!(script.lines().get(at), Some(Line::Else)) {
+                    at = at.saturating_add(1);
+                }
+                match cursor.next() {
+                    // Behind an operation that was refused the cursor stays there.
+                    Next::Op(_) if cursor.line() == at => {
+                        let answer = rows.push_answered(line)?;
+                        if let Some((reply, _)) = read_reply(answer) {
+                            cursor.tell(reply);
+                        }
+                    }
+                    _ => rows.push(line)?,
+                }
+                at = at.saturating_add(1);
+            }
         }
-        last = follower.answer(line, names_script, answers);
-        columns.push(line, last)?;
-    }
-    if last.starts_with(b"refused ") {
-        columns.push(&[], answers.take())?;
     }
     Ok(())
 }

@@ -1,6 +1,5 @@
 //! The reply that a trace would have to have.
 
-use crate::words::first_word;
 use mlt_object_base::Base;
 use mlt_object_kinds::{ObjOp, ObjReply};
 use mlt_script::read_op;
@@ -17,16 +16,16 @@ pub(crate) struct Truth {
     pub(crate) began: u64,
 }
 
-// An operation of a transaction that has not committed.
+// A line of a transaction that has not ended: its begin, or an operation.
 #[derive(Clone, Copy)]
-struct Done {
+struct OpenLine {
     tx: u64,
-    line: u64,
-    op: ObjOp,
+    number: u64,
+    op: Option<ObjOp>,
 }
 
 /// What is true of the operation in this line of a trace, which is the first one that can't get its reply: its transaction is run from
-/// the base of the commits before its own.
+/// the base of the commits before its own. A transaction that took something back does not commit.
 ///
 /// # Errors
 /// `OutOfMemory`, where a growth was refused.
@@ -36,50 +35,34 @@ pub(crate) fn find_truth(
     faulty: u64,
 ) -> Result<Option<Truth>, Refusal> {
     let mut base = Base::new(alloc);
-    let mut done: Vec<Done> = Vec::new(alloc);
-    let mut begins: Vec<(u64, u64)> = Vec::new(alloc);
+    let mut open: Vec<OpenLine> = Vec::new(alloc);
     let mut number: u64 = 0;
     for line in trace.split(|byte| *byte == b'\n') {
         number = number.saturating_add(1);
-        let Some((_, words)) = next_raw_word(line) else {
+        let Some((word, rest)) = next_raw_word(line) else {
             continue;
         };
-        let Some((tx, words)) = next_number(words) else {
+        let Some((tx, rest)) = next_number(rest) else {
             continue;
         };
-        match first_word(line) {
-            b"begin" => begins.push((tx, number))?,
-            b"op" => {
-                if let Some((op, _)) = read_op(words) {
-                    done.push(Done {
-                        tx,
-                        line: number,
-                        op,
-                    })?;
+        if word == b"begin".as_slice() || word == b"op".as_slice() {
+            let op = read_op(rest).map(|read| read.0);
+            open.push(OpenLine { tx, number, op })?;
+        } else if word == b"commit".as_slice() {
+            let mut began = None;
+            for one in open.iter().filter(|one| one.tx == tx) {
+                let Some(op) = one.op else {
+                    began = Some(one.number);
+                    continue;
+                };
+                let reply = base.apply(&op)?;
+                if one.number == faulty {
+                    return Ok(began.map(|began| Truth { reply, began }));
                 }
             }
-            b"back" => {
-                if let Some(at) = done.iter().rposition(|one| one.tx == tx) {
-                    done.remove(at);
-                }
-            }
-            b"commit" => {
-                for one in &done {
-                    if one.tx == tx {
-                        let reply = base.apply(&one.op)?;
-                        if one.line == faulty {
-                            let began = begins.iter().find(|begin| begin.0 == tx);
-                            return Ok(began.map(|begin| Truth {
-                                reply,
-                                began: begin.1,
-                            }));
-                        }
-                    }
-                }
-                done.retain(|one| one.tx != tx);
-                begins.retain(|begin| begin.0 != tx);
-            }
-            _ => begins.retain(|begin| begin.0 != tx),
+        }
+        if word == b"commit".as_slice() || word == b"abort".as_slice() {
+            open.retain(|one| one.tx != tx);
         }
     }
     Ok(None)

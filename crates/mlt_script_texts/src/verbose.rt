@@ -4,14 +4,36 @@ ghost use Rattle.std.specs.Prelude.{◌≡◌, ℕ, List, Err, IfErr};
 ghost use Rattle.std.specs.Io.KnownBytes.{Appends, Keeps};
 ghost use Rattle.mlt_text.specs.Failures.{IsWant};
 
-use crate::expected::expected_text;
-use crate::kind::TextFault;
+use crate::expected::push_expected;
+use crate::forms::TextKind;
 use crate::shown::{show, show_front};
 use mlt_text::write_text;
 use mlt_text_words::trimmed;
 use mlt_types::{Refusal, ScriptCause, TraceCause};
-use std::alloc::{AllocError, Global};
+use std::alloc::Global;
 use std::io::Write;
+
+/// What is wrong with a line of a text, by what the text was read as.
+#[derive(Clone, Copy)]
+pub enum TextFault {
+    /// Scripts, as `solo` and `run` read them.
+    Scripts(ScriptCause),
+    /// A schedule, as `steps` reads it.
+    Schedule(ScriptCause),
+    /// A trace, as `check` reads it.
+    Trace(TraceCause),
+}
+
+impl TextFault {
+    /// What the text was read as.
+    pub(crate) fn kind(self) -> TextKind {
+        match self {
+            TextFault::Scripts(_) => TextKind::Scripts,
+            TextFault::Schedule(_) => TextKind::Schedule,
+            TextFault::Trace(_) => TextKind::Trace,
+        }
+    }
+}
 
 /// What is known of a fault, beside its number and its name.
 #[derive(Clone, Copy)]
@@ -21,16 +43,6 @@ pub enum Detail<'a> {
     /// The fault, the number of its line, counted from 1, the text in which it is, and whether a caret below the line points at
     /// the word.
     Faulty(TextFault, u64, &'a [u8], bool),
-}
-
-// The lines up to that of this number, counted from 1, without their LFs; the last one is empty where there is no such line.
-fn lines_to(alloc: Global, text: &[u8], number: u64) -> Result<Vec<&[u8]>, AllocError> {
-    let mut lines = Vec::new(alloc);
-    let mut rest = text.split(|byte| *byte == b'\n');
-    for _ in 0..number {
-        lines.push(rest.next().unwrap_or(&[]))?;
-    }
-    Ok(lines)
 }
 
 // The line as the fault sees it: a CR before its LF counts where a byte or the length is wrong.
@@ -47,27 +59,21 @@ fn verbose_text(alloc: Global, subject: &str, detail: &Detail<'_>) -> Result<Str
     let subject = show(alloc, subject.as_bytes())?;
     match *detail {
         Detail::Said(words) => Ok(format!(in alloc; "mltx: {subject}: {words}\n")?),
-        Detail::Faulty(fault, number, text, points) => {
-            let mut lines = lines_to(alloc, text, number)?;
-            let line = faulty_line(fault, lines.pop().unwrap_or(&[]));
-            lines.push(line)?;
+        Detail::Faulty(fault, number, read, points) => {
+            let mut lines = read.split(|byte| *byte == b'\n');
+            let line = lines.nth(number.saturating_sub(1) as usize);
+            let line = faulty_line(fault, line.unwrap_or(&[]));
             let front = show_front(alloc, line)?;
-            let expected = expected_text(alloc, fault, lines.as_slice(), text, number)?;
-            let words = expected.text;
-            let mut written = format!(in alloc;
-                "mltx: {subject}, line {number}: `{front}`: {words}\n"
-            )?;
-            if let (true, Some(at)) = (points, expected.at) {
-                let before = show(alloc, line.get(..at).unwrap_or(&[]))?;
-                if before.len() < front.len() {
-                    write!(written, "  {front}\n  ")?;
-                    for _ in 0..before.len() {
-                        written.push(' ')?;
-                    }
-                    written.push_str("^\n")?;
+            let mut text = format!(in alloc; "mltx: {subject}, line {number}: `{front}`: ")?;
+            let at = push_expected(alloc, &mut text, fault, line, read, number)?;
+            text.push('\n')?;
+            if let (true, Some(at)) = (points, at) {
+                let before = show(alloc, line.get(..at).unwrap_or(&[]))?.len();
+                if before < front.len() {
+                    writeln!(text, "  {front}\n  {:before$}^", "")?;
                 }
             }
-            Ok(written)
+            Ok(text)
         }
     }
 }

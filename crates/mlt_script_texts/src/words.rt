@@ -1,6 +1,6 @@
 //! The words of a line, and where they stand.
 
-use mlt_text_words::next_raw_word;
+use mlt_text_words::{has_word, is_comment_line, next_raw_word};
 use std::alloc::{AllocError, Global};
 
 /// A word of a line.
@@ -14,17 +14,12 @@ pub(crate) struct WordAt<'a> {
 /// The words of a line, in order.
 pub(crate) fn words_of(alloc: Global, line: &[u8]) -> Result<Vec<WordAt<'_>>, AllocError> {
     let mut words = Vec::new(alloc);
-    let mut rest = line;
-    for _ in 0..line.len() {
-        let Some((text, behind)) = next_raw_word(rest) else {
-            break;
-        };
-        let at = line
-            .len()
-            .saturating_sub(behind.len())
-            .saturating_sub(text.len());
-        words.push(WordAt { text, at })?;
-        rest = behind;
+    let mut at: usize = 0;
+    for text in line.split(|byte| *byte == b' ' || *byte == b'\t') {
+        if !text.is_empty() {
+            words.push(WordAt { text, at })?;
+        }
+        at = at.saturating_add(text.len()).saturating_add(1);
     }
     Ok(words)
 }
@@ -39,6 +34,5 @@ pub(crate) fn first_word(line: &[u8]) -> &[u8] {
 
 /// Whether a line has no words, or is a comment of a script or a schedule.
 pub(crate) fn is_remark(line: &[u8]) -> bool {
-    let word = first_word(line);
-    word.is_empty() || word.starts_with(b"#")
+    !has_word(line) || is_comment_line(line)
 }
