@@ -25,14 +25,18 @@ impl Object {
         if has_word(rest) {
             return None;
         }
-        if kind == b"account".as_slice() {
-            account_of(first, second)
-        } else if kind == b"element".as_slice() {
-            element_of(first, second)
-        } else if kind == b"counter".as_slice() {
-            counter_of(first, second)
-        } else {
-            None
+        match kind {
+            b"account" if second <= MOST_COINS => {
+                Some(Object::Account(u32::try_from(first).ok()?, second))
+            }
+            b"element" => {
+                let set = u16::try_from(first).ok()?;
+                Some(Object::Element(set, u32::try_from(second).ok()?))
+            }
+            b"counter" if second > 0 => {
+                Some(Object::Counter(u32::try_from(first).ok()?, second))
+            }
+            _ => None,
         }
     }
 
@@ -46,20 +50,4 @@ impl Object {
             Object::Counter(counter, _) => (1 << 61) + u64::from(counter),
         }
     }
-}
-
-fn account_of(account: u64, balance: u64) -> Option<Object> {
-    let account = u32::try_from(account).ok()?;
-    (balance <= MOST_COINS).then_some(Object::Account(account, balance))
-}
-
-fn element_of(set: u64, element: u64) -> Option<Object> {
-    let set = u16::try_from(set).ok()?;
-    let element = u32::try_from(element).ok()?;
-    Some(Object::Element(set, element))
-}
-
-fn counter_of(counter: u64, value: u64) -> Option<Object> {
-    let counter = u32::try_from(counter).ok()?;
-    (value > 0).then_some(Object::Counter(counter, value))
 }

@@ -10,7 +10,7 @@ use std::alloc::{AllocError, Global};
 const MOST_OBJECTS: u64 = 100;
 
 /// Who is asked to make a base.
-#[derive(Clone, Copy, Debug, PartialEq, Eq)]
+#[derive(Clone, Copy)]
 pub enum Form {
     /// `solo`, by scripts.
     Solo,
@@ -21,7 +21,7 @@ pub enum Form {
 }
 
 /// The transactions that make a base, and their answers.
-#[derive(Debug, Drop)]
+#[derive(Drop)]
 pub struct Load {
     /// The scripts, or the lines of the session.
     pub text: String,
