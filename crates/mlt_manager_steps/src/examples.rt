@@ -1,25 +1,15 @@
 //! The example of a conflict table for two operations that clash.
 
-ghost use Rattle.std.specs.Prelude.{IsOkUnless};
-
 use mlt_object_conflicts::Table;
 use mlt_object_kinds::{Account, Counter, Done, Element, ObjOp};
-use mlt_object_tables::{NamedTable, Orders, orders_of, push_orders, size_orders};
-use mlt_types::Refusal;
+use mlt_object_tables::{NamedTable, Orders, orders_of, size_orders};
 
-/// An example of the conflict of two classes, with their words.
-#[derive(Drop)]
-pub(crate) struct ConflictExample {
-    held: &'static str,
-    asked: &'static str,
-    orders: Orders,
-}
+/// The words of the classes of two operations, and the example of their conflict.
+pub(crate) type ConflictExample = ((&'static str, &'static str), Orders);
 
-impl ConflictExample {
-    /// Whether the operation that is asked for gets another reply where the held one has not come before it.
-    pub(crate) fn changes_asked(&self) -> bool {
-        self.orders.held_first.second.reply() != self.orders.asked_first.first.reply()
-    }
+/// Whether the operation that is asked for gets another reply where the held one has not come before it.
+pub(crate) fn changes_asked(orders: &Orders) -> bool {
+    orders.held_first.second.reply() != orders.asked_first.first.reply()
 }
 
 /// The example of the table of their kind, for an operation that is held and one that is asked for.
@@ -38,21 +28,11 @@ pub(crate) fn example_of(held: &Done, asked: &Done) -> Option<ConflictExample> {
         }
         (ObjOp::Element(_, _, op), ObjOp::Size(_)) => {
             let class = Element::class(&op, &told)?;
-            let (orders, _) = size_orders(class)?;
-            Some(ConflictExample {
-                held: Element::word(class),
-                asked: "size",
-                orders,
-            })
+            Some(((Element::word(class), "size"), size_orders(class)?.0))
         }
         (ObjOp::Size(_), ObjOp::Element(_, _, op)) => {
             let class = Element::class(&op, &reply)?;
-            let (_, orders) = size_orders(class)?;
-            Some(ConflictExample {
-                held: "size",
-                asked: Element::word(class),
-                orders,
-            })
+            Some((("size", Element::word(class)), size_orders(class)?.1))
         }
         _ => None,
     }
@@ -65,27 +45,8 @@ where
     K::Op: Copy,
     K::Reply: Copy,
 {
-    Some(ConflictExample {
-        held: K::word(held),
-        asked: K::word(asked),
-        orders: orders_of::<K>(held, asked)?,
-    })
-}
-
-/// Appends a line with the words of the two classes and what is there before, and a line for each order.
-///
-/// # Errors
-/// `OutOfMemory`, where a growth was refused.
-pub(crate) fn push_example(text: &mut String, example: &ConflictExample) -> Result<(), Refusal>
-    ensures refusal { IsOkUnless result Refusal.OutOfMemory }
-{
-    let ConflictExample {
-        held,
-        asked,
-        orders,
-    } = example;
-    let before = &orders.before;
-    write!(text, "# Example of the conflict: {held}, then {asked}, ")?;
-    writeln!(text, "from {before}:")?;
-    push_orders(text, "#   ", orders)
+    Some((
+        (K::word(held), K::word(asked)),
+        orders_of::<K>(held, asked)?,
+    ))
 }

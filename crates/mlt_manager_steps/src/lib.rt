@@ -5,7 +5,6 @@
 //! and against a model.
 #![tactic(auto)]
 
-mod cycles;
 mod examples;
 mod playing;
 mod reasons;

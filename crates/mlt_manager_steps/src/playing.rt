@@ -59,9 +59,10 @@ where
     let mut manager = Manager::new(alloc, limits, pseudo)?;
     for event in events {
         let told = manager.act(*event);
-        if let Err(refusal) = state.explain(&mut text, event, &told, manager.kept_history()) {
+        let explained = state.explain(&mut text, event, &told, manager.kept_history());
+        if explained.is_err() {
             manager.close();
-            return Err(refusal);
+            return Err(Refusal::OutOfMemory);
         }
     }
     manager.keeps_its_promises();

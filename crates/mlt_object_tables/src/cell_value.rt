@@ -3,7 +3,7 @@
 use std::fmt;
 
 /// A cell with what it holds.
-#[derive(Clone, Copy, Debug, PartialEq, Eq)]
+#[derive(Clone, Copy)]
 pub enum CellValue {
     /// An account and its balance, if it is there.
     Account(u32, Option<u64>),
@@ -14,11 +14,6 @@ pub enum CellValue {
 }
 
 impl fmt::Display for CellValue {
-    ghost use Rattle.std.specs.Prelude.{Some};
-    ghost use Rattle.mlt_object_tables.specs.OrderTexts.{value_text};
-
-    ghost output = { λ value. Some (value_text value) };
-
     fn fmt<W: fmt::Write>(&self, f: &mut fmt::Formatter<W>) -> fmt::Result {
         match *self {
             CellValue::Account(account, Some(balance)) => write!(f, "account {account} {balance}"),

@@ -16,6 +16,6 @@ pub use cell_value::CellValue;
 pub use examples::orders_of;
 pub use matrix::{row_of, size_row};
 pub use named::NamedTable;
-pub use orders::{OpOrder, Orders, push_orders};
+pub use orders::{OpOrder, Orders, push_example};
 pub use sizes::size_orders;
 pub use tables::{TableName, write_tables};

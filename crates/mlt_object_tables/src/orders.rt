@@ -1,16 +1,11 @@
 //! Two operations in both orders.
 
-ghost use Rattle.std.specs.Prelude.{◌≡◌, ◌++◌, IsOkUnless, OnOk};
-ghost use Rattle.std.specs.String.{string_bytes};
-ghost use Rattle.mlt_object_tables.specs.OrderTexts.{order_line, orders_text};
-
 use crate::cell_value::CellValue;
 use mlt_object_kinds::Done;
-use mlt_types::Refusal;
 use std::alloc::AllocError;
 
 /// Two operations on a cell, one after the other, with their replies, and what they leave.
-#[derive(Clone, Copy, Debug, PartialEq, Eq)]
+#[derive(Clone, Copy)]
 pub struct OpOrder {
     /// The one that is done first, with its reply.
     pub first: Done,
@@ -21,7 +16,7 @@ pub struct OpOrder {
 }
 
 /// An operation that is held and one that is asked for, in both orders.
-#[derive(Clone, Copy, Debug, PartialEq, Eq)]
+#[derive(Clone, Copy)]
 pub struct Orders {
     /// The cell before both.
     pub before: CellValue,
@@ -31,31 +26,31 @@ pub struct Orders {
     pub asked_first: OpOrder,
 }
 
-/// Appends a line for each order, behind this lead.
+/// Appends an example of a conflict, of operations with these words: behind the title a line with the two words and what is
+/// there before, and behind the lead a line for each order.
 ///
 /// # Errors
-/// `OutOfMemory`, where a growth was refused.
-pub fn push_orders(text: &mut String, lead: &str, orders: &Orders) -> Result<(), Refusal>
-    ensures text { OnOk result
-        (string_bytes text.new ≡ string_bytes text.old ++ orders_text lead.now orders.now) }
-    ensures refusal { IsOkUnless result Refusal.OutOfMemory }
-{
+/// Where a growth was refused.
+pub fn push_example(
+    text: &mut String,
+    (title, lead): (&str, &str),
+    (held, asked): (&str, &str),
+    orders: &Orders,
+) -> Result<(), AllocError> {
+    let before = &orders.before;
+    writeln!(text, "{title}{held}, then {asked}, from {before}:")?;
     push_order(text, lead, "held", "asked", &orders.held_first)?;
-    push_order(text, lead, "asked", "held", &orders.asked_first)?;
-    Ok(())
+    push_order(text, lead, "asked", "held", &orders.asked_first)
 }
 
-/// Appends the line of one order, behind this lead, with a word for each of the two operations.
-pub(crate) fn push_order(
+// Appends the line of one order, behind this lead, with a word for each of the two operations.
+fn push_order(
     text: &mut String,
     lead: &str,
     earlier: &str,
     later: &str,
     order: &OpOrder,
-) -> Result<(), AllocError>
-    ensures { OnOk result (string_bytes text.new ≡ string_bytes text.old
-        ++ order_line lead.now earlier.now later.now order.now) }
-{
+) -> Result<(), AllocError> {
     let OpOrder {
         first,
         second,

@@ -6,14 +6,16 @@ ghost use Rattle.std.specs.Io.KnownBytes.{Appends, Keeps};
 use crate::examples::orders_of;
 use crate::matrix::{push_matrix, push_size_matrix};
 use crate::named::NamedTable;
-use crate::orders::{Orders, push_order};
+use crate::orders::push_example;
 use crate::sizes::size_orders;
-use mlt_object_conflicts::ElementClass;
 use mlt_object_kinds::{Account, Counter, Element};
 use mlt_text::write_text;
 use mlt_types::Refusal;
 use std::alloc::{AllocError, Global};
 use std::io::Write;
+
+// What the title and the lines of an example begin with.
+const LEADS: (&str, &str) = ("", "  ");
 
 /// A conflict table, by its name.
 #[derive(Clone, Copy, Debug, PartialEq, Eq)]
@@ -52,34 +54,31 @@ pub fn write_tables<W: Write>(
 fn text_of(alloc: Global, name: Option<TableName>) -> Result<String, AllocError> {
     let mut text = String::new(alloc);
     match name {
-        Some(TableName::Account) => push_table::<Account>(alloc, &mut text, "account")?,
-        Some(TableName::Set) => push_set(alloc, &mut text)?,
-        Some(TableName::Counter) => push_table::<Counter>(alloc, &mut text, "counter")?,
+        Some(name) => push_table(alloc, &mut text, name)?,
         None => {
-            push_table::<Account>(alloc, &mut text, "account")?;
+            push_table(alloc, &mut text, TableName::Account)?;
             text.push('\n')?;
-            push_set(alloc, &mut text)?;
+            push_table(alloc, &mut text, TableName::Set)?;
             text.push('\n')?;
-            push_table::<Counter>(alloc, &mut text, "counter")?;
+            push_table(alloc, &mut text, TableName::Counter)?;
         }
     }
     Ok(text)
 }
 
-// Appends the table of elements, and then what changes the size of their set.
-fn push_set(alloc: Global, text: &mut String) -> Result<(), AllocError> {
-    push_table::<Element>(alloc, text, "set")?;
-    text.push('\n')?;
-    push_size_matrix(alloc, text)?;
-    text.push('\n')?;
-    for class in Element::classes() {
-        push_size_pair(text, *class)?;
+fn push_table(alloc: Global, text: &mut String, name: TableName) -> Result<(), AllocError> {
+    match name {
+        TableName::Account => push_pairs::<Account>(alloc, text, "account"),
+        TableName::Set => {
+            push_pairs::<Element>(alloc, text, "set")?;
+            push_sizes(alloc, text)
+        }
+        TableName::Counter => push_pairs::<Counter>(alloc, text, "counter"),
     }
-    Ok(())
 }
 
-// Appends a table under this title.
-fn push_table<K: NamedTable>(
+// Appends the matrix of a table under this title, and an example of each two classes that conflict.
+fn push_pairs<K: NamedTable>(
     alloc: Global,
     text: &mut String,
     title: &str,
@@ -93,48 +92,26 @@ where
     text.push('\n')?;
     for held in K::classes() {
         for asked in K::classes() {
-            push_pair::<K>(text, *held, *asked)?;
+            if let Some(orders) = orders_of::<K>(*held, *asked) {
+                let words = (K::word(*held), K::word(*asked));
+                push_example(text, LEADS, words, &orders)?;
+            }
         }
     }
     Ok(())
 }
 
-// Appends an example of the two classes, where they conflict.
-fn push_pair<K: NamedTable>(
-    text: &mut String,
-    held: K::Class,
-    asked: K::Class,
-) -> Result<(), AllocError>
-where
-    K::State: Copy,
-    K::Op: Copy,
-    K::Reply: Copy,
-{
-    match orders_of::<K>(held, asked) {
-        Some(orders) => push_example(text, K::word(held), K::word(asked), &orders),
-        None => Ok(()),
+// Appends which operations on elements conflict with the size of their set, and an example of each in all orders.
+fn push_sizes(alloc: Global, text: &mut String) -> Result<(), AllocError> {
+    text.push('\n')?;
+    push_size_matrix(alloc, text)?;
+    text.push('\n')?;
+    for class in Element::classes() {
+        if let Some((operation_held, size_held)) = size_orders(*class) {
+            let word = Element::word(*class);
+            push_example(text, LEADS, (word, "size"), &operation_held)?;
+            push_example(text, LEADS, ("size", word), &size_held)?;
+        }
     }
-}
-
-// Appends an example of the class beside the size of its set, in all orders, where the two conflict.
-fn push_size_pair(text: &mut String, class: ElementClass) -> Result<(), AllocError> {
-    let Some((operation_held, size_held)) = size_orders(class) else {
-        return Ok(());
-    };
-    let word = Element::word(class);
-    push_example(text, word, "size", &operation_held)?;
-    push_example(text, "size", word, &size_held)
-}
-
-// Appends a line with the two words and what is there before, and a line for each order.
-fn push_example(
-    text: &mut String,
-    held: &str,
-    asked: &str,
-    orders: &Orders,
-) -> Result<(), AllocError> {
-    let before = &orders.before;
-    writeln!(text, "{held}, then {asked}, from {before}:")?;
-    push_order(text, "  ", "held", "asked", &orders.held_first)?;
-    push_order(text, "  ", "asked", "held", &orders.asked_first)
+    Ok(())
 }
