@@ -259,6 +259,9 @@ FAULTY: Mapping[str, tuple[str, str | bytes, int, str, str, str]] = {
         "the `if` in line 4 has no `end`; expected: an `end` for each `if`",
     ),
     "commit-outside-a-script": ("solo", "commit\n", 1, "Place", "commit", ALL_ENDED),
+    "commit-behind-an-if-that-ended-in-crlf": (
+        "solo", "begin\r\nif has 1 1 is yes\r\nend\r\ncommit\r\ncommit\r\n", 5, "Place", "commit", ALL_ENDED
+    ),
     "else-without-an-if": ("solo", "begin\nelse\n", 2, "Place", "else", OPEN_IF),
     "end-without-an-if": ("solo", "begin\nend\n", 2, "Place", "end", OPEN_IF),
     "ifs-in-one-another": (
@@ -290,6 +293,10 @@ FAULTY: Mapping[str, tuple[str, str | bytes, int, str, str, str]] = {
     ),
     "reply-that-is-not-right": (
         "check", "begin 1\nop 1 open 1 exists\ncommit 1 1\n", 2, "Reply", "op 1 open 1 exists",
+        f"its transaction begins in line 1; expected: `opened`, {IN_COMMIT_ORDER}",
+    ),
+    "reply-that-is-not-right-in-crlf": (
+        "check", "begin 1\r\nop 1 open 1 exists\r\ncommit 1 1\r\n", 2, "Reply", "op 1 open 1 exists",
         f"its transaction begins in line 1; expected: `opened`, {IN_COMMIT_ORDER}",
     ),
     # Account 7 has 9 coins by the commit of transaction 3, before which transaction 2 began; what it took back does not count.

@@ -5,7 +5,7 @@ use crate::hint::push_hint;
 use crate::truth::find_truth;
 use crate::verbose::TextFault;
 use crate::words::first_word;
-use mlt_text_words::MOST_LINE_BYTES;
+use mlt_text_words::{MOST_LINE_BYTES, trimmed};
 use mlt_types::{Refusal, ScriptCause, TraceCause};
 use std::alloc::{AllocError, Global};
 
@@ -100,7 +100,7 @@ fn open_if(alloc: Global, read: &[u8], number: u64) -> Result<Option<u64>, Alloc
         if at >= number {
             break;
         }
-        match first_word(line) {
+        match first_word(trimmed(line)) {
             b"if" => open.push(at)?,
             b"end" => {
                 open.pop();

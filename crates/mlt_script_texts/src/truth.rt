@@ -3,7 +3,7 @@
 use mlt_object_base::Base;
 use mlt_object_kinds::{ObjOp, ObjReply};
 use mlt_script::read_op;
-use mlt_text_words::{next_number, next_raw_word};
+use mlt_text_words::{next_number, next_raw_word, trimmed};
 use mlt_types::Refusal;
 use std::alloc::Global;
 
@@ -39,7 +39,7 @@ pub(crate) fn find_truth(
     let mut number: u64 = 0;
     for line in trace.split(|byte| *byte == b'\n') {
         number = number.saturating_add(1);
-        let Some((word, rest)) = next_raw_word(line) else {
+        let Some((word, rest)) = next_raw_word(trimmed(line)) else {
             continue;
         };
         let Some((tx, rest)) = next_number(rest) else {
