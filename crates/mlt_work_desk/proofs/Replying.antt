@@ -1,5 +1,5 @@
 -- What a step with a reply leaves, and whose reply it is.
-use Rattle.std.proofs.Common.{◌≡◌, ◌≢◌, ◌∙◌, ◌+◌, ℕ, List, ◌++◌, length, false, true, ap, refl, subst, sym, arith, length-append}
+use Rattle.std.proofs.Common.{◌≡◌, ◌≢◌, ◌∙◌, ◌+◌, ℕ, List, ◌++◌, length, false, ap, refl, subst, sym, arith, length-append}
 use Rattle.mlt_work_desk.proofs.Names.{false≢true, ObjReply, TraceItem, Answer, Event, Told, counted, Meets, ManagerFields, IfReply, is_done}
 use Rattle.mlt_work_desk.proofs.Adding.{event_adds}
 

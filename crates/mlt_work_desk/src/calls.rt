@@ -13,7 +13,6 @@ use crate::called::Called;
 use crate::lock_desk::LockDesk;
 use crate::made_with::MadeWith;
 use crate::shared::Shared;
-use crate::timestamp::Timestamp;
 use crate::tries::{Tries, TriesLeft};
 use crate::tuning::WAITS_BEFORE_PRECEDENCE;
 use mlt_event::{Answer, Event, Told};
@@ -72,7 +71,7 @@ impl<'a, P: Pseudo, L: MadeWith<P>, R: Wait, G: Gate> LockDesk<'a, P, L, R, G> {
             is_asleep: false,
             is_reply: false,
             called: Called::none(),
-            timestamp: Timestamp::new(),
+            keeps_timestamp: false,
             wakers: Wakers::new(),
             share,
             events: 0,
@@ -85,7 +84,7 @@ impl<'a, P: Pseudo, L: MadeWith<P>, R: Wait, G: Gate> LockDesk<'a, P, L, R, G> {
         ensures { self.new.snapshot ≡ self.old.snapshot }
     {
         self.client = client;
-        self.timestamp = Timestamp::new();
+        self.keeps_timestamp = false;
     }
 
     /// Ends the desk, and gives its share, the number of its events, and what the history was after the last of them.
@@ -104,7 +103,7 @@ impl<'a, P: Pseudo, L: MadeWith<P>, R: Wait, G: Gate> LockDesk<'a, P, L, R, G> {
             is_asleep: _,
             is_reply: _,
             called: _,
-            timestamp: _,
+            keeps_timestamp: _,
             mut wakers,
             share,
             events,
@@ -153,7 +152,7 @@ impl<'a, P: Pseudo, L: MadeWith<P>, R: Wait, G: Gate> LockDesk<'a, P, L, R, G> {
         let log = &shared.log;
         let (told, turn) = state.act(event, share, may_sleep, thread, log, snapshot, wakers);
         *is_reply = is_done(&told) && state.ends_with(&thread.op);
-        shared.note_blocked(state.desks.blocked());
+        shared.note_blocked(state.desks.queue.count());
         drop(state);
         if !wakers.is_empty() {
             shared.wake(wakers);
@@ -236,7 +235,7 @@ impl<'a, P: Pseudo, L: MadeWith<P>, R: Wait, G: Gate> LockDesk<'a, P, L, R, G> {
             self.gate.deadlock(self.client);
         }
         self.hold(Event::Cancel(self.thread.tx), false);
-        self.timestamp.give_up();
+        self.keeps_timestamp = true;
     }
 
     /// The operation was to wait. Where it gives up it is cancelled, and else it goes on once the desk is awake. It answers whether it
@@ -378,8 +377,10 @@ impl<'a, P: Pseudo, L: MadeWith<P>, R: Wait, G: Gate> Desk for LockDesk<'a, P, L
         let (told, _) = self.hold(Event::Begin, false);
         match told {
             Told::Begun(tx) => {
-                self.timestamp.begin(tx);
-                self.thread.timestamp = self.timestamp.number();
+                if !self.keeps_timestamp {
+                    self.thread.timestamp = tx.0;
+                }
+                self.keeps_timestamp = false;
                 self.called = Called::none();
                 Ok(tx)
             }
@@ -392,7 +393,7 @@ impl<'a, P: Pseudo, L: MadeWith<P>, R: Wait, G: Gate> Desk for LockDesk<'a, P, L
         let (told, _) = self.hold(Event::Commit(tx), false);
         match told {
             Told::Committed(number) => {
-                self.timestamp.commit();
+                self.keeps_timestamp = false;
                 Ok(number)
             }
             Told::Refused(refusal) => Err(refusal),

@@ -1,6 +1,6 @@
 //! What a desk does while it holds the lock.
 
-ghost use Rattle.std.specs.Prelude.{◌≡◌, ◌++◌, ◌∷◌, ◌+◌, ◌-◌, ◌<◌, ◌^◌, ◌≢◌, [], false, true, IsOkUnless, List, Some, min};
+ghost use Rattle.std.specs.Prelude.{◌≡◌, ◌++◌, ◌∷◌, ◌+◌, ◌<◌, ◌≢◌, [], false, true, IsOkUnless, List, Some};
 ghost use Rattle.mlt_event.specs.declared.event.Event.{Event};
 ghost use Rattle.mlt_event.specs.declared.told.Told.{Told};
 ghost use Rattle.mlt_manager.specs.Answers.{counted};
@@ -10,8 +10,7 @@ ghost use Rattle.mlt_work_waits.specs.declared.wait.Waker.{Waker};
 ghost use Rattle.mlt_work_log.specs.Prefixes.{HasBegunWith, StartsWith, after_act, no_past};
 ghost use Rattle.mlt_work_log.specs.Seats.{IsOf, IsWriterOf, first_items, id_of, past_of, seen_by};
 ghost use Rattle.mlt_work_desk.specs.Holds.{EndsWithOp, IfReply, SeesEvent};
-ghost use Rattle.mlt_work_desk.specs.Makings.{making_by, making_of};
-ghost use Rattle.mlt_work_desk.specs.Playing.{IsPlayed};
+ghost use Rattle.mlt_work_desk.specs.Makings.{making_by};
 ghost use Rattle.mlt_work_waits.specs.Turns.{given_back_by, precedence_after, precedence_if, queue_after, queue_if, TurnsIfWaits, wait_if, waits_after, woken_by};
 
 use crate::locked_state::LockedState;
@@ -139,52 +138,6 @@ impl<P: Pseudo, L: MadeWith<P>> LockedState<P, L> {
         ensures desks { self.new.desks ≡ self.old.desks }
     {
         log.snapshot(&mut self.writer)
-    }
-
-    /// The past has begun with that of a snapshot.
-    pub(crate) fn compare(&mut self, log: &HistoryLog, snapshot: LogSnapshot)
-        requires log { id_of log.now ≡ L.log_id }
-        requires of_log { IsOf L.log_id snapshot }
-        ensures same { self.new.manager ≡ self.old.manager }
-        ensures past { past_of self.new.writer ≡ past_of self.old.writer }
-        ensures first { HasBegunWith (past_of self.old.writer) (seen_by snapshot) }
-    {
-        let mut snapshot = snapshot;
-        log.see::<Brand>(&mut self.writer, &mut snapshot);
-    }
-
-    /// The manager, whose events are the amount of the whole share.
-    pub(crate) fn close(self, all: &mut Share<L>) -> Manager<P>
-        requires { all.old.parts ≡ L.parts }
-        ensures same { result ≡ self.manager }
-        ensures events { result.events ≡ min all.old.amount (2 ^ 64 - 1) }
-        ensures made { Some (making_of result) ≡ L.made_with }
-        ensures history { L.hands_out ≡ false → result.shared.history.handed ≡ [] }
-        ensures played { L.hands_out ≡ false → IsPlayed P.bits_of result }
-        ensures amount { all.new.amount ≡ all.old.amount }
-        ensures parts { all.new.parts ≡ all.old.parts }
-    {
-        let LockedState {
-            manager,
-            mut book,
-            desks: _,
-            writer: _,
-        } = self;
-        book.audit(all);
-        manager
-    }
-
-    /// The manager, where the shares are not at hand.
-    pub(crate) fn into_manager(self) -> Manager<P>
-        ensures made { Some (making_of result) ≡ L.made_with }
-    {
-        let LockedState {
-            manager,
-            book: _,
-            desks: _,
-            writer: _,
-        } = self;
-        manager
     }
 }
 

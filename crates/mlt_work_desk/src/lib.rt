@@ -14,7 +14,6 @@ mod locked_state;
 mod made_with;
 mod shared;
 mod statistics;
-mod timestamp;
 mod tries;
 mod tuning;
 mod unlocked;

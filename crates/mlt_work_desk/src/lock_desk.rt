@@ -6,7 +6,6 @@ ghost use Rattle.mlt_work_log.specs.Seats.{IsOf};
 use crate::called::Called;
 use crate::made_with::MadeWith;
 use crate::shared::Shared;
-use crate::timestamp::Timestamp;
 use crate::tries::TriesLeft;
 use mlt_types::Pseudo;
 use mlt_work_log::LogSnapshot;
@@ -30,8 +29,10 @@ pub struct LockDesk<'a, P: Pseudo, L: MadeWith<P>, R: Wait, G: Gate> {
     pub(crate) is_reply: bool,
     /// What the open transaction has called.
     pub(crate) called: Called,
-    /// That of the transaction.
-    pub(crate) timestamp: Timestamp,
+    /// Whether the next transaction keeps the timestamp of the last one, in which an operation gave up. A timestamp is the number
+    /// under which the client first tried what it does, so one that is restarted is the oldest in the end, and gives way to nobody
+    /// (Rosenkrantz, Stearns and Lewis, System Level Concurrency Control for Distributed Database Systems, TODS 1978, section 4).
+    pub(crate) keeps_timestamp: bool,
     /// Those that its last event has to wake: none between two events.
     pub(crate) wakers: Wakers,
     pub(crate) share: Share<L>,

@@ -102,7 +102,7 @@ impl<P: Pseudo, L: MadeWith<P>> Shared<P, L> {
     ) -> MutexGuard<'a, LockedState<P, L>> {
         let SleepingThread { tx, waker, .. } = *thread;
         self.condvar(waker)
-            .wait_while(rt, state, |state| !state.desks.is_awake(tx))
+            .wait_while(rt, state, |state| !state.desks.waits.is_awake(tx))
     }
 
     /// Whether somebody is blocked, or was a moment ago.
@@ -224,13 +224,6 @@ impl<P: Pseudo, L: MadeWith<P>> Shared<P, L> {
             state: state.into_inner(),
             log,
         }
-    }
-
-    /// The manager, where the shares are not at hand.
-    pub fn into_manager(self) -> Manager<P>
-        ensures made { Some (making_of result) ≡ L.made_with }
-    {
-        self.unlock().into_manager()
     }
 }
 

@@ -43,14 +43,13 @@ impl<P: Pseudo, L: MadeWith<P>> LockedState<P, L> {
         ensures for_objects { result.for_objects.items ≡ self.now.desks.waits.objects }
         ensures for_pages { result.for_pages.items ≡ self.now.desks.waits.pages }
     {
-        let waits = self.desks.waits();
         DeskStatistics {
             events: self.manager.events(),
             items: self.manager.kept_history().len(),
             pages: self.manager.pages().len(),
             depth: self.manager.depth(),
-            for_objects: copied(waits.objects()),
-            for_pages: copied(waits.pages()),
+            for_objects: copied(self.desks.waits.objects()),
+            for_pages: copied(self.desks.waits.pages()),
         }
     }
 

@@ -4,7 +4,7 @@ ghost use Rattle.std.specs.Prelude.{◌≡◌};
 ghost use Rattle.mlt_work_desk.specs.Tries.{tries_begun, tries_called, tries_of, tries_spent};
 
 /// How many tries there are. Each answer that a desk is to wait, or is blocked, spends one.
-#[derive(Clone, Copy, Debug, PartialEq, Eq)]
+#[derive(Clone, Copy)]
 pub enum Tries {
     /// So many for all that a script asks.
     PerScript(u64),

@@ -11,6 +11,7 @@ use crate::made_with::MadeWith;
 use mlt_manager::Manager;
 use mlt_types::Pseudo;
 use mlt_work_log::{HistoryLog, LogSnapshot};
+use std::marker::Brand;
 use std::sync::ledger::Share;
 
 /// What lay under a lock, and the log of the manager's history.
@@ -28,7 +29,8 @@ impl<P: Pseudo, L: MadeWith<P>> Unlocked<P, L> {
         ensures first { StartsWith self.old.state.manager.shared.history.items
             (first_items snapshot) }
     {
-        self.state.compare(&self.log, snapshot);
+        let mut snapshot = snapshot;
+        self.log.see::<Brand>(&mut self.state.writer, &mut snapshot);
     }
 
     /// The manager, whose events are the amount of the whole share.
@@ -43,7 +45,14 @@ impl<P: Pseudo, L: MadeWith<P>> Unlocked<P, L> {
         ensures parts { all.new.parts ≡ all.old.parts }
     {
         let Unlocked { state, log: _ } = self;
-        state.close(all)
+        let LockedState {
+            manager,
+            mut book,
+            desks: _,
+            writer: _,
+        } = state;
+        book.audit(all);
+        manager
     }
 
     /// The manager, where the shares are not at hand.
@@ -51,6 +60,12 @@ impl<P: Pseudo, L: MadeWith<P>> Unlocked<P, L> {
         ensures made { Some (making_of result) ≡ L.made_with }
     {
         let Unlocked { state, log: _ } = self;
-        state.into_manager()
+        let LockedState {
+            manager,
+            book: _,
+            desks: _,
+            writer: _,
+        } = state;
+        manager
     }
 }

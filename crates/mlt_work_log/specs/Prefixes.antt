@@ -5,8 +5,8 @@ use lib.ListN.{get_elem?}
 use Rattle.mlt_event.specs.declared.event.Event.{Event}
 use Rattle.mlt_event.specs.declared.told.Told.{Told}
 use Rattle.mlt_trace.specs.declared.item.TraceItem.{TraceItem}
-use Rattle.mlt_work_log.specs.declared.view.LogView.{LogView}
-use Rattle.mlt_work_log.specs.declared.view.Past.{Past}
+use Rattle.mlt_work_log.specs.declared.seats.LogView.{LogView}
+use Rattle.mlt_work_log.specs.declared.seats.Past.{Past}
 
 -- these are the first ones of a list
 abbrev pub StartsWith : {A : Type 0} → List A → List A → Type 0

@@ -5,7 +5,7 @@ use Rattle.mlt_trace.specs.declared.item.TraceItem.{TraceItem}
 use Rattle.mlt_work_log.specs.declared.seats.HistoryLog.{HistoryLog}
 use Rattle.mlt_work_log.specs.declared.seats.LogSnapshot.{LogSnapshot}
 use Rattle.mlt_work_log.specs.declared.seats.LogWriter.{LogWriter}
-use Rattle.mlt_work_log.specs.declared.view.Past.{Past}
+use Rattle.mlt_work_log.specs.declared.seats.Past.{Past}
 
 -- what tells a log from others
 abbrev pub LogId : Type 0

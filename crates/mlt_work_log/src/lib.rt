@@ -6,9 +6,6 @@
 #![tactic(auto)]
 
 mod log;
-mod rule;
 mod seats;
-mod view;
 
-pub use rule::Growth;
-pub use seats::{HistoryLog, LogSnapshot, LogWriter};
+pub use seats::{Growth, HistoryLog, LogSnapshot, LogWriter};

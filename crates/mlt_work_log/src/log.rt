@@ -4,8 +4,7 @@ ghost use Rattle.std.specs.Prelude.{◌≡◌, IfOk};
 ghost use Rattle.mlt_work_log.specs.Prefixes.{HasBegunWith, no_past};
 ghost use Rattle.mlt_work_log.specs.Seats.{IsOf, IsWriterOf, id_of, past_of, seen_by};
 
-use crate::rule::{Grows, Growth, Prefixes};
-use crate::seats::{HistoryLog, LogSnapshot, LogWriter};
+use crate::seats::{Grows, Growth, HistoryLog, LogSnapshot, LogWriter, Prefixes};
 use atomic_table::Table;
 use std::alloc::{AllocError, Global};
 use std::mem;

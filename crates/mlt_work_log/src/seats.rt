@@ -1,12 +1,78 @@
-//! The log, and the seats of who adds to the past and of who has seen it.
+//! What a seat knows, the rule of all that seats know, and the seats of who adds to the past and of who has seen it.
 
 ghost use Rattle.std.specs.Prelude.{◌≡◌, []};
-ghost use Rattle.mlt_work_log.specs.Prefixes.{snapshot_view, writer_view};
+ghost use Rattle.mlt_work_log.specs.Prefixes.{no_past, snapshot_view, writer_view};
+ghost use Rattle.mlt_work_log.specs.declared.seats.Past.{Past};
 
-use crate::rule::Prefixes;
-use crate::view::LogView;
-use atomic_table::{Seat, Table};
+use atomic_table::{Join, Play, Seat, Split, Table, TableRule};
+use mlt_event::{Event, Told};
+use mlt_trace::TraceItem;
 use std::alloc::Global;
+use std::collections::LinkedList;
+use std::marker::{Brand, PhantomData};
+
+/// What a manager has done up to some time: its events with their answers, and the items of its history. Contracts alone speak of it; no
+/// value of it is made.
+pub struct Past {
+    pub acts: LinkedList<(Event, Told)>,
+    pub items: LinkedList<TraceItem>,
+}
+
+/// What a seat knows: whether it is the writer's, the past that it knows, and that of a snapshot that it has taken in. Contracts alone
+/// speak of it; no value of it is made.
+pub struct LogView {
+    pub writes: bool,
+    pub past: Past,
+    pub taken: Past,
+}
+
+/// The writer knows the whole past, and any other seat one that it began with.
+pub struct Prefixes;
+
+impl TableRule<(), LogView, ()> for Prefixes {
+    ghost use Rattle.mlt_work_log.specs.Prefixes.{AreKept, first_view};
+
+    ghost holds = { λ _ state. AreKept state.views };
+
+    ghost first = { λ _. first_view };
+}
+
+impl Split<LogView> for Prefixes {
+    ghost use Rattle.mlt_work_log.specs.Prefixes.{snapshot_view};
+
+    ghost left = { λ v. v };
+
+    ghost right = { λ v. snapshot_view v.past };
+}
+
+impl Join<LogView> for Prefixes {
+    ghost use Rattle.mlt_work_log.specs.Prefixes.{after_join, spent_view};
+
+    ghost both = { λ v w. after_join v w };
+
+    ghost spent = { spent_view };
+}
+
+/// The past once it has grown. No value of it is made: the caller that adds to the past picks it.
+pub trait Growth {
+    ghost past: { Past };
+}
+
+impl Growth for Brand {
+    ghost past = { no_past };
+}
+
+/// The past has grown. It had begun with that of a snapshot that the writer had taken in.
+pub struct Grows<G> {
+    growth: PhantomData<G>,
+}
+
+impl<G: Growth> Play<(), LogView> for Grows<G> {
+    ghost use Rattle.std.specs.Prelude.{◌≡◌};
+    ghost use Rattle.mlt_work_log.specs.Prefixes.{HasGrown};
+
+    ghost then = { λ step me word after. HasGrown G.past me.0 after.0 × (after.1 ≡ me.1) };
+}
 
 /// The log of a manager: a word that nobody writes. Contracts see which log it is.
 #[derive(Drop)]

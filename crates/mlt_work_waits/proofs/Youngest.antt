@@ -1,9 +1,9 @@
 -- Walking a cycle of waits for objects, and which of them is the youngest
-use Rattle.std.proofs.Common.{◌≡◌, ◌⊎◌, ◌∙◌, ◌+◌, ◌<◌, ℕ, Bool, true, false, List, [], ◌∷◌, ◌++◌, length, Option, None, Some, refl, sym, subst, ap, inl, inr, arith, le-ltb, ltb-false, ltb-true, option_map}
+use Rattle.std.proofs.Common.{◌≡◌, ◌⊎◌, ◌∙◌, ◌+◌, ◌<◌, ℕ, true, false, List, [], ◌∷◌, ◌++◌, length, Option, None, Some, refl, sym, subst, ap, inl, inr, arith, le-ltb, ltb-false, ltb-true, option_map}
 use Rattle.std.proofs.lemmas.Bool.{false≢true}
 use Rattle.std.specs.Option.{option_or}
 use Rattle.mlt_work_waits.specs.declared.wait.Waiting.{Waiting}
-use Rattle.mlt_work_waits.specs.Waits.{Deadlocks, IsAcyclic, IsAmong, IsFor, IsOfCycle, IsOnWay, IsYoungest, LeadsBy, LeadsTo, Waits, for_objects, holder_of, is_later, is_younger, wait_in}
+use Rattle.mlt_work_waits.specs.Waits.{Deadlocks, IsAcyclic, IsFor, IsOnWay, IsYoungest, LeadsBy, LeadsTo, Waits, for_objects, holder_of, is_later, is_younger, wait_in}
 use Rattle.mlt_work_waits.proofs.Acyclic.{leads_on, objects_are_acyclic}
 use Rattle.mlt_work_waits.proofs.Ends.{ways_end}
 use Rattle.mlt_work_waits.proofs.Found.{found_is_wait}

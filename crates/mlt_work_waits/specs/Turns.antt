@@ -15,12 +15,6 @@ use Rattle.mlt_work_waits.specs.declared.turn.GivenBack.{GivenBack}
 use Rattle.mlt_work_waits.specs.declared.turn.SleepingThread.{SleepingThread}
 use Rattle.mlt_work_waits.specs.declared.turn.Turn.{Turn}
 
--- told this, an operation goes on: nothing of the history, of waits or of the queue has changed
-abbrev pub goes_on : Told → Bool
-goes_on Told.Called = true
-goes_on (Told.Answered Answer.Going) = true
-goes_on other = false
-
 -- told this, it is done
 abbrev pub is_done : Told → Bool
 is_done (Told.Answered (Answer.Done reply)) = true

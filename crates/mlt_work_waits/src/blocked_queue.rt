@@ -10,7 +10,7 @@ use mlt_types::TxId;
 use std::marker::Model;
 
 /// A transaction, and the operation in which it was blocked.
-#[derive(Clone, Copy, Debug)]
+#[derive(Clone, Copy)]
 pub struct Blocked {
     pub tx: TxId,
     pub op: ObjOp,
@@ -27,7 +27,7 @@ impl Default for Blocked {
 
 /// The transactions that were blocked in the operation that they are in, in the order in which they first were, at most 64. It
 /// takes no memory. A contract sees the list.
-#[derive(Debug, Drop)]
+#[derive(Drop)]
 pub struct BlockedQueue {
     blocked: ArrayVec<Blocked, 64>,
 }

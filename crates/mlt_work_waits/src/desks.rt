@@ -1,12 +1,12 @@
 //! The desks over a lock, which of them wait, who is blocked, and which has precedence.
 
-ghost use Rattle.std.specs.Prelude.{ℕ, ◌≡◌, ◌++◌, ◌+◌, ◌-◌, ◌<◌, ◌≤◌, ◌^◌, ◌⊎◌, [], List, true, false, None, Some, length, min, IfSome};
-ghost use Rattle.mlt_work_waits.specs.Waits.{IsAwake, IsFor, joined, nobody_waits};
+ghost use Rattle.std.specs.Prelude.{ℕ, ◌≡◌, ◌++◌, ◌+◌, ◌-◌, ◌<◌, ◌≤◌, ◌^◌, ◌⊎◌, [], List, true, false, None, Some, length, min};
+ghost use Rattle.mlt_work_waits.specs.Waits.{joined, nobody_waits};
 ghost use Rattle.mlt_work_waits.specs.Queues.{last_before};
-ghost use Rattle.mlt_work_waits.specs.Turns.{AreInTurn, CanSleep, CantSleep, given_back_by, ObjectTurns, PageTurns, precedence_after, precedence_if, precedence_with, queue_after, queue_if, queue_with, turn_behind, TurnsIfWaits, wait_for, wait_if, waiting, waits_after, waits_in_turn, waits_of_others, waits_without, woken_by, woken_by_end, woken_of};
+ghost use Rattle.mlt_work_waits.specs.Turns.{AreInTurn, CanSleep, CantSleep, given_back_by, ObjectTurns, PageTurns, precedence_after, precedence_if, queue_after, queue_if, turn_behind, TurnsIfWaits, wait_for, wait_if, waiting, waits_after, waits_in_turn, waits_of_others, waits_without, woken_by, woken_by_end, woken_of};
 
 use crate::blocked_queue::BlockedQueue;
-use crate::turn::{GivenBack, SleepingThread, Turn, given_back, goes_on, wait_for, wait_of};
+use crate::turn::{GivenBack, SleepingThread, Turn, given_back, wait_for};
 use crate::wait::{Awaited, Waiting, Waker, Wakers, Whose};
 use crate::waits::WaitsFor;
 use mlt_event::{Answer, Event, Told};
@@ -80,25 +80,9 @@ impl Desks {
         self.count = self.count.saturating_sub(1);
     }
 
-    /// Whether no desk waits for this transaction.
-    #[inline]
-    pub fn is_awake(&self, tx: TxId) -> bool
-        ensures awake { result ≡ true → IsAwake self.now.waits tx }
-        ensures waits { result ≡ false → (y : ℕ) × IsFor self.now.waits tx y }
-    {
-        self.waits.is_awake(tx)
-    }
-
-    /// How many are blocked, 0 to 64.
-    #[inline(always)]
-    pub fn blocked(&self) -> u64
-        ensures { result ≡ length self.now.queue }
-    {
-        self.queue.count()
-    }
-
     /// What a desk does after an event that was told this. It may sleep or not; where it is to wait, and may sleep, it does so as this
-    /// thread. Each desk that waits for what the event has given back is awake then, and its waker is added.
+    /// thread. If it is blocked it stands in the queue from now on. If it waits for pages and takes precedence it has it, unless another
+    /// does. Each desk that waits for what the event has given back is awake then, and its waker is added.
     #[inline(always)]
     pub fn turn_after(
         &mut self,
@@ -121,11 +105,23 @@ impl Desks {
             (precedence_after (given_back_by event.now told.now) self.old.precedence) }
         ensures count { self.new.count ≡ self.old.count }
     {
-        if goes_on(told) {
+        self.give_back(given_back(event, told), wakers);
+        if !may_sleep {
             return Turn::Goes;
         }
-        self.give_back(given_back(event, told), wakers);
-        self.take_turn(told, may_sleep, thread, wakers)
+        match told {
+            Told::Answered(Answer::Blocked { by }) => {
+                self.queue.push(thread.tx, thread.op);
+                self.wait_for_object(wait_for(thread, *by), wakers)
+            }
+            Told::Answered(Answer::Waiting { by, .. }) => {
+                if thread.takes_precedence {
+                    self.precedence = self.precedence.or(Some(thread.tx));
+                }
+                self.wait_for_page(wait_for(thread, *by), wakers)
+            }
+            _ => Turn::Goes,
+        }
     }
 
     /// Locks were released: each desk that waits for them is awake, and its waker is added. A desk whose operation has ended leaves
@@ -170,57 +166,6 @@ impl Desks {
     {
         self.waits.release(Awaited::Objects, Whose::Of(tx), wakers);
         self.waits.release(Awaited::Pages, Whose::Of(tx), wakers);
-    }
-
-    /// Who waits for whom.
-    #[inline]
-    pub fn waits(&self) -> &WaitsFor
-        ensures { result.now ≡ self.now.waits }
-    {
-        &self.waits
-    }
-
-    /// What a desk does that was told this, which may sleep or not. Where it is to wait, and may sleep, it does so as this thread.
-    #[inline(always)]
-    fn take_turn(
-        &mut self,
-        told: &Told,
-        may_sleep: bool,
-        thread: &SleepingThread,
-        wakers: &mut Wakers,
-    ) -> Turn
-        requires { length wakers.old.items ≤ 128 }
-        ensures turns { (woken : List Waker) × (wakers.new.items ≡ wakers.old.items ++ woken)
-            × TurnsIfWaits self.old.count (wait_if may_sleep told.now thread.now)
-            self.old.waits result self.new.waits woken }
-        ensures queue { self.new.queue ≡ queue_if may_sleep told.now thread.now self.old.queue }
-        ensures precedence { self.new.precedence
-            ≡ precedence_if may_sleep told.now thread.now self.old.precedence }
-        ensures count { self.new.count ≡ self.old.count }
-    {
-        if !may_sleep {
-            return Turn::Goes;
-        }
-        self.note(told, thread);
-        self.turn(wait_of(told, thread), wakers)
-    }
-
-    /// What a desk does that is to wait so, if it is to.
-    #[inline(always)]
-    fn turn(&mut self, to_wait: Option<(Awaited, Waiting)>, wakers: &mut Wakers) -> Turn
-        requires few { length wakers.old.items ≤ 128 }
-        requires turn { IfSome to_wait (λ wait. waits_in_turn self.old.queue wait.1 ≡ true) }
-        ensures turns { (woken : List Waker) × (wakers.new.items ≡ wakers.old.items ++ woken)
-            × TurnsIfWaits self.old.count to_wait self.old.waits result self.new.waits woken }
-        ensures queue { self.new.queue ≡ self.old.queue }
-        ensures precedence { self.new.precedence ≡ self.old.precedence }
-        ensures count { self.new.count ≡ self.old.count }
-    {
-        match to_wait {
-            Some((Awaited::Objects, wait)) => self.wait_for_object(wait, wakers),
-            Some((Awaited::Pages, wait)) => self.wait_for_page(wait, wakers),
-            None => Turn::Goes,
-        }
     }
 
     /// What a desk does that is to wait for an object.
@@ -271,25 +216,6 @@ impl Desks {
         }
         self.waits.release(Awaited::Pages, Whose::All, wakers);
         Turn::Goes
-    }
-
-    /// A sleeping thread was told this. If it is blocked it stands in the queue from now on. If it waits for pages and takes precedence
-    /// it has it, unless another does.
-    #[inline(always)]
-    fn note(&mut self, told: &Told, thread: &SleepingThread)
-        ensures queue { self.new.queue ≡ queue_with told.now thread.now self.old.queue }
-        ensures precedence { self.new.precedence
-            ≡ precedence_with told.now thread.now self.old.precedence }
-        ensures waits { self.new.waits ≡ self.old.waits }
-        ensures count { self.new.count ≡ self.old.count }
-    {
-        match told {
-            Told::Answered(Answer::Blocked { .. }) => self.queue.push(thread.tx, thread.op),
-            Told::Answered(Answer::Waiting { .. }) if thread.takes_precedence => {
-                self.precedence = self.precedence.or(Some(thread.tx));
-            }
-            _ => (),
-        }
     }
 
     /// One is about to call an operation. Where another has precedence it yields, that is it waits for the pages of that one, if

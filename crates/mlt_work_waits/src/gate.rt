@@ -33,7 +33,7 @@ pub trait Gate {
 }
 
 /// Does nothing.
-#[derive(Clone, Copy, Debug, Drop)]
+#[derive(Clone, Copy, Drop)]
 pub struct NoGate;
 
 impl Gate for NoGate {

@@ -1,9 +1,9 @@
 //! What a desk does that would wait, and what wakes it.
 
 ghost use Rattle.std.specs.Prelude.{◌≡◌};
-ghost use Rattle.mlt_work_waits.specs.Turns.{given_back_by, given_back_by_step, goes_on, is_done, wait_for, wait_of};
+ghost use Rattle.mlt_work_waits.specs.Turns.{given_back_by, given_back_by_step, is_done, wait_for};
 
-use crate::wait::{Awaited, Waiting, Waker};
+use crate::wait::{Waiting, Waker};
 use mlt_event::{Answer, Event, Told};
 use mlt_object_kinds::ObjOp;
 use mlt_types::TxId;
@@ -69,34 +69,12 @@ fn given_back_by_step(tx: TxId, answer: &Answer) -> GivenBack
     }
 }
 
-/// Whether an operation goes on that was told this: then nothing of the history, of waits or of the queue has changed.
-#[inline(always)]
-pub(crate) fn goes_on(told: &Told) -> bool
-    ensures { result ≡ goes_on told.now }
-{
-    matches!(told, Told::Called | Told::Answered(Answer::Going))
-}
-
 /// Whether an operation is done that was told this.
 #[inline(always)]
 pub fn is_done(told: &Told) -> bool
     ensures { result ≡ is_done told.now }
 {
     matches!(told, Told::Answered(Answer::Done(_)))
-}
-
-/// The wait of a sleeping thread that was told this, if it is to wait.
-#[inline]
-pub(crate) fn wait_of(told: &Told, thread: &SleepingThread) -> Option<(Awaited, Waiting)>
-    ensures { result ≡ wait_of told.now thread.now }
-{
-    match told {
-        Told::Answered(Answer::Waiting { by, .. }) => {
-            Some((Awaited::Pages, wait_for(thread, *by)))
-        }
-        Told::Answered(Answer::Blocked { by }) => Some((Awaited::Objects, wait_for(thread, *by))),
-        _ => None,
-    }
 }
 
 /// The wait of a sleeping thread for a lock of this transaction.

@@ -7,7 +7,7 @@ use arrayvec::ArrayVec;
 use mlt_types::TxId;
 
 /// Which locks are waited for.
-#[derive(Clone, Copy, Debug, PartialEq, Eq)]
+#[derive(Clone, Copy)]
 pub enum Awaited {
     /// Those of objects, which are held to the end of a transaction.
     Objects,
@@ -16,7 +16,7 @@ pub enum Awaited {
 }
 
 /// Which waits end.
-#[derive(Clone, Copy, Debug, PartialEq, Eq)]
+#[derive(Clone, Copy)]
 pub enum Whose {
     /// Those for one transaction.
     One(TxId),
@@ -29,7 +29,7 @@ pub enum Whose {
 }
 
 /// What wakes one sleeping thread: the number of a condition variable, 0 to 255.
-#[derive(Clone, Copy, Debug, Default, PartialEq, Eq)]
+#[derive(Clone, Copy, Default)]
 pub struct Waker(pub u8);
 
 /// Those of sleeping threads that are to be woken, in turn: room for all that wait, and for those that wait for one kind of lock
@@ -37,7 +37,7 @@ pub struct Waker(pub u8);
 pub type Wakers = ArrayVec<Waker, 192>;
 
 /// One transaction waits for a lock of another, or for its turn behind it, and is woken by its waker.
-#[derive(Clone, Copy, Debug)]
+#[derive(Clone, Copy)]
 pub struct Waiting {
     pub waiter: TxId,
     pub holder: TxId,

@@ -11,7 +11,7 @@ use std::marker::Model;
 
 /// Which transactions wait for which, at most 64 for locks of objects and 64 for locks of pages. It takes no memory. A
 /// contract sees both lists. Nobody waits for two, or in a cycle.
-#[derive(Debug, Drop)]
+#[derive(Drop)]
 pub struct WaitsFor {
     objects: ArrayVec<Waiting, 64>,
     pages: ArrayVec<Waiting, 64>,
@@ -77,9 +77,23 @@ impl WaitsFor {
         ensures youngest { IfSome result (IsYoungest wait.now self.now) }
         ensures free { IfNone result (Deadlocks wait.now self.now → ⊥) }
     {
-        // That no cycle stands is known where the waits are read.
-        let _objects = &self.objects;
-        self.youngest_along(wait)
+        let mut youngest = *wait;
+        let mut at = wait.holder;
+        // At most all others follow each other, and then comes the waiter.
+        let most = self.objects.len() + 1;
+        for _ in 0..most {
+            if at == wait.waiter {
+                return Some(youngest);
+            }
+            let Some(next) = wait_in(&self.objects, at) else {
+                return None;
+            };
+            if next.is_younger(&youngest) {
+                youngest = *next;
+            }
+            at = next.holder;
+        }
+        None
     }
 
     /// A transaction begins to wait. Where that would close a cycle it doesn't, and it doesn't where there is no room for
@@ -164,30 +178,6 @@ impl WaitsFor {
             }
         }
         true
-    }
-
-    /// The youngest wait of the cycle that this one would close with others for objects, if it would close one.
-    fn youngest_along(&self, wait: &Waiting) -> Option<Waiting>
-        ensures youngest { IsAcyclic self.now → IfSome result (IsYoungest wait.now self.now) }
-        ensures free { IsAcyclic self.now → IfNone result (Deadlocks wait.now self.now → ⊥) }
-    {
-        let mut youngest = *wait;
-        let mut at = wait.holder;
-        // At most all others follow each other, and then comes the waiter.
-        let most = self.objects.len() + 1;
-        for _ in 0..most {
-            if at == wait.waiter {
-                return Some(youngest);
-            }
-            let Some(next) = wait_in(&self.objects, at) else {
-                return None;
-            };
-            if next.is_younger(&youngest) {
-                youngest = *next;
-            }
-            at = next.holder;
-        }
-        None
     }
 }
 

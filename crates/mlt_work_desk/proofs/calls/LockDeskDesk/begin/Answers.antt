@@ -3,8 +3,8 @@ use Rattle.mlt_work_desk.proofs.Names.{Event, first_items, IsToldTo, SeesEvent}
 use Rattle.mlt_work_desk.proofs.Seeing.{sees_begun}
 use Rattle.mlt_work_desk.proofs.calls.LockDeskDesk.begin.Goals as goal
 
-pub returns-in-Begun : goal.returns-in-Begun
-returns-in-Begun g c =
+pub returns-after-not-self : goal.returns-after-not-self
+returns-after-not-self g c =
     let bits_of = g.P.Pseudo.bits_of in
     let before = first_items c.args.self.now.snapshot in
     let after = first_items c.hold-told.new.self.snapshot in

@@ -1,8 +1,8 @@
-use Rattle.std.proofs.Common.{rules, ◌≡◌, ◌≢◌, ◌∙◌, List, [], ◌∷◌, length, false, ap, refl, sym, arith}
-use Rattle.mlt_work_desk.proofs.Names.{false≢true, first_items, EndsWithOp, is_done}
+use Rattle.std.proofs.Common.{rules, ◌≡◌, ◌≢◌, ◌∙◌, List, [], ◌∷◌, length, false, ap, refl, arith}
+use Rattle.mlt_work_desk.proofs.Names.{first_items, EndsWithOp, is_done}
 use Rattle.mlt_work_desk.proofs.Cycles.{youngest_of_cycle}
 use Rattle.mlt_work_desk.proofs.Replying.{reply_not_done, reply_then}
-use Rattle.mlt_work_log.specs.declared.view.Past.{Past}
+use Rattle.mlt_work_log.specs.declared.seats.Past.{Past}
 use Rattle.mlt_work_desk.proofs.lock_desk.LockDesk.hold.Goals as goal
 use Rattle.mlt_work_desk.proofs.lock_desk.LockDesk.hold.Goals.{then-is_done, else-is_done, then-not-is_empty, else-not-is_empty}
 

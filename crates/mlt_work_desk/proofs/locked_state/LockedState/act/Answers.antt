@@ -3,7 +3,7 @@ use Rattle.mlt_work_desk.proofs.Adding.{event_adds}
 use Rattle.mlt_work_desk.proofs.Counting.{one_event, same_making}
 use Rattle.mlt_work_desk.proofs.Playing.{still_played}
 use Rattle.mlt_work_desk.proofs.Replying.{keeps_reply}
-use Rattle.mlt_work_log.specs.declared.view.Past.{Past}
+use Rattle.mlt_work_log.specs.declared.seats.Past.{Past}
 use Rattle.mlt_work_desk.proofs.locked_state.LockedState.act.Goals as goal
 
 pub invariant_of-self-clause-counted : goal.invariant_of-self-clause-counted

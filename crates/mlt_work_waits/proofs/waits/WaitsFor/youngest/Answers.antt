@@ -1,18 +1,19 @@
-use Rattle.std.proofs.Common.{◌≡◌, ◌∙◌, ◌<◌, ◌≤◌, ◌+◌, true, false, None, Some, length, sym, subst, ap, inl, inr, arith, option_copied, eq-eqb, eqb-true}
+use Rattle.std.proofs.Common.{◌≡◌, ◌∙◌, Some, length, sym, subst, ap, inl, inr, arith, eq-eqb, eqb-true}
 use Rattle.std.proofs.lemmas.Bool.{false≢true}
-use Rattle.mlt_work_waits.specs.declared.wait.Waiting.{Waiting}
-use Rattle.mlt_work_waits.specs.Waits.{Waits, wait_in}
-use Rattle.mlt_work_waits.proofs.Youngest.{IsPicked, Walked, walked_around, walked_no_longer, walked_none, walked_on, walked_to_end}
-use Rattle.mlt_work_waits.proofs.waits.WaitsFor.youngest_along.Goals.{then-is_younger, else-is_younger}
-use Rattle.mlt_work_waits.proofs.waits.WaitsFor.youngest_along.Goals as goal
+use Rattle.mlt_work_waits.specs.Waits.{IsAcyclic, Waits, wait_in}
+use Rattle.mlt_work_waits.proofs.Youngest.{walked_around, walked_no_longer, walked_on, walked_to_end}
+use Rattle.mlt_work_waits.proofs.waits.WaitsFor.youngest.Goals.{then-is_younger, else-is_younger}
+use Rattle.mlt_work_waits.proofs.waits.WaitsFor.youngest.Goals as goal
 
 pub returns-then-eq-clause-youngest : goal.returns-then-eq-clause-youngest
-returns-then-eq-clause-youngest c acyclic =
+returns-then-eq-clause-youngest c =
+    let acyclic = subst IsAcyclic c.self.view_is c.self.invariant in
     walked_around c.args.self.now acyclic c.args.wait.now c.loop.youngest c.loop.at c.loop.counter (c.loop.invariant acyclic)
     (eqb-true c.loop.at c.args.wait.now.waiter (sym c.eq.ensures ∙ c.if-eq.true))
 
 pub returns-in_default-clause-free : goal.returns-in_default-clause-free
-returns-in_default-clause-free c acyclic =
+returns-in_default-clause-free c =
+    let acyclic = subst IsAcyclic c.self.view_is c.self.invariant in
     walked_to_end c.args.self.now acyclic c.args.wait.now c.loop.youngest c.loop.at c.loop.counter (c.loop.invariant acyclic)
     (λ same. false≢true (sym c.if-eq.false ∙ c.eq.ensures ∙ eq-eqb c.loop.at c.args.wait.now.waiter same))
     (ap (λ items. wait_in items c.loop.at) (sym (c.deref.ensures.0 ∙ ap (λ (w : Waits). w.objects) c.self.view_is)) ∙ sym c.in_default.ensures)
@@ -29,7 +30,8 @@ loop-preserved c acyclic =
     ])
 
 pub returns-clause-free : goal.returns-clause-free
-returns-clause-free c acyclic =
+returns-clause-free c =
+    let acyclic = subst IsAcyclic c.self.view_is c.self.invariant in
     let few = ap (λ (w : Waits). length w.objects) c.self.view_is in
     absurd (walked_no_longer c.args.self.now acyclic c.args.wait.now c.loop.youngest c.loop.at c.loop.counter (c.loop.invariant acyclic)
     (omega (arith, c.loop-test.false, c.len-most.ensures.value, few)))

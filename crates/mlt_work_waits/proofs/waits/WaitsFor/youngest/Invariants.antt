@@ -1,6 +1,6 @@
 use Rattle.mlt_work_waits.specs.Waits.{IsAcyclic}
 use Rattle.mlt_work_waits.proofs.Youngest.{Walked}
-use Rattle.mlt_work_waits.proofs.waits.WaitsFor.youngest_along.Given as goal
+use Rattle.mlt_work_waits.proofs.waits.WaitsFor.youngest.Given as goal
 
 -- so many waits were followed, and the youngest of them kept
 abbrev pub invariant-loop : goal.invariant-loop

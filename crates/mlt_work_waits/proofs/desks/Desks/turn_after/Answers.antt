@@ -1,11 +1,11 @@
 use Rattle.std.proofs.Common.{refl}
 use Rattle.mlt_work_waits.specs.Queues.{with_blocked}
 use Rattle.mlt_work_waits.proofs.InTurn.{same_turns, turns_with}
-use Rattle.mlt_work_waits.proofs.desks.Desks.note.Goals as goal
+use Rattle.mlt_work_waits.proofs.desks.Desks.turn_after.Goals as goal
 
 pub invariant_of-self : goal.invariant_of-self
 invariant_of-self c =
-    let before = c.args.self.now in
+    let before = c.give_back.new.self in
     let thread = c.args.thread.now in
     record {
       awake = before.awake;

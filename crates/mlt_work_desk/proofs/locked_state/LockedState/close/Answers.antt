@@ -1,5 +1,0 @@
-use Rattle.mlt_work_desk.proofs.Playing.{is_played}
-use Rattle.mlt_work_desk.proofs.locked_state.LockedState.close.Goals as goal
-
-pub returns-clause-played : goal.returns-clause-played
-returns-clause-played g c = λ stays. is_played g.P.Pseudo.bits_of _ _ (c.args.self.played stays)
