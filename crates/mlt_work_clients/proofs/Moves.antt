@@ -7,7 +7,7 @@ use lib.ListN.{get_elem?}
 use Rattle.atomic_table.specs.Table.{State, Me, Allows, Splits, Joins}
 use Rattle.atomic_table.specs.Table.Act.{keeps}
 use Rattle.atomic_table.proofs.Lists.{at_set, at_snoc}
-use Rattle.mlt_work_clients.specs.declared.view.SeatView.{SeatView}
+use Rattle.mlt_work_clients.specs.declared.seats.SeatView.{SeatView}
 use Rattle.mlt_work_clients.specs.Claims.{view, times, total, once_below, parts_of, overruns_of, times_of, IsSeat, IsClaimed, IsKept, after_draw, after_split, after_join}
 
 -- the total after a change of one view

@@ -3,14 +3,14 @@ use Rattle.std.proofs.Common.{◌≡◌, ◌≢◌, ◌⊎◌, ℕ, zero, suc, �
 use Rattle.std.proofs.lemmas.List.{length-map, map-append}
 use Rattle.std.proofs.lemmas.List.Elements.{All-pop}
 use Rattle.std.proofs.lemmas.Bool.Decides.{eqb_tells, nat_tests}
-use Rattle.mlt_work_clients.specs.declared.view.SeatView.{SeatView}
-use Rattle.mlt_work_clients.specs.Claims.{view, times, once_below, after_draw}
+use Rattle.mlt_work_clients.specs.declared.seats.SeatView.{SeatView}
+use Rattle.mlt_work_clients.specs.Claims.{view, times, after_draw}
 use Rattle.mlt_work_clients.proofs.Moves.{times-append}
 use Rattle.mlt_script_serial.specs.declared.outcome.Outcome.{Outcome}
 use Rattle.mlt_script.specs.declared.script.Script.{Script}
 use Rattle.mlt_script.specs.Scripts.{ScriptForm}
 use Rattle.mlt_work_clients.specs.declared.forms.ClientRun.{ClientRun}
-use Rattle.mlt_work_clients.specs.Places.{AllHaveRuns, AreAllOutcomes, AreClientOutcomes, AreInPlace, HasRunAt, HaveRuns, IsClientRun, KeepsRuns, place_of, scripts_of_clients}
+use Rattle.mlt_work_clients.specs.Places.{AreAllOutcomes, AreClientOutcomes, AreInPlace, HasRunAt, HaveRuns, IsClientRun, KeepsRuns, place_of, scripts_of_clients}
 
 -- a draw of a client
 pub draws_client : (v w : SeatView) (clients n : ℕ) (drawn : List ℕ) → v ≡ view 1 1 clients drawn → w ≡ after_draw v n → n < clients → w ≡ view 1 1 clients (drawn ++ n ∷ [])

@@ -1,6 +1,6 @@
 -- Seats of a counter.
 use Rattle.std.specs.Prelude.{◌≡◌}
-use Rattle.mlt_work_clients.specs.declared.view.SeatView.{SeatView}
+use Rattle.mlt_work_clients.specs.declared.seats.SeatView.{SeatView}
 use Rattle.mlt_work_clients.specs.declared.seats.ClientCounter.{ClientCounter}
 use Rattle.mlt_work_clients.specs.declared.seats.ClaimHandle.{ClaimHandle}
 

@@ -1,7 +1,7 @@
 -- Workers, before and after their work.
 use Rattle.std.specs.Prelude.{◌≡◌, ℕ, ◌-◌, ◌<◌, ◌≤◌, List, [], ◌∷◌, ◌++◌, All, length, map, Bool, false}
 use Rattle.mlt_script.specs.Scripts.{ScriptForm}
-use Rattle.mlt_work_clients.specs.declared.view.SeatView.{SeatView}
+use Rattle.mlt_work_clients.specs.declared.seats.SeatView.{SeatView}
 use Rattle.mlt_work_clients.specs.declared.seats.ClientCounter.{ClientCounter}
 use Rattle.mlt_work_clients.specs.declared.seats.ClaimHandle.{ClaimHandle}
 use Rattle.mlt_work_clients.specs.Claims.{new_view, times, view}

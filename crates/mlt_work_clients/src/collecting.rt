@@ -1,19 +1,49 @@
-//! What the workers give back, put together.
+//! What the workers give back, put together: a place for the run of each client.
 
-ghost use Rattle.std.specs.Prelude.{◌≡◌, ◌+◌, ◌-◌, ◌^◌, ◌<◌, ◌≤◌, All, IsOkUnless, IfOk, [], None, false, length, min, replicate, vec_len};
+ghost use Rattle.std.specs.Prelude.{◌≡◌, ◌+◌, ◌-◌, ◌^◌, ◌<◌, ◌≤◌, All, IsOkUnless, IfOk, [], None, false, length, map, min, replicate, vec_len};
 ghost use Rattle.mlt_work_clients.specs.Claims.{HasAll};
 ghost use Rattle.mlt_work_clients.specs.Seats.{IsOf, view_of};
-ghost use Rattle.mlt_work_clients.specs.Places.{AreAllOutcomes, HaveRuns, AllHaveRuns, AreInPlace, scripts_of_clients};
+ghost use Rattle.mlt_work_clients.specs.Places.{AreAllOutcomes, HaveRuns, AllHaveRuns, AreInPlace, IsClientRun, KeepsRuns, place_of, scripts_of_clients};
 ghost use Rattle.mlt_work_clients.specs.Workers.{HasDrawnPast, HasWorked, view_after_splits};
 
 use crate::forms::{ClientRun, Worked};
 use crate::seats::{ClaimHandle, ClientCounter};
-use crate::slots::place_all;
 use mlt_script::Script;
 use mlt_script_serial::{Outcome, Outcomes};
 use mlt_types::Refusal;
 use std::alloc::{AllocError, Global};
 use std::sync::ledger::{Ledger, Share};
+
+/// A place for the run of each client, none of which is filled.
+///
+/// # Errors
+/// Where a growth is refused.
+pub fn empty_slots(alloc: Global, clients: usize) -> Result<Vec<Option<ClientRun>>, AllocError>
+    ensures { IfOk result (λ slots. slots.items ≡ replicate clients None) }
+{
+    let mut slots = Vec::with_capacity(alloc, clients)?;
+    while slots.len() < clients {
+        slots.push(None)?;
+    }
+    Ok(slots)
+}
+
+/// Puts each run at its place.
+fn place_all(clients: &[Vec<Script>], slots: &mut Vec<Option<ClientRun>>, runs: Vec<ClientRun>)
+    requires len { length slots.old.items ≡ length clients.now }
+    requires placed { AreInPlace (scripts_of_clients clients.now) slots.old.items }
+    requires runs { All (IsClientRun (scripts_of_clients clients.now)) runs.items }
+    ensures len { length slots.new.items ≡ length clients.now }
+    ensures placed { AreInPlace (scripts_of_clients clients.now) slots.new.items }
+    ensures kept { KeepsRuns slots.old.items slots.new.items }
+    ensures filled { HaveRuns (map place_of runs.items) slots.new.items }
+{
+    let mut rest = runs;
+    while let Some(run) = rest.pop() {
+        let place = run.place;
+        slots[place] = Some(run);
+    }
+}
 
 /// Takes in what each worker gives back: the first seat takes in its seat, the whole its share, and its runs come to their
 /// places. It answers the number of all events, and whether a worker has failed.

@@ -4,8 +4,7 @@ ghost use Rattle.std.specs.Prelude.{◌≡◌, ◌<◌, ◌^◌, [], IfOk};
 ghost use Rattle.mlt_work_clients.specs.Claims.{AreAllBelow, HasAll, after_draw, after_join, after_split, first_view, new_view};
 ghost use Rattle.mlt_work_clients.specs.Seats.{IsBeside, IsOf, view_of};
 
-use crate::rule::Draws;
-use crate::seats::{ClaimHandle, ClientCounter};
+use crate::seats::{ClaimHandle, ClientCounter, Draws};
 use atomic_table::Table;
 use std::alloc::{AllocError, Global};
 

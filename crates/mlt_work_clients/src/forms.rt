@@ -1,9 +1,13 @@
 //! What workers are given and what they give back.
 
-ghost use Rattle.std.specs.Prelude.{◌≡◌, ◌-◌, ◌^◌, min};
+ghost use Rattle.std.specs.Prelude.{◌≡◌, ◌+◌, ◌-◌, ◌^◌, ◌≤◌, All, IfOk, min, vec_len};
+ghost use Rattle.mlt_work_clients.specs.Claims.{first_view};
+ghost use Rattle.mlt_work_clients.specs.Seats.{IsOf, view_of};
+ghost use Rattle.mlt_work_clients.specs.Workers.{IsFresh, view_after_splits};
 
-use crate::seats::ClaimHandle;
+use crate::seats::{ClaimHandle, ClientCounter};
 use mlt_script_serial::Outcome;
+use std::alloc::{AllocError, Global};
 use std::sync::ledger::{Ledger, Share};
 
 /// What a worker begins with: its seat at the counter of clients, and its share of the ledger of events.
@@ -18,7 +22,7 @@ pub struct WorkerJob<L: Ledger> {
 }
 
 /// What became of the scripts of the client at a place.
-#[derive(Debug, Drop)]
+#[derive(Drop)]
 pub struct ClientRun {
     /// The client's place in the list of clients, from 0.
     pub place: usize,
@@ -41,4 +45,41 @@ pub struct Worked<L: Ledger> {
     pub failed: bool,
     ghost one_part: { share.parts ≡ 1 },
     ghost counted: { events ≡ min share.amount (2 ^ 64 - 1) },
+}
+
+/// A job for each worker, of which each has a seat split off the first one, and a share split off the whole.
+///
+/// # Errors
+/// Where a growth is refused.
+pub fn jobs_for<L: Ledger>(
+    alloc: Global,
+    counter: &ClientCounter,
+    first: &mut ClaimHandle,
+    all: &mut Share<L>,
+    clients: u64,
+    workers: usize,
+) -> Result<Vec<WorkerJob<L>>, AllocError>
+    requires workers { workers ≤ 8 }
+    requires seat { IsOf counter.now first.old }
+    requires view { view_of first.old ≡ first_view clients }
+    requires parts { all.old.parts ≡ 9 }
+    requires amount { all.old.amount ≡ 0 }
+    ensures len { IfOk result (λ jobs. vec_len jobs ≡ workers) }
+    ensures fresh { IfOk result
+        (λ jobs. All (λ job. IsFresh counter.now clients job.claim_handle) jobs.items) }
+    ensures seat { IfOk result (λ _. IsOf counter.now first.new) }
+    ensures view { IfOk result (λ _. view_of first.new ≡ view_after_splits workers clients) }
+    ensures parts { IfOk result (λ _. all.new.parts + workers ≡ 9) }
+    ensures amount { IfOk result (λ _. all.new.amount ≡ 0) }
+{
+    let mut jobs = Vec::with_capacity(alloc, workers)?;
+    for i in 0..workers {
+        let claim_handle = counter.split(first);
+        let share = all.split_off(1, 0);
+        jobs.push(WorkerJob {
+            claim_handle,
+            share,
+        })?;
+    }
+    Ok(jobs)
 }

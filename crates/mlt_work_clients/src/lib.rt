@@ -7,14 +7,8 @@
 mod collecting;
 mod counter;
 mod forms;
-mod jobs;
-mod rule;
 mod seats;
-mod slots;
-mod view;
 
-pub use collecting::collect;
-pub use forms::{ClientRun, Worked, WorkerJob};
-pub use jobs::jobs_for;
+pub use collecting::{collect, empty_slots};
+pub use forms::{ClientRun, Worked, WorkerJob, jobs_for};
 pub use seats::{ClaimHandle, ClientCounter};
-pub use slots::empty_slots;

@@ -1,7 +1,7 @@
 use Rattle.std.proofs.Common.{◌≡◌, ◌<◌, ◌+◌, ◌++◌, List, ℕ, length, map, sym, ap, ◌∙◌, subst, arith, Vec, Global, inr, Some, false}
 use Rattle.std.proofs.lemmas.List.{length-map}
 use Rattle.std.proofs.lemmas.List.Elements.{All-pop}
-use Rattle.mlt_work_clients.specs.declared.view.SeatView.{SeatView}
+use Rattle.mlt_work_clients.specs.declared.seats.SeatView.{SeatView}
 use Rattle.mlt_work_clients.specs.Claims.{times}
 use Rattle.mlt_work_clients.specs.Seats.{view_of}
 use Rattle.mlt_script.specs.declared.script.Script.{Script}

@@ -1,5 +1,5 @@
 use Rattle.mlt_work_clients.proofs.Placing.{last_put}
-use Rattle.mlt_work_clients.proofs.slots.place_all.Goals as goal
+use Rattle.mlt_work_clients.proofs.collecting.place_all.Goals as goal
 
 pub loop-run-preserved : goal.loop-run-preserved
 loop-run-preserved c = last_put _ _ _ _ _ _ c.in-Some.run' c.loop-run.invariant c.in-Some.ensures.items

@@ -1,7 +1,7 @@
 use Rattle.std.proofs.Common.{◌≡◌, ◌+◌, vec_len, All}
 use Rattle.mlt_work_clients.specs.Seats.{IsOf, view_of}
 use Rattle.mlt_work_clients.specs.Workers.{IsFresh, view_after_splits}
-use Rattle.mlt_work_clients.proofs.jobs.jobs_for.Given as goal
+use Rattle.mlt_work_clients.proofs.forms.jobs_for.Given as goal
 
 abbrev pub invariant-loop-i : goal.invariant-loop-i
 invariant-loop-i g l = record {

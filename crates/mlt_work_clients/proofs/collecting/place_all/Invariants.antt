@@ -1,7 +1,7 @@
 use Rattle.std.proofs.Common.{map, vec_len}
 use Rattle.mlt_work_clients.specs.Places.{place_of}
 use Rattle.mlt_work_clients.proofs.Placing.{ArePut}
-use Rattle.mlt_work_clients.proofs.slots.place_all.Given as goal
+use Rattle.mlt_work_clients.proofs.collecting.place_all.Given as goal
 
 abbrev pub invariant-loop-run : goal.invariant-loop-run
 invariant-loop-run l = ArePut l.clients l.fn.slots.items (map place_of l.fn.runs.items) l.slots.items l.rest.items
