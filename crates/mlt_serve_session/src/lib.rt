@@ -5,7 +5,6 @@
 //! them. That an answer is written before the next read is only tested.
 #![tactic(auto)]
 
-mod batch;
 mod notes;
 mod noting;
 mod receipts;

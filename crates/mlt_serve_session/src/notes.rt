@@ -9,7 +9,7 @@ use mlt_types::TxId;
 use std::alloc::Global;
 
 /// How far a session is.
-#[derive(Clone, Copy, Debug, PartialEq, Eq)]
+#[derive(Clone, Copy)]
 pub struct Progress {
     /// The transaction that is open.
     pub tx: Option<TxId>,

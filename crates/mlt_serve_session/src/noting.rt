@@ -16,19 +16,16 @@ use std::alloc::Global;
 fn ends(line: SessionLine) -> bool
     ensures { result ≡ ends line }
 {
-    match line {
-        SessionLine::Says(Command::Quit) | SessionLine::TooLong => true,
-        _ => false,
-    }
+    matches!(
+        line,
+        SessionLine::Says(Command::Quit) | SessionLine::TooLong
+    )
 }
 
 fn is_long(line: SessionLine) -> bool
     ensures { result ≡ is_long line }
 {
-    match line {
-        SessionLine::TooLong => true,
-        SessionLine::Says(_) => false,
-    }
+    matches!(line, SessionLine::TooLong)
 }
 
 impl<K: Receipts> SessionRecord<K> {

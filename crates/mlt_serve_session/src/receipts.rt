@@ -12,7 +12,7 @@ use std::alloc::{AllocError, Global};
 use std::mem;
 
 /// How a transaction ended.
-#[derive(Clone, Copy, Debug)]
+#[derive(Clone, Copy)]
 pub struct EndedTx {
     /// Whose it was.
     pub client: u32,
@@ -110,20 +110,12 @@ fn join(all: &mut Vec<Outcome>, more: Vec<Outcome>) -> Result<(), AllocError>
     all.append(&mut more)
 }
 
-fn copy_of(alloc: Global, done: &[Done]) -> Result<Vec<Done>, AllocError>
-    ensures { IfOk result (λ copy. copy.items ≡ done.now) }
-{
-    let mut copy = Vec::with_capacity(alloc, done.len())?;
-    copy.extend_from_slice(done)?;
-    Ok(copy)
-}
-
 /// What was done, in a list with no more room than that where there is memory for one, since outcomes are kept. The list in
 /// which a session notes it then keeps its room for the next transaction.
 fn noted(alloc: Global, done: &mut Vec<Done>) -> Vec<Done>
     ensures { result.items ≡ done.old.items }
 {
-    match copy_of(alloc, done.as_slice()) {
+    match Vec::from_slice(alloc, done.as_slice()) {
         Ok(copy) => copy,
         Err(_) => mem::replace(done, Vec::new(alloc)),
     }

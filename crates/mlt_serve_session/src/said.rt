@@ -9,7 +9,7 @@ use mlt_types::Refusal;
 use std::alloc::AllocError;
 
 /// What a session answers a line.
-#[derive(Clone, Copy, Debug, PartialEq, Eq)]
+#[derive(Clone, Copy)]
 pub enum Said {
     /// What the desk answered.
     Told(DeskAnswer),

@@ -2,7 +2,7 @@
 
 ghost use Rattle.std.specs.Prelude.{◌≡◌, ◌<◌, ◌≤◌, ◌+◌, ◌-◌, ◌^◌, ◌⊎◌, ℕ, List, false, None, length, take, drop, vec_len, IfOk, IfErr, IsOkUnless, OnOk, OnErr, IsErrOf, ◌++◌};
 ghost use Rattle.std.specs.Io.KnownBytes.{Consumes, IsAtEnd, Keeps};
-ghost use Rattle.mlt_serve_session.specs.Batches.{front};
+ghost use Rattle.mlt_serve_session.specs.Batches.{Answered, BrokeOff, front};
 ghost use Rattle.mlt_serve_session.specs.Desks.{Answers};
 ghost use Rattle.mlt_serve_session.specs.Noting.{outcomes_in};
 ghost use Rattle.mlt_serve_session.specs.Rounds.{Replied, Stopped, Unwritten, Talked, Broken, BrokenHeard, streams};
@@ -10,19 +10,58 @@ ghost use Rattle.mlt_serve_session.specs.Sessions.{SessionAnswers, scene};
 ghost use Rattle.mlt_serve_session.specs.Talks.{closing, closing_answers};
 ghost use Rattle.mlt_serve_session.specs.Turns.{IsSmall, talk_state, start};
 
-use crate::batch::answer_lines;
 use crate::notes::SessionRecord;
 use crate::receipts::Receipts;
-use crate::turn::abort;
+use crate::said::push_said;
+use crate::turn::{abort, take_turn};
+use mlt_event_text::next_line;
 use mlt_script_serial::Desk;
 use mlt_text::{MAX_INPUT, fill, keep, write_text, zeros};
 use mlt_types::Refusal;
-use std::alloc::Global;
+use std::alloc::{AllocError, Global};
 use std::io::{Read, Write};
 use std::mem;
 
 // How many bytes a session holds.
 const BUFFER: usize = 16_384;
+
+// Answers each complete line of the text, and tells how many bytes these lines take. What is left is no
+// whole line, or the session is over.
+//
+// # Errors
+// A growth was refused: some lines were answered, and their answers are not all there.
+fn answer_lines<D: Desk, K: Receipts>(
+    notes: &mut SessionRecord<K>,
+    desk: &mut D,
+    client: u32,
+    out: &mut Vec<u8>,
+    text: &[u8],
+) -> Result<usize, AllocError>
+    requires going { notes.old.progress.over ≡ false }
+    requires small { IsSmall notes.old.progress }
+    requires few { notes.old.progress.lines + length text.now < 2 ^ 62 }
+    ensures ok { IfOk result
+        (λ at. Answered D.moves client (talk_state client notes.old desk.old) (front text.now at)
+        out.old.items out.new.items (talk_state client notes.new desk.new)) }
+    ensures lines { IfOk result
+        (λ at. notes.new.progress.lines ≤ notes.old.progress.lines + at) }
+    ensures commits { OnOk result (notes.new.progress.commits ≤ notes.new.progress.lines) }
+    ensures begun { OnOk result (notes.new.progress.begun ≤ notes.new.progress.lines) }
+    ensures err { OnErr result
+        (BrokeOff D.moves client (talk_state client notes.old desk.old) text.now
+        (talk_state client notes.new desk.new)) }
+{
+    let mut at = 0;
+    while !notes.progress.over {
+        let Some((line, count)) = next_line(&text[at..]) else {
+            break;
+        };
+        let said = take_turn(notes, desk, client, line)?;
+        push_said(out, said)?;
+        at += count;
+    }
+    Ok(at)
+}
 
 // Answers all complete lines of the text in one write, and tells how many bytes these lines take.
 fn reply<W: Write, D: Desk, K: Receipts>(
@@ -109,7 +148,7 @@ fn listen<R: Read, W: Write, D: Desk, K: Receipts>(
 }
 
 /// How a session went.
-#[derive(Clone, Copy, Debug, PartialEq, Eq)]
+#[derive(Clone, Copy)]
 pub struct Summary {
     /// How many lines were answered: all that ended in LF, blank and faulty ones too.
     pub lines: u64,

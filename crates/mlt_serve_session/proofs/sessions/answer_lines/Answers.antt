@@ -1,7 +1,7 @@
 use Rattle.std.proofs.Common.{arith}
 use Rattle.mlt_serve_session.proofs.Names.{on_err_all, talk_state, empty}
 use Rattle.mlt_serve_session.proofs.Reaching.{reaches_more, reaches_none, broke_before, broke_after}
-use Rattle.mlt_serve_session.proofs.batch.answer_lines.Goals as goal
+use Rattle.mlt_serve_session.proofs.sessions.answer_lines.Goals as goal
 
 pub loop-notes-init : goal.loop-notes-init
 loop-notes-init g c =

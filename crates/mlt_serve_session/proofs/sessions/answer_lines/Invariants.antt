@@ -1,7 +1,7 @@
 -- So far into the text, by some turns.
 use Rattle.std.proofs.Common.{◌≤◌, ◌+◌, ◌-◌, length}
 use Rattle.mlt_serve_session.proofs.Names.{Reaches, front, talk_state}
-use Rattle.mlt_serve_session.proofs.batch.answer_lines.Given as goal
+use Rattle.mlt_serve_session.proofs.sessions.answer_lines.Given as goal
 
 abbrev pub invariant-loop-notes : goal.invariant-loop-notes
 invariant-loop-notes g l = record {
