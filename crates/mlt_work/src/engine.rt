@@ -9,8 +9,7 @@ ghost use Rattle.mlt_script.specs.Grammar.{IsFirstFault};
 ghost use Rattle.mlt_work_clients.specs.Places.{scripts_of_clients};
 ghost use Rattle.mlt_work.specs.RunTexts.{IsRunOf, IsRunText};
 
-use crate::options::RunOptions;
-use crate::running::run;
+use crate::running::{RunOptions, run};
 use mlt_manager::Manager;
 use mlt_script::{Script, by_client, parse};
 use mlt_script_serial::{ReportForm, write_report};

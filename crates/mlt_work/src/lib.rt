@@ -8,14 +8,11 @@
 mod begin_queue;
 mod client_order;
 mod engine;
-mod options;
 mod reporting;
 mod running;
 mod tuning;
 mod worker;
-mod workers;
 
 pub use begin_queue::BeginQueue;
 pub use engine::run_scripts;
-pub use options::RunOptions;
-pub use running::run;
+pub use running::{RunOptions, run};

@@ -8,20 +8,31 @@ ghost use Rattle.mlt_work_clients.specs.Places.{scripts_of_clients};
 ghost use Rattle.mlt_work.specs.Runs.{HasRunAll};
 
 use crate::client_order::ClientOrder;
-use crate::options::RunOptions;
 use crate::reporting::report_of;
-use crate::worker::RunContext;
-use crate::workers::work_all;
+use crate::worker::{RunContext, work_all};
 use mlt_manager::Manager;
 use mlt_script::Script;
 use mlt_script_serial::Report;
-use mlt_types::{Pseudo, Refusal};
+use mlt_types::{Limits, Pseudo, Refusal};
 use mlt_work_clients::{ClientCounter, collect, empty_slots, jobs_for};
 use mlt_work_desk::{BlankRecords, Gate, LockedState, MadeWith, Shared};
 use std::alloc::Global;
 use std::marker::Brand;
 use std::sync::Wait;
 use std::thread::Threads;
+
+/// How the scripts of all clients are run.
+#[derive(Clone, Copy)]
+pub struct RunOptions {
+    /// The limits of the manager.
+    pub limits: Limits,
+    /// How many workers run clients side by side, 1 to 8.
+    pub workers: usize,
+    /// How often a script may be told to wait, or that it is blocked, 1 to 1,000,000. Then it is aborted.
+    pub tries: u64,
+    /// How many clients are the first ones: their scripts are executed one client after another, before those of all others.
+    pub first: u64,
+}
 
 fn run_with<
     L: MadeWith<P> + Send + Sync,
@@ -77,7 +88,7 @@ fn run_with<
     let results = match work_all(rt, alloc, &context, jobs) {
         Ok(results) => results,
         Err(_) => {
-            shared.into_manager().close();
+            shared.unlock().into_manager().close();
             return Err(Refusal::OutOfMemory);
         }
     };
@@ -86,7 +97,7 @@ fn run_with<
     ) {
         Ok(got) => got,
         Err(refusal) => {
-            shared.into_manager().close();
+            shared.unlock().into_manager().close();
             return Err(refusal);
         }
     };

@@ -1,6 +1,6 @@
-//! One worker.
+//! The workers.
 
-ghost use Rattle.std.specs.Prelude.{◌≡◌, IfOk, [], length};
+ghost use Rattle.std.specs.Prelude.{◌≡◌, All, IfOk, [], length, vec_len};
 ghost use Rattle.mlt_script_serial.specs.Clients.{AreOutcomes, AreRunsAt};
 ghost use Rattle.mlt_work_clients.specs.Places.{scripts_of_clients};
 ghost use Rattle.mlt_work_clients.specs.Workers.{HasWorked, IsFresh};
@@ -11,8 +11,10 @@ use mlt_script_serial::{Desk, Outcome, run_client};
 use mlt_types::{Pseudo, Refusal};
 use mlt_work_clients::{ClaimHandle, ClientCounter, ClientRun, Worked, WorkerJob};
 use mlt_work_desk::{Gate, LockDesk, MadeWith, Shared, Tries};
-use std::alloc::Global;
+use std::alloc::{AllocError, Global};
 use std::sync::Wait;
+use std::thread;
+use std::thread::Threads;
 
 /// Runs the scripts of the client in this place in its order.
 ///
@@ -87,7 +89,7 @@ pub(crate) struct RunContext<'a, P: Pseudo, L: MadeWith<P>, G: Gate> {
 }
 
 /// Does a job: claims clients until none is left, and runs the scripts of each.
-pub(crate) fn work<P: Pseudo, L: MadeWith<P>, R: Wait, G: Gate>(
+fn work<P: Pseudo, L: MadeWith<P>, R: Wait, G: Gate>(
     rt: &R,
     alloc: Global,
     context: &RunContext<'_, P, L, G>,
@@ -126,4 +128,30 @@ pub(crate) fn work<P: Pseudo, L: MadeWith<P>, R: Wait, G: Gate>(
         runs,
         failed,
     }
+}
+
+/// Does each job in a thread of its own, or in this one where a thread is refused, and joins them all.
+///
+/// # Errors
+/// Where the list of results is refused its memory. All threads are joined then too.
+pub(crate) fn work_all<
+    P: Pseudo + Send,
+    L: MadeWith<P> + Send + Sync,
+    R: Threads + Wait + Sync,
+    G: Gate + Sync,
+>(
+    rt: &R,
+    alloc: Global,
+    context: &RunContext<'_, P, L, G>,
+    jobs: Vec<WorkerJob<L>>,
+) -> Result<Vec<Worked<L>>, AllocError>
+    requires { All (λ job. IsFresh context.now.counter.now
+        (length context.now.clients.now) job.claim_handle) jobs.items }
+    ensures len { IfOk result (λ results. vec_len results ≡ vec_len jobs) }
+    ensures each { IfOk result (λ results. All (λ worked. HasWorked context.now.counter.now
+        (scripts_of_clients context.now.clients.now) worked.claim_handle worked.runs.items
+        worked.failed)
+        results.items) }
+{
+    thread::map_vec(rt, jobs, &|job| { work(rt, alloc, context, job) })
 }
