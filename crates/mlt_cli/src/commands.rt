@@ -4,19 +4,8 @@ use clap::builder::ValueParser;
 use clap::{Arg, ArgAction, Command};
 use std::alloc::{AllocError, Global};
 
-// The names of the hash functions.
-static HASH_NAMES: [&str; 2] = ["mult", "low"];
-
-// The names of the conflict tables.
-static TABLE_NAMES: [&str; 3] = ["account", "set", "counter"];
-
-// What a new client may find while all sessions are taken.
-static FULL_NAMES: [&str; 2] = ["wait", "refuse"];
-
 /// The version of the program.
 pub const VERSION: &str = "0.1.0";
-
-const ABOUT: &str = "Run transactions on accounts, sets and counters, and check traces of them";
 
 const NO_WORDS: &str =
     "Without arguments, `mltx` reads scripts from standard input, like `mltx solo -`.
@@ -26,20 +15,6 @@ A prompt for a server comes with the Python client: `mltx-shell 127.0.0.1:7000`,
 
 Example: mltx solo scripts.txt";
 
-const HASH_HELP: &str = "Hash function of the pages [default: mult]";
-
-const TRACE_HELP: &str = "Write a trace of the transactions to FILE";
-
-const ECHO_HELP: &str = "Print each line of FILE, and its answer beside it";
-
-const LOAD_HELP: &str =
-    "Begin with the accounts, elements and counters of FILE, which are lines as `run` prints them";
-
-const SAVE_HELP: &str =
-    "When the server exits, write its accounts, elements and counters to FILE, for --load";
-
-const SOLO_ABOUT: &str = "Run the scripts of FILE one after another, and print the replies";
-
 const SOLO_EXAMPLE: &str = "Example: mltx solo scripts.txt
 
   scripts.txt        standard output
@@ -48,9 +23,6 @@ const SOLO_EXAMPLE: &str = "Example: mltx solo scripts.txt
   deposit 101 500    done
   balance 101        is 500
   commit             committed 1";
-
-const STEPS_ABOUT: &str =
-    "Replay a schedule of interleaved transactions step by step; print each answer and the committed state";
 
 const STEPS_EXAMPLE: &str = "Example: mltx steps schedule.txt
 
@@ -74,9 +46,6 @@ Transaction 3 asks for 40 coins, and is blocked while transaction 2, which has t
 may still abort: the reply is `short` if it commits, and `done` if it aborts. With `--explain`
 the program prints this reason too.";
 
-const RUN_ABOUT: &str =
-    "Run the scripts of FILE side by side in threads; print the replies and the committed state";
-
 const RUN_EXAMPLE: &str = "Example: mltx run scripts.txt --workers 2 --trace trace.txt
 
   scripts.txt      standard output
@@ -93,8 +62,20 @@ waits for which, may differ from run to run; the committed state of scripts like
 `mltx check trace.txt` runs the committed scripts again, one after another in the order of their
 commits, and compares every reply.";
 
-const SERVE_ABOUT: &str =
-    "Listen on ADDR and serve clients, which send lines and get an answer to each";
+const CHECK_EXAMPLE: &str = "Example: mltx check trace.txt
+
+  trace.txt                  standard output
+  begin 3
+  begin 4
+  op 4 open 101 opened
+  op 4 deposit 101 70 done
+  commit 4 1                 serial 4
+  op 3 balance 101 is 70
+  commit 3 2                 serial 3
+                             account 101 70
+
+If the reply in line 4 were `over`, the program would print `mltx: 11 TraceFault line 4 Reply`
+to standard error.";
 
 const SERVE_EXAMPLE: &str = "Example: mltx serve 127.0.0.1:7000 --limit 2
          nc 127.0.0.1 7000
@@ -117,26 +98,6 @@ To keep a server running until you stop it, by the button at http://127.0.0.1:70
 to /stop:
   mltx serve 127.0.0.1:7000 --endless --sessions 64 --idle 600 --admin 127.0.0.1:7001";
 
-const CHECK_ABOUT: &str =
-    "Check a trace: run its committed transactions again, in commit order, and compare every reply";
-
-const CHECK_EXAMPLE: &str = "Example: mltx check trace.txt
-
-  trace.txt                  standard output
-  begin 3
-  begin 4
-  op 4 open 101 opened
-  op 4 deposit 101 70 done
-  commit 4 1                 serial 4
-  op 3 balance 101 is 70
-  commit 3 2                 serial 3
-                             account 101 70
-
-If the reply in line 4 were `over`, the program would print `mltx: 11 TraceFault line 4 Reply`
-to standard error.";
-
-const TABLES_ABOUT: &str = "Print which operations conflict, with an example of each conflict";
-
 const TABLES_EXAMPLE: &str = "Example: mltx tables counter
 
   counter    Counted Read
@@ -154,72 +115,241 @@ Rows are operations that a transaction holds, and columns are operations that an
 An `x` marks a conflict: some two such operations get other replies, or lead to another state, if
 they are executed in the other order.";
 
-const FILE: InputHelp = InputHelp {
-    value_name: "FILE",
-    help: "File to read; `-` is standard input",
-};
-
-const ADDRESS: InputHelp = InputHelp {
-    value_name: "ADDR",
-    help: "IP address and port to listen on, such as `127.0.0.1:7000`",
-};
-
-const TABLE_HELP: &str = "Table to print; all of them if it is not given";
-
-const TRIES_HELP: &str =
-    "Answer GaveUp after N waits for other transactions, 1 to 1000000 [default: 10000]";
-
-const LONG_HELP: &str =
-    "Check a trace of any length: read it piece by piece, and print while reading";
-
-const EXPLAIN_HELP: &str =
-    "After each event that is blocked or waits, print the reason in lines that begin with `#`";
-
-const WORKERS_HELP: &str = "Run the scripts in N threads, 1 to 8 [default: 4]";
-
-const SESSIONS_HELP: &str = "Serve up to N connections at a time, 1 to 64 [default: 8]";
-
-const LIMIT_HELP: &str = "Exit after N connections, 1 to 1000000 [default: 1]";
-
-const ENDLESS_HELP: &str =
-    "Accept connections without limit, and keep no history in memory; not with --limit";
-
-const IDLE_HELP: &str = "Close connections idle for SECONDS, up to 86400; 0 = never [default: 0]";
-
-const WAIT_HELP: &str =
-    "Answer GaveUp to operations that wait for SECONDS, up to 86400; 0 = never [default: 0]";
-
-const OPEN_HELP: &str =
-    "Close connections whose transaction is open for SECONDS, up to 86400; 0 = never [default: 0]";
-
-const FULL_HELP: &str =
-    "Let new clients wait, or refuse them, while all sessions are taken [default: wait]";
-
-const ADMIN_HELP: &str =
-    "Serve the operator's page, JSON and metrics by HTTP at this IP address and port";
-
-const UNTIL_EOF_HELP: &str =
-    "Shut down when standard input ends; not with `&`, `nohup` or `< /dev/null`";
-
-const VERBOSE_HELP: &str =
-    "After an error, print a second line with the file or address, the reason and what was expected";
-
-// How help shows what a subcommand takes, and what it says of it.
-#[derive(Clone, Copy)]
-struct InputHelp {
-    value_name: &'static str,
-    help: &'static str,
+// A subcommand: its name, what help says of it, and the rows of what it takes.
+struct Subcommand {
+    name: &'static str,
+    about: &'static str,
+    example: &'static str,
+    rows: &'static [Row],
 }
+
+// What a subcommand takes, with what help says of it. An option has its long name, and that of its value.
+#[derive(Clone, Copy)]
+enum Row {
+    // FILE or ADDR.
+    Input(&'static str, &'static str),
+    // The name of a conflict table.
+    Table(&'static str),
+    // An option that takes nothing.
+    Flag(&'static str, &'static str),
+    // An option that takes a text.
+    Text(&'static str, &'static str, &'static str),
+    // An option that takes one of these names, and has the last one where it is not given.
+    Choice(&'static str, &'static str, &'static str, &'static [&'static str], &'static str),
+    // An option that takes a number within these bounds, and has the last one where it is not given.
+    Number(&'static str, &'static str, &'static str, u64, u64, &'static str),
+    // The options behind it stand below this heading.
+    Heading(&'static str),
+}
+
+const HASH_NAMES: &[&str] = &["mult", "low"];
+
+const TABLE_NAMES: &[&str] = &["account", "set", "counter"];
+
+const FULL_NAMES: &[&str] = &["wait", "refuse"];
+
+const FILE: Row = Row::Input("FILE", "File to read; `-` is standard input");
+
+const HASH: Row = Row::Choice(
+    "hash",
+    "HASH",
+    "Hash function of the pages",
+    HASH_NAMES,
+    "mult",
+);
+
+const TRACE: Row = Row::Text("trace", "FILE", "Write a trace of the transactions to FILE");
+
+const ECHO: Row = Row::Flag("echo", "Print each line of FILE, and its answer beside it");
+
+const LOAD: Row = Row::Text(
+    "load",
+    "FILE",
+    "Begin with the accounts, elements and counters of FILE, which are lines as `run` prints them",
+);
+
+const TRIES: Row = Row::Number(
+    "tries",
+    "N",
+    "Answer GaveUp after N waits for other transactions, 1 to 1000000",
+    1,
+    1_000_000,
+    "10000",
+);
+
+const SOLO_ROWS: &[Row] = &[FILE, HASH, TRACE, ECHO, LOAD];
+
+const STEPS_ROWS: &[Row] = &[
+    FILE,
+    HASH,
+    TRACE,
+    ECHO,
+    Row::Flag(
+        "explain",
+        "After each event that is blocked or waits, print the reason in lines that begin with `#`",
+    ),
+];
+
+const RUN_ROWS: &[Row] = &[
+    FILE,
+    HASH,
+    TRACE,
+    ECHO,
+    LOAD,
+    Row::Number(
+        "workers",
+        "N",
+        "Run the scripts in N threads, 1 to 8",
+        1,
+        8,
+        "4",
+    ),
+    TRIES,
+];
+
+const CHECK_ROWS: &[Row] = &[
+    FILE,
+    Row::Flag(
+        "long",
+        "Check a trace of any length: read it piece by piece, and print while reading",
+    ),
+];
+
+// `--limit` has no default value: what is found then tells whether it stands beside `--endless`.
+const SERVE_ROWS: &[Row] = &[
+    Row::Input(
+        "ADDR",
+        "IP address and port to listen on, such as `127.0.0.1:7000`",
+    ),
+    HASH,
+    TRACE,
+    LOAD,
+    Row::Text(
+        "save",
+        "FILE",
+        "When the server exits, write its accounts, elements and counters to FILE, for --load",
+    ),
+    Row::Heading("Connections"),
+    Row::Flag(
+        "endless",
+        "Accept connections without limit, and keep no history in memory; not with --limit",
+    ),
+    Row::Number(
+        "limit",
+        "N",
+        "Exit after N connections, 1 to 1000000 [default: 1]",
+        1,
+        1_000_000,
+        "",
+    ),
+    Row::Number(
+        "sessions",
+        "N",
+        "Serve up to N connections at a time, 1 to 64",
+        1,
+        64,
+        "8",
+    ),
+    Row::Choice(
+        "full",
+        "FULL",
+        "Let new clients wait, or refuse them, while all sessions are taken",
+        FULL_NAMES,
+        "wait",
+    ),
+    Row::Heading("Waits and timeouts"),
+    TRIES,
+    Row::Number(
+        "wait",
+        "SECONDS",
+        "Answer GaveUp to operations that wait for SECONDS, up to 86400; 0 = never",
+        0,
+        86_400,
+        "0",
+    ),
+    Row::Number(
+        "open",
+        "SECONDS",
+        "Close connections whose transaction is open for SECONDS, up to 86400; 0 = never",
+        0,
+        86_400,
+        "0",
+    ),
+    Row::Number(
+        "idle",
+        "SECONDS",
+        "Close connections idle for SECONDS, up to 86400; 0 = never",
+        0,
+        86_400,
+        "0",
+    ),
+    Row::Heading("Operation"),
+    Row::Text(
+        "admin",
+        "ADDR",
+        "Serve the operator's page, JSON and metrics by HTTP at this IP address and port",
+    ),
+    Row::Flag(
+        "until-eof",
+        "Shut down when standard input ends; not with `&`, `nohup` or `< /dev/null`",
+    ),
+];
+
+const TABLES_ROWS: &[Row] = &[Row::Table("Table to print; all of them if it is not given")];
+
+const SUBCOMMANDS: &[Subcommand] = &[
+    Subcommand {
+        name: "solo",
+        about: "Run the scripts of FILE one after another, and print the replies",
+        example: SOLO_EXAMPLE,
+        rows: SOLO_ROWS,
+    },
+    Subcommand {
+        name: "steps",
+        about: "Replay a schedule of interleaved transactions step by step; print each answer and the committed state",
+        example: STEPS_EXAMPLE,
+        rows: STEPS_ROWS,
+    },
+    Subcommand {
+        name: "run",
+        about: "Run the scripts of FILE side by side in threads; print the replies and the committed state",
+        example: RUN_EXAMPLE,
+        rows: RUN_ROWS,
+    },
+    Subcommand {
+        name: "check",
+        about: "Check a trace: run its committed transactions again, in commit order, and compare every reply",
+        example: CHECK_EXAMPLE,
+        rows: CHECK_ROWS,
+    },
+    Subcommand {
+        name: "serve",
+        about: "Listen on ADDR and serve clients, which send lines and get an answer to each",
+        example: SERVE_EXAMPLE,
+        rows: SERVE_ROWS,
+    },
+    Subcommand {
+        name: "tables",
+        about: "Print which operations conflict, with an example of each conflict",
+        example: TABLES_EXAMPLE,
+        rows: TABLES_ROWS,
+    },
+];
 
 // The program's description.
 pub(crate) fn mltx_command<'a>(alloc: Global) -> Result<Command<'a>, AllocError> {
-    let command = bare_command(alloc)?;
-    let command = with_subcommand(command, solo_command(alloc))?;
-    let command = with_subcommand(command, steps_command(alloc))?;
-    let command = with_subcommand(command, work_command(alloc))?;
-    let command = with_subcommand(command, check_command(alloc))?;
-    let command = with_subcommand(command, serve_command(alloc))?;
-    with_subcommand(command, tables_command(alloc))
+    let mut command = Command::new(alloc, "mltx")
+        .version(VERSION)
+        .about("Run transactions on accounts, sets and counters, and check traces of them")
+        .after_help(NO_WORDS)
+        .no_binary_name(true)
+        .subcommand_required(true)
+        .bin_name("mltx")?
+        .arg(verbose_flag(alloc))?;
+    for subcommand in SUBCOMMANDS {
+        command = with_subcommand(command, subcommand_of(alloc, subcommand))?;
+    }
+    Ok(command)
 }
 
 // The command with a subcommand, if there was memory for that.
@@ -230,199 +360,76 @@ fn with_subcommand<'a>(
     command.subcommand(subcommand?)
 }
 
-fn bare_command<'a>(alloc: Global) -> Result<Command<'a>, AllocError> {
-    Command::new(alloc, "mltx")
-        .version(VERSION)
-        .about(ABOUT)
-        .after_help(NO_WORDS)
-        .no_binary_name(true)
-        .subcommand_required(true)
-        .bin_name("mltx")?
-        .arg(verbose_flag(alloc))
+fn subcommand_of<'a>(alloc: Global, subcommand: &Subcommand) -> Result<Command<'a>, AllocError> {
+    let mut command = Command::new(alloc, subcommand.name)
+        .about(subcommand.about)
+        .after_help(subcommand.example)
+        .arg(verbose_flag(alloc))?;
+    for row in subcommand.rows {
+        command = with_row(alloc, command, *row)?;
+    }
+    Ok(command)
 }
 
 // The flag that asks for the second line of a fault.
 fn verbose_flag<'a>(alloc: Global) -> Arg<'a> {
-    Arg::new(alloc, "verbose")
-        .short('v')
-        .long("verbose")
-        .action(ArgAction::SetTrue)
-        .help(VERBOSE_HELP)
-}
-
-// The file that is read, or the address that is listened on.
-fn input_argument<'a>(alloc: Global, input: InputHelp) -> Arg<'a> {
-    Arg::new(alloc, "input")
-        .value_name(input.value_name)
-        .help(input.help)
-        .required(true)
-}
-
-// A subcommand with an input.
-fn input_command<'a>(
-    alloc: Global,
-    name: &'a str,
-    input: InputHelp,
-    about: &'a str,
-    example: &'a str,
-) -> Result<Command<'a>, AllocError> {
-    Command::new(alloc, name)
-        .about(about)
-        .after_help(example)
-        .arg(input_argument(alloc, input))?
-        .arg(verbose_flag(alloc))
-}
-
-// A subcommand that runs what it reads.
-fn run_command<'a>(
-    alloc: Global,
-    name: &'a str,
-    input: InputHelp,
-    about: &'a str,
-    example: &'a str,
-) -> Result<Command<'a>, AllocError> {
-    let hashes = HASH_NAMES.as_slice();
-    input_command(alloc, name, input, about, example)?
-        .arg(choice_option(alloc, "hash", "HASH", HASH_HELP, hashes))?
-        .arg(text_option(alloc, "trace", "FILE", TRACE_HELP))
-}
-
-// A subcommand that runs a file, and can print it beside the answers.
-fn echo_command<'a>(
-    alloc: Global,
-    name: &'a str,
-    about: &'a str,
-    example: &'a str,
-) -> Result<Command<'a>, AllocError> {
-    run_command(alloc, name, FILE, about, example)?.arg(flag_option(alloc, "echo", ECHO_HELP))
-}
-
-fn solo_command<'a>(alloc: Global) -> Result<Command<'a>, AllocError> {
-    echo_command(alloc, "solo", SOLO_ABOUT, SOLO_EXAMPLE)?.arg(load_option(alloc))
-}
-
-// The option of a base to begin with.
-fn load_option<'a>(alloc: Global) -> Arg<'a> {
-    text_option(alloc, "load", "FILE", LOAD_HELP)
-}
-
-fn steps_command<'a>(alloc: Global) -> Result<Command<'a>, AllocError> {
-    echo_command(alloc, "steps", STEPS_ABOUT, STEPS_EXAMPLE)?.arg(flag_option(
+    flag(
         alloc,
-        "explain",
-        EXPLAIN_HELP,
-    ))
+        "verbose",
+        "After an error, print a second line with the file or address, the reason and what was expected",
+    )
+    .short('v')
 }
 
-// `check`, which may take a trace of any length.
-fn check_command<'a>(alloc: Global) -> Result<Command<'a>, AllocError> {
-    input_command(alloc, "check", FILE, CHECK_ABOUT, CHECK_EXAMPLE)?.arg(flag_option(
-        alloc, "long", LONG_HELP,
-    ))
+fn with_row<'a>(alloc: Global, command: Command<'a>, row: Row) -> Result<Command<'a>, AllocError> {
+    let argument = match row {
+        Row::Heading(heading) => return Ok(command.next_help_heading(heading)),
+        Row::Input(value_name, help) => Arg::new(alloc, "input")
+            .value_name(value_name)
+            .help(help)
+            .required(true),
+        Row::Table(help) => Arg::new(alloc, "table")
+            .value_name("TABLE")
+            .help(help)
+            .value_parser(TABLE_NAMES),
+        Row::Flag(name, help) => flag(alloc, name, help),
+        Row::Text(name, value_name, help) => option(alloc, name, value_name, help),
+        Row::Choice(name, value_name, help, names, usual) => {
+            with_usual(
+                option(alloc, name, value_name, help).value_parser(names),
+                usual,
+            )
+        }
+        Row::Number(name, value_name, help, least, most, usual) => {
+            // A negative number is told to be out of its bounds, and is not taken for an option.
+            let number = option(alloc, name, value_name, help)
+                .value_parser(ValueParser::unsigned(least, most))
+                .allow_negative_numbers(true);
+            with_usual(number, usual)
+        }
+    };
+    command.arg(argument)
 }
 
-fn tables_command<'a>(alloc: Global) -> Result<Command<'a>, AllocError> {
-    Command::new(alloc, "tables")
-        .about(TABLES_ABOUT)
-        .after_help(TABLES_EXAMPLE)
-        .arg(verbose_flag(alloc))?
-        .arg(table_argument(alloc))
+// The option with the value that it has where it is not given; none, if this is no text.
+fn with_usual<'a>(argument: Arg<'a>, usual: &'a str) -> Arg<'a> {
+    if usual.is_empty() {
+        argument
+    } else {
+        argument.default_value(usual)
+    }
 }
 
-fn table_argument<'a>(alloc: Global) -> Arg<'a> {
-    Arg::new(alloc, "table")
-        .value_name("TABLE")
-        .help(TABLE_HELP)
-        .value_parser(TABLE_NAMES.as_slice())
-}
-
-// An option that takes a text. Help shows it by this name.
-fn text_option<'a>(alloc: Global, name: &'a str, value_name: &'a str, help: &'a str) -> Arg<'a> {
-    Arg::new(alloc, name)
-        .long(name)
-        .value_name(value_name)
-        .help(help)
-}
-
-// An option that takes one of these names. Help shows it by this name.
-fn choice_option<'a>(
-    alloc: Global,
-    name: &'a str,
-    value_name: &'a str,
-    help: &'a str,
-    names: &'a [&'a str],
-) -> Arg<'a> {
-    text_option(alloc, name, value_name, help).value_parser(names)
-}
-
-// An option that takes nothing, and has a long name alone.
-fn flag_option<'a>(alloc: Global, name: &'a str, help: &'a str) -> Arg<'a> {
+fn flag<'a>(alloc: Global, name: &'a str, help: &'a str) -> Arg<'a> {
     Arg::new(alloc, name)
         .long(name)
         .action(ArgAction::SetTrue)
         .help(help)
 }
 
-// An option that takes a number within these bounds. Help shows it by this name.
-fn number_option<'a>(
-    alloc: Global,
-    name: &'a str,
-    value_name: &'a str,
-    help: &'a str,
-    least: u64,
-    most: u64,
-) -> Arg<'a> {
+fn option<'a>(alloc: Global, name: &'a str, value_name: &'a str, help: &'a str) -> Arg<'a> {
     Arg::new(alloc, name)
         .long(name)
         .value_name(value_name)
         .help(help)
-        .value_parser(ValueParser::unsigned(least, most))
-}
-
-// How often a script, or an operation of a session, may wait.
-fn tries_option<'a>(alloc: Global) -> Arg<'a> {
-    number_option(alloc, "tries", "N", TRIES_HELP, 1, 1_000_000)
-}
-
-fn work_command<'a>(alloc: Global) -> Result<Command<'a>, AllocError> {
-    echo_command(alloc, "run", RUN_ABOUT, RUN_EXAMPLE)?
-        .arg(load_option(alloc))?
-        .arg(number_option(alloc, "workers", "N", WORKERS_HELP, 1, 8))?
-        .arg(tries_option(alloc))
-}
-
-fn serve_command<'a>(alloc: Global) -> Result<Command<'a>, AllocError> {
-    let command = run_command(alloc, "serve", ADDRESS, SERVE_ABOUT, SERVE_EXAMPLE)?
-        .arg(load_option(alloc))?
-        .arg(text_option(alloc, "save", "FILE", SAVE_HELP))?;
-    let command = with_connections(alloc, command.next_help_heading("Connections"))?;
-    let command = with_waits(alloc, command.next_help_heading("Waits and timeouts"))?;
-    command
-        .next_help_heading("Operation")
-        .arg(text_option(alloc, "admin", "ADDR", ADMIN_HELP))?
-        .arg(flag_option(alloc, "until-eof", UNTIL_EOF_HELP))
-}
-
-// The subcommand with the options on how many connections are served, and how many at once.
-fn with_connections<'a>(alloc: Global, command: Command<'a>) -> Result<Command<'a>, AllocError> {
-    let fulls = FULL_NAMES.as_slice();
-    command
-        .arg(flag_option(alloc, "endless", ENDLESS_HELP))?
-        .arg(number_option(alloc, "limit", "N", LIMIT_HELP, 1, 1_000_000))?
-        .arg(number_option(alloc, "sessions", "N", SESSIONS_HELP, 1, 64))?
-        .arg(choice_option(alloc, "full", "FULL", FULL_HELP, fulls))
-}
-
-// The subcommand with the options on how often and for how long a client may wait.
-fn with_waits<'a>(alloc: Global, command: Command<'a>) -> Result<Command<'a>, AllocError> {
-    command
-        .arg(tries_option(alloc))?
-        .arg(seconds_option(alloc, "wait", WAIT_HELP))?
-        .arg(seconds_option(alloc, "open", OPEN_HELP))?
-        .arg(seconds_option(alloc, "idle", IDLE_HELP))
-}
-
-// An option that takes a number of seconds, at most a day.
-fn seconds_option<'a>(alloc: Global, name: &'a str, help: &'a str) -> Arg<'a> {
-    number_option(alloc, name, "SECONDS", help, 0, 86_400)
 }

@@ -1,6 +1,6 @@
 //! The words of the command line, and the job that they ask for.
 
-ghost use Rattle.std.specs.Prelude.{◌≤◌, IfOk, IfSome};
+ghost use Rattle.std.specs.Prelude.{◌≤◌, IfOk};
 ghost use Rattle.mlt_cli.specs.CommandLine.{AreWithinDay, IsWithinBounds, IsWithinLimit};
 
 use crate::commands::mltx_command;
@@ -10,7 +10,7 @@ use mlt_object_tables::TableName;
 use std::alloc::{AllocError, Global};
 
 /// A hash function of the pages, by its name.
-#[derive(Clone, Copy, Debug)]
+#[derive(Clone, Copy)]
 pub enum Hash {
     /// The number of a key, times a large odd number modulo 2^64.
     Mult,
@@ -19,7 +19,7 @@ pub enum Hash {
 }
 
 /// What is to be run, and how.
-#[derive(Debug, Drop)]
+#[derive(Drop)]
 pub struct Run {
     /// The file to read, or the address to listen on, as it stands on the command line. The file `-` is standard input.
     pub input: String,
@@ -34,7 +34,7 @@ pub struct Run {
 }
 
 /// A schedule that is to be run.
-#[derive(Debug, Drop)]
+#[derive(Drop)]
 pub struct Schedule {
     /// What is to be run.
     pub run: Run,
@@ -43,7 +43,7 @@ pub struct Schedule {
 }
 
 /// Scripts that are to be run side by side.
-#[derive(Debug, Drop)]
+#[derive(Drop)]
 pub struct Work {
     /// What is to be run.
     pub run: Run,
@@ -54,7 +54,7 @@ pub struct Work {
 }
 
 /// Connections that are to be served.
-#[derive(Debug, Drop)]
+#[derive(Drop)]
 pub struct Serve {
     /// The address, as its input.
     pub run: Run,
@@ -73,7 +73,7 @@ pub struct Serve {
 }
 
 /// A trace that is checked.
-#[derive(Debug, Drop)]
+#[derive(Drop)]
 pub struct Check {
     /// The input's file as it stands on the command line. `-` is standard input.
     pub input: String,
@@ -82,7 +82,7 @@ pub struct Check {
 }
 
 /// How many connections a server takes in all.
-#[derive(Clone, Copy, Debug)]
+#[derive(Clone, Copy)]
 pub enum Connections {
     /// So many, from 1 to 1,000,000.
     Limit(u32),
@@ -91,7 +91,7 @@ pub enum Connections {
 }
 
 /// After how many seconds a server gives up, each from 0 to 86,400. 0 is never, also where none is said.
-#[derive(Clone, Copy, Debug)]
+#[derive(Clone, Copy)]
 pub struct Times {
     /// After how many seconds an idle connection is closed.
     pub idle: u64,
@@ -102,7 +102,7 @@ pub struct Times {
 }
 
 /// What a client finds while all sessions are taken, by its name.
-#[derive(Clone, Copy, Debug, PartialEq, Eq)]
+#[derive(Clone, Copy, PartialEq, Eq)]
 pub enum Full {
     /// It waits until a session ends.
     Wait,
@@ -111,7 +111,7 @@ pub enum Full {
 }
 
 /// How an operator reaches a server and ends it.
-#[derive(Debug, Drop)]
+#[derive(Drop)]
 pub struct OperatorOptions {
     /// The address at which an operator connects by HTTP, as it stands on the command line, if there is one.
     pub admin: Option<String>,
@@ -122,7 +122,7 @@ pub struct OperatorOptions {
 }
 
 /// What the program is asked to do.
-#[derive(Debug, Drop)]
+#[derive(Drop)]
 pub enum Job {
     /// To run the scripts of an input one after another.
     Solo(Run),
@@ -147,8 +147,35 @@ pub struct CommandLine {
     pub verbose: bool,
 }
 
-// What is said where connections are to be without end, and limited too.
-const ENDLESS_AND_LIMITED: &str = "the argument '--endless' cannot be used with '--limit <N>'";
+// Why what `clap` found gives no job.
+enum NoJob {
+    // Memory ran out.
+    Memory(AllocError),
+    // A word is missing, or is none that it may be. `clap` lets neither through.
+    Word,
+    // Connections are to be without end, and limited too.
+    EndlessAndLimited,
+}
+
+impl From<AllocError> for NoJob {
+    fn from(refused: AllocError) -> NoJob {
+        NoJob::Memory(refused)
+    }
+}
+
+impl NoJob {
+    // What is said of it.
+    fn error(self, command: &mut Command<'_>) -> Result<Error, AllocError> {
+        match self {
+            NoJob::Memory(refused) => Err(refused),
+            NoJob::Word => command.error(ErrorKind::MissingRequiredArgument, "no input was given"),
+            NoJob::EndlessAndLimited => command.error(
+                ErrorKind::ArgumentConflict,
+                "the argument '--endless' cannot be used with '--limit <N>'",
+            ),
+        }
+    }
+}
 
 /// The job that the words after the program's name ask for, and whether they have `-v` or `--verbose`. With no words it is
 /// `solo -`.
@@ -165,27 +192,11 @@ pub fn read_words(alloc: Global, words: &[String]) -> Result<CommandLine, Error>
             verbose: false,
         });
     }
-    read_by(alloc, &mut mltx_command(alloc)?, words)
-}
-
-// What the words ask for by the program's description.
-fn read_by<'a>(
-    alloc: Global,
-    command: &mut Command<'a>,
-    words: &'a [String],
-) -> Result<CommandLine, Error>
-    ensures { IfOk result (λ line. IsWithinBounds line.job) }
-{
+    let mut command = mltx_command(alloc)?;
     let matches = command.try_get_matches_from_mut(words)?;
-    match job_in(alloc, &matches)? {
-        Some(job) => Ok(CommandLine {
-            job,
-            verbose: is_verbose_in(&matches),
-        }),
-        None => {
-            let (kind, text) = want_of(&matches);
-            Err(command.error(kind, text)?)
-        }
+    match line_found(alloc, &matches) {
+        Ok(line) => Ok(line),
+        Err(found) => Err(found.error(&mut command)?),
     }
 }
 
@@ -201,225 +212,119 @@ fn standard_input(alloc: Global) -> Result<Job, AllocError>
     }))
 }
 
-// Whether the flag stands before the subcommand or behind it.
-fn is_verbose_in(matches: &ArgMatches<'_>) -> bool {
-    match matches.subcommand() {
-        Some((_, found)) => flag_found(matches, "verbose") || flag_found(found, "verbose"),
-        None => flag_found(matches, "verbose"),
-    }
-}
-
-// Of which kind the error is where no job is found, and what is said.
-fn want_of(matches: &ArgMatches<'_>) -> (ErrorKind, &'static str) {
-    match matches.subcommand() {
-        Some((_, found)) if is_endless_and_limited(found) => {
-            (ErrorKind::ArgumentConflict, ENDLESS_AND_LIMITED)
-        }
-        _ => (ErrorKind::MissingRequiredArgument, "no input was given"),
-    }
-}
-
-// Whether connections are to be without end, and limited too.
-fn is_endless_and_limited(found: &ArgMatches<'_>) -> bool {
-    flag_found(found, "endless") && found.get_str("limit").is_some()
-}
-
-// Whether a flag was met.
-fn flag_found(found: &ArgMatches<'_>, id: &str) -> bool {
-    match found.get_str(id) {
-        Some(text) => text == "true",
-        None => false,
-    }
-}
-
-fn job_in(alloc: Global, matches: &ArgMatches<'_>) -> Result<Option<Job>, AllocError>
-    ensures { IfOk result (λ job. IfSome job IsWithinBounds) }
+// The flag `--verbose` stands before the subcommand or behind it.
+fn line_found(alloc: Global, matches: &ArgMatches<'_>) -> Result<CommandLine, NoJob>
+    ensures { IfOk result (λ line. IsWithinBounds line.job) }
 {
     match matches.subcommand() {
-        Some((name, found)) => job_of(alloc, name, found),
-        None => Ok(None),
+        Some((name, found)) => Ok(CommandLine {
+            job: job_found(alloc, name, found)?,
+            verbose: matches.get_flag("verbose") || found.get_flag("verbose"),
+        }),
+        None => Err(NoJob::Word),
     }
 }
 
-fn job_of(alloc: Global, name: &str, found: &ArgMatches<'_>) -> Result<Option<Job>, AllocError>
-    ensures { IfOk result (λ job. IfSome job IsWithinBounds) }
+fn job_found(alloc: Global, name: &str, found: &ArgMatches<'_>) -> Result<Job, NoJob>
+    ensures { IfOk result IsWithinBounds }
 {
-    if name == "solo" {
-        solo_found(alloc, found)
-    } else if name == "steps" {
-        schedule_found(alloc, found)
-    } else if name == "run" {
-        work_found(alloc, found)
-    } else if name == "check" {
-        check_found(alloc, found)
-    } else if name == "serve" {
-        serve_found(alloc, found)
-    } else if name == "tables" {
-        Ok(tables_found(found))
-    } else {
-        Ok(None)
+    match name {
+        "solo" => Ok(Job::Solo(run_found(alloc, found)?)),
+        "steps" => Ok(Job::Steps(Schedule {
+            run: run_found(alloc, found)?,
+            explains: found.get_flag("explain"),
+        })),
+        "run" => work_found(alloc, found),
+        "check" => Ok(Job::Check(Check {
+            input: input_found(alloc, found)?,
+            is_long: found.get_flag("long"),
+        })),
+        "serve" => serve_found(alloc, found),
+        "tables" => Ok(Job::Tables(table_found(found)?)),
+        _ => Err(NoJob::Word),
     }
 }
 
-fn solo_found(alloc: Global, found: &ArgMatches<'_>) -> Result<Option<Job>, AllocError>
-    ensures { IfOk result (λ job. IfSome job IsWithinBounds) }
-{
-    let Some(run) = run_found(alloc, found)? else {
-        return Ok(None);
-    };
-    Ok(Some(Job::Solo(run)))
-}
-
-fn run_found(alloc: Global, found: &ArgMatches<'_>) -> Result<Option<Run>, AllocError> {
-    let Some(hash) = hash_of(found.get_str("hash")) else {
-        return Ok(None);
-    };
-    let Some(input) = text_found(alloc, found, "input")? else {
-        return Ok(None);
-    };
-    let trace = text_found(alloc, found, "trace")?;
-    Ok(Some(Run {
-        input,
+fn run_found(alloc: Global, found: &ArgMatches<'_>) -> Result<Run, NoJob> {
+    let hash = hash_found(found)?;
+    Ok(Run {
+        input: input_found(alloc, found)?,
         hash,
-        trace,
-        echoes: flag_found(found, "echo"),
+        trace: text_found(alloc, found, "trace")?,
+        echoes: found.get_flag("echo"),
         load: text_found(alloc, found, "load")?,
+    })
+}
+
+fn work_found(alloc: Global, found: &ArgMatches<'_>) -> Result<Job, NoJob>
+    ensures { IfOk result IsWithinBounds }
+{
+    let workers = number_found(found, "workers", 1, 8)?;
+    let tries = number_found(found, "tries", 1, 1_000_000)?;
+    Ok(Job::Work(Work {
+        run: run_found(alloc, found)?,
+        workers: workers as usize,
+        tries,
     }))
 }
 
-fn schedule_found(alloc: Global, found: &ArgMatches<'_>) -> Result<Option<Job>, AllocError>
-    ensures { IfOk result (λ job. IfSome job IsWithinBounds) }
+fn serve_found(alloc: Global, found: &ArgMatches<'_>) -> Result<Job, NoJob>
+    ensures { IfOk result IsWithinBounds }
 {
-    let Some(run) = run_found(alloc, found)? else {
-        return Ok(None);
-    };
-    let explains = flag_found(found, "explain");
-    Ok(Some(Job::Steps(Schedule { run, explains })))
-}
-
-fn check_found(alloc: Global, found: &ArgMatches<'_>) -> Result<Option<Job>, AllocError>
-    ensures { IfOk result (λ job. IfSome job IsWithinBounds) }
-{
-    let Some(input) = text_found(alloc, found, "input")? else {
-        return Ok(None);
-    };
-    let is_long = flag_found(found, "long");
-    Ok(Some(Job::Check(Check { input, is_long })))
-}
-
-fn work_found(alloc: Global, found: &ArgMatches<'_>) -> Result<Option<Job>, AllocError>
-    ensures { IfOk result (λ job. IfSome job IsWithinBounds) }
-{
-    let Some(workers) = number_found(found, "workers", 1, 8, 4) else {
-        return Ok(None);
-    };
-    let Some(tries) = tries_found(found) else {
-        return Ok(None);
-    };
-    let Some(run) = run_found(alloc, found)? else {
-        return Ok(None);
-    };
-    Ok(Some(Job::Work(Work {
-        run,
-        workers: workers as usize,
-        tries,
-    })))
-}
-
-fn serve_found(alloc: Global, found: &ArgMatches<'_>) -> Result<Option<Job>, AllocError>
-    ensures { IfOk result (λ job. IfSome job IsWithinBounds) }
-{
-    let Some(sessions) = number_found(found, "sessions", 1, 64, 8) else {
-        return Ok(None);
-    };
-    let Some(connections) = connections_found(found) else {
-        return Ok(None);
-    };
-    let Some(tries) = tries_found(found) else {
-        return Ok(None);
-    };
-    let Some(times) = times_found(found) else {
-        return Ok(None);
-    };
-    let Some(full) = full_found(found) else {
-        return Ok(None);
-    };
-    let Some(run) = run_found(alloc, found)? else {
-        return Ok(None);
-    };
-    let operating = operating_found(alloc, found)?;
-    Ok(Some(Job::Serve(Serve {
-        run,
+    let sessions = number_found(found, "sessions", 1, 64)?;
+    let connections = connections_found(found)?;
+    let tries = number_found(found, "tries", 1, 1_000_000)?;
+    let times = times_found(found)?;
+    let full = full_found(found)?;
+    Ok(Job::Serve(Serve {
+        run: run_found(alloc, found)?,
         sessions: sessions as usize,
         connections,
         tries,
         times,
         full,
-        operating,
-    })))
+        operating: operating_found(alloc, found)?,
+    }))
 }
 
-// As many connections as the limit says, or as come; one where neither is asked for, and None where both are.
-fn connections_found(found: &ArgMatches<'_>) -> Option<Connections>
-    ensures { IfSome result IsWithinLimit }
+// As many connections as the limit says, or as come; one where neither is asked for.
+fn connections_found(found: &ArgMatches<'_>) -> Result<Connections, NoJob>
+    ensures { IfOk result IsWithinLimit }
 {
-    match (flag_found(found, "endless"), found.get_str("limit")) {
-        (true, Some(_)) => None,
-        (true, None) => Some(Connections::Endless),
-        (false, Some(word)) => {
-            let limit = number_of(word, 1, 1_000_000)?;
-            Some(Connections::Limit(limit as u32))
+    match (found.get_flag("endless"), found.get_str("limit")) {
+        (true, Some(_)) => Err(NoJob::EndlessAndLimited),
+        (true, None) => Ok(Connections::Endless),
+        (false, Some(_)) => {
+            let limit = number_found(found, "limit", 1, 1_000_000)?;
+            Ok(Connections::Limit(limit as u32))
         }
-        (false, None) => Some(Connections::Limit(1)),
+        (false, None) => Ok(Connections::Limit(1)),
     }
 }
 
-fn times_found(found: &ArgMatches<'_>) -> Option<Times>
-    ensures { IfSome result AreWithinDay }
+fn times_found(found: &ArgMatches<'_>) -> Result<Times, NoJob>
+    ensures { IfOk result AreWithinDay }
 {
-    let idle = seconds_found(found, "idle")?;
-    let wait = seconds_found(found, "wait")?;
-    let transaction = seconds_found(found, "open")?;
-    Some(Times {
-        idle,
-        wait,
-        transaction,
+    Ok(Times {
+        idle: number_found(found, "idle", 0, 86_400)?,
+        wait: number_found(found, "wait", 0, 86_400)?,
+        transaction: number_found(found, "open", 0, 86_400)?,
     })
 }
 
-fn full_found(found: &ArgMatches<'_>) -> Option<Full> {
-    full_of(found.get_str("full"))
-}
-
-fn operating_found(alloc: Global, found: &ArgMatches<'_>) -> Result<OperatorOptions, AllocError> {
-    let admin = text_found(alloc, found, "admin")?;
-    let until_eof = flag_found(found, "until-eof");
-    let save = text_found(alloc, found, "save")?;
+fn operating_found(alloc: Global, found: &ArgMatches<'_>) -> Result<OperatorOptions, NoJob> {
     Ok(OperatorOptions {
-        admin,
-        until_eof,
-        save,
+        admin: text_found(alloc, found, "admin")?,
+        until_eof: found.get_flag("until-eof"),
+        save: text_found(alloc, found, "save")?,
     })
 }
 
-fn tables_found(found: &ArgMatches<'_>) -> Option<Job>
-    ensures { IfSome result IsWithinBounds }
-{
-    match found.get_str("table") {
-        Some(name) => Some(Job::Tables(Some(table_of(name)?))),
-        None => Some(Job::Tables(None)),
-    }
-}
-
-fn table_of(name: &str) -> Option<TableName> {
-    if name == "account" {
-        Some(TableName::Account)
-    } else if name == "set" {
-        Some(TableName::Set)
-    } else if name == "counter" {
-        Some(TableName::Counter)
-    } else {
-        None
+// FILE or ADDR.
+fn input_found(alloc: Global, found: &ArgMatches<'_>) -> Result<String, NoJob> {
+    match text_found(alloc, found, "input")? {
+        Some(input) => Ok(input),
+        None => Err(NoJob::Word),
     }
 }
 
@@ -434,57 +339,38 @@ fn text_found(
     }
 }
 
-fn tries_found(found: &ArgMatches<'_>) -> Option<u64>
-    ensures { IfSome result (λ number. (1 ≤ number) × (number ≤ 1000000)) }
+// The number that an option gives, which lies within these bounds.
+fn number_found(found: &ArgMatches<'_>, id: &str, least: u64, most: u64) -> Result<u64, NoJob>
+    ensures { IfOk result (λ number. (least ≤ number) × (number ≤ most)) }
 {
-    number_found(found, "tries", 1, 1_000_000, 10_000)
-}
-
-// The seconds that an option gives, at most a day, and 0 where it is not given.
-fn seconds_found(found: &ArgMatches<'_>, id: &str) -> Option<u64>
-    ensures { IfSome result (λ seconds. seconds ≤ 86400) }
-{
-    number_found(found, id, 0, 86_400, 0)
-}
-
-// The number that an option gives within these bounds, and the usual one where it is not given.
-fn number_found(found: &ArgMatches<'_>, id: &str, least: u64, most: u64, usual: u64) -> Option<u64>
-    requires least { least ≤ usual }
-    requires most { usual ≤ most }
-    ensures { IfSome result (λ number. (least ≤ number) × (number ≤ most)) }
-{
-    match found.get_str(id) {
-        Some(word) => number_of(word, least, most),
-        None => Some(usual),
+    match found.get_one::<u64>(id) {
+        Some(number) if least <= number && number <= most => Ok(number),
+        _ => Err(NoJob::Word),
     }
 }
 
-// The number that a word writes, if it lies within these bounds.
-fn number_of(word: &str, least: u64, most: u64) -> Option<u64>
-    ensures { IfSome result (λ number. (least ≤ number) × (number ≤ most)) }
-{
-    match word.parse::<u64>() {
-        Ok(number) if least <= number && number <= most => Some(number),
-        _ => None,
+fn hash_found(found: &ArgMatches<'_>) -> Result<Hash, NoJob> {
+    match found.get_str("hash") {
+        Some("mult") => Ok(Hash::Mult),
+        Some("low") => Ok(Hash::Low),
+        _ => Err(NoJob::Word),
     }
 }
 
-// The hash function of this name, and `Mult` where none is given.
-fn hash_of(name: Option<&str>) -> Option<Hash> {
-    match name {
-        None => Some(Hash::Mult),
-        Some(name) if name == "mult" => Some(Hash::Mult),
-        Some(name) if name == "low" => Some(Hash::Low),
-        Some(_) => None,
+fn full_found(found: &ArgMatches<'_>) -> Result<Full, NoJob> {
+    match found.get_str("full") {
+        Some("wait") => Ok(Full::Wait),
+        Some("refuse") => Ok(Full::Refuse),
+        _ => Err(NoJob::Word),
     }
 }
 
-// What a client finds by this name, and `Wait` where none is given.
-fn full_of(name: Option<&str>) -> Option<Full> {
-    match name {
-        None => Some(Full::Wait),
-        Some(name) if name == "wait" => Some(Full::Wait),
-        Some(name) if name == "refuse" => Some(Full::Refuse),
-        Some(_) => None,
+fn table_found(found: &ArgMatches<'_>) -> Result<Option<TableName>, NoJob> {
+    match found.get_str("table") {
+        Some("account") => Ok(Some(TableName::Account)),
+        Some("set") => Ok(Some(TableName::Set)),
+        Some("counter") => Ok(Some(TableName::Counter)),
+        Some(_) => Err(NoJob::Word),
+        None => Ok(None),
     }
 }
