@@ -308,6 +308,28 @@ def run(mltx: Program, case: tuple[str, str]) -> None:
     holds(ways >= {"given up", "told"}, f"only this came: {ways}")
 
 
+ECHOED = {
+    "refused-growths-of-solo-with-echo": ("solo", FIRST_RUN),
+    "refused-growths-of-run-with-echo": ("run", LATER_SCRIPT),
+    "refused-growths-of-steps-with-echo": ("steps", as_text(SPLIT_STAYS)),
+}
+
+
+@each(ECHOED, seconds=2)
+def echoed(mltx: Program, case: tuple[str, str]) -> None:
+    """All lines of the input stand beside what is answered, or the run is given up, as where the input or the answers are not kept."""
+    job, text = case
+    runs, given_up = Runs(mltx, job, "--echo"), 0
+    runs.ample(text)
+    for what, came in runs.one_refused(lambda number: runs.run(text, first=number)):
+        if is_given_up(came):
+            given_up += 1
+            continue
+        same((came.status, came.err), (0, ""), what)
+        same([row.split("  ")[0] for row in came.out.splitlines() if row[0] != " "], text.splitlines(), what)
+    holds(given_up > 0, "no run was given up")
+
+
 @each({f"refused-growths-of-later-script-{workers}": workers for workers in ("1", "2")}, seconds=2)
 def later_script(mltx: Program, workers: str) -> None:
     """The later script sees the commit of the one before, where there is one."""

@@ -1,29 +1,54 @@
 //! What asks a server to end: the end of standard input, and signals.
 
-use crate::input_end::InputEnd;
+use crate::streams::is_ready;
+use libc::net::POLLIN;
 use mlt_serve::EndSignal;
 use mlt_text_words::after;
+use mlt_types::Refusal;
 use std::fs::File;
+use std::io::{ErrorKind, Read, Stdin};
 use std::os::unix::fs::FileExt;
+use std::sync::atomic::{AtomicBool, Ordering};
+use std::sync::{Arc, Wait};
+use std::thread;
+use std::thread::Threads;
 
 // SIGINT and SIGTERM, as a mask of signals has them.
 const ASK_TO_END: u64 = 1 << 1 | 1 << 14;
+
+// For how many milliseconds input is waited for, again and again.
+const LOOK_MILLISECONDS: i32 = 1_000;
 
 /// Tells where standard input has ended, if that is asked for, or a signal asks for the end. A signal does where the process was
 /// started with it blocked, as by `./mltx serve`: it stays pending then, and ends no process.
 #[derive(Drop)]
 pub(crate) struct EndSignals {
-    input: InputEnd,
+    // Whether standard input has ended, where that is asked for.
+    input_has_ended: Option<Arc<AtomicBool>>,
     // What the system says of this process, if it does.
     status: Option<File>,
 }
 
 impl EndSignals {
-    pub(crate) fn new(rt: &HostRuntime, input: InputEnd) -> EndSignals {
-        EndSignals {
-            input,
+    /// Where the end of standard input asks for the end, a thread of its own reads away what it has, since a read waits where another
+    /// process shares the input and was faster. No thread joins that one.
+    ///
+    /// # Errors
+    /// `OutOfMemory`, where memory or the thread is refused.
+    pub(crate) fn new<T: Threads + Wait + Sync + Send + Copy + 'static>(
+        rt: &HostRuntime,
+        threads: &T,
+        until_eof: bool,
+    ) -> Result<EndSignals, Refusal> {
+        let input_has_ended = if until_eof {
+            Some(watch_input(rt, threads)?)
+        } else {
+            None
+        };
+        Ok(EndSignals {
+            input_has_ended,
             status: File::open(rt, "/proc/self/status").ok(),
-        }
+        })
     }
 
     // Whether a signal that asks for the end is pending, and is not ignored.
@@ -52,6 +77,42 @@ fn mask_of(status: &[u8], name: &[u8]) -> u64 {
 
 impl EndSignal for EndSignals {
     fn is_given(&mut self) -> bool {
-        self.is_signalled() || self.input.is_given()
+        let input_has_ended = match &self.input_has_ended {
+            Some(has_ended) => has_ended.load(Ordering::SeqCst),
+            None => false,
+        };
+        input_has_ended || self.is_signalled()
     }
+}
+
+// Starts the thread that reads standard input, and tells where it has ended.
+fn watch_input<T: Threads + Wait + Sync + Send + Copy + 'static>(
+    rt: &HostRuntime,
+    threads: &T,
+) -> Result<Arc<AtomicBool>, Refusal> {
+    let has_ended = Arc::new(rt.alloc(), AtomicBool::new(false))?;
+    let told = has_ended.clone()?;
+    let stdin = rt.stdin();
+    let own = *threads;
+    match thread::spawn(threads, move || read_away(&own, stdin, &told)) {
+        Ok(_) => Ok(has_ended),
+        Err(_) => Err(Refusal::OutOfMemory),
+    }
+}
+
+// Reads standard input up to its end, or until a read fails, and tells so.
+fn read_away<W: Wait>(rt: &W, mut stdin: Stdin, has_ended: &AtomicBool) {
+    let mut buffer = [0; 4096];
+    for _ in rt.forever() {
+        if !is_ready(&stdin, POLLIN, LOOK_MILLISECONDS) {
+            continue;
+        }
+        match stdin.read(&mut buffer) {
+            Ok(0) => break,
+            Ok(_) => (),
+            Err(error) if error.kind() == ErrorKind::Interrupted => (),
+            Err(_) => break,
+        }
+    }
+    has_ended.store(true, Ordering::SeqCst);
 }

@@ -21,58 +21,66 @@ pub(crate) struct Failure {
 pub(crate) enum Known {
     /// Nothing more.
     Nothing,
-    /// What the system says of the input, or of the address.
-    OfInput(io::Error),
+    /// What the system says of a file or an address.
+    Said(Subject, io::Error),
     /// The input has more bytes than one may have.
     LongInput,
-    /// What the system says of standard output.
-    OfOutput(io::Error),
-    /// What the system says of the file for the trace.
-    OfTrace(io::Error),
-    /// What the system says of the operator's address.
-    OfAdmin(io::Error),
-    /// What the system says of the file of the base to begin with.
-    OfBase(io::Error),
-    /// This line of that was not loaded.
+    /// This line of the base to begin with was not loaded.
     BaseLine(u64),
-    /// What the system says of the file for the base at the end.
-    OfSave(io::Error),
     /// The input's text, in which the refusal names a line.
     Text(Vec<u8>),
 }
 
+/// A file or an address of a job.
+#[derive(Clone, Copy)]
+pub(crate) enum Subject {
+    /// What is read, or the address that is listened on.
+    Input,
+    /// Standard output.
+    Output,
+    /// The file for the trace.
+    Trace,
+    /// The operator's address.
+    Admin,
+    /// The file of the base to begin with.
+    Load,
+    /// The file for the base at the end.
+    Save,
+}
+
 impl Failure {
-    /// A call that failed, and where.
-    pub(crate) fn of_call(known: Known) -> Failure {
+    /// A call on this that failed.
+    pub(crate) fn of_call(subject: Subject, error: io::Error) -> Failure {
         Failure {
             refusal: Refusal::Io,
-            known,
+            known: Known::Said(subject, error),
         }
     }
 
-    /// A run of this input that was refused, where this is what the system said of standard output.
+    /// A refusal of one that reads or writes this, where `failed` is why the last such call that failed did.
+    pub(crate) fn of_stream(
+        refusal: Refusal,
+        subject: Subject,
+        failed: Option<io::Error>,
+    ) -> Failure {
+        match (refusal, failed) {
+            (Refusal::Io, Some(error)) => Failure::of_call(subject, error),
+            _ => Failure::from(refusal),
+        }
+    }
+
+    /// A run of this input that was refused, where `written` is what the system said of standard output. The input was read
+    /// before anything was written, but for one of any length.
     pub(crate) fn of_run(refusal: Refusal, input: Input, written: Option<io::Error>) -> Failure {
         let refusal = input.placed(refusal);
-        let known = match refusal {
-            Refusal::ScriptFault { .. } | Refusal::TraceFault { .. } => match input.text() {
+        let known = match (refusal, input.failure(), written) {
+            (Refusal::ScriptFault { .. } | Refusal::TraceFault { .. }, _, _) => match input.text() {
                 Some(text) => Known::Text(text),
                 None => Known::Nothing,
             },
-            Refusal::Io => of_streams(&input, written),
-            _ => Known::Nothing,
-        };
-        Failure { refusal, known }
-    }
-
-    /// A run of an input of any length that was refused: its text was not kept.
-    pub(crate) fn of_long_run(
-        refusal: Refusal,
-        input: &Input,
-        written: Option<io::Error>,
-    ) -> Failure {
-        let known = match (refusal, input.failure(), written) {
-            (Refusal::Io, Some(error), _) => Known::OfInput(error),
-            (Refusal::Io, None, Some(error)) => Known::OfOutput(error),
+            (Refusal::Io, Some(error), _) => Known::Said(Subject::Input, error),
+            (Refusal::Io, None, Some(error)) => Known::Said(Subject::Output, error),
+            (Refusal::Io, None, None) if input.is_long() => Known::LongInput,
             _ => Known::Nothing,
         };
         Failure { refusal, known }
@@ -94,16 +102,6 @@ impl From<AllocError> for Failure {
     }
 }
 
-// The input was read before anything was written.
-fn of_streams(input: &Input, written: Option<io::Error>) -> Known {
-    match (input.failure(), written) {
-        (Some(error), _) => Known::OfInput(error),
-        (None, _) if input.is_long() => Known::LongInput,
-        (None, Some(error)) => Known::OfOutput(error),
-        (None, None) => Known::Nothing,
-    }
-}
-
 /// Writes the second line of a fault of this job on standard error. The line that a refusal names is shown where the text
 /// is there, with a caret below if it points.
 ///
@@ -115,64 +113,48 @@ pub(crate) fn explain(
     failure: &Failure,
     points: bool,
 ) -> Result<(), Refusal> {
-    let subject = input_name(job);
-    match &failure.known {
-        Known::Nothing => {
-            let refusal = failure.refusal;
-            let words = format!(in rt.alloc(); "{refusal}")?;
-            say(rt, subject, words.as_str())
+    let alloc = rt.alloc();
+    let refusal = failure.refusal;
+    let (subject, words) = match &failure.known {
+        Known::Nothing => (Subject::Input, format!(in alloc; "{refusal}")?),
+        Known::Said(subject, error) => {
+            let expected = expected_of(job, *subject, *error);
+            (*subject, format!(in alloc; "{error}{expected}")?)
         }
-        Known::OfInput(error) => say_of_input(rt, job, *error),
-        Known::LongInput => {
-            let words = format!(in rt.alloc(); "more than {MAX_INPUT} bytes")?;
-            say(rt, subject, words.as_str())
-        }
-        Known::OfOutput(error) => say_error(rt, "standard output", *error),
-        Known::OfTrace(error) => say_error(rt, trace_name(job), *error),
-        Known::OfAdmin(error) => say_of_address(rt, admin_name(job), *error),
-        Known::OfBase(error) => say_error(rt, base_name(job), *error),
+        Known::LongInput => (
+            Subject::Input,
+            format!(in alloc; "more than {MAX_INPUT} bytes")?,
+        ),
         Known::BaseLine(line) => {
-            let words = base_words(failure.refusal);
-            let words = format!(in rt.alloc(); "line {line}: {words}")?;
-            say(rt, base_name(job), words.as_str())
+            let words = base_words(refusal);
+            (Subject::Load, format!(in alloc; "line {line}: {words}")?)
         }
-        Known::OfSave(error) => say_error(rt, save_name(job), *error),
-        Known::Text(text) => match fault_of(job, failure.refusal) {
-            Some((fault, line)) => {
-                let detail = Detail::Faulty(fault, line, text.as_slice(), points);
-                report_verbose(rt.alloc(), subject, &detail, &mut rt.stderr())
-            }
-            None => Ok(()),
-        },
+        Known::Text(text) => {
+            let Some((fault, line)) = fault_of(job, refusal) else {
+                return Ok(());
+            };
+            let detail = Detail::Faulty(fault, line, text.as_slice(), points);
+            return report_verbose(
+                alloc,
+                name_of(job, Subject::Input),
+                &detail,
+                &mut rt.stderr(),
+            );
+        }
+    };
+    let detail = Detail::Said(words.as_str());
+    report_verbose(alloc, name_of(job, subject), &detail, &mut rt.stderr())
+}
+
+// How an address is written, where this is said of one that is none.
+fn expected_of(job: &Job, subject: Subject, error: io::Error) -> &'static str {
+    match (subject, job, error.kind()) {
+        (Subject::Admin, _, ErrorKind::InvalidInput)
+        | (Subject::Input, Job::Serve(_), ErrorKind::InvalidInput) => {
+            "; expected: an IP address or host name, a colon, and a port from 0 to 65535, such as 127.0.0.1:7000"
+        }
+        _ => "",
     }
-}
-
-fn say(rt: &HostRuntime, subject: &str, words: &str) -> Result<(), Refusal> {
-    report_verbose(rt.alloc(), subject, &Detail::Said(words), &mut rt.stderr())
-}
-
-fn say_error(rt: &HostRuntime, subject: &str, error: io::Error) -> Result<(), Refusal> {
-    let words = format!(in rt.alloc(); "{error}")?;
-    say(rt, subject, words.as_str())
-}
-
-// What the system says of FILE or ADDR.
-fn say_of_input(rt: &HostRuntime, job: &Job, error: io::Error) -> Result<(), Refusal> {
-    match job {
-        Job::Serve(serve) => say_of_address(rt, serve.run.input.as_str(), error),
-        _ => say_error(rt, input_name(job), error),
-    }
-}
-
-// What the system says of an address, and how one is written where it is none.
-fn say_of_address(rt: &HostRuntime, address: &str, error: io::Error) -> Result<(), Refusal> {
-    if error.kind() != ErrorKind::InvalidInput {
-        return say_error(rt, address, error);
-    }
-    let words = format!(in rt.alloc();
-        "{error}; expected: an IP address or host name, a colon, and a port from 0 to 65535, such as 127.0.0.1:7000"
-    )?;
-    say(rt, address, words.as_str())
 }
 
 // Why a line of a base was not loaded.
@@ -190,52 +172,35 @@ fn base_words(refusal: Refusal) -> &'static str {
     }
 }
 
-// The file of the base to begin with, as it stands on the command line.
-fn base_name(job: &Job) -> &str {
-    match job {
-        Job::Solo(run) => load_of(run),
-        Job::Work(work) => load_of(&work.run),
-        Job::Serve(serve) => load_of(&serve.run),
-        _ => "",
+// A file or an address as it stands on the command line; standard output for a job without input.
+fn name_of(job: &Job, subject: Subject) -> &str {
+    match (subject, job, run_of(job)) {
+        (Subject::Input, Job::Serve(serve), _) => serve.run.input.as_str(),
+        (Subject::Input, Job::Check(check), _) => file_name(check.input.as_str()),
+        (Subject::Input, _, Some(run)) => file_name(run.input.as_str()),
+        (Subject::Trace, _, Some(run)) => given(&run.trace),
+        (Subject::Load, _, Some(run)) => file_name(given(&run.load)),
+        (Subject::Admin, Job::Serve(serve), _) => given(&serve.operating.admin),
+        (Subject::Save, Job::Serve(serve), _) => given(&serve.operating.save),
+        _ => "standard output",
     }
 }
 
-fn load_of(run: &Run) -> &str {
-    match &run.load {
-        Some(file) => file_name(file.as_str()),
+/// What a job runs, if it runs something.
+pub(crate) fn run_of(job: &Job) -> Option<&Run> {
+    match job {
+        Job::Solo(run) => Some(run),
+        Job::Steps(schedule) => Some(&schedule.run),
+        Job::Work(work) => Some(&work.run),
+        Job::Serve(serve) => Some(&serve.run),
+        Job::Check(_) | Job::Tables(_) => None,
+    }
+}
+
+fn given(name: &Option<String>) -> &str {
+    match name {
+        Some(name) => name.as_str(),
         None => "",
-    }
-}
-
-fn save_name(job: &Job) -> &str {
-    match job {
-        Job::Serve(serve) => match &serve.operating.save {
-            Some(file) => file.as_str(),
-            None => "",
-        },
-        _ => "",
-    }
-}
-
-fn admin_name(job: &Job) -> &str {
-    match job {
-        Job::Serve(serve) => match &serve.operating.admin {
-            Some(address) => address.as_str(),
-            None => "",
-        },
-        _ => "",
-    }
-}
-
-// FILE or ADDR, as it stands on the command line; what is written to where there is none.
-fn input_name(job: &Job) -> &str {
-    match job {
-        Job::Solo(run) => file_name(run.input.as_str()),
-        Job::Steps(schedule) => file_name(schedule.run.input.as_str()),
-        Job::Work(work) => file_name(work.run.input.as_str()),
-        Job::Check(check) => file_name(check.input.as_str()),
-        Job::Serve(serve) => serve.run.input.as_str(),
-        Job::Tables(_) => "standard output",
     }
 }
 
@@ -243,35 +208,14 @@ fn file_name(file: &str) -> &str {
     if file == "-" { "standard input" } else { file }
 }
 
-fn trace_name(job: &Job) -> &str {
-    match job {
-        Job::Solo(run) => trace_of(run),
-        Job::Steps(schedule) => trace_of(&schedule.run),
-        Job::Work(work) => trace_of(&work.run),
-        Job::Serve(serve) => trace_of(&serve.run),
-        Job::Check(_) | Job::Tables(_) => "",
-    }
-}
-
-fn trace_of(run: &Run) -> &str {
-    match &run.trace {
-        Some(file) => file.as_str(),
-        None => "",
-    }
-}
-
 // The fault of a text that a job read, and its line.
 fn fault_of(job: &Job, refusal: Refusal) -> Option<(TextFault, u64)> {
-    match refusal {
-        Refusal::ScriptFault { line, cause } => Some((script_fault(job, cause), line)),
-        Refusal::TraceFault { line, cause } => Some((TextFault::Trace(cause), line)),
+    match (refusal, job) {
+        (Refusal::TraceFault { line, cause }, _) => Some((TextFault::Trace(cause), line)),
+        (Refusal::ScriptFault { line, cause }, Job::Steps(_)) => {
+            Some((TextFault::Schedule(cause), line))
+        }
+        (Refusal::ScriptFault { line, cause }, _) => Some((TextFault::Scripts(cause), line)),
         _ => None,
-    }
-}
-
-fn script_fault(job: &Job, cause: ScriptCause) -> TextFault {
-    match job {
-        Job::Steps(_) => TextFault::Schedule(cause),
-        _ => TextFault::Scripts(cause),
     }
 }

@@ -86,16 +86,16 @@ impl Input {
     }
 
     /// What was read, if it was kept.
-    pub(crate) fn text(self) -> Option<Vec<u8>> {
-        self.kept
+    pub(crate) fn bytes(&self) -> Option<&[u8]> {
+        match &self.kept {
+            Some(text) => Some(text.as_slice()),
+            None => None,
+        }
     }
 
-    /// What was read; no bytes, if it was not kept.
-    pub(crate) fn bytes(&self) -> &[u8] {
-        match &self.kept {
-            Some(text) => text.as_slice(),
-            None => &[],
-        }
+    /// The same.
+    pub(crate) fn text(self) -> Option<Vec<u8>> {
+        self.kept
     }
 
     fn keep(&mut self, bytes: &[u8]) {

@@ -1,6 +1,6 @@
 //! The base that a run begins with.
 
-use crate::failure::{Failure, Known};
+use crate::failure::{Failure, Known, Subject};
 use crate::input::Input;
 use mlt_script_load::{Form, Load, spell_base};
 use mlt_text::read_input;
@@ -21,15 +21,15 @@ pub(crate) fn read_base(rt: &HostRuntime, file: &Option<String>) -> Result<Vec<u
     let Some(file) = file else {
         return Ok(Vec::new(rt.alloc()));
     };
-    let mut input = match Input::open(rt, file.as_str(), false) {
-        Ok(input) => input,
-        Err(error) => return Err(Failure::of_call(Known::OfBase(error))),
-    };
-    match (read_input(rt.alloc(), &mut input), input.failure()) {
-        (Ok(text), _) => Ok(text),
-        (Err(Refusal::Io), Some(error)) => Err(Failure::of_call(Known::OfBase(error))),
-        (Err(refusal), _) => Err(Failure::from(refusal)),
-    }
+    let mut input = Input::open(rt, file.as_str(), false).map_err(|error| Failure::of_call(
+        Subject::Load,
+        error,
+    ))?;
+    read_input(rt.alloc(), &mut input).map_err(|refusal| Failure::of_stream(
+        refusal,
+        Subject::Load,
+        input.failure(),
+    ))
 }
 
 /// The transactions that make the base which a run begins with, and how many of their answers have come. It takes what a run writes
@@ -49,14 +49,12 @@ impl Loading {
     /// # Errors
     /// Where a line of the text is no object of a base.
     pub(crate) fn new(alloc: Global, text: &[u8], form: Form) -> Result<Loading, Failure> {
-        match spell_base(alloc, text, form) {
-            Ok(load) => Ok(Loading {
-                load,
-                at: 0,
-                refusal: None,
-            }),
-            Err(refusal) => Err(of_base(refusal, 0)),
-        }
+        let load = spell_base(alloc, text, form).map_err(|refusal| of_base(refusal, 0))?;
+        Ok(Loading {
+            load,
+            at: 0,
+            refusal: None,
+        })
     }
 
     /// What is asked for. It is handed out once.

@@ -4,11 +4,9 @@
 //! standard error, is only tested.
 #![tactic(auto)]
 
-mod arguments;
 mod end_signals;
 mod failure;
 mod input;
-mod input_end;
 mod loading;
 mod opened;
 mod output;
@@ -22,14 +20,13 @@ ghost use Rattle.std.specs.Io.KnownBytes.{Appends};
 ghost use Rattle.mlt_trace.specs.Items.{trace_text};
 ghost use Rattle.mlt_cli.specs.CommandLine.{IsWithinBounds};
 
-use arguments::words;
 use clap::error::ErrorKind;
-use failure::{Failure, Known, explain};
+use failure::{Failure, Subject, explain, run_of};
 use input::Input;
 use loading::{Loading, read_base};
 use mlt_cli::{
-    CommandLine, Hash, Job, Run, Schedule, Work, read_words, report_command_line, report_fault,
-    status,
+    Check, CommandLine, Hash, Job, Run, Schedule, Work, read_words, report_command_line,
+    report_fault, status,
 };
 use mlt_manager::Manager;
 use mlt_manager_laws::{
@@ -51,18 +48,22 @@ use output::Output;
 use screen::{Screen, look_of};
 use server::run_server;
 use std::alloc::Global;
-use std::fs;
 use std::fs::File;
 use std::io::{self, Printer, Write};
 use std::process::ExitCode;
 use std::sync::Wait;
 use std::thread::Threads;
 use std::time::Clock;
+use std::{env, fs};
 use streams::{STDERR, STDIN, Streams, is_terminal};
 
 fn main(rt: HostRuntime) -> ExitCode {
     let _streams = Streams::open(&rt);
-    ExitCode::from(run(&rt, &rt))
+    let status = match run(&rt, &rt) {
+        Ok(status) => status,
+        Err(refusal) => told_status(&rt, refusal),
+    };
+    ExitCode::from(status)
 }
 
 // The status. Help and the texts of runs go to standard output, and all else to standard error. The threads are those of
@@ -70,29 +71,31 @@ fn main(rt: HostRuntime) -> ExitCode {
 fn run<T: Threads + Wait + Clock + Sync + Send + Copy + 'static>(
     rt: &HostRuntime,
     threads: &T,
-) -> u8 {
-    let outcome = match words(rt) {
-        Ok(words) => match read_words(rt.alloc(), words.as_slice()) {
-            Ok(line) => {
-                if words.is_empty() && is_terminal(rt, STDIN) {
-                    // A hint, without which all works.
-                    let _ = write_text(&mut rt.stderr(), WAITS.as_bytes());
-                }
-                return do_line(rt, threads, &line);
+) -> Result<u8, Refusal> {
+    let words = words(rt)?;
+    match read_words(rt.alloc(), words.as_slice()) {
+        Ok(line) => {
+            if words.is_empty() && is_terminal(rt, STDIN) {
+                // A hint, without which all works.
+                let _ = write_text(&mut rt.stderr(), WAITS.as_bytes());
             }
-            Err(error) => {
-                match report_command_line(&error, &mut io::writer(rt), &mut rt.stderr()) {
-                    Ok(status) => {
-                        suggest(rt, &error, words.as_slice());
-                        return status;
-                    }
-                    Err(refusal) => refusal,
-                }
-            }
-        },
-        Err(refusal) => refusal,
-    };
-    told_status(rt, outcome)
+            Ok(do_line(rt, threads, &line))
+        }
+        Err(error) => {
+            let status = report_command_line(&error, &mut io::writer(rt), &mut rt.stderr())?;
+            suggest(rt, &error, words.as_slice());
+            Ok(status)
+        }
+    }
+}
+
+// The words after the program's name.
+fn words(rt: &HostRuntime) -> Result<Vec<String>, Refusal> {
+    match env::args(rt) {
+        Ok(args) => Ok(args.skip(1).collect(rt.alloc())?),
+        Err(error) if error.kind() == io::ErrorKind::OutOfMemory => Err(Refusal::OutOfMemory),
+        Err(_) => Err(Refusal::Io),
+    }
 }
 
 // What is told at a terminal where the program is called without words.
@@ -133,95 +136,84 @@ fn do_line<T: Threads + Wait + Clock + Sync + Send + Copy + 'static>(
     requires { IsWithinBounds line.now.job }
 {
     let points = is_terminal(rt, STDERR);
-    match do_job(rt, threads, line, line.verbose || points) {
-        Ok(()) => status(&Ok(())),
-        Err(failure) => {
-            let status = told_status(rt, failure.refusal);
-            if line.verbose || points {
-                let _ = explain(rt, &line.job, &failure, points);
-            }
-            status
-        }
+    let explains = line.verbose || points;
+    let hash = run_of(&line.job).map_or(Hash::Mult, |run| run.hash);
+    let done = match hash {
+        Hash::Mult => do_job(rt, threads, line, explains, Mult),
+        Hash::Low => do_job(rt, threads, line, explains, Low),
+    };
+    let Err(failure) = done else {
+        return status(&Ok(()));
+    };
+    let status = told_status(rt, failure.refusal);
+    if explains {
+        let _ = explain(rt, &line.job, &failure, points);
     }
+    status
 }
 
-fn do_job<T: Threads + Wait + Clock + Sync + Send + Copy + 'static>(
+fn do_job<P: Pseudo + Drop + Send + Copy, T: Threads + Wait + Clock + Sync + Send + Copy + 'static>(
     rt: &HostRuntime,
     threads: &T,
     line: &CommandLine,
     keeps: bool,
+    pseudo: P,
 ) -> Result<(), Failure>
     requires { IsWithinBounds line.now.job }
 {
     match &line.job {
-        Job::Solo(run) => match run.hash {
-            Hash::Mult => run_solo(rt, run, keeps, Mult),
-            Hash::Low => run_solo(rt, run, keeps, Low),
-        },
-        Job::Steps(schedule) => match schedule.run.hash {
-            Hash::Mult => run_steps(rt, schedule, keeps, Mult),
-            Hash::Low => run_steps(rt, schedule, keeps, Low),
-        },
-        Job::Work(work) => match work.run.hash {
-            Hash::Mult => run_work(rt, threads, work, keeps, Mult),
-            Hash::Low => run_work(rt, threads, work, keeps, Low),
-        },
-        Job::Check(check) if check.is_long => run_long_check(rt, check.input.as_str()),
-        Job::Check(check) => run_check(rt, check.input.as_str(), keeps),
-        Job::Serve(serve) => match serve.run.hash {
-            Hash::Mult => run_server(rt, threads, serve, line.verbose, Mult),
-            Hash::Low => run_server(rt, threads, serve, line.verbose, Low),
-        },
+        Job::Solo(run) => run_solo(rt, run, keeps, pseudo),
+        Job::Steps(schedule) => run_steps(rt, schedule, keeps, pseudo),
+        Job::Work(work) => run_work(rt, threads, work, keeps, pseudo),
+        Job::Check(check) => run_check(rt, check, keeps),
+        Job::Serve(serve) => run_server(rt, threads, serve, line.verbose, pseudo),
         Job::Tables(name) => run_tables(rt, *name),
     }
 }
 
 // The input of this name, which is kept as it is read where that is wanted.
 fn open(rt: &HostRuntime, file: &str, keeps: bool) -> Result<Input, Failure> {
-    match Input::open(rt, file, keeps) {
-        Ok(input) => Ok(input),
-        Err(error) => Err(Failure::of_call(Known::OfInput(error))),
-    }
+    Input::open(rt, file, keeps).map_err(|error| Failure::of_call(Subject::Input, error))
 }
 
-// The screen of a run with this base, of which this is to stand beside the answers if that is asked for.
-fn open_screen<'a>(
+// What a run begins with, of which `echoed` is to stand beside the answers if that is asked for: the transactions that make its base,
+// in this form, its input and its screen.
+fn open_run<'a>(
     rt: &'a HostRuntime,
     run: &Run,
-    loading: Loading,
+    form: Form,
     echoed: Echoed,
-) -> Screen<Printer<'a, HostRuntime>> {
+    keeps: bool,
+) -> Result<(String, Input, Screen<Printer<'a, HostRuntime>>), Failure> {
+    let base = read_base(rt, &run.load)?;
+    let mut loading = Loading::new(rt.alloc(), base.as_slice(), form)?;
+    let loaded = loading.take_text(rt.alloc());
+    let input = open(rt, run.input.as_str(), keeps || run.echoes)?;
     let echoed = if run.echoes { echoed } else { Echoed::Nothing };
-    Screen::new(rt.alloc(), io::writer(rt), loading, echoed, look_of(rt))
+    let screen = Screen::new(rt.alloc(), io::writer(rt), loading, echoed, look_of(rt));
+    Ok((loaded, input, screen))
 }
 
-// The base that a run begins with, in this form.
-fn loading_of(rt: &HostRuntime, run: &Run, form: Form) -> Result<Loading, Failure> {
-    let text = read_base(rt, &run.load)?;
-    Loading::new(rt.alloc(), text.as_slice(), form)
-}
-
-// The manager of a run of this input, once all is shown, and else why it was refused.
-fn run_outcome<P: Pseudo + Drop, W: Write>(
+// Shows all of a run of this input, and writes its trace. Where it was refused, says why.
+fn end_run<P: Pseudo + Drop, W: Write>(
     rt: &HostRuntime,
+    run: &Run,
     told: Result<Manager<P>, Refusal>,
     input: Input,
     screen: &mut Screen<W>,
-) -> Result<Manager<P>, Failure>
-    ensures { IfOk result (λ value. told ≡ Ok value) }
+) -> Result<(), Failure>
+    requires { IfOk told (λ manager. manager.shared.history.handed ≡ []) }
 {
     match told {
-        Ok(manager) => match screen.show(rt.alloc(), input.bytes()) {
-            Ok(()) => Ok(manager),
-            Err(refusal) => {
-                manager.close();
-                Err(Failure::of_run(refusal, input, screen.failure()))
-            }
-        },
-        Err(refusal) => Err(match screen.load_failure() {
-            Some(failure) => failure,
-            None => Failure::of_run(refusal, input, screen.failure()),
-        }),
+        Ok(manager) => {
+            let ended = match screen.show(rt.alloc(), &input) {
+                Ok(()) => write_history(rt, &manager, run),
+                Err(refusal) => Err(screen.failure(refusal, input)),
+            };
+            manager.close();
+            ended
+        }
+        Err(refusal) => Err(screen.failure(refusal, input)),
     }
 }
 
@@ -231,21 +223,11 @@ fn run_solo<P: Pseudo + Drop>(
     keeps: bool,
     pseudo: P,
 ) -> Result<(), Failure> {
-    let mut loading = loading_of(rt, run, Form::Solo)?;
-    let input = open(rt, run.input.as_str(), keeps || run.echoes)?;
-    let mut input = input.behind(loading.take_text(rt.alloc()));
-    let mut screen = open_screen(rt, run, loading, Echoed::Scripts);
-    let told = solo(
-        rt.alloc(),
-        &mut input,
-        &mut screen,
-        Limits::program(),
-        pseudo,
-    );
-    let manager = run_outcome(rt, told, input, &mut screen)?;
-    let written = write_history(rt, &manager, run);
-    manager.close();
-    written
+    let (loaded, input, mut screen) = open_run(rt, run, Form::Solo, Echoed::Scripts, keeps)?;
+    let mut input = input.behind(loaded);
+    let limits = Limits::program();
+    let told = solo(rt.alloc(), &mut input, &mut screen, limits, pseudo);
+    end_run(rt, run, told, input, &mut screen)
 }
 
 fn run_steps<P: Pseudo + Drop>(
@@ -254,60 +236,46 @@ fn run_steps<P: Pseudo + Drop>(
     keeps: bool,
     pseudo: P,
 ) -> Result<(), Failure> {
-    let mut input = open(
-        rt,
-        schedule.run.input.as_str(),
-        keeps || schedule.run.echoes,
-    )?;
-    let loading = loading_of(rt, &schedule.run, Form::Solo)?;
-    let mut screen = open_screen(rt, &schedule.run, loading, Echoed::Schedule);
-    let limits = Limits::program();
+    let run = &schedule.run;
+    let (loaded, input, mut screen) = open_run(rt, run, Form::Solo, Echoed::Schedule, keeps)?;
+    let mut input = input.behind(loaded);
     let told = steps(
         rt.alloc(),
         &mut input,
         &mut screen,
-        limits,
+        Limits::program(),
         pseudo,
         schedule.explains,
     );
-    let manager = run_outcome(rt, told, input, &mut screen)?;
     // What held between any two events, and how many steps its operations took, and its aborts.
     managers_of_a_run_keep_their_promises::<P>();
     operations_of_a_run_take_few_steps::<P>();
     aborts_of_a_run_take_few_steps::<P>();
-    let written = write_history(rt, &manager, &schedule.run);
-    manager.close();
-    written
+    end_run(rt, run, told, input, &mut screen)
 }
 
-fn run_check(rt: &HostRuntime, file: &str, keeps: bool) -> Result<(), Failure> {
-    let mut input = open(rt, file, keeps)?;
+// Nothing is kept of an input of any length, also where a fault is to have its second line.
+fn run_check(rt: &HostRuntime, check: &Check, keeps: bool) -> Result<(), Failure> {
+    let mut input = open(rt, check.input.as_str(), keeps && !check.is_long)?;
     let mut output = Output::new(io::writer(rt));
-    match check_trace(rt.alloc(), &mut input, &mut output) {
+    let told = if check.is_long {
+        check_long_trace(rt.alloc(), &mut input, &mut output)
+    } else {
+        check_trace(rt.alloc(), &mut input, &mut output)
+    };
+    match told {
         Ok(()) => Ok(()),
         Err(refusal) => Err(Failure::of_run(refusal, input, output.failure())),
     }
 }
 
-// Nothing is kept of an input of any length, also where a fault is to have its second line.
-fn run_long_check(rt: &HostRuntime, file: &str) -> Result<(), Failure> {
-    let mut input = open(rt, file, false)?;
-    let mut output = Output::new(io::writer(rt));
-    match check_long_trace(rt.alloc(), &mut input, &mut output) {
-        Ok(()) => Ok(()),
-        Err(refusal) => Err(Failure::of_long_run(refusal, &input, output.failure())),
-    }
-}
-
 fn run_tables(rt: &HostRuntime, name: Option<TableName>) -> Result<(), Failure> {
     let mut output = Output::new(io::writer(rt));
-    match (
-        write_tables(rt.alloc(), name, &mut output),
+    write_tables(rt.alloc(), name, &mut output).map_err(|refusal| Failure::of_stream(
+        refusal,
+        Subject::Output,
         output.failure(),
-    ) {
-        (Err(Refusal::Io), Some(error)) => Err(Failure::of_call(Known::OfOutput(error))),
-        (told, _) => Ok(told?),
-    }
+    ))
 }
 
 // The scripts of a text, each as that of a client.
@@ -331,10 +299,9 @@ fn run_work<P: Pseudo + Drop + Send, T: Threads + Wait + Clock + Sync>(
     requires some { 0 < work.now.workers }
     requires most { work.now.workers ≤ 8 }
 {
-    let mut loading = loading_of(rt, &work.run, Form::Run)?;
-    let loaded = clients_of(rt.alloc(), loading.take_text(rt.alloc()).as_bytes())?;
-    let mut input = open(rt, work.run.input.as_str(), keeps || work.run.echoes)?;
-    let mut screen = open_screen(rt, &work.run, loading, Echoed::Clients);
+    let run = &work.run;
+    let (loaded, mut input, mut screen) = open_run(rt, run, Form::Run, Echoed::Clients, keeps)?;
+    let loaded = clients_of(rt.alloc(), loaded.as_bytes())?;
     let options = RunOptions {
         limits: Limits::program(),
         workers: work.workers,
@@ -351,10 +318,7 @@ fn run_work<P: Pseudo + Drop + Send, T: Threads + Wait + Clock + Sync>(
         &options,
         &BeginQueue::new(threads),
     );
-    let manager = run_outcome(rt, told, input, &mut screen)?;
-    let written = write_history(rt, &manager, &work.run);
-    manager.close();
-    written
+    end_run(rt, run, told, input, &mut screen)
 }
 
 // Writes the trace of what the transactions did, where a file for it is named.
@@ -368,15 +332,16 @@ fn write_history<P: Pseudo>(
     let Some(file) = &run.trace else {
         return Ok(());
     };
-    let mut output = match File::create(rt, file.as_str()) {
-        Ok(created) => Output::new(created),
-        Err(error) => return Err(Failure::of_call(Known::OfTrace(error))),
-    };
-    match (write_items(manager, &mut output), output.failure()) {
-        (Ok(()), _) => Ok(()),
-        (Err(_), Some(error)) => Err(Failure::of_call(Known::OfTrace(error))),
-        (Err(refusal), None) => Err(Failure::from(refusal)),
-    }
+    let created = File::create(rt, file.as_str()).map_err(|error| Failure::of_call(
+        Subject::Trace,
+        error,
+    ))?;
+    let mut output = Output::new(created);
+    write_items(manager, &mut output).map_err(|refusal| Failure::of_stream(
+        refusal,
+        Subject::Trace,
+        output.failure(),
+    ))
 }
 
 // Writes the text of the whole history.

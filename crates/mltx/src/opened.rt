@@ -1,6 +1,6 @@
 //! What a server has open as it begins.
 
-use crate::failure::{Failure, Known};
+use crate::failure::{Failure, Subject};
 use crate::output::Output;
 use crate::saving::SaveFile;
 use crate::streams::is_ready;
@@ -13,7 +13,7 @@ use std::alloc::Global;
 use std::fs::{File, TryLockError};
 use std::hash::{BuildHasher, RandomState};
 use std::io::ErrorKind;
-use std::net::TcpListener;
+use std::net::{SocketAddr, TcpListener};
 use std::os::unix::fs::FileTypeExt;
 use std::{fs, io};
 
@@ -46,26 +46,22 @@ impl Opened {
     /// # Errors
     /// The first that can't be had.
     pub(crate) fn open(rt: &HostRuntime, serve: &Serve) -> Result<Opened, Failure> {
-        let listener = match TcpListener::bind(rt, serve.run.input.as_str()) {
-            Ok(listener) => listener,
-            Err(error) => return Err(Failure::of_call(Known::OfInput(error))),
-        };
+        let listener = bind(rt, serve.run.input.as_str(), Subject::Input)?;
         let admin = match &serve.operating.admin {
-            Some(address) => Some(bind_admin(rt, address.as_str())?),
+            Some(address) => Some(bind(rt, address.as_str(), Subject::Admin)?),
             None => None,
         };
         let trace = match &serve.run.trace {
-            Some(file) => Some(create(rt, file.as_str())?),
+            Some(file) => Some(Output::new(create_trace(rt, file.as_str()).map_err(
+                |error| Failure::of_call(Subject::Trace, error),
+            )?)),
             None => None,
         };
         let save = match &serve.operating.save {
             Some(file) => Some(SaveFile::open(rt, file.as_str())?),
             None => None,
         };
-        let keys = match RandomState::new(rt) {
-            Ok(keys) => keys,
-            Err(_) => return Err(Failure::from(Refusal::Io)),
-        };
+        let keys = RandomState::new(rt).map_err(|_| Refusal::Io)?;
         Ok(Opened {
             listener,
             admin,
@@ -94,33 +90,24 @@ impl Opened {
     // The lines that tell where the server listens, with the port that was had where port 0 was asked for.
     fn lines(&self, alloc: Global) -> Result<String, Failure> {
         let mut lines = String::new(alloc);
-        match self.listener.local_addr() {
-            Ok(address) => write!(lines, "mltx: listening on {address}\n")?,
-            Err(error) => return Err(Failure::of_call(Known::OfInput(error))),
-        }
-        let Some(admin) = &self.admin else {
-            return Ok(lines);
-        };
-        match admin.local_addr() {
-            Ok(address) => write!(lines, "mltx: admin on {address}\n")?,
-            Err(error) => return Err(Failure::of_call(Known::OfAdmin(error))),
+        let address = address_of(&self.listener, Subject::Input)?;
+        write!(lines, "mltx: listening on {address}\n")?;
+        if let Some(admin) = &self.admin {
+            let address = address_of(admin, Subject::Admin)?;
+            write!(lines, "mltx: admin on {address}\n")?;
         }
         Ok(lines)
     }
 }
 
-fn bind_admin(rt: &HostRuntime, address: &str) -> Result<TcpListener, Failure> {
-    match TcpListener::bind(rt, address) {
-        Ok(listener) => Ok(listener),
-        Err(error) => Err(Failure::of_call(Known::OfAdmin(error))),
-    }
+fn bind(rt: &HostRuntime, address: &str, subject: Subject) -> Result<TcpListener, Failure> {
+    TcpListener::bind(rt, address).map_err(|error| Failure::of_call(subject, error))
 }
 
-fn create(rt: &HostRuntime, file: &str) -> Result<Output<File>, Failure> {
-    match create_trace(rt, file) {
-        Ok(file) => Ok(Output::new(file)),
-        Err(error) => Err(Failure::of_call(Known::OfTrace(error))),
-    }
+fn address_of(listener: &TcpListener, subject: Subject) -> Result<SocketAddr, Failure> {
+    listener
+        .local_addr()
+        .map_err(|error| Failure::of_call(subject, error))
 }
 
 // The file for the trace, to which this server alone appends. A regular file that holds something keeps it under another name.

@@ -1,12 +1,12 @@
 //! The file that a server saves its base in.
 
-use crate::failure::{Failure, Known};
+use crate::failure::{Failure, Subject};
 use crate::output::Output;
 use mlt_manager::Manager;
 use mlt_object_base::write_base;
-use mlt_types::{Pseudo, Refusal};
+use mlt_types::Pseudo;
+use std::fs;
 use std::fs::File;
-use std::{fs, io};
 
 /// The file that a server saves its base in. It is written under another name, and then takes the place of the one before.
 #[derive(Drop)]
@@ -23,10 +23,10 @@ impl SaveFile {
     /// Where that fails.
     pub(crate) fn open(rt: &HostRuntime, path: &str) -> Result<SaveFile, Failure> {
         let name = format!(in rt.alloc(); "{path}.new")?;
-        let file = match File::create(rt, name.as_str()) {
-            Ok(file) => file,
-            Err(error) => return Err(Failure::of_call(Known::OfSave(error))),
-        };
+        let file = File::create(rt, name.as_str()).map_err(|error| Failure::of_call(
+            Subject::Save,
+            error,
+        ))?;
         Ok(SaveFile {
             path: String::from_str(rt.alloc(), path)?,
             name,
@@ -46,20 +46,14 @@ impl SaveFile {
         let SaveFile { path, name, file } = self;
         let base = manager.base()?;
         let mut output = Output::new(file);
-        match (write_base(&base, &mut output), output.failure()) {
-            (Ok(()), _) => (),
-            (Err(Refusal::Io), Some(error)) => return Err(Failure::of_call(Known::OfSave(error))),
-            (Err(refusal), _) => return Err(Failure::from(refusal)),
-        }
-        match put_in_place(rt, &output, name.as_str(), path.as_str()) {
-            Ok(()) => Ok(()),
-            Err(error) => Err(Failure::of_call(Known::OfSave(error))),
-        }
+        write_base(&base, &mut output).map_err(|refusal| Failure::of_stream(
+            refusal,
+            Subject::Save,
+            output.failure(),
+        ))?;
+        output
+            .sync()
+            .and_then(|_| fs::rename(rt, name.as_str(), path.as_str()))
+            .map_err(|error| Failure::of_call(Subject::Save, error))
     }
-}
-
-// The file is on its disk, and has the path.
-fn put_in_place(rt: &HostRuntime, output: &Output<File>, name: &str, path: &str) -> io::Result<()> {
-    output.sync()?;
-    fs::rename(rt, name, path)
 }

@@ -1,6 +1,7 @@
 //! Where `solo`, `steps` and `run` print.
 
 use crate::failure::Failure;
+use crate::input::Input;
 use crate::loading::Loading;
 use crate::output::Output;
 use crate::streams::{STDOUT, is_terminal};
@@ -18,6 +19,8 @@ pub(crate) struct Screen<W> {
     echoed: Echoed,
     look: Look,
     kept: Option<Vec<u8>>,
+    // Whether there was no memory to keep more.
+    is_refused: bool,
 }
 
 impl<W: Write> Screen<W> {
@@ -39,38 +42,44 @@ impl<W: Write> Screen<W> {
             } else {
                 Some(Vec::new(alloc))
             },
+            is_refused: false,
         }
     }
 
-    /// Why the base was not loaded, if it was not.
-    pub(crate) fn load_failure(&self) -> Option<Failure> {
-        self.loading.failure()
-    }
-
-    /// Why a write or a flush failed, if one did.
-    pub(crate) fn failure(&self) -> Option<io::Error> {
-        self.output.failure()
+    /// Why a run of this input was refused so: the base was not loaded, or the answers were not kept, or what the input and
+    /// standard output say.
+    pub(crate) fn failure(&self, refusal: Refusal, input: Input) -> Failure {
+        if self.is_refused {
+            return Failure::from(Refusal::OutOfMemory);
+        }
+        match self.loading.failure() {
+            Some(failure) => failure,
+            None => Failure::of_run(refusal, input, self.output.failure()),
+        }
     }
 
     /// Writes what was kept, if anything was, of a run of this input.
     ///
     /// # Errors
-    /// `OutOfMemory` where memory runs out, and `Io` where a write fails.
-    pub(crate) fn show(&mut self, alloc: Global, input: &[u8]) -> Result<(), Refusal> {
-        match self.kept.take() {
-            Some(text) => {
-                let (echoed, look) = (self.echoed, self.look);
-                write_shown(
-                    alloc,
-                    echoed,
-                    look,
-                    input,
-                    text.as_slice(),
-                    &mut self.output,
-                )
-            }
-            None => Ok(()),
-        }
+    /// `OutOfMemory` where memory runs out, or there was none to keep the input, and `Io` where a write fails.
+    pub(crate) fn show(&mut self, alloc: Global, input: &Input) -> Result<(), Refusal> {
+        let Some(text) = self.kept.take() else {
+            return Ok(());
+        };
+        let (echoed, look) = (self.echoed, self.look);
+        let input = match input.bytes() {
+            Some(input) => input,
+            None if echoed == Echoed::Nothing => &[],
+            None => return Err(Refusal::OutOfMemory),
+        };
+        write_shown(
+            alloc,
+            echoed,
+            look,
+            input,
+            text.as_slice(),
+            &mut self.output,
+        )
     }
 }
 
@@ -82,7 +91,10 @@ impl<W: Write> Write for Screen<W> {
         match &mut self.kept {
             Some(text) => match text.extend_from_slice(buf) {
                 Ok(()) => Ok(buf.len()),
-                Err(_) => Err(ErrorKind::OutOfMemory.into()),
+                Err(_) => {
+                    self.is_refused = true;
+                    Err(ErrorKind::OutOfMemory.into())
+                }
             },
             None => self.output.write(buf),
         }

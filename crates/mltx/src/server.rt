@@ -4,8 +4,7 @@ ghost use Rattle.std.specs.Prelude.{◌≡◌, ◌≤◌, ◌<◌, ◌↔◌, is
 ghost use Rattle.mltx.specs.Options.{AreLimitsOf, IsTimeOf};
 
 use crate::end_signals::EndSignals;
-use crate::failure::{Failure, Known};
-use crate::input_end::InputEnd;
+use crate::failure::{Failure, Subject};
 use crate::loading::{Loading, read_base};
 use crate::opened::Opened;
 use crate::output::Output;
@@ -39,12 +38,12 @@ pub(crate) fn run_server<
     requires some { 0 < serve.now.sessions }
     requires most { serve.now.sessions ≤ 64 }
 {
+    let options = serve_options(serve);
     let base = read_base(rt, &serve.run.load)?;
-    let (limits, _) = limits_of(&serve.connections, false);
-    try_base(rt, base.as_slice(), limits, pseudo)?;
+    try_base(rt, base.as_slice(), options.limits, pseudo)?;
     let loading = Loading::new(rt.alloc(), base.as_slice(), Form::Session)?;
     let opened = Opened::open(rt, serve)?;
-    let input = InputEnd::new(rt, threads, serve.operating.until_eof)?;
+    let signal = EndSignals::new(rt, threads, serve.operating.until_eof)?;
     let unsaid = opened.report(rt, tells_number)?;
     let Opened {
         listener,
@@ -58,7 +57,7 @@ pub(crate) fn run_server<
         notes: rt.stderr(),
         unsaid,
         trace,
-        signal: EndSignals::new(rt, input),
+        signal,
         admin: match &admin {
             Some(listener) => Some(Admin {
                 listener,
@@ -70,7 +69,6 @@ pub(crate) fn run_server<
         },
         load: load_of(serve, &loading),
     };
-    let options = serve_options(serve);
     let (connections, trace_failure, saved) = match serve.connections {
         Connections::Limit(_) => {
             let served = serve_on(threads, rt.alloc(), &listener, pseudo, &options, operating)?;
@@ -87,7 +85,7 @@ pub(crate) fn run_server<
     write_served(rt, connections.saturating_sub(loads))?;
     saved?;
     match trace_failure {
-        Some(error) => Err(Failure::of_call(Known::OfTrace(error))),
+        Some(error) => Err(Failure::of_call(Subject::Trace, error)),
         None => Ok(()),
     }
 }
@@ -120,10 +118,7 @@ fn try_base<P: Pseudo + Drop>(
             manager.close();
             Ok(())
         }
-        Err(refusal) => Err(match loading.failure() {
-            Some(failure) => failure,
-            None => Failure::from(refusal),
-        }),
+        Err(refusal) => Err(loading.failure().unwrap_or(Failure::from(refusal))),
     }
 }
 
@@ -192,11 +187,9 @@ fn seconds(count: u64) -> Option<Duration>
 fn write_served(rt: &HostRuntime, connections: u64) -> Result<(), Failure> {
     let text = format!(in rt.alloc(); "served {connections}\n")?;
     let mut output = Output::new(io::writer(rt));
-    match write_text(&mut output, text.as_bytes()) {
-        Ok(()) => Ok(()),
-        Err(refusal) => Err(match output.failure() {
-            Some(error) => Failure::of_call(Known::OfOutput(error)),
-            None => Failure::from(refusal),
-        }),
-    }
+    write_text(&mut output, text.as_bytes()).map_err(|refusal| Failure::of_stream(
+        refusal,
+        Subject::Output,
+        output.failure(),
+    ))
 }
