@@ -94,9 +94,12 @@ error. For port 0 this line has the port that the system chose.
 If a connection ends, its open transaction is rolled back. The trace is written continuously.
 When the server exits, it prints `served` and the number of connections.
 
-To keep a server running until you stop it, by the button at http://127.0.0.1:7001 or by a POST
-to /stop:
-  mltx serve 127.0.0.1:7000 --endless --sessions 64 --idle 600 --admin 127.0.0.1:7001";
+To keep a server running until you stop it:
+  mltx serve 127.0.0.1:7000 --endless --sessions 64 --idle 600 --admin 127.0.0.1:7001
+
+Stop it by the button at http://127.0.0.1:7001, or by
+  curl -X POST -H 'X-Mltx: 1' http://127.0.0.1:7001/stop
+SIGTERM and Ctrl-C end it at once, without --save, unless the `./mltx` of the source tree started it.";
 
 const TABLES_EXAMPLE: &str = "Example: mltx tables counter
 
