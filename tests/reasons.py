@@ -212,6 +212,21 @@ begin > begun 3
 # T3 needs page 2, which T2 has locked for `open 32768`.
 whole 1 balance 3 > refused 3 NoSuchTx
 {empty(*EIGHT)}""", LOW),
+    # A pass that is dropped gives its pages back, the last one first, so that the next one makes them under the same numbers:
+    # the first of two splits makes page 3, and the second page 4.
+    "pages-made-again": Schedule(f"""
+{made(*EIGHT)}
+begin > begun 2
+{called(2, "open 16384", 13)}
+cancel 2 > cancelled
+whole 2 open 16384 > done opened
+commit 2 > committed 2
+{begun(3, 4)}
+{called(3, "deposit 16384 5", 3)}
+{called(4, "deposit 16384 7", 2, "waiting by 3")}
+# T4 needs page 4, which T3 has locked for `deposit 16384 5`.
+{empty(*EIGHT, 16384)}
+depth 2""", LOW),
     "wait-for-one-that-undoes": Schedule(f"""
 {made(1)}
 {begun(2, 3)}

@@ -148,8 +148,8 @@ begin > begun 2
 {called(2, "add 32768 7", 13, "done added")}
 whole 2 size 32768 > done is 8"""
 
-ROWS = {
-    "abort-under-later-deposit": Schedule(f"""
+# Two deposits on one account, the first of which is taken back after the second.
+UNDER_LATER_DEPOSIT = f"""
 {made(1)}
 {begun(2, 3)}
 {called(2, "deposit 1 5", 2)}
@@ -160,7 +160,23 @@ step 2 > done done
 step 3 > going
 step 3 > done done
 abort 2 > aborting
-step 2 > going, going, going, aborted
+step 2 > going, going, going, aborted"""
+
+ROWS = {
+    "abort-under-later-deposit": Schedule(f"""{UNDER_LATER_DEPOSIT}
+commit 3 > committed 2
+account 1 7"""),
+    "base-of-direct-calls": Schedule(f"""{UNDER_LATER_DEPOSIT}
+account 1 0"""),
+    # What another one reserved on the same account lasts when a transaction releases its own.
+    "reservation-released": Schedule(f"""
+{made(1)}
+{begun(2, 3)}
+call 2 deposit 1 5 > called
+call 3 deposit 1 7 > called
+cancel 2 > cancelled
+abort 2 > aborted
+step 3 > going, going, going, done done
 commit 3 > committed 2
 account 1 7"""),
     "blocked-by-reply": Schedule(f"""
