@@ -1,1 +1,1 @@
-mod SmallNumbers
+mod FewLocks

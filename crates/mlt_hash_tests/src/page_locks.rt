@@ -1,7 +1,7 @@
 //! Grants on one page.
 
-ghost use Rattle.std.specs.Prelude.{◌≡◌, ◌↔◌, IsTrue};
-ghost use Rattle.mlt_hash_tests.specs.Desks.{IsOfSmallNumbers, IsSmall};
+ghost use Rattle.std.specs.Prelude.{◌≡◌};
+ghost use Rattle.mlt_page_locks.specs.LockTables.{HasAtMost};
 
 use mlt_page_locks::{Grant, PageLocks};
 use mlt_test_tools::same_at;
@@ -10,42 +10,30 @@ use std::alloc::Global;
 use std::process::Abort;
 use std::test::Fail;
 
-/// Locks of transactions and on pages of small numbers, with room for 64 transactions.
+/// Page locks with room for 64 transactions, and how often one was asked for.
 #[derive(Drop)]
-pub(crate) struct Desk {
+struct Desk {
     locks: PageLocks,
-    ghost small: { IsOfSmallNumbers locks },
+    asked: u32,
+    ghost few: { HasAtMost asked locks },
     ghost room: { locks.max_open ≡ 64 },
 }
 
 impl Desk {
-    /// The transaction that this one waits for, if there is one.
-    pub fn ask(&mut self, rt: &impl Abort, tx: u64, page: u32, mode: Mode) -> Option<u64> {
-        assert!(rt; is_small(tx));
-        assert!(rt; is_small(u64::from(page)));
-        match self.locks.ask(TxId(tx), PageNo(page), mode) {
-            Grant::Held => None,
-            Grant::Waiting(by) => Some(by.0),
-        }
+    fn ask(&mut self, rt: &impl Abort, tx: u64, page: u32, mode: Mode) -> Grant {
+        assert!(rt; self.asked < 64);
+        self.asked += 1;
+        self.locks.ask(TxId(tx), PageNo(page), mode)
     }
 
-    /// Takes all locks of a transaction away.
-    pub fn release_all(&mut self, tx: u64) {
+    fn release_all(&mut self, tx: u64) {
         self.locks.release_all(TxId(tx));
     }
 }
 
-// Whether a number is below 16, or at most 15 above 4,096.
-fn is_small(number: u64) -> bool
-    ensures { IsTrue result ↔ IsSmall number }
-{
-    number < 16 || (4_096 <= number && number < 4_096 + 16)
-}
-
-/// No locks.
-pub(crate) fn new_desk(alloc: Global) -> Result<Desk, Refusal> {
+fn new_desk(alloc: Global) -> Result<Desk, Refusal> {
     let locks = PageLocks::new(alloc, &Limits::program())?;
-    Ok(Desk { locks })
+    Ok(Desk { locks, asked: 0 })
 }
 
 // Requests for page 9, each with the transaction that it waits for; where there is no mode, the transaction is closed.
@@ -64,7 +52,13 @@ fn page_lock_grants(rt: HostRuntime) -> Result<(), Fail> {
     let mut desk = new_desk(rt.alloc())?;
     for (tx, mode, holder) in GRANTS {
         match *mode {
-            Some(mode) => same_at(&(tx, mode), &desk.ask(&rt, *tx, 9, mode), holder)?,
+            Some(mode) => {
+                let found = match desk.ask(&rt, *tx, 9, mode) {
+                    Grant::Held => None,
+                    Grant::Waiting(by) => Some(by.0),
+                };
+                same_at(&(tx, mode), &found, holder)?;
+            }
             None => desk.release_all(*tx),
         }
     }

@@ -1,18 +1,15 @@
-//! Tests of managers, scripts, sessions and workers, where the built program does not show the
-//! result. A gate holds a client after a given step until another one has committed, so an
-//! interleaving of threads can be repeated. The tests are in a crate of their own because a crate
-//! with tests is proved twice.
+//! Tests of what the built program does not show: managers, sessions and workers within limits that
+//! they meet, threads in an interleaving that is repeated, and calls that the program doesn't make.
+//! They are in a crate of their own because a crate with tests is proved twice.
 #![tactic(auto)]
 
 #[cfg(test)]
-mod driver;
+mod bounds;
 #[cfg(test)]
-mod gates;
-#[cfg(test)]
-mod lock_desks;
+mod direct_calls;
 #[cfg(test)]
 mod schedules;
 #[cfg(test)]
-mod solo;
+mod sessions;
 #[cfg(test)]
 mod workers;

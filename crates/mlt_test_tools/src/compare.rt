@@ -1,23 +1,9 @@
-//! What tests compare. A comparison is proved once here, and each test only calls it.
+//! What tests compare. The comparison is proved once here, and each test only calls it.
 
 ghost use Rattle.std.specs.Prelude.{◌≡◌, OnOk, OnErr, true, false};
 
 use std::fmt::Debug;
 use std::test::Fail;
-
-/// The value that was found is the one that is wanted.
-///
-/// # Errors
-/// Both values, where they differ.
-pub fn same<T: PartialEq + Debug>(found: &T, wanted: &T) -> Result<(), Fail>
-    ensures ok { OnOk result (T.eq found.now wanted.now ≡ true) }
-    ensures err { OnErr result (T.eq found.now wanted.now ≡ false) }
-{
-    if found == wanted {
-        return Ok(());
-    }
-    Err(Fail::new(format_args!("found {found:?}, wanted {wanted:?}")))
-}
 
 /// The value that was found at this place is the one that is wanted.
 ///

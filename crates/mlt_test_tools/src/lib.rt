@@ -1,6 +1,6 @@
-//! Comparisons for crates of tests. `same` and `same_at` return Ok exactly if both values are equal.
+//! The comparison of crates of tests. `same_at` returns Ok exactly if both values are equal.
 #![tactic(auto)]
 
 mod compare;
 
-pub use compare::{same, same_at};
+pub use compare::same_at;
