@@ -106,7 +106,7 @@ fn said_over<L: MadeWith<Mult>>(
     let mut desk = LockDesk::new(rt, &shared, &NoGate, share, Tries::PerOperation(3));
     let text = talk(alloc, &mut desk, row);
     desk.close();
-    shared.into_manager().close();
+    shared.unlock().into_manager().close();
     text
 }
 
