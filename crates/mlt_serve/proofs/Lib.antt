@@ -2,6 +2,7 @@ mod Names
 pub mod Following
 pub mod Merging
 pub mod Lining
+pub mod Loading
 pub mod Numbering
 pub mod Receiving
 pub mod Sorting

@@ -2,7 +2,7 @@
 use Rattle.std.proofs.Common.{◌≡◌, ◌++◌, ◌∷◌, [], List, subst, ap, ◌∙◌, IsPermutation, flat_map, append_assoc, append-nil}
 use Rattle.std.proofs.lemmas.Grind.{flat_map-append}
 use Rattle.mlt_serve.proofs.Names.{IsPermutation-append_right, IsPermutation-trans}
-use Rattle.std.proofs.lemmas.List.Sorted.{IsPermutation-append_comm}
+use Rattle.std.proofs.lemmas.List.Sorted.{IsPermutation-append_comm, IsPermutation-append_left}
 
 module _ {X A : Type 0} (f : X → List A) (xs : List X) (x : X) where
   last_last : flat_map f (xs ++ x ∷ []) ≡ flat_map f xs ++ f x
@@ -15,3 +15,9 @@ module _ {X A : Type 0} (f : X → List A) (xs : List X) (x : X) where
       let in_three : flat_map f (xs ++ x ∷ []) ++ got ≡ front ++ (f x ++ got) = ap (λ (ys : List A). ys ++ got) last_last ∙ append_assoc front (f x) got in
       IsPermutation-trans all (front ++ (f x ++ got)) (front ++ (got ++ f x)) (subst (λ (ys : List A). IsPermutation all ys) in_three before)
       (IsPermutation-append_right front (f x ++ got) (got ++ f x) (IsPermutation-append_comm (f x) got))
+
+-- once none is left, what comes last goes behind all
+pub behind_all : {A : Type 0} (all none got last new : List A) → none ≡ [] → IsPermutation all (none ++ got) → IsPermutation (got ++ last) new → IsPermutation (all ++ last) new
+behind_all {A} all none got last new is before after =
+    let same = subst (λ (xs : List A). IsPermutation all (xs ++ got)) is before in
+    IsPermutation-trans (all ++ last) (got ++ last) new (IsPermutation-append_left last all got same) after

@@ -1,11 +1,12 @@
 -- Whose outcomes a session adds.
-use Rattle.std.proofs.Common.{◌≡◌, ◌⊎◌, inl, inr, ℕ, ◌+◌, [], ◌∷◌, List, refl, ap, subst, All, Option, Some, None, Result, Ok, Err, IfOk, IfErr}
+use Rattle.std.proofs.Common.{◌≡◌, ◌⊎◌, inl, inr, ℕ, ◌+◌, [], ◌∷◌, List, refl, ap, subst, sym, All, Option, Some, None, Result, Ok, Err, IfOk, IfErr, OnOk, flat_map}
 use Rattle.mlt_serve.proofs.Names.{All-append, All-nil, All-push, TraceItem, Moves, StartsWith, GrowsFor, IsOf, DeskAnswer}
 use Rattle.mlt_types.specs.declared.refusal.Refusal.{Refusal}
 use Rattle.mlt_event_text.specs.Inputs.{lines_of}
-use Rattle.mlt_serve_session.specs.Talks.{Turn, closing, closing_answers, open_at_end}
+use Rattle.mlt_serve_session.specs.Talks.{Turn, closing, closing_answers, open_at_end, turn_text}
 use Rattle.mlt_serve_session.specs.Outcomes.{begins_by, begun_in, call_of, outcome_if, outcome_behind, outcomes_of}
 use Rattle.mlt_serve_session.specs.Sessions.{Acted, BrokenOff, HeardAll, Scene, Spoken, SpokenLong, Summed}
+use Rattle.mlt_serve.specs.Loads.{Heard, ends}
 use Rattle.mlt_serve.proofs.Following.{AreTurns, all_in_order, are_turns, first_turns}
 use Rattle.mlt_serve.proofs.Telling.{all_told, moves_of, run_more}
 
@@ -61,3 +62,19 @@ module _ {P D S : Type 0} (bits_of : P → ℕ → ℕ) (view : D → List Trace
   sees_on (Err r) ok long io memory (inl e) = run_more bits_of view old.desk _ _ new.desk (long (ap (λ (x : Refusal). Err x) e)).spoken.acted.asked
   sees_on (Err r) ok long io memory (inr (inl e)) = run_more bits_of view old.desk _ _ new.desk (memory (ap (λ (x : Refusal). Err x) e)).acted.asked
   sees_on (Err r) ok long io memory (inr (inr e)) = run_more bits_of view old.desk _ _ new.desk (io (ap (λ (x : Refusal). Err x) e)).off.acted.asked
+
+  -- what was heard and told where it ends by itself
+  pub hears : (result : Result S Refusal) → IfOk result (λ s. Summed moves client old new (lines s) (commits s))
+      → OnOk result (Heard client (ends old.unread old.written) (ends new.unread new.written) old.outcomes new.outcomes)
+  hears (Ok s) ok =
+      let spoken = ok.spoken in
+      record {
+        lines = spoken.taken;
+        text = flat_map turn_text spoken.turns;
+        more = outcomes_of client 0 spoken.turns;
+        heard = record { given = spoken.answers; told = ap (λ ts. flat_map turn_text ts) spoken.is; are = ap (λ ts. outcomes_of client 0 ts) (sym spoken.is) };
+        consumed = spoken.consumed;
+        wrote = spoken.wrote;
+        appended = spoken.acted.noted;
+      }
+  hears (Err r) ok = tt

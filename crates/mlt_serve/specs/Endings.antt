@@ -1,5 +1,5 @@
--- What is answered of how the accepting ended.
-use Rattle.std.specs.Prelude.{Bool, false, true, Result, Ok, Err}
+-- What is answered of how the accepting ended, and why a server refuses to answer what it has done.
+use Rattle.std.specs.Prelude.{◌≡◌, ◌⊎◌, Bool, false, true, Result, Ok, Err, IfErr, IsOk, IsOkUnless}
 use Rattle.mlt_types.specs.declared.refusal.Refusal.{Refusal}
 use Rattle.mlt_serve_seats.specs.declared.note.ListenerEnd.{ListenerEnd}
 
@@ -14,3 +14,15 @@ result_of_accepting ListenerEnd.Memory = Err Refusal.OutOfMemory
 abbrev pub is_limit : ListenerEnd → Bool
 is_limit (ListenerEnd.Limit _) = true
 is_limit other = false
+
+-- The result is refused where the accepting ended by a fault, for that; else where a growth was refused; else where, if at all, what was
+-- served does not agree.
+abbrev pub IsRefusedFor : {A : Type 0} → ListenerEnd → Bool → Result A Refusal → Type 0
+IsRefusedFor end is_short result =
+    IfErr (result_of_accepting end) (λ refusal. result ≡ Err refusal)
+    × (IsOk (result_of_accepting end) → is_short ≡ true → result ≡ Err Refusal.OutOfMemory)
+    × (IsOk (result_of_accepting end) → is_short ≡ false → IsOkUnless result Refusal.Audit)
+
+-- one of the refusals of a server
+abbrev pub IsOfServer : Refusal → Type 0
+IsOfServer refusal = (refusal ≡ Refusal.Io) ⊎ (refusal ≡ Refusal.OutOfMemory) ⊎ (refusal ≡ Refusal.Audit)

@@ -1,5 +1,6 @@
 pub mod Clients
 pub mod Threads
 pub mod Endings
+pub mod Loads
 pub mod Tellings
 pub mod TraceLines

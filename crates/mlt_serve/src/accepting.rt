@@ -4,11 +4,13 @@ ghost use Rattle.std.specs.Prelude.{◌≡◌, ◌≤◌, ◌+◌, ◌-◌, ◌^
 ghost use Rattle.mlt_serve.specs.Endings.{is_limit, result_of_accepting};
 
 use crate::door::Door;
+use crate::service::Service;
 use crate::tuning::ACCEPT_PAUSE_MILLISECONDS;
 use crossbeam_channel::Sender;
 use mlt_serve_connections::Accepted;
 use mlt_serve_seats::{ListenerEnd, Note, Notes};
-use mlt_types::Refusal;
+use mlt_types::{Pseudo, Refusal};
+use mlt_work_desk::MadeWith;
 use std::alloc::Global;
 use std::io::Write;
 use std::net::{Shutdown, TcpStream};
@@ -41,17 +43,6 @@ pub(crate) struct Accepting {
 }
 
 impl Accepting {
-    /// Nothing was accepted, for want of memory or of a thread.
-    pub(crate) fn none() -> Accepting
-        ensures none { result.connections ≡ 0 }
-        ensures short { result.end ≡ ListenerEnd.Memory }
-    {
-        Accepting {
-            connections: 0,
-            end: ListenerEnd::Memory,
-        }
-    }
-
     /// What is answered of it.
     ///
     /// # Errors
@@ -138,12 +129,12 @@ impl<'a, R: Wait + Clock> Acceptor<'a, R> {
     /// An accept has failed, for want of descriptors or buffers or not, and is to be tried again: after a pause if so, or if another
     /// has failed before. The first of either kind in a row is logged.
     fn try_again(&mut self, is_want: bool, note: Note) {
-        let is_first = if is_want {
-            !self.is_pausing
+        let was_so = if is_want {
+            self.is_pausing
         } else {
-            !self.is_failing
+            self.is_failing
         };
-        if is_first {
+        if !was_so {
             self.notes.tell(self.rt, note);
         }
         if is_want || self.is_failing {
@@ -225,29 +216,34 @@ fn turn_away(stream: TcpStream) {
     let _ = stream.shutdown(Shutdown::Write);
 }
 
-/// Accepts as many connections as the limit says, numbers them, and sends each on as it comes. It accepts no more once an
-/// accept has failed by the listener, a sending was refused, a session was refused a growth, or the server is to stop. Then clients
-/// are refused from now on, and a log message says why. What it has accepted it has sent on, unless that was refused.
-pub(crate) fn accept_all<R: Wait + Clock>(
+/// Accepts as many connections as the limit says, numbers them, and sends each on as it comes, to so many session threads. It accepts no
+/// more once an accept has failed by the listener, a sending was refused, a session was refused a growth, or the server is to stop. Then
+/// clients are refused from now on, and a log message says why. What it has accepted it has sent on, unless that was refused.
+pub(crate) fn accept_all<P: Pseudo, L: MadeWith<P>, R: Wait + Clock>(
     rt: &R,
-    door: &Door<'_>,
-    notes: &Notes,
+    service: &Service<'_, P, L>,
     connections: Sender<Connection, Global>,
-    most_inside: Option<u64>,
-    limit: u64,
+    threads: usize,
 ) -> Accepting
-    ensures few { result.connections ≤ limit }
-    ensures whole { is_limit result.end ≡ true → result.connections ≡ limit }
+    ensures few { result.connections ≤ service.now.options.now.connections }
+    ensures whole { is_limit result.end ≡ true
+        → result.connections ≡ service.now.options.now.connections }
 {
+    let Service {
+        door,
+        notes,
+        options,
+        ..
+    } = service;
     let mut acceptor = Acceptor {
         rt,
         door,
         notes,
-        most_inside,
+        most_inside: options.refuses.then_some(threads as u64),
         is_failing: false,
         is_pausing: false,
     };
-    let (accepted, ended) = acceptor.accept_all(&connections, limit);
+    let (accepted, ended) = acceptor.accept_all(&connections, options.connections);
     door.close();
     notes.tell(rt, Note::AcceptEnded(ended));
     Accepting {

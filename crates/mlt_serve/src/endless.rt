@@ -1,9 +1,11 @@
 //! Connections without end, of which nothing is kept.
 
-ghost use Rattle.std.specs.Prelude.{◌≡◌, ◌⊎◌, ◌<◌, ◌≤◌, IfErr, IfOk, false, length};
+ghost use Rattle.std.specs.Prelude.{◌≡◌, ◌<◌, ◌≤◌, IfErr, IfOk, length};
 ghost use Rattle.mlt_manager.specs.Openings.{IsMadeWith};
 ghost use Rattle.mlt_serve_session.specs.Tallies.{commits_told};
 ghost use Rattle.mlt_serve.specs.Clients.{AreOfClients};
+ghost use Rattle.mlt_serve.specs.Endings.{IsOfServer};
+ghost use Rattle.mlt_serve.specs.Loads.{HasLoaded};
 ghost use Rattle.mlt_serve.specs.Tellings.{TellsOutcomes};
 
 use crate::operating::{EndSignal, Operating, TraceFile};
@@ -34,52 +36,6 @@ pub struct ServedEndless<P: Pseudo> {
     pub connections: u64,
     /// Why the trace was not written whole, if so.
     pub trace_failure: Option<io::Error>,
-}
-
-/// What was served, where the counts are those of the manager.
-///
-/// # Errors
-/// As those of `tally_of`.
-fn served_of<P: Pseudo + Drop>(
-    ended: Ended<P, Tally>,
-    limit: u64,
-) -> Result<ServedEndless<P>, Refusal>
-    requires clients { ended.gathered.is_short ≡ false
-        → AreOfClients ended.gathered.last ended.gathered.outcomes.told.items }
-    requires told { ended.gathered.is_short ≡ false
-        → TellsOutcomes ended.manager.shared.history.items
-        ended.gathered.outcomes.told.items }
-    ensures manager { IfOk result (λ got. got.manager ≡ ended.manager) }
-    ensures begun { IfOk result
-        (λ got. length got.tally.told.items ≡ got.manager.begun) }
-    ensures commits { IfOk result
-        (λ got. commits_told got.tally.told.items ≡ got.manager.commits) }
-    ensures clients { IfOk result
-        (λ got. AreOfClients got.connections got.tally.told.items) }
-    ensures told { IfOk result
-        (λ got. TellsOutcomes got.manager.shared.history.items got.tally.told.items) }
-    ensures few { IfOk result (λ got. got.connections ≤ limit) }
-    ensures refusal { IfErr result (λ refusal.
-        (refusal ≡ Refusal.Io) ⊎ (refusal ≡ Refusal.OutOfMemory) ⊎ (refusal ≡ Refusal.Audit)) }
-{
-    let Ended {
-        accepting,
-        gathered,
-        manager,
-        trace_failure,
-    } = ended;
-    match tally_of(accepting, gathered, limit, &manager) {
-        Ok(tally) => Ok(ServedEndless {
-            tally,
-            manager,
-            connections: accepting.connections,
-            trace_failure,
-        }),
-        Err(refusal) => {
-            manager.close();
-            Err(refusal)
-        }
-    }
 }
 
 /// Serves connections as `serve_on` does, and keeps neither what clients were told nor what the manager did: each outcome is counted as
@@ -125,18 +81,34 @@ where
     ensures clients { IfOk result
         (λ got. AreOfClients got.connections got.tally.told.items) }
     ensures few { IfOk result (λ got. got.connections ≤ options.now.connections) }
-    ensures refusal { IfErr result (λ refusal.
-        (refusal ≡ Refusal.Io) ⊎ (refusal ≡ Refusal.OutOfMemory) ⊎ (refusal ≡ Refusal.Audit)) }
+    // if there is a base to load, connection 1 heard all lines of it and was told just its answers, and its outcomes are among these
+    ensures loaded { IfOk result (λ got. HasLoaded operating.entry.load got.tally.told.items) }
+    ensures refusal { IfErr result IsOfServer }
 {
-    let ended = serve_with::<P, Brand, Tally, R, N, T, S>(
+    let Ended {
+        ran,
+        gathered,
+        manager,
+    } = serve_with::<P, Brand, Tally, R, N, T, S>(
         rt,
         alloc,
-        BlankRecords::new(alloc, 129)?,
+        BlankRecords::new(alloc, 131)?,
         listener,
         pseudo,
         options,
         operating,
         true,
     )?;
-    served_of(ended, options.connections)
+    match tally_of(ran.accepting, gathered, options.connections, &manager) {
+        Ok(tally) => Ok(ServedEndless {
+            tally,
+            manager,
+            connections: ran.accepting.connections,
+            trace_failure: ran.trace_failure,
+        }),
+        Err(refusal) => {
+            manager.close();
+            Err(refusal)
+        }
+    }
 }

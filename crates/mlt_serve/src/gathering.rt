@@ -1,9 +1,9 @@
 //! What all session threads have served, put together.
 
-ghost use Rattle.std.specs.Prelude.{◌≡◌, ◌+◌, ◌-◌, ◌*◌, ◌^◌, ◌≤◌, ◌⊎◌, ◌++◌, [], Err, IfErr, IfOk, IsOk, IsOkUnless, IsPermutation, OnOk, false, min, true, vec_len};
+ghost use Rattle.std.specs.Prelude.{◌≡◌, ◌+◌, ◌-◌, ◌*◌, ◌^◌, ◌≤◌, ◌++◌, [], IfErr, IfOk, IsPermutation, OnOk, false, min, vec_len};
 ghost use Rattle.mlt_work_log.specs.Seats.{IsWriterOf, id_of, past_of};
 ghost use Rattle.mlt_serve.specs.Clients.{AreOfClients};
-ghost use Rattle.mlt_serve.specs.Endings.{result_of_accepting};
+ghost use Rattle.mlt_serve.specs.Endings.{IsOfServer, IsRefusedFor};
 ghost use Rattle.mlt_serve.specs.Tellings.{TellsOutcomes};
 ghost use Rattle.mlt_serve.specs.Threads.{AllHaveMemory, all_outcomes};
 
@@ -28,21 +28,19 @@ pub(crate) fn new_threads<P: Pseudo, L: MadeWith<P>, K: Receipts + Drop>(
     sessions: usize,
 ) -> Result<Vec<SessionThread<P, L, K>>, AllocError>
     requires most { sessions ≤ 64 }
-    requires parts { all.old.parts ≡ 129 }
+    requires parts { all.old.parts ≡ 131 }
     requires amount { all.old.amount ≡ 0 }
     requires log { id_of log.now ≡ L.log_id }
     requires writer { IsWriterOf L.log_id writer.old }
     ensures writer { IsWriterOf L.log_id writer.new }
     ensures past { past_of writer.new ≡ past_of writer.old }
     ensures len { IfOk result (λ threads. vec_len threads ≡ sessions) }
-    ensures parts { IfOk result (λ _. all.new.parts + 2 * sessions ≡ 129) }
+    ensures parts { IfOk result (λ _. all.new.parts + 2 * sessions ≡ 131) }
     ensures amount { IfOk result (λ _. all.new.amount ≡ 0) }
 {
     let mut threads = Vec::with_capacity(alloc, sessions)?;
     for _ in 0..sessions {
-        let share = all.split_off(2, 0);
-        let snapshot = log.snapshot(writer);
-        threads.push(SessionThread::new(alloc, share, snapshot))?;
+        threads.push(SessionThread::new(alloc, all, log, writer))?;
     }
     Ok(threads)
 }
@@ -123,13 +121,8 @@ impl<K: Receipts + Drop> Gathered<K> {
         ensures served { IfOk result (λ count. self.now.connections ≡ count) }
         ensures few { IfOk result (λ count. count ≤ limit) }
         ensures whole { OnOk result (self.now.is_short ≡ false) }
-        ensures early { IfErr (result_of_accepting accepting.end) (λ refusal. result ≡ Err refusal) }
-        ensures short { IsOk (result_of_accepting accepting.end) → self.now.is_short ≡ true
-            → result ≡ Err Refusal.OutOfMemory }
-        ensures audit { IsOk (result_of_accepting accepting.end) → self.now.is_short ≡ false
-            → IsOkUnless result Refusal.Audit }
-        ensures refusal { IfErr result (λ refusal.
-            (refusal ≡ Refusal.Io) ⊎ (refusal ≡ Refusal.OutOfMemory) ⊎ (refusal ≡ Refusal.Audit)) }
+        ensures why { IsRefusedFor accepting.end self.now.is_short result }
+        ensures refusal { IfErr result IsOfServer }
     {
         accepting.result()?;
         if self.is_short {
@@ -143,32 +136,36 @@ impl<K: Receipts + Drop> Gathered<K> {
     }
 }
 
-/// Takes in what all threads have served, and the whole their shares. Unless a growth was refused, no outcome is missing. The manager's
-/// history tells all that is in the outcomes.
+/// Takes in what the loader and all threads have served, and the whole their shares. Unless a growth was refused, no outcome is missing.
+/// The manager's history tells all that is in the outcomes.
 pub(crate) fn gather<P: Pseudo, L: MadeWith<P>, K: Receipts + Drop>(
     alloc: Global,
     all: &mut Share<L>,
+    loader: SessionThread<P, L, K>,
     threads: Vec<SessionThread<P, L, K>>,
     desks: &mut Unlocked<P, L>,
 ) -> Gathered<K>
-    requires parts { all.old.parts + 2 * vec_len threads ≡ 129 }
+    requires parts { all.old.parts + 2 + 2 * vec_len threads ≡ 131 }
     requires amount { all.old.amount ≡ 0 }
-    ensures parts { all.new.parts ≡ 129 }
+    ensures parts { all.new.parts ≡ 131 }
     ensures events { result.events ≡ min all.new.amount (2 ^ 64 - 1) }
     ensures outcomes { result.is_short ≡ false
-        → IsPermutation (all_outcomes threads.items) (K.receipts result.outcomes) }
+        → IsPermutation (all_outcomes threads.items ++ K.receipts loader.outcomes)
+        (K.receipts result.outcomes) }
     ensures clients { result.is_short ≡ false
         → AreOfClients result.last (K.receipts result.outcomes) }
     ensures manager { desks.new.state.manager ≡ desks.old.state.manager }
     ensures told { result.is_short ≡ false
         → TellsOutcomes desks.old.state.manager.shared.history.items
         (K.receipts result.outcomes) }
-    ensures short { result.is_short ≡ false → AllHaveMemory threads.items }
+    ensures short { result.is_short ≡ false
+        → (loader.is_short ≡ false) × AllHaveMemory threads.items }
 {
     let mut rest = threads;
     let mut gathered = Gathered::new(alloc);
     while let Some(thread) = rest.pop() {
         gathered.take_in(all, thread, desks);
     }
+    gathered.take_in(all, loader, desks);
     gathered
 }

@@ -1,7 +1,8 @@
 //! A server over TCP: threads serve connections side by side on one manager. The outcomes that
 //! `serve_on` returns agree with the manager's history. `serve_endless` keeps no outcomes: the
-//! history has their begins, replies and commits, and the numbers of begins and commits agree. That
-//! these are the outcomes of all sessions, that sessions run at once, that slow or silent clients
+//! history has their begins, replies and commits, and the numbers of begins and commits agree. A base
+//! was loaded as its lines and answers say, and its outcomes are among these. That these are the outcomes
+//! of all sessions, that sessions run at once, that slow or silent clients
 //! stop nobody else, that log messages and traces are written, and that memory stays flat is only
 //! tested.
 #![tactic(auto)]
@@ -19,9 +20,7 @@ mod reporting;
 mod service;
 mod serving;
 mod session_thread;
-mod session_threads;
 mod supervising;
-mod talking;
 mod tallying;
 mod threads_beside;
 mod trace_keeping;

@@ -1,22 +1,25 @@
 //! What an operator sees and does.
 
-use crate::service::Service;
+use crate::operating::Admin;
+use crate::service::{Service, elapsed};
 use mlt_object_kinds::Done;
 use mlt_page::{Page, Slot};
 use mlt_script_serial::Outcome;
 use mlt_serve_admin::{
     Counts, KeyRange, ObjectView, Operated, ServerView, SessionView, TimesView, TransactionView,
-    WaitReason, WaitView,
+    WaitReason, WaitView, serve_admin,
 };
-use mlt_serve_seats::{BOUNDS, Cut, Histogram, OpenTransaction, SessionState};
+use mlt_serve_connections::refuse_all;
+use mlt_serve_seats::{BOUNDS, Cut, Histogram, Note, OpenTransaction, SessionState};
 use mlt_trace::KeptItem;
-use mlt_types::{PageNo, Pseudo, TxId};
+use mlt_types::{PageNo, Pseudo};
 use mlt_work_desk::{DeskStatistics, MadeWith};
 use mlt_work_waits::Waiting;
 use std::alloc::{AllocError, Global};
 use std::mem::size_of;
+use std::net::{SocketAddr, TcpListener};
 use std::sync::Wait;
-use std::sync::atomic::Ordering;
+use std::sync::atomic::{AtomicBool, Ordering};
 use std::time::{Clock, Instant};
 
 /// How many bytes an item of the history takes, an outcome, and an operation of one.
@@ -26,37 +29,51 @@ const OUTCOME_BYTES: u64 = size_of::<Outcome>() as u64;
 
 const OPERATION_BYTES: u64 = size_of::<Done>() as u64;
 
-/// How many objects are held at most before the first are looked for.
+/// How many more objects are held than are wanted, at most, before the first are looked for.
 const MOST_FOUND: usize = 4_096;
 
 /// What an operator sees, and can do.
 #[derive(Drop)]
-pub(crate) struct Operator<'a, 'b, 'c, P: Pseudo, L: MadeWith<P>, R: Wait + Clock> {
+pub(crate) struct Operator<'a, 'b, 'c, 'd, P: Pseudo, L: MadeWith<P>, R: Wait + Clock> {
     rt: &'a R,
     service: &'b Service<'c, P, L>,
+    /// Where it connects.
+    admin: Admin<'d>,
     /// Since when the server listens, if a clock could say so.
     since: Option<Instant>,
-    /// The number of the server.
-    number: u64,
-    /// The version of the program.
-    version: &'static str,
+    /// Whether the server is over.
+    is_over: AtomicBool,
 }
 
-impl<'a, 'b, 'c, P: Pseudo, L: MadeWith<P>, R: Wait + Clock> Operator<'a, 'b, 'c, P, L, R> {
-    /// One of a server with this number, of this version of the program, which listens from now on.
+impl<'a, 'b, 'c, 'd, P: Pseudo, L: MadeWith<P>, R: Wait + Clock> Operator<'a, 'b, 'c, 'd, P, L, R> {
+    /// One that connects there, to a server that listens from now on. A note tells if others than this machine can.
     pub(crate) fn new(
         rt: &'a R,
         service: &'b Service<'c, P, L>,
-        number: u64,
-        version: &'static str,
-    ) -> Operator<'a, 'b, 'c, P, L, R> {
+        admin: Admin<'d>,
+    ) -> Operator<'a, 'b, 'c, 'd, P, L, R> {
+        if let Some(address) = open_address(admin.listener) {
+            service.notes.tell(rt, Note::OpenAdmin(address));
+        }
         Operator {
             rt,
             service,
+            admin,
             since: Instant::now(rt).ok(),
-            number,
-            version,
+            is_over: AtomicBool::new(false),
         }
+    }
+
+    /// Answers requests, until the server is over.
+    pub(crate) fn answer(&self, alloc: Global) {
+        let Admin { listener, keys, .. } = self.admin;
+        serve_admin(self.rt, alloc, keys, listener, self, &self.is_over);
+    }
+
+    /// The server is over.
+    pub(crate) fn end(&self) {
+        self.is_over.store(true, Ordering::SeqCst);
+        refuse_all(self.admin.listener);
     }
 
     fn counts(&self, statistics: &DeskStatistics, sessions: usize, now: Option<Instant>) -> Counts {
@@ -70,9 +87,10 @@ impl<'a, 'b, 'c, P: Pseudo, L: MadeWith<P>, R: Wait + Clock> Operator<'a, 'b, 'c
         } = self.service;
         let totals = seats.totals(self.rt);
         let times = seats.times();
+        let items = statistics.items as u64;
         Counts {
-            server: self.number,
-            version: self.version,
+            server: self.admin.number,
+            version: self.admin.version,
             address: door.address(),
             seconds: milliseconds(self.since, now) / 1_000,
             sessions: sessions as u64,
@@ -90,8 +108,8 @@ impl<'a, 'b, 'c, P: Pseudo, L: MadeWith<P>, R: Wait + Clock> Operator<'a, 'b, 'c
             deadlocks: totals.deadlocks,
             no_room: totals.no_room,
             events: statistics.events,
-            items: statistics.items as u64,
-            bytes: self.bytes_kept(statistics, totals.ended(), totals.operations),
+            items,
+            bytes: self.bytes_kept(items, totals.ended(), totals.operations),
             pages: statistics.pages as u64,
             most_pages: options.most_pages(),
             depth: u64::from(statistics.depth),
@@ -104,18 +122,19 @@ impl<'a, 'b, 'c, P: Pseudo, L: MadeWith<P>, R: Wait + Clock> Operator<'a, 'b, 'c
         }
     }
 
-    /// How many bytes are kept of the history, and of the outcomes of so many transactions, of so many operations, if these are.
-    fn bytes_kept(&self, statistics: &DeskStatistics, outcomes: u64, operations: u64) -> u64 {
-        let items = statistics.items as u64;
+    /// How many bytes are kept of so many items, and of the outcomes of so many transactions, of so many operations, if these are.
+    fn bytes_kept(&self, items: u64, outcomes: u64, operations: u64) -> u64 {
+        let kept = items.saturating_mul(ITEM_BYTES);
         if self.service.is_endless {
-            bytes_kept(items, 0, 0)
-        } else {
-            bytes_kept(items, outcomes, operations)
+            return kept;
         }
+        let told = outcomes.saturating_mul(OUTCOME_BYTES);
+        let done = operations.saturating_mul(OPERATION_BYTES);
+        kept.saturating_add(told).saturating_add(done)
     }
 }
 
-impl<P: Pseudo, L: MadeWith<P>, R: Wait + Clock> Operated for Operator<'_, '_, '_, P, L, R> {
+impl<P: Pseudo, L: MadeWith<P>, R: Wait + Clock> Operated for Operator<'_, '_, '_, '_, P, L, R> {
     fn view(&self, alloc: Global) -> Result<ServerView, AllocError> {
         let now = Instant::now(self.rt).ok();
         let statistics = self.service.shared.statistics(self.rt);
@@ -148,16 +167,35 @@ impl<P: Pseudo, L: MadeWith<P>, R: Wait + Clock> Operated for Operator<'_, '_, '
         range: &KeyRange,
         most: usize,
     ) -> Result<Vec<ObjectView>, AllocError> {
-        let pages = u32::try_from(self.service.shared.statistics(self.rt).pages);
         let mut found = Vec::new(alloc);
-        // A record moves only to a page that is made then, so that none is missed.
-        for number in 0..pages.unwrap_or(u32::MAX) {
-            let page = self.service.shared.clean_page(self.rt, PageNo(number));
-            if let Some(page) = &page {
-                push_objects(&mut found, page, range)?;
+        let numbers = usize::try_from(self.service.options.most_pages());
+        let mut are_seen = Vec::new(alloc);
+        are_seen.resize(numbers.unwrap_or(usize::MAX), false)?;
+        let mut seen = 0_usize;
+        // A page is there for good once the operation that makes it is done, and a record moves only to one that is made then, maybe under
+        // a number that was free. So none is missed once as many pages are seen as there are, or a look at all others finds none.
+        for _ in self.rt.forever() {
+            let before = seen;
+            let pages = self.service.shared.statistics(self.rt).pages;
+            for (number, is_seen) in are_seen.iter_mut().enumerate() {
+                if seen == pages {
+                    break;
+                }
+                if *is_seen {
+                    continue;
+                }
+                let number = PageNo(u32::try_from(number).unwrap_or(u32::MAX));
+                if let Some(page) = &self.service.shared.clean_page(self.rt, number) {
+                    *is_seen = true;
+                    seen = seen.saturating_add(1);
+                    push_objects(&mut found, page, range)?;
+                }
+                if found.len() >= MOST_FOUND.saturating_add(most) {
+                    keep_first(&mut found, most);
+                }
             }
-            if found.len() >= MOST_FOUND.max(most) {
-                keep_first(&mut found, most);
+            if seen == before {
+                break;
             }
         }
         keep_first(&mut found, most);
@@ -176,6 +214,13 @@ impl<P: Pseudo, L: MadeWith<P>, R: Wait + Clock> Operated for Operator<'_, '_, '
         }
         false
     }
+}
+
+/// The address of a listener, if others than this machine can reach it.
+fn open_address(listener: &TcpListener) -> Option<SocketAddr> {
+    let address = listener.local_addr().ok()?;
+    let is_loopback = address.ip().to_canonical().is_loopback();
+    (!is_loopback).then_some(address)
 }
 
 /// Adds the objects of a page that are in the range.
@@ -265,18 +310,7 @@ fn wait_view(
 
 /// How many milliseconds have passed, as far as the clock can say so.
 fn milliseconds(since: Option<Instant>, now: Option<Instant>) -> u64 {
-    match (since, now) {
-        (Some(since), Some(now)) => {
-            u64::try_from(now.saturating_duration_since(since).as_millis()).unwrap_or(u64::MAX)
-        }
-        _ => 0,
-    }
-}
-
-/// How many bytes so many items take, with the outcomes of so many transactions, of so many operations.
-fn bytes_kept(items: u64, outcomes: u64, operations: u64) -> u64 {
-    let kept = items.saturating_mul(ITEM_BYTES);
-    let told = outcomes.saturating_mul(OUTCOME_BYTES);
-    let done = operations.saturating_mul(OPERATION_BYTES);
-    kept.saturating_add(told).saturating_add(done)
+    elapsed(since, now).map_or(0, |time| {
+        u64::try_from(time.as_millis()).unwrap_or(u64::MAX)
+    })
 }

@@ -1,9 +1,9 @@
 //! The outcomes, once all connections are served.
 
-ghost use Rattle.std.specs.Prelude.{◌≡◌, ◌≤◌, ◌↔◌, Err, IfErr, IfOk, IsOk, IsOkUnless, IsPermutation, IsTrue, [], false, true};
+ghost use Rattle.std.specs.Prelude.{◌≡◌, ◌≤◌, ◌↔◌, IfErr, IfOk, IsPermutation, IsTrue, OnOk, [], false};
 ghost use Rattle.mlt_trace_audit.specs.Agreement.{Agrees};
 ghost use Rattle.mlt_serve.specs.Clients.{AreByClientAndNumber, AreNumbered, AreOfClients, ComesNext, IsOfClient};
-ghost use Rattle.mlt_serve.specs.Endings.{result_of_accepting};
+ghost use Rattle.mlt_serve.specs.Endings.{IsOfServer, IsRefusedFor};
 
 use crate::accepting::Accepting;
 use crate::gathering::Gathered;
@@ -73,11 +73,9 @@ pub(crate) fn outcomes_of<P: Pseudo>(
     ensures order { IfOk result (λ outcomes. AreNumbered 0 0 outcomes) }
     ensures few { IfOk result (λ _. accepting.connections ≤ limit) }
     ensures served { IfOk result (λ _. gathered.connections ≡ accepting.connections) }
-    ensures early { IfErr (result_of_accepting accepting.end) (λ refusal. result ≡ Err refusal) }
-    ensures short { IsOk (result_of_accepting accepting.end) → gathered.is_short ≡ true
-        → result ≡ Err Refusal.OutOfMemory }
-    ensures audit { IsOk (result_of_accepting accepting.end) → gathered.is_short ≡ false
-        → IsOkUnless result Refusal.Audit }
+    ensures whole { OnOk result (gathered.is_short ≡ false) }
+    ensures why { IsRefusedFor accepting.end gathered.is_short result }
+    ensures refusal { IfErr result IsOfServer }
 {
     let accepted = gathered.served(accepting, limit)?;
     let outcomes = in_order(gathered.outcomes);

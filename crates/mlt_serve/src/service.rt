@@ -5,11 +5,12 @@ ghost use Rattle.std.specs.Prelude.{◌≡◌, None, Some, false, true};
 use crate::door::Door;
 use crate::options::ServeOptions;
 use crate::tuning::QUEUE_SECONDS;
-use mlt_serve_connections::{AdmissionQueue, SpinPolicy};
-use mlt_serve_seats::{Cut, Notes, Seats, is_broken, is_closed};
+use mlt_serve_connections::{Admission, AdmissionQueue, SpinPolicy};
+use mlt_serve_seats::{Cut, Notes, Seat, Seats, Sitting, is_broken, is_closed};
 use mlt_types::Pseudo;
 use mlt_work_desk::{MadeWith, Shared};
 use std::net::TcpStream;
+use std::sync::Wait;
 use std::sync::atomic::{AtomicBool, AtomicU64};
 use std::time::{Clock, Duration, Instant};
 
@@ -37,6 +38,16 @@ pub(crate) struct Service<'a, P: Pseudo, L: MadeWith<P>> {
 }
 
 impl<P: Pseudo, L: MadeWith<P>> Service<'_, P, L> {
+    /// The way of a session at this seat.
+    pub(crate) fn admission<'b, R: Wait + Clock>(
+        &'b self,
+        rt: &'b R,
+        seat: &'b Seat,
+    ) -> Admission<'b, R> {
+        let sitting = Sitting::new(rt, seat, self.is_watched);
+        Admission::new(rt, self.admission_queue, sitting)
+    }
+
     /// Why a connection that was accepted then is not to be served any more, if so.
     pub(crate) fn cut_in_queue<C: Clock>(
         &self,
@@ -66,10 +77,11 @@ fn cut_of_queued(stops: bool, is_gone: bool) -> Option<Cut>
 
 /// Whether a connection that was accepted then has queued for so long that its client, if it has closed its side, counts as gone.
 fn has_queued_long<C: Clock>(clock: &C, since: Option<Instant>) -> bool {
-    match (since, Instant::now(clock).ok()) {
-        (Some(since), Some(now)) => {
-            now.saturating_duration_since(since) >= Duration::from_secs(QUEUE_SECONDS)
-        }
-        _ => false,
-    }
+    let queued = elapsed(since, Instant::now(clock).ok());
+    queued.is_some_and(|time| time >= Duration::from_secs(QUEUE_SECONDS))
+}
+
+/// How much time has passed, if the clock could say so.
+pub(crate) fn elapsed(since: Option<Instant>, now: Option<Instant>) -> Option<Duration> {
+    Some(now?.saturating_duration_since(since?))
 }

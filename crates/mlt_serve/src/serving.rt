@@ -1,21 +1,24 @@
 //! Connections that are accepted and served.
 
-ghost use Rattle.std.specs.Prelude.{◌≡◌, ◌⊎◌, ◌<◌, ◌≤◌, IfErr, IfOk, IsOkUnless, Some, [], false, true};
+ghost use Rattle.std.specs.Prelude.{◌≡◌, ◌<◌, ◌≤◌, IfErr, IfOk, IsOkUnless, Some, [], false, true};
 ghost use Rattle.mlt_manager.specs.Openings.{IsMadeWith};
 ghost use Rattle.mlt_work_log.specs.Seats.{id_of};
 ghost use Rattle.mlt_work_desk.specs.Makings.{making_by};
 ghost use Rattle.mlt_work_desk.specs.Playing.{IsPlayed};
 ghost use Rattle.mlt_trace_audit.specs.Agreement.{Agrees};
 ghost use Rattle.mlt_serve.specs.Clients.{AreNumbered, AreOfClients};
+ghost use Rattle.mlt_serve.specs.Endings.{IsOfServer};
+ghost use Rattle.mlt_serve.specs.Loads.{HasLoaded};
 ghost use Rattle.mlt_serve.specs.Tellings.{TellsOutcomes};
 
-use crate::accepting::Accepting;
 use crate::door::Door;
 use crate::gathering::{Gathered, gather, new_threads};
 use crate::operating::{EndSignal, Operating, TraceFile};
 use crate::options::ServeOptions;
 use crate::reporting::outcomes_of;
 use crate::service::Service;
+use crate::session_thread::SessionThread;
+use crate::threads_beside::Ran;
 use mlt_manager::Manager;
 use mlt_script_serial::{Outcome, Outcomes};
 use mlt_serve_connections::{AdmissionQueue, SpinPolicy};
@@ -48,21 +51,20 @@ pub struct Served<P: Pseudo> {
 
 /// What became of the connections, before it is looked at whether the manager knows of it.
 pub(crate) struct Ended<P: Pseudo, K: Receipts> {
-    /// What was accepted.
-    pub(crate) accepting: Accepting,
+    /// What was accepted, and what became of the trace.
+    pub(crate) ran: Ran,
     /// What all sessions have done.
     pub(crate) gathered: Gathered<K>,
     /// The manager, with the history of all that was done and not taken out of it.
     pub(crate) manager: Manager<P>,
-    /// Why the trace was not written whole, if so.
-    pub(crate) trace_failure: Option<io::Error>,
 }
 
 /// Serves connections on a new manager, by sessions whose outcomes these receipts take. The history is taken out of it as it goes, or
 /// stays in it.
 ///
 /// # Errors
-/// `OutOfMemory`, where a growth was refused before a connection was accepted.
+/// `OutOfMemory`, where a growth or a thread was refused, or a base not loaded, before a connection was accepted.
+#[tactic(auto, using(crate::proofs::Loading::among))]
 pub(crate) fn serve_with<P, L, K, R, N, T, S>(
     rt: &R,
     alloc: Global,
@@ -86,7 +88,7 @@ where
     requires log { id_of records.log ≡ L.log_id }
     requires made { Some (making_by options.now.limits pseudo) ≡ L.made_with }
     requires endless { is_endless ≡ true → L.hands_out ≡ true }
-    requires all { records.blank.parts ≡ 129 }
+    requires all { records.blank.parts ≡ 131 }
     requires some { 0 < options.now.sessions }
     requires most { options.now.sessions ≤ 64 }
     ensures made { IfOk result (λ ended. IsMadeWith ended.manager options.now.limits pseudo) }
@@ -100,6 +102,8 @@ where
     ensures told { IfOk result (λ ended. ended.gathered.is_short ≡ false
         → TellsOutcomes ended.manager.shared.history.items
         (K.receipts ended.gathered.outcomes)) }
+    ensures loaded { IfOk result (λ ended. ended.gathered.is_short ≡ false
+        → HasLoaded operating.entry.load (K.receipts ended.gathered.outcomes)) }
     ensures refusal { IsOkUnless result Refusal.OutOfMemory }
 {
     let BlankRecords {
@@ -109,6 +113,7 @@ where
     } = records;
     let (book, mut all) = blank.open::<L>();
     let mut threads = new_threads(alloc, &mut all, &log, &mut writer, options.sessions)?;
+    let mut loader = SessionThread::new(alloc, &mut all, &log, &mut writer);
     let (notes, outlet) = Notes::new(alloc)?;
     let state = LockedState::new(alloc, options.limits, pseudo, book, writer)?;
     let shared = Shared::new(log, state);
@@ -126,55 +131,28 @@ where
         is_endless,
         refuses_begins: &AtomicBool::new(false),
     };
-    let ran = service.serve_with_notes(rt, alloc, outlet, operating, threads.as_mut_slice());
+    let ran = service.run(
+        rt,
+        alloc,
+        outlet,
+        operating,
+        &mut loader,
+        threads.as_mut_slice(),
+    );
     notes.end(rt);
-    let mut desks = shared.unlock();
-    let gathered = gather(alloc, &mut all, threads, &mut desks);
-    let manager = desks.close(&mut all);
-    Ok(Ended {
-        accepting: ran.accepting,
-        gathered,
-        manager,
-        trace_failure: ran.trace_failure,
-    })
-}
-
-/// What was served, where the outcomes are those of the history.
-///
-/// # Errors
-/// As those of `outcomes_of`.
-fn served_of<P: Pseudo + Drop>(
-    alloc: Global,
-    ended: Ended<P, Vec<Outcome>>,
-    limit: u64,
-) -> Result<Served<P>, Refusal>
-    requires history { ended.manager.shared.history.handed ≡ [] }
-    requires played { IsPlayed P.bits_of ended.manager }
-    ensures manager { IfOk result (λ got. got.manager ≡ ended.manager) }
-    ensures played { IfOk result (λ got. IsPlayed P.bits_of got.manager) }
-    ensures outcomes { IfOk result
-        (λ got. Agrees got.outcomes got.manager.shared.history.items) }
-    ensures clients { IfOk result (λ got. AreOfClients got.connections got.outcomes) }
-    ensures few { IfOk result (λ got. got.connections ≤ limit) }
-    ensures order { IfOk result (λ got. AreNumbered 0 0 got.outcomes) }
-    ensures refusal { IfErr result (λ refusal.
-        (refusal ≡ Refusal.Io) ⊎ (refusal ≡ Refusal.OutOfMemory) ⊎ (refusal ≡ Refusal.Audit)) }
-{
-    let Ended {
-        accepting,
-        gathered,
-        manager,
-        trace_failure,
-    } = ended;
-    match outcomes_of(alloc, accepting, gathered, limit, &manager) {
-        Ok(outcomes) => Ok(Served {
-            outcomes,
-            manager,
-            connections: accepting.connections,
-            trace_failure,
-        }),
+    match ran {
+        Ok(ran) => {
+            let mut desks = shared.unlock();
+            let gathered = gather(alloc, &mut all, loader, threads, &mut desks);
+            let manager = desks.close(&mut all);
+            Ok(Ended {
+                ran,
+                gathered,
+                manager,
+            })
+        }
         Err(refusal) => {
-            manager.close();
+            shared.unlock().into_manager().close();
             Err(refusal)
         }
     }
@@ -197,9 +175,10 @@ fn served_of<P: Pseudo + Drop>(
 ///
 /// # Errors
 /// `Io`, where an accept failed by the listener; others are tried again. `OutOfMemory`, where a growth or a thread
-/// was refused, in a session too. Either ends the accepting, and the connections that were taken are served. `Audit`, where
+/// was refused, in a session too, or the base was not loaded. Either ends the accepting, and the connections that were taken are served. `Audit`, where
 /// neither came, and the outcomes do not agree with the manager's history or not all connections were served. All threads are
 /// joined but those that write notes and the trace: they are waited for 5 seconds at most, and have nothing of the others.
+#[tactic(auto, using(crate::proofs::Loading::reordered))]
 pub fn serve_on<P: Pseudo + Drop + Send, R, N, T, S>(
     rt: &R,
     alloc: Global,
@@ -229,18 +208,40 @@ where
     ensures few { IfOk result (λ got. got.connections ≤ options.now.connections) }
     // they stand by client, and those of each client have the numbers 1, 2, 3 and so on
     ensures order { IfOk result (λ got. AreNumbered 0 0 got.outcomes) }
-    ensures refusal { IfErr result (λ refusal.
-        (refusal ≡ Refusal.Io) ⊎ (refusal ≡ Refusal.OutOfMemory) ⊎ (refusal ≡ Refusal.Audit)) }
+    // if there is a base to load, connection 1 heard all lines of it and was told just its answers, and its outcomes are among these
+    ensures loaded { IfOk result (λ got. HasLoaded operating.entry.load got.outcomes) }
+    ensures refusal { IfErr result IsOfServer }
 {
-    let ended = serve_with::<P, Brand, Vec<Outcome>, R, N, T, S>(
+    let Ended {
+        ran,
+        gathered,
+        manager,
+    } = serve_with::<P, Brand, Vec<Outcome>, R, N, T, S>(
         rt,
         alloc,
-        BlankRecords::new(alloc, 129)?,
+        BlankRecords::new(alloc, 131)?,
         listener,
         pseudo,
         options,
         operating,
         false,
     )?;
-    served_of(alloc, ended, options.connections)
+    match outcomes_of(
+        alloc,
+        ran.accepting,
+        gathered,
+        options.connections,
+        &manager,
+    ) {
+        Ok(outcomes) => Ok(Served {
+            outcomes,
+            manager,
+            connections: ran.accepting.connections,
+            trace_failure: ran.trace_failure,
+        }),
+        Err(refusal) => {
+            manager.close();
+            Err(refusal)
+        }
+    }
 }

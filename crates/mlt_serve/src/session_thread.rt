@@ -1,24 +1,25 @@
 //! One session thread.
 
-ghost use Rattle.std.specs.Prelude.{◌≡◌, ◌≤◌, ◌+◌, ◌-◌, ◌^◌, [], false, min};
+ghost use Rattle.std.specs.Prelude.{◌≡◌, ◌≤◌, ◌+◌, ◌-◌, ◌^◌, [], Err, IfSome, IsOk, None, OnOk, Some, false, min, true};
 ghost use Rattle.mlt_serve.specs.Clients.{AreOfClients, GrowsFor};
+ghost use Rattle.mlt_serve.specs.Loads.{Heard, IsHeard, ends};
 ghost use Rattle.mlt_serve.specs.Tellings.{TellsOutcomes};
 ghost use Rattle.mlt_work_log.specs.Prefixes.{StartsWith};
-ghost use Rattle.mlt_work_log.specs.Seats.{IsOf, first_items};
+ghost use Rattle.mlt_work_log.specs.Seats.{IsOf, IsWriterOf, first_items, id_of, past_of};
 
 use crate::accepting::Connection;
 use crate::guarded_desk::GuardedDesk;
 use crate::operating::Load;
 use crate::service::Service;
-use crate::talking::{Source, hear};
 use crossbeam_channel::Receiver;
-use mlt_serve_connections::{Admission, lingering_close};
-use mlt_serve_seats::{Cut, Note, Seat, Sitting};
-use mlt_serve_session::Receipts;
-use mlt_types::Pseudo;
+use mlt_serve_connections::{Admission, Failure, Outside, Socket, lingering_close};
+use mlt_serve_seats::{Cut, Note, Seat};
+use mlt_serve_session::{Receipts, Summary, session};
+use mlt_types::{Pseudo, Refusal};
 use mlt_work_desk::{LockDesk, MadeWith, Tries};
-use mlt_work_log::LogSnapshot;
+use mlt_work_log::{HistoryLog, LogSnapshot, LogWriter};
 use std::alloc::{AllocError, Global};
+use std::io::{Read, Write};
 use std::marker::PhantomData;
 use std::net::TcpStream;
 use std::sync::atomic::Ordering;
@@ -53,46 +54,60 @@ pub(crate) struct SessionThread<P: Pseudo, L: MadeWith<P>, K: Receipts> {
 }
 
 impl<P: Pseudo, L: MadeWith<P>, K: Receipts + Drop> SessionThread<P, L, K> {
-    /// Nothing was served yet.
+    /// Nothing was served yet. It takes two parts of the ledger.
     #[tactic(auto, using(crate::proofs::Numbering::none_of, crate::proofs::Telling::none_told))]
     pub(crate) fn new(
         alloc: Global,
-        share: Share<L>,
-        snapshot: LogSnapshot,
+        all: &mut Share<L>,
+        log: &HistoryLog,
+        writer: &mut LogWriter,
     ) -> SessionThread<P, L, K>
-        requires parts { share.parts ≡ 2 }
-        requires amount { share.amount ≡ 0 }
-        requires of_log { IsOf L.log_id snapshot }
-        ensures share { result.share ≡ share }
+        requires parts { 2 ≤ all.old.parts }
+        requires amount { all.old.amount ≡ 0 }
+        requires log { id_of log.now ≡ L.log_id }
+        requires writer { IsWriterOf L.log_id writer.old }
+        ensures parts { all.new.parts + 2 ≡ all.old.parts }
+        ensures amount { all.new.amount ≡ 0 }
+        ensures writer { IsWriterOf L.log_id writer.new }
+        ensures past { past_of writer.new ≡ past_of writer.old }
         ensures outcomes { K.receipts result.outcomes ≡ [] }
         ensures connections { result.connections ≡ 0 }
     {
         SessionThread {
-            share,
+            share: all.split_off(2, 0),
             events: 0,
             outcomes: K::none(alloc),
             connections: 0,
             last: 0,
             is_short: false,
-            snapshot,
+            snapshot: log.snapshot(writer),
             pseudo: PhantomData,
         }
     }
 
-    /// Serves a client by a session at a desk of its own, so that no desk is counted while there is nothing to serve. It answers
-    /// why the session was cut, if it was: `Memory` where a base was not loaded.
-    fn serve<R: Wait + Clock>(
+    /// Serves a client by a session at a desk of its own, so that no desk is counted while there is nothing to serve. It adds outcomes
+    /// of this client alone: the history that the desk has seen then tells all that is in them. While the session waits for the client
+    /// it is not at work, nor at the end.
+    ///
+    /// # Errors
+    /// As those of `session`.
+    fn serve<R: Wait + Clock, I: Read, O: Write>(
         &mut self,
         rt: &R,
         alloc: Global,
         service: &Service<'_, P, L>,
-        seat: &Seat,
+        admission: &Admission<'_, R>,
         client: u32,
-        source: &Source<'_>,
-    ) -> Option<Cut>
+        reader: &mut I,
+        writer: &mut O,
+    ) -> Result<Summary, Refusal>
         requires { 1 ≤ client }
         ensures outcomes { GrowsFor (first_items self.new.snapshot) client
             (K.receipts self.old.outcomes) (K.receipts self.new.outcomes) }
+        ensures heard { OnOk result (Heard client
+            (ends (I.remaining reader.old) (O.contents writer.old))
+            (ends (I.remaining reader.new) (O.contents writer.new))
+            (K.receipts self.old.outcomes) (K.receipts self.new.outcomes)) }
         ensures sees { StartsWith (first_items self.new.snapshot)
             (first_items self.old.snapshot) }
         ensures connections { self.new.connections ≡ min (self.old.connections + 1) (2 ^ 64 - 1) }
@@ -110,37 +125,25 @@ impl<P: Pseudo, L: MadeWith<P>, K: Receipts + Drop> SessionThread<P, L, K> {
         } = self;
         let mine = share.split_off(1, 0);
         let seen = service.shared.copy_snapshot(snapshot);
-        let sitting = Sitting::new(rt, seat, service.is_watched);
-        let admission = Admission::new(rt, service.admission_queue, sitting);
         let tries = Tries::PerOperation(service.options.tries);
-        let mut desk = LockDesk::after(rt, service.shared, &admission, mine, seen, tries);
+        let mut desk = LockDesk::after(rt, service.shared, admission, mine, seen, tries);
         desk.serve(client);
         let mut guarded = GuardedDesk {
             desk,
             refuses_begins: service.refuses_begins,
         };
-        let cut = hear(
-            rt,
-            alloc,
-            service,
-            source,
-            &admission,
-            &mut guarded,
-            client,
-            outcomes,
-        );
+        let ended = session(alloc, reader, writer, &mut guarded, client, outcomes);
         let GuardedDesk {
             desk,
             refuses_begins: _,
         } = guarded;
         let (mine, more, seen) = desk.close();
-        admission.close();
         share.merge(mine);
         *snapshot = seen;
         *events = events.saturating_add(more);
         *connections = connections.saturating_add(1);
         *last = (*last).max(client);
-        cut
+        ended
     }
 
     /// Serves a connection at its seat, and then closes it with the client. One that was cut in the queue counts as served. It answers
@@ -175,8 +178,20 @@ impl<P: Pseudo, L: MadeWith<P>, K: Receipts + Drop> SessionThread<P, L, K> {
             return true;
         };
         seat.enter(rt, client, handle);
-        let source = Source::Connection(&stream);
-        let cut = self.serve(rt, alloc, service, seat, client, &source);
+        let admission = service.admission(rt, seat);
+        let socket = Socket::new(rt, &stream, service.spin_policy, service.options.idle);
+        let ended = self.serve(
+            rt,
+            alloc,
+            service,
+            &admission,
+            client,
+            &mut Outside::new(&socket, &admission),
+            &mut Outside::new(&socket, &admission),
+        );
+        let cut = cut_of(ended, socket.failure());
+        socket.close();
+        admission.close();
         let refused = cut == Some(Cut::Memory);
         if let Some(cut) = seat.leave(rt).or(cut) {
             service.notes.tell(rt, Note::SessionCut(client, cut));
@@ -186,20 +201,35 @@ impl<P: Pseudo, L: MadeWith<P>, K: Receipts + Drop> SessionThread<P, L, K> {
         refused
     }
 
-    /// Loads a base, as connection 1, before any other is accepted. It answers whether that was done.
+    /// Loads a base, if there is one, as connection 1, before any other is accepted. It answers whether all lines of it were heard, and
+    /// answered as it says.
+    #[tactic(auto, using(crate::proofs::Loading::all_heard))]
     pub(crate) fn load<R: Wait + Clock>(
         &mut self,
         rt: &R,
         alloc: Global,
         service: &Service<'_, P, L>,
-        base: Load<'_>,
-    ) -> bool {
+        load: Option<Load<'_>>,
+    ) -> bool
+        requires { K.receipts self.old.outcomes ≡ [] }
+        ensures { result ≡ true → IfSome load.entry (λ load.
+            IsHeard 1 load.lines.now load.answers.now (K.receipts self.new.outcomes)) }
+    {
+        let Some(load) = load else {
+            return true;
+        };
         service.door.count_accepted();
         service.door.count_taken();
-        let seat = service.seats.seat(0);
-        let cut = self.serve(rt, alloc, service, seat, 1, &Source::Base(base));
+        let admission = service.admission(rt, service.seats.seat(0));
+        let mut lines = load.lines;
+        let mut answers = Vec::new(alloc);
+        let ended = self.serve(rt, alloc, service, &admission, 1, &mut lines, &mut answers);
+        admission.close();
         service.door.count_ended();
-        cut.is_none()
+        if ended.is_err() {
+            return false;
+        }
+        lines.is_empty() && answers.as_slice() == load.answers
     }
 
     /// Serves one connection after the other at a seat, until no more come. Where memory is refused no more are let in.
@@ -234,4 +264,23 @@ fn shared(
     let stream = Arc::new(alloc, stream)?;
     let handle = stream.clone()?;
     Ok((stream, handle))
+}
+
+/// Why a session was cut that ended so, where its socket failed so, if it was cut.
+fn cut_of(ended: Result<Summary, Refusal>, failure: Option<Failure>) -> Option<Cut>
+    ensures memory { ended ≡ Err Refusal.OutOfMemory → result ≡ Some Cut.Memory }
+    ensures line { ended ≡ Err Refusal.LineTooLong → result ≡ Some Cut.Line }
+    ensures http { ended ≡ Err Refusal.Io → failure ≡ Some Failure.Http
+        → result ≡ Some Cut.Http }
+    ensures none { IsOk ended → result ≡ None }
+{
+    match (ended, failure) {
+        (Ok(_), _) => None,
+        (Err(Refusal::OutOfMemory), _) => Some(Cut::Memory),
+        (Err(Refusal::LineTooLong), _) => Some(Cut::Line),
+        (Err(_), Some(Failure::Idle)) => Some(Cut::Idle),
+        (Err(_), Some(Failure::Http)) => Some(Cut::Http),
+        (Err(_), Some(Failure::Broken)) => Some(Cut::Connection),
+        (Err(_), None) => Some(Cut::Bytes),
+    }
 }

@@ -2,7 +2,7 @@
 
 use crate::ending::DoneSignal;
 use crate::operating::EndSignal;
-use crate::service::Service;
+use crate::service::{Service, elapsed};
 use crate::tuning::{LOOK_MILLISECONDS, LOOKS_FOR_THREADS, STOP_SECONDS};
 use mlt_serve_seats::{Cut, Note, Patience};
 use mlt_types::Pseudo;
@@ -21,11 +21,8 @@ struct Supervisor<'a, 'b, 'c, P: Pseudo, L: MadeWith<P>, R: Wait + Clock> {
     stops_since: Option<Instant>,
     /// In how many more looks session threads may still begin.
     looks_for_threads: u32,
-    has_told_numbers: bool,
-    has_told_pages: bool,
-    has_told_depth: bool,
-    has_told_no_room: bool,
-    has_told_no_memory: bool,
+    /// Which of the warnings it has told.
+    has_told: [bool; 5],
 }
 
 /// Looks after the sessions again and again, until there is nothing left to do.
@@ -44,11 +41,7 @@ pub(crate) fn supervise<P: Pseudo, L: MadeWith<P>, R: Wait + Clock, S: EndSignal
         },
         stops_since: None,
         looks_for_threads: LOOKS_FOR_THREADS,
-        has_told_numbers: false,
-        has_told_pages: false,
-        has_told_depth: false,
-        has_told_no_room: false,
-        has_told_no_memory: false,
+        has_told: [false; 5],
     };
     for _ in rt.forever() {
         if signal.is_given() {
@@ -85,12 +78,8 @@ impl<P: Pseudo, L: MadeWith<P>, R: Wait + Clock> Supervisor<'_, '_, '_, P, L, R>
     fn press(&mut self) {
         let now = Instant::now(self.rt).ok();
         self.stops_since = self.stops_since.or(now);
-        let is_late = match (self.stops_since, now) {
-            (Some(since), Some(now)) => {
-                now.saturating_duration_since(since) >= Duration::from_secs(STOP_SECONDS)
-            }
-            _ => true,
-        };
+        let is_late = elapsed(self.stops_since, now).is_none_or(|time| time
+            >= Duration::from_secs(STOP_SECONDS));
         for seat in self.service.seats.all() {
             if is_late {
                 seat.cut_any(self.rt, Cut::Stop);
@@ -113,7 +102,9 @@ impl<P: Pseudo, L: MadeWith<P>, R: Wait + Clock> Supervisor<'_, '_, '_, P, L, R>
             0
         };
         if running < asked && self.looks_for_threads == 0 {
-            self.tell(Note::FewThreads(running, asked));
+            self.service
+                .notes
+                .tell(self.rt, Note::FewThreads(running, asked));
         }
     }
 
@@ -122,42 +113,33 @@ impl<P: Pseudo, L: MadeWith<P>, R: Wait + Clock> Supervisor<'_, '_, '_, P, L, R>
     fn warn(&mut self) {
         let totals = self.service.seats.totals(self.rt);
         let statistics = self.service.shared.statistics(self.rt);
-        let limits = self.service.options.limits;
-        let begun = totals.begun;
-        let most = limits.max_ids;
-        if is_news(&mut self.has_told_numbers, is_nearly(begun, most)) {
-            self.tell(Note::FewNumbersLeft(begun, most));
-        }
-        let pages = statistics.pages as u64;
-        let most = self.service.options.most_pages();
-        if is_news(&mut self.has_told_pages, is_nearly(pages, most)) {
-            self.tell(Note::FewPagesLeft(pages, most));
-        }
-        let depth = limits.max_depth;
-        if is_news(
-            &mut self.has_told_depth,
-            u32::from(statistics.depth) >= depth,
-        ) {
-            self.tell(Note::DeepestDirectory(u64::from(depth)));
-        }
-        if is_news(&mut self.has_told_no_room, totals.no_room > 0) {
-            self.tell(Note::NoRoom);
-        }
-        if is_news(&mut self.has_told_no_memory, totals.no_memory > 0) {
-            self.tell(Note::NoMemory);
+        let options = self.service.options;
+        let (begun, most_begun) = (totals.begun, options.limits.max_ids);
+        let (pages, most_pages) = (statistics.pages as u64, options.most_pages());
+        let (depth, most_depth) = (
+            u64::from(statistics.depth),
+            u64::from(options.limits.max_depth),
+        );
+        let warnings = [
+            (
+                is_nearly(begun, most_begun),
+                Note::FewNumbersLeft(begun, most_begun),
+            ),
+            (
+                is_nearly(pages, most_pages),
+                Note::FewPagesLeft(pages, most_pages),
+            ),
+            (depth >= most_depth, Note::DeepestDirectory(most_depth)),
+            (totals.no_room > 0, Note::NoRoom),
+            (totals.no_memory > 0, Note::NoMemory),
+        ];
+        for (has_told, (is_so, note)) in self.has_told.iter_mut().zip(warnings) {
+            if is_so && !*has_told {
+                *has_told = true;
+                self.service.notes.tell(self.rt, note);
+            }
         }
     }
-
-    fn tell(&self, note: Note) {
-        self.service.notes.tell(self.rt, note);
-    }
-}
-
-/// Whether something is so for the first time, where it is told whether it was so before.
-fn is_news(was_so: &mut bool, is_so: bool) -> bool {
-    let is_news = is_so && !*was_so;
-    *was_so = *was_so || is_so;
-    is_news
 }
 
 /// Whether so many are nine in ten of the most, or more.

@@ -1,9 +1,9 @@
 //! The counts of the outcomes, once all connections are served.
 
-ghost use Rattle.std.specs.Prelude.{◌≡◌, ◌≤◌, Err, IfErr, IfOk, IsOk, IsOkUnless, length, false, true};
+ghost use Rattle.std.specs.Prelude.{◌≡◌, ◌≤◌, IfErr, IfOk, OnOk, length, false};
 ghost use Rattle.mlt_serve_session.specs.Tallies.{commits_told};
 ghost use Rattle.mlt_serve.specs.Clients.{AreOfClients};
-ghost use Rattle.mlt_serve.specs.Endings.{result_of_accepting};
+ghost use Rattle.mlt_serve.specs.Endings.{IsOfServer, IsRefusedFor};
 ghost use Rattle.mlt_serve.specs.Tellings.{TellsOutcomes};
 
 use crate::accepting::Accepting;
@@ -36,11 +36,9 @@ pub(crate) fn tally_of<P: Pseudo>(
         (λ tally. TellsOutcomes manager.now.shared.history.items tally.told.items) }
     ensures few { IfOk result (λ _. accepting.connections ≤ limit) }
     ensures served { IfOk result (λ _. gathered.connections ≡ accepting.connections) }
-    ensures early { IfErr (result_of_accepting accepting.end) (λ refusal. result ≡ Err refusal) }
-    ensures short { IsOk (result_of_accepting accepting.end) → gathered.is_short ≡ true
-        → result ≡ Err Refusal.OutOfMemory }
-    ensures audit { IsOk (result_of_accepting accepting.end) → gathered.is_short ≡ false
-        → IsOkUnless result Refusal.Audit }
+    ensures whole { OnOk result (gathered.is_short ≡ false) }
+    ensures why { IsRefusedFor accepting.end gathered.is_short result }
+    ensures refusal { IfErr result IsOfServer }
 {
     let accepted = gathered.served(accepting, limit)?;
     if u64::from(gathered.last) > accepted {

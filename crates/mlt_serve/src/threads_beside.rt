@@ -1,28 +1,24 @@
-//! The threads beside those of sessions: for notes, for the trace, for the operator, and one that looks after all sessions.
+//! The threads of a server: those of sessions, the one that accepts, and those beside them for notes, for the trace, for the operator, and
+//! one that looks after all sessions.
 
-ghost use Rattle.std.specs.Prelude.{◌≡◌, ◌<◌, length};
+ghost use Rattle.std.specs.Prelude.{◌≡◌, ◌<◌, [], IfSome, IsOkUnless, OnOk, length};
+ghost use Rattle.mlt_serve.specs.Loads.{IsHeard};
 
-use crate::accepting::Accepting;
+use crate::accepting::{Accepting, accept_all};
 use crate::ending::DoneSignal;
-use crate::operating::{Admin, EndSignal, Operating, TraceFile};
+use crate::operating::{EndSignal, Operating, TraceFile};
 use crate::operator::Operator;
 use crate::service::Service;
 use crate::session_thread::SessionThread;
-use crate::session_threads::serve_connections;
 use crate::supervising::supervise;
-use crate::trace_keeping::{TraceWriter, keep_trace, room_for_items};
-use mlt_serve_admin::{Operated, serve_admin};
-use mlt_serve_connections::refuse_all;
-use mlt_serve_seats::{Note, Outlet, write_notes};
+use crate::trace_keeping::TraceKeeper;
+use mlt_serve_seats::{Outlet, write_notes};
 use mlt_serve_session::Receipts;
-use mlt_types::Pseudo;
+use mlt_types::{Pseudo, Refusal};
 use mlt_work_desk::MadeWith;
-use std::alloc::Global;
-use std::hash::RandomState;
+use std::alloc::{AllocError, Global};
 use std::io::Write;
-use std::net::{SocketAddr, TcpListener};
 use std::sync::Wait;
-use std::sync::atomic::{AtomicBool, Ordering};
 use std::thread::Threads;
 use std::time::Clock;
 use std::{io, thread};
@@ -35,40 +31,37 @@ pub(crate) struct Ran {
     pub(crate) trace_failure: Option<io::Error>,
 }
 
-impl Ran {
-    /// Nothing was accepted, for want of memory or of a thread.
-    fn none() -> Ran {
-        Ran {
-            accepting: Accepting::none(),
-            trace_failure: None,
-        }
-    }
-}
-
-/// Starts the thread that writes notes, behind what is unsaid, and returns whether there is one. No thread joins it: if the reader of the
-/// notes has stopped, it stays in its write. It has all that it needs.
-fn starts_to_write<R, N>(rt: &R, alloc: Global, outlet: Outlet, unsaid: String, writer: N) -> bool
+/// Starts the thread that writes notes, behind what is unsaid. No thread joins it: if the reader of the notes has stopped, it stays in
+/// its write. It has all that it needs.
+///
+/// # Errors
+/// Where the thread is refused.
+fn start_to_write<R, N>(
+    rt: &R,
+    alloc: Global,
+    outlet: Outlet,
+    unsaid: String,
+    mut writer: N,
+) -> Result<(), AllocError>
 where
     R: Threads + Wait + Clock + Sync + Send + Copy + 'static,
     N: Write + Send + Drop + 'static,
 {
     let own = *rt;
-    let mut writer = writer;
     let write = move || write_notes(&own, alloc, &outlet, unsaid.as_str(), &mut writer);
-    thread::spawn(rt, write).is_ok()
-}
-
-/// The address of a listener, if others than this machine can reach it.
-fn open_address(listener: &TcpListener) -> Option<SocketAddr> {
-    let address = listener.local_addr().ok()?;
-    let is_loopback = address.ip().to_canonical().is_loopback();
-    (!is_loopback).then_some(address)
+    thread::spawn(rt, write)?;
+    Ok(())
 }
 
 impl<'a, P: Pseudo + Send, L: MadeWith<P> + Send + Sync> Service<'a, P, L> {
-    /// Loads a base, if there is one, and serves connections with a thread beside them that writes notes, one that writes the trace, and
-    /// the others. Where one of these is refused, or the base is not loaded, nothing is accepted.
-    pub(crate) fn serve_with_notes<
+    /// Loads a base, if there is one, and serves connections: accepts them in one thread and serves them in others, or in this one where
+    /// they are refused. Beside them others write notes and the trace, keep the trace or take the history out of the manager, look after
+    /// the sessions, and answer the operator. All are joined but the two that write.
+    ///
+    /// # Errors
+    /// `OutOfMemory`, where the base is not loaded, or memory or one of the threads is refused that neither serve connections nor are the
+    /// second for the operator. Nothing is accepted then.
+    pub(crate) fn run<
         K: Receipts + Send + Drop,
         R: Threads + Wait + Clock + Sync + Send + Copy + 'static,
         N: Write + Send + Drop + 'static,
@@ -80,9 +73,14 @@ impl<'a, P: Pseudo + Send, L: MadeWith<P> + Send + Sync> Service<'a, P, L> {
         alloc: Global,
         outlet: Outlet,
         operating: Operating<'_, N, T, S>,
+        loader: &mut SessionThread<P, L, K>,
         threads: &mut [SessionThread<P, L, K>],
-    ) -> Ran
-        requires { 0 < length threads.old }
+    ) -> Result<Ran, Refusal>
+        requires some { 0 < length threads.old }
+        requires fresh { K.receipts loader.old.outcomes ≡ [] }
+        ensures loaded { OnOk result (IfSome operating.entry.load (λ load.
+            IsHeard 1 load.lines.now load.answers.now (K.receipts loader.new.outcomes))) }
+        ensures refusal { IsOkUnless result Refusal.OutOfMemory }
     {
         let Operating {
             notes,
@@ -92,26 +90,24 @@ impl<'a, P: Pseudo + Send, L: MadeWith<P> + Send + Sync> Service<'a, P, L> {
             admin,
             load,
         } = operating;
-        if let Some(base) = load {
-            if !threads[0].load(rt, alloc, self, base) {
-                return Ran::none();
-            }
+        if !loader.load(rt, alloc, self, load) {
+            return Err(Refusal::OutOfMemory);
         }
-        if !starts_to_write(rt, alloc, outlet, unsaid, notes) {
-            return Ran::none();
-        }
-        let writer = match trace {
-            Some(file) => match TraceWriter::start(rt, alloc, file) {
-                Some(writer) => Some(writer),
-                None => return Ran::none(),
-            },
+        start_to_write(rt, alloc, outlet, unsaid, notes)?;
+        let keeper = TraceKeeper::start(rt, alloc, self, trace)?;
+        let operator = match admin {
+            Some(admin) => Some(Operator::new(rt, self, admin)),
             None => None,
         };
-        self.serve_with_watch(rt, alloc, writer, signal, admin, threads)
+        match self.serve_connections(rt, alloc, keeper, signal, &operator, threads) {
+            Some(ran) => Ok(ran),
+            None => Err(Refusal::OutOfMemory),
+        }
     }
 
-    /// Serves connections with a thread beside them that looks after them, and the others.
-    fn serve_with_watch<
+    /// Serves connections, with these threads beside those of sessions. There is nothing where a thread or memory was refused, and nothing
+    /// was accepted.
+    fn serve_connections<
         K: Receipts + Send + Drop,
         R: Threads + Wait + Clock + Sync,
         S: EndSignal + Send + Drop,
@@ -119,142 +115,86 @@ impl<'a, P: Pseudo + Send, L: MadeWith<P> + Send + Sync> Service<'a, P, L> {
         &self,
         rt: &R,
         alloc: Global,
-        writer: Option<TraceWriter>,
+        keeper: Option<TraceKeeper<'_, '_, P, L>>,
         signal: S,
-        admin: Option<Admin<'_>>,
+        operator: &Option<Operator<'_, '_, '_, '_, P, L, R>>,
         threads: &mut [SessionThread<P, L, K>],
-    ) -> Ran
+    ) -> Option<Ran>
         requires { 0 < length threads.old }
     {
         let service = self;
         let ending = &DoneSignal::new();
+        let count = threads.len();
+        let (to, from) = crossbeam_channel::bounded(alloc, count).ok()?;
+        let connections = &from;
         thread::scope(
             thread::scope_env(),
             rt,
-            |scope| -> Ran
-                requires { 0 < length threads.now }
+            |scope| -> Option<Ran>
+                requires { 0 < count }
             {
                 let look = move || supervise(rt, service, ending, signal);
-                let Ok(watching) = scope.spawn(look) else {
-                    return Ran::none();
+                let watching = scope.spawn(look).ok();
+                let keeps = keeper.is_some();
+                let keeping = match keeper {
+                    Some(keeper) => {
+                        let keep = move || keeper.keep_on(rt, alloc, ending);
+                        scope.spawn(keep).ok()
+                    }
+                    None => None,
                 };
-                let ran = service.serve_with_trace(rt, alloc, writer, admin, threads);
-                ending.end(rt);
-                watching.join(rt);
-                ran
-            },
-        )
-    }
-
-    /// Serves connections with a thread beside them that keeps the trace, if there is one, or takes the history out of the manager, and
-    /// the others.
-    fn serve_with_trace<K: Receipts + Send + Drop, R: Threads + Wait + Clock + Sync>(
-        &self,
-        rt: &R,
-        alloc: Global,
-        writer: Option<TraceWriter>,
-        admin: Option<Admin<'_>>,
-        threads: &mut [SessionThread<P, L, K>],
-    ) -> Ran
-        requires { 0 < length threads.old }
-    {
-        let service = self;
-        if writer.is_none() && !service.is_endless {
-            return Ran {
-                accepting: service.serve_with_admin(rt, alloc, admin, threads),
-                trace_failure: None,
-            };
-        }
-        let ending = &DoneSignal::new();
-        let Ok(next) = room_for_items(alloc) else {
-            return Ran::none();
-        };
-        thread::scope(
-            thread::scope_env(),
-            rt,
-            |scope| -> Ran
-                requires { 0 < length threads.now }
-            {
-                let keep = move || keep_trace(rt, alloc, service, writer, next, ending);
-                let Ok(keeping) = scope.spawn(keep) else {
-                    return Ran::none();
+                let (answering, more) = match operator {
+                    Some(operator) => {
+                        // With two there are twice as many places for connections.
+                        let answer = move || operator.answer(alloc);
+                        let more = move || operator.answer(alloc);
+                        (scope.spawn(answer).ok(), scope.spawn(more).ok())
+                    }
+                    None => (None, None),
                 };
-                let accepting = service.serve_with_admin(rt, alloc, admin, threads);
-                ending.end(rt);
-                Ran {
-                    accepting,
-                    trace_failure: keeping.join(rt),
+                let all_run = watching.is_some()
+                    && keeping.is_some() == keeps
+                    && answering.is_some() == operator.is_some();
+                let accepting = if all_run {
+                    let accept = move || accept_all(rt, service, to, count);
+                    scope.spawn(accept).ok()
+                } else {
+                    None
+                };
+                let accepted = match accepting {
+                    Some(accepting) => {
+                        thread::for_each_mut(
+                            rt,
+                            threads,
+                            count,
+                            &|number, own: &mut SessionThread<P, L, K>| {
+                                own.serve_all(rt, alloc, service, number, connections)
+                            },
+                        );
+                        Some(accepting.join(rt))
+                    }
+                    None => None,
+                };
+                if let Some(operator) = operator {
+                    operator.end();
                 }
-            },
-        )
-    }
-
-    /// Serves connections with two threads beside them that answer the operator, if there is one.
-    fn serve_with_admin<K: Receipts + Send + Drop, R: Threads + Wait + Clock + Sync>(
-        &self,
-        rt: &R,
-        alloc: Global,
-        admin: Option<Admin<'_>>,
-        threads: &mut [SessionThread<P, L, K>],
-    ) -> Accepting
-        requires { 0 < length threads.old }
-    {
-        let Some(admin) = admin else {
-            return serve_connections(rt, alloc, self, threads);
-        };
-        if let Some(address) = open_address(admin.listener) {
-            self.notes.tell(rt, Note::OpenAdmin(address));
-        }
-        let Admin {
-            listener,
-            keys,
-            number,
-            version,
-        } = admin;
-        let operator = Operator::new(rt, self, number, version);
-        let is_over = AtomicBool::new(false);
-        self.serve_beside_operator(rt, alloc, listener, keys, &operator, &is_over, threads)
-    }
-
-    /// Serves connections with two threads beside them that answer this operator, until it is over.
-    fn serve_beside_operator<
-        K: Receipts + Send + Drop,
-        R: Threads + Wait + Clock + Sync,
-        O: Operated + Sync,
-    >(
-        &self,
-        rt: &R,
-        alloc: Global,
-        listener: &TcpListener,
-        keys: RandomState,
-        operator: &O,
-        is_over: &AtomicBool,
-        threads: &mut [SessionThread<P, L, K>],
-    ) -> Accepting
-        requires { 0 < length threads.old }
-    {
-        let service = self;
-        thread::scope(
-            thread::scope_env(),
-            rt,
-            |scope| -> Accepting
-                requires { 0 < length threads.now }
-            {
-                let answer = move || serve_admin(rt, alloc, keys, listener, operator, is_over);
-                let Ok(first) = scope.spawn(answer) else {
-                    return Accepting::none();
-                };
-                // With two there are twice as many places for connections.
-                let more = move || serve_admin(rt, alloc, keys, listener, operator, is_over);
-                let second = scope.spawn(more);
-                let accepting = serve_connections(rt, alloc, service, threads);
-                is_over.store(true, Ordering::SeqCst);
-                refuse_all(listener);
-                first.join(rt);
-                if let Ok(second) = second {
-                    second.join(rt);
+                for answering in [answering, more] {
+                    if let Some(answering) = answering {
+                        answering.join(rt);
+                    }
                 }
-                accepting
+                ending.end(rt);
+                if let Some(watching) = watching {
+                    watching.join(rt);
+                }
+                let trace_failure = match keeping {
+                    Some(keeping) => keeping.join(rt),
+                    None => None,
+                };
+                Some(Ran {
+                    accepting: accepted?,
+                    trace_failure,
+                })
             },
         )
     }

@@ -33,18 +33,6 @@ struct Counting<T> {
     failed: Option<io::Error>,
 }
 
-impl<T> Counting<T> {
-    /// A file that has taken nothing yet. Others see its blocks there.
-    fn new(file: T, blocks: Arc<AtomicU64>) -> Counting<T> {
-        Counting {
-            file,
-            bytes: 0,
-            blocks,
-            failed: None,
-        }
-    }
-}
-
 impl<T: Write> Write for Counting<T> {
     ghost contents = { λ counting. T.contents counting.file };
 
@@ -75,7 +63,7 @@ struct Written {
 
 /// The thread that writes the trace, for the one that keeps it. No thread joins it: a thread in a write can't be called back.
 #[derive(Drop)]
-pub(crate) struct TraceWriter {
+struct TraceWriter {
     to: Sender<Vec<KeptItem>, Global>,
     from: Receiver<Written, Global>,
     /// How many blocks it has written.
@@ -83,26 +71,34 @@ pub(crate) struct TraceWriter {
 }
 
 impl TraceWriter {
-    /// A thread that writes into this file. There is none where memory or the thread is refused.
-    pub(crate) fn start<R, T>(rt: &R, alloc: Global, file: T) -> Option<TraceWriter>
+    /// A thread that writes into this file.
+    ///
+    /// # Errors
+    /// Where memory or the thread is refused.
+    fn start<R, T>(rt: &R, alloc: Global, file: T) -> Result<TraceWriter, AllocError>
     where
         R: Threads + Wait + Clock + Sync + Send + Copy + 'static,
         T: TraceFile + Send + Drop + 'static,
     {
-        let (to, lists) = crossbeam_channel::bounded(alloc, 1).ok()?;
-        let (written, from) = crossbeam_channel::bounded(alloc, 1).ok()?;
-        let blocks = Arc::new(alloc, AtomicU64::new(0)).ok()?;
-        let mut file = Counting::new(file, blocks.clone().ok()?);
+        let (to, lists) = crossbeam_channel::bounded(alloc, 1)?;
+        let (written, from) = crossbeam_channel::bounded(alloc, 1)?;
+        let blocks = Arc::new(alloc, AtomicU64::new(0))?;
+        let mut file = Counting {
+            file,
+            bytes: 0,
+            blocks: blocks.clone()?,
+            failed: None,
+        };
         let own = *rt;
         let write = move || write_lists(&own, &mut file, &lists, &written);
-        thread::spawn(rt, write).ok()?;
-        Some(TraceWriter { to, from, blocks })
+        thread::spawn(rt, write)?;
+        Ok(TraceWriter { to, from, blocks })
     }
 }
 
 /// The trace so far, and what is about to be written of it.
 #[derive(Drop)]
-struct TraceKeeper<'a, 'b, P: Pseudo, L: MadeWith<P>> {
+pub(crate) struct TraceKeeper<'a, 'b, P: Pseudo, L: MadeWith<P>> {
     /// The service whose trace it is. Items are taken out of the manager of an endless one. Else they are copied, and it keeps them.
     service: &'a Service<'b, P, L>,
     /// What writes it, if it is written.
@@ -118,9 +114,39 @@ struct TraceKeeper<'a, 'b, P: Pseudo, L: MadeWith<P>> {
 }
 
 impl<'a, 'b, P: Pseudo, L: MadeWith<P>> TraceKeeper<'a, 'b, P, L> {
+    /// One of this service, with a thread that writes into the file, if there is one. There is none where the history is neither written
+    /// nor taken out of the manager.
+    ///
+    /// # Errors
+    /// Where memory or the thread is refused.
+    pub(crate) fn start<R, T>(
+        rt: &R,
+        alloc: Global,
+        service: &'a Service<'b, P, L>,
+        file: Option<T>,
+    ) -> Result<Option<TraceKeeper<'a, 'b, P, L>>, AllocError>
+    where
+        R: Threads + Wait + Clock + Sync + Send + Copy + 'static,
+        T: TraceFile + Send + Drop + 'static,
+    {
+        let writer = match file {
+            Some(file) => Some(TraceWriter::start(rt, alloc, file)?),
+            None if service.is_endless => None,
+            None => return Ok(None),
+        };
+        Ok(Some(TraceKeeper {
+            service,
+            writer,
+            items: 0,
+            next: Vec::with_capacity(alloc, ITEMS_PER_HOLD)?,
+            is_behind: false,
+            failed: None,
+        }))
+    }
+
     /// Takes or copies what is new, and writes it, again and again, until there is nothing left to do; and then what is left. It
     /// answers why the trace was not written whole, if so.
-    fn keep_on<R: Wait + Clock>(
+    pub(crate) fn keep_on<R: Wait + Clock>(
         mut self,
         rt: &R,
         alloc: Global,
@@ -152,32 +178,22 @@ impl<'a, 'b, P: Pseudo, L: MadeWith<P>> TraceKeeper<'a, 'b, P, L> {
         self.failed
     }
 
-    /// Takes all that is new out of the manager, and writes it. Where a growth is refused nothing is taken, and nothing is lost. It
-    /// answers how many items were taken.
+    /// Takes all that is new out of the manager, in one hold of the lock, and writes it. The manager goes on in the memory of what was
+    /// taken before, which is that of many items: what a long pause has made of it is given back, and it grows under the lock in none but
+    /// such. Where a growth is refused nothing is taken, and nothing is lost. It answers how many items were taken.
     fn take_new<R: Wait + Clock>(&mut self, rt: &R, alloc: Global, ending: &DoneSignal) -> usize
         requires { L.hands_out ≡ true }
     {
-        self.is_behind = self.take_next(rt).is_err();
+        self.next.clear();
+        self.next.shrink_to(MANY_ITEMS);
+        self.is_behind = self.next.reserve(MANY_ITEMS).is_err()
+            || self.service.shared.take_items(rt, &mut self.next).is_err();
         if self.is_behind {
             return 0;
         }
         let taken = self.next.len();
         self.write_next(rt, alloc, ending);
         taken
-    }
-
-    /// Takes all that is new out of the manager, in one hold of the lock. The manager goes on in the memory of what was taken before,
-    /// which is that of many items: what a long pause has made of it is given back, and it grows under the lock in none but such.
-    ///
-    /// # Errors
-    /// Where a growth is refused; nothing is taken then.
-    fn take_next<R: Wait>(&mut self, rt: &R) -> Result<(), Refusal>
-        requires { L.hands_out ≡ true }
-    {
-        self.next.clear();
-        self.next.shrink_to(MANY_ITEMS);
-        self.next.reserve(MANY_ITEMS)?;
-        self.service.shared.take_items(rt, &mut self.next)
     }
 
     /// Copies all that is new, and writes it.
@@ -227,9 +243,7 @@ impl<'a, 'b, P: Pseudo, L: MadeWith<P>> TraceKeeper<'a, 'b, P, L> {
         items: Vec<KeptItem>,
         ending: &DoneSignal,
     ) -> Option<Written> {
-        let Some(writer) = &self.writer else {
-            return None;
-        };
+        let writer = self.writer.as_ref()?;
         // There is room for one list, and the thread has none.
         let _ = writer.to.try_send(rt, items);
         let mut watch = BlockWatch::default();
@@ -298,35 +312,6 @@ impl BlockWatch {
         self.looks = self.looks.saturating_add(1);
         self.looks.saturating_mul(LOOK_MILLISECONDS) >= LATE_SECONDS * 1_000
     }
-}
-
-/// Room for the items that are copied in one hold of the lock.
-///
-/// # Errors
-/// Where a growth is refused.
-pub(crate) fn room_for_items(alloc: Global) -> Result<Vec<KeptItem>, AllocError> {
-    Vec::with_capacity(alloc, ITEMS_PER_HOLD)
-}
-
-/// Writes the trace, if there is a thread for that, or takes the history out of the manager, until there is nothing left to do. It
-/// answers why the trace was not written whole, if so.
-pub(crate) fn keep_trace<P: Pseudo, L: MadeWith<P>, R: Wait + Clock>(
-    rt: &R,
-    alloc: Global,
-    service: &Service<'_, P, L>,
-    writer: Option<TraceWriter>,
-    next: Vec<KeptItem>,
-    ending: &DoneSignal,
-) -> Option<io::Error> {
-    let keeper = TraceKeeper {
-        service,
-        writer,
-        items: 0,
-        next,
-        is_behind: false,
-        failed: None,
-    };
-    keeper.keep_on(rt, alloc, ending)
 }
 
 /// Writes each list that comes, until none follows, and gives it back.

@@ -1,7 +1,7 @@
-use Rattle.std.proofs.Common.{◌++◌, ◌∙◌, arith, subst, sym, IsPermutation}
+use Rattle.std.proofs.Common.{rules, ◌++◌, ◌∙◌, arith, subst, sym, IsPermutation}
 use Rattle.mlt_serve.proofs.Names.{All-push, IsPermutation-append_right, IsPermutation-trans, TellsOutcomes, AllHaveMemory, all_outcomes}
 use Rattle.mlt_serve.specs.Threads.{HasMemory, outcomes_of}
-use Rattle.mlt_serve.proofs.Merging.{last_behind}
+use Rattle.mlt_serve.proofs.Merging.{behind_all, last_behind}
 use Rattle.mlt_serve.proofs.gathering.gather.Goals as goal
 
 pub loop-thread-preserved : goal.loop-thread-preserved
@@ -27,3 +27,11 @@ loop-thread-preserved g c =
           let both = c.take_in.ensures.short f in
           l.invariant.short both.0 (subst AllHaveMemory (sym c.in-Some.ensures.items) (All-push HasMemory rest w have both.1));
     }
+
+pub returns-clause-outcomes : goal.returns-clause-outcomes
+returns-clause-outcomes g c =
+    let l = c.loop-thread in
+    λ have.
+    let both = c.take_in-2.ensures.short have in
+    behind_all (all_outcomes c.args.threads.items) (all_outcomes l.rest.items) (g.K.Receipts.receipts l.gathered.outcomes) (outcomes_of c.args.loader) (g.K.Receipts.receipts c.take_in-2.new.self.outcomes)
+    (search rules) (l.invariant.outcomes both.0) (c.take_in-2.ensures.outcomes have)

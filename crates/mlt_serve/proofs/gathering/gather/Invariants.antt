@@ -4,7 +4,7 @@ use Rattle.mlt_serve.proofs.gathering.gather.Given as goal
 
 abbrev pub invariant-loop-thread : goal.invariant-loop-thread
 invariant-loop-thread g l = record {
-  parts : l.all.parts + 2 * vec_len l.rest ≡ 129;
+  parts : l.all.parts + 2 + 2 * vec_len l.rest ≡ 131;
   events : l.gathered.events ≡ min l.all.amount (2 ^ 64 - 1);
   outcomes : l.gathered.is_short ≡ false → IsPermutation (all_outcomes l.fn.threads.items) (all_outcomes l.rest.items ++ g.K.Receipts.receipts l.gathered.outcomes);
   clients : l.gathered.is_short ≡ false → AreOfClients l.gathered.last (g.K.Receipts.receipts l.gathered.outcomes);

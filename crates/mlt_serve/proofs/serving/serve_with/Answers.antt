@@ -1,9 +1,16 @@
-use Rattle.std.proofs.Common.{◌∙◌, subst, sym}
+use Rattle.std.proofs.Common.{rules, ◌∙◌, subst, sym, IfSome}
 use Rattle.mlt_manager.specs.Managers.{ManagerFields}
+use Rattle.mlt_serve.specs.Loads.{IsHeard}
+use Rattle.mlt_serve.proofs.Loading.{among}
 use Rattle.mlt_serve.proofs.Names.{TellsOutcomes}
 use Rattle.mlt_serve.proofs.serving.serve_with.Goals as goal
 
-pub returns-clause-told : goal.returns-clause-told
-returns-clause-told g c =
+pub returns-in-Ok-clause-told : goal.returns-in-Ok-clause-told
+returns-in-Ok-clause-told g c =
     let outcomes = g.K.Receipts.receipts c.gather-gathered.result.outcomes in
     λ have. subst (λ (m : ManagerFields _). TellsOutcomes m.shared.history.items outcomes) (sym (c.close-manager.ensures.same ∙ c.gather-gathered.ensures.manager)) (c.gather-gathered.ensures.told have)
+
+pub returns-in-Ok-clause-loaded : goal.returns-in-Ok-clause-loaded
+returns-in-Ok-clause-loaded g c = λ have.
+    let loaded : IfSome c.args.operating.load (λ base. IsHeard 1 base.lines.now base.answers.now (g.K.Receipts.receipts c.run-ran.new.loader.outcomes)) = search rules in
+    among c.args.operating.load _ _ _ loaded (c.gather-gathered.ensures.outcomes have)

@@ -1,0 +1,44 @@
+-- Bases that were loaded.
+use Rattle.std.specs.Prelude.{◌≡◌, ℕ, List, ◌++◌, Option, IfSome, IsPermutation, flat_map}
+use Rattle.std.specs.Io.KnownBytes.{Appends, Consumes}
+use Rattle.mlt_script_serial.specs.declared.call.DeskAnswer.{DeskAnswer}
+use Rattle.mlt_script_serial.specs.declared.outcome.Outcome.{Outcome}
+use Rattle.mlt_serve.specs.declared.operating.Load.{Load}
+use Rattle.mlt_serve_session.specs.Outcomes.{outcomes_of}
+use Rattle.mlt_serve_session.specs.Talks.{session_turns, turn_text}
+
+-- a session of this client heard just these lines, was told just this text, and has these outcomes, by the answers that a desk has given
+pub record IsHeard (client : ℕ) (lines text : List ℕ) (outcomes : List Outcome) : Type 0 where
+  pub given : List DeskAnswer
+  pub told : flat_map turn_text (session_turns lines given) ≡ text
+  pub are : outcomes ≡ outcomes_of client 0 (session_turns lines given)
+
+-- what a reader has left, and what a writer took, where these are known
+pub record Ends : Type 0 where
+  pub unread : Option (List ℕ)
+  pub written : Option (List ℕ)
+
+abbrev pub ends : Option (List ℕ) → Option (List ℕ) → Ends
+ends unread written = record { unread = unread; written = written }
+
+-- between these ends a session heard lines and was told a text, and its outcomes came behind those that there were
+pub record Heard (client : ℕ) (old new : Ends) (before after : List Outcome) : Type 0 where
+  pub lines : List ℕ
+  pub text : List ℕ
+  pub more : List Outcome
+  pub heard : IsHeard client lines text more
+  pub consumed : Consumes old.unread new.unread lines
+  pub wrote : Appends old.written new.written text
+  pub appended : after ≡ before ++ more
+
+-- Connection 1 heard just these lines and was told just these answers, and its outcomes are among these. Where the answers have 'begun' and
+-- 'committed' with the numbers 1, 2, 3 and so on, its transactions are the first ones that began, and committed.
+pub record IsLoaded (lines answers : List ℕ) (outcomes : List Outcome) : Type 0 where
+  pub loaded : List Outcome
+  pub others : List Outcome
+  pub heard : IsHeard 1 lines answers loaded
+  pub among : IsPermutation (others ++ loaded) outcomes
+
+-- the base was loaded, if there is one
+abbrev pub HasLoaded : Option Load → List Outcome → Type 0
+HasLoaded load outcomes = IfSome load (λ base. IsLoaded base.lines.now base.answers.now outcomes)
