@@ -139,6 +139,18 @@ impl<P: Pseudo, L: MadeWith<P>> LockedState<P, L> {
     {
         log.snapshot(&mut self.writer)
     }
+
+    /// The past has begun with that of a snapshot.
+    pub(crate) fn compare(&mut self, log: &HistoryLog, snapshot: LogSnapshot)
+        requires log { id_of log.now ≡ L.log_id }
+        requires of_log { IsOf L.log_id snapshot }
+        ensures same { self.new.manager ≡ self.old.manager }
+        ensures past { past_of self.new.writer ≡ past_of self.old.writer }
+        ensures first { HasBegunWith (past_of self.old.writer) (seen_by snapshot) }
+    {
+        let mut snapshot = snapshot;
+        log.see::<Brand>(&mut self.writer, &mut snapshot);
+    }
 }
 
 /// The past has one more event from now on, and the items of the manager's history, and the snapshot is one of all of it. The past before

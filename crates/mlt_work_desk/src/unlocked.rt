@@ -11,7 +11,6 @@ use crate::made_with::MadeWith;
 use mlt_manager::Manager;
 use mlt_types::Pseudo;
 use mlt_work_log::{HistoryLog, LogSnapshot};
-use std::marker::Brand;
 use std::sync::ledger::Share;
 
 /// What lay under a lock, and the log of the manager's history.
@@ -29,8 +28,7 @@ impl<P: Pseudo, L: MadeWith<P>> Unlocked<P, L> {
         ensures first { StartsWith self.old.state.manager.shared.history.items
             (first_items snapshot) }
     {
-        let mut snapshot = snapshot;
-        self.log.see::<Brand>(&mut self.state.writer, &mut snapshot);
+        self.state.compare(&self.log, snapshot);
     }
 
     /// The manager, whose events are the amount of the whole share.
