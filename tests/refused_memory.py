@@ -317,7 +317,7 @@ ECHOED = {
 
 @each(ECHOED, seconds=2)
 def echoed(mltx: Program, case: tuple[str, str]) -> None:
-    """All lines of the input stand beside what is answered, or the run is given up, as where the input or the answers are not kept."""
+    """All lines of the input stand beside what is answered, or the run is given up, as where either can't be kept."""
     job, text = case
     runs, given_up = Runs(mltx, job, "--echo"), 0
     runs.ample(text)
